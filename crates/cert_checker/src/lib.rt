@@ -1,0 +1,2 @@
+//! cert_checker
+#![tactic(auto)]

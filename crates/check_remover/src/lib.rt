@@ -1,0 +1,2 @@
+//! check_remover
+#![tactic(auto)]

@@ -1,0 +1,2 @@
+//! code_generator
+#![tactic(auto)]

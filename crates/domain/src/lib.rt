@@ -1,0 +1,2 @@
+//! domain
+#![tactic(auto)]

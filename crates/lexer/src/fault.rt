@@ -1,0 +1,53 @@
+ghost use Rattle.std.specs.Prelude.{◌≡◌};
+ghost use Rattle.lexer.specs.declared.fault.LexFault.TheVariants.{Memory};
+
+use crate::place::Place;
+use std::alloc::{AllocError, AllocFailed};
+use thiserror::Error;
+
+/// Why a text has no list of tokens.
+#[derive(Clone, Copy, Debug, PartialEq, Eq, Error)]
+pub enum LexFault {
+    #[error("no memory")]
+    Memory,
+    /// L1, at a byte that begins no token.
+    #[error("{0}: a byte that begins no token")]
+    UnknownByte(Place),
+    /// L2, where a comment opens that doesn't close.
+    #[error("{0}: a comment that doesn't close")]
+    OpenComment(Place),
+    /// L3, where a string opens that doesn't close in its line.
+    #[error("{0}: a string that doesn't close in its line")]
+    OpenString(Place),
+    /// L4, at a string without an element.
+    #[error("{0}: a string without an element")]
+    EmptyString(Place),
+    /// L5, at a number above 2147483647.
+    #[error("{0}: a number above 2147483647")]
+    LargeNumber(Place),
+    /// L6, at a number with a letter directly after it.
+    #[error("{0}: a number that touches a letter")]
+    TouchingLetter(Place),
+    /// L7, at 1:1: a text of more than 1,048,576 bytes.
+    #[error("{0}: a text of more than 1048576 bytes")]
+    LongText(Place),
+    /// L8, at a byte outside 32 to 126 in a string.
+    #[error("{0}: a byte in a string that is no printable character")]
+    StringByte(Place),
+}
+
+impl From<AllocError> for LexFault {
+    ghost from_gives = { λ _ e. e ≡ Memory };
+
+    fn from(_error: AllocError) -> LexFault {
+        LexFault::Memory
+    }
+}
+
+impl<T: Drop> From<AllocFailed<T>> for LexFault {
+    ghost from_gives = { λ _ e. e ≡ Memory };
+
+    fn from(_error: AllocFailed<T>) -> LexFault {
+        LexFault::Memory
+    }
+}

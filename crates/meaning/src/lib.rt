@@ -1,0 +1,2 @@
+//! meaning
+#![tactic(auto)]

@@ -1,0 +1,38 @@
+ghost use Rattle.std.specs.Prelude.{◌≡◌};
+ghost use Rattle.parser.specs.declared.fault.ParseFault.TheVariants.{Memory};
+
+use lexer::place::Place;
+use std::alloc::{AllocError, AllocFailed};
+use thiserror::Error;
+
+/// Why a list of tokens has no syntax tree.
+#[derive(Clone, Copy, Debug, PartialEq, Eq, Error)]
+pub enum ParseFault {
+    #[error("no memory")]
+    Memory,
+    /// P1, where no program goes on: at a token, or just past the end of the text.
+    #[error("{0}: no program")]
+    NoProgram(Place),
+    /// P2, where the nesting passes 128.
+    #[error("{0}: nested deeper than 128")]
+    TooDeep(Place),
+    /// P3, at the first label, goto, nil, file or `^`.
+    #[error("{0}: a form that this language leaves out")]
+    LeftOut(Place),
+}
+
+impl From<AllocError> for ParseFault {
+    ghost from_gives = { λ _ e. e ≡ Memory };
+
+    fn from(_error: AllocError) -> ParseFault {
+        ParseFault::Memory
+    }
+}
+
+impl<T: Drop> From<AllocFailed<T>> for ParseFault {
+    ghost from_gives = { λ _ e. e ≡ Memory };
+
+    fn from(_error: AllocFailed<T>) -> ParseFault {
+        ParseFault::Memory
+    }
+}

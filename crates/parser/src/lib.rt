@@ -1,0 +1,5 @@
+//! The syntax of a Pascal program (ISO 7185:1990, 6.2 to 6.10), from its tokens.
+#![tactic(auto)]
+
+pub mod fault;
+pub mod tree;

@@ -1,0 +1,98 @@
+use lexer::place::Place;
+
+/// An identifier where it stands (6.1.3). Upper and lower case letters are alike.
+#[derive(Clone, Copy, Debug)]
+pub struct Name<'a> {
+    pub text: &'a [u8],
+    pub place: Place,
+}
+
+/// A program (6.10).
+#[derive(Debug, Drop)]
+pub struct Program<'a> {
+    pub name: Name<'a>,
+    /// The program parameters, in order; none where no parentheses stand.
+    pub parameters: Vec<Name<'a>>,
+    pub block: Block<'a>,
+}
+
+/// A block (6.2.1).
+#[derive(Debug, Drop)]
+pub struct Block<'a> {
+    pub variables: Vec<VariableGroup<'a>>,
+    /// The statements of its compound statement: one or more.
+    pub statements: Vec<Stmt<'a>>,
+    /// Its last `end`.
+    pub end: Place,
+}
+
+/// Variables that are declared together (6.5.1): one or more names.
+#[derive(Debug, Drop)]
+pub struct VariableGroup<'a> {
+    pub names: Vec<Name<'a>>,
+    pub denoter: TypeDenoter<'a>,
+}
+
+/// What denotes a type (6.4.1).
+#[derive(Clone, Copy, Debug)]
+pub enum TypeDenoter<'a> {
+    Name(Name<'a>),
+}
+
+/// A statement (6.8).
+#[derive(Debug, Drop)]
+pub enum Stmt<'a> {
+    Empty,
+    /// `name := value`, with the place of `:=`.
+    Assign {
+        name: Name<'a>,
+        becomes: Place,
+        value: Expr<'a>,
+    },
+    /// The call of a procedure; no actuals where no parentheses stand.
+    Call {
+        name: Name<'a>,
+        actuals: Vec<Expr<'a>>,
+    },
+    /// One or more statements.
+    Compound { statements: Vec<Stmt<'a>> },
+}
+
+/// A sign or an operator that adds (6.7.2.1).
+#[derive(Clone, Copy, Debug, PartialEq, Eq)]
+pub enum Sign {
+    Plus,
+    Minus,
+}
+
+/// An expression (6.7.1), its parentheses kept.
+#[cycle(expression)]
+#[derive(Debug, Drop)]
+pub enum Expr<'a> {
+    /// A number up to 2147483647.
+    Number { value: u32, place: Place },
+    /// A variable, a constant or a call without actuals.
+    Name(Name<'a>),
+    /// `( inner )`, with the place of the opening parenthesis.
+    Parenthesized { open: Place, inner: Box<Expr<'a>> },
+    /// A sign, which covers the whole first term of a sum.
+    Signed {
+        sign: Sign,
+        place: Place,
+        term: Box<Expr<'a>>,
+    },
+    /// A first term, and one or more operators with their terms.
+    Sum {
+        first: Box<Expr<'a>>,
+        rest: Vec<Link<'a>>,
+    },
+}
+
+/// An operator of a sum and the term behind it.
+#[cycle(expression)]
+#[derive(Debug, Drop)]
+pub struct Link<'a> {
+    pub operator: Sign,
+    pub place: Place,
+    pub operand: Expr<'a>,
+}

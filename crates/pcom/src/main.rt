@@ -1,0 +1,4 @@
+//! The compiler's program.
+#![tactic(auto)]
+
+fn main(_rt: HostRuntime) {}

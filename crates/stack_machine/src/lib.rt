@@ -1,0 +1,2 @@
+//! stack_machine
+#![tactic(auto)]

@@ -1,0 +1,53 @@
+ghost use Rattle.std.specs.Prelude.{◌≡◌};
+ghost use Rattle.typed_tree.specs.declared.fault.TypeFault.TheVariants.{Memory};
+
+use lexer::place::Place;
+use std::alloc::{AllocError, AllocFailed};
+use thiserror::Error;
+
+/// Why a syntax tree has no typed tree.
+#[derive(Clone, Copy, Debug, PartialEq, Eq, Error)]
+pub enum TypeFault {
+    #[error("no memory")]
+    Memory,
+    /// S1, at a name that is declared twice in one block.
+    #[error("{0}: declared twice in one block")]
+    DeclaredTwice(Place),
+    /// S2, at a use in the region of a name before its declaration.
+    #[error("{0}: used before its declaration")]
+    UsedBeforeDeclared(Place),
+    /// S3, at a name that isn't declared.
+    #[error("{0}: not declared")]
+    NotDeclared(Place),
+    /// K1, where types or kinds of things don't fit.
+    #[error("{0}: types that don't fit")]
+    Mismatch(Place),
+    /// K2, at a thing that isn't a variable where one is needed.
+    #[error("{0}: not a variable")]
+    NotVariable(Place),
+    /// K3, where the parameters of a call are wrong.
+    #[error("{0}: wrong parameters")]
+    WrongParameters(Place),
+    /// K8, where input or output isn't a program parameter, and at another program parameter.
+    #[error("{0}: input or output is no program parameter")]
+    NotProgramParameter(Place),
+    /// K10, over 1,000,000 sites or points, or over 4,000,000 statements and expressions.
+    #[error("{0}: too many sites, statements or expressions")]
+    TooMany(Place),
+}
+
+impl From<AllocError> for TypeFault {
+    ghost from_gives = { λ _ e. e ≡ Memory };
+
+    fn from(_error: AllocError) -> TypeFault {
+        TypeFault::Memory
+    }
+}
+
+impl<T: Drop> From<AllocFailed<T>> for TypeFault {
+    ghost from_gives = { λ _ e. e ≡ Memory };
+
+    fn from(_error: AllocFailed<T>) -> TypeFault {
+        TypeFault::Memory
+    }
+}
