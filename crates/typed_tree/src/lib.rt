@@ -1,7 +1,13 @@
-//! The typed tree of a program: every name bound, every type known, every site numbered.
+//! The typed tree of a program: every name bound, every type known, every site numbered
+//! (ISO 7185:1990, 6.2.2 and 6.4 to 6.9).
 #![tactic(auto)]
 
 pub mod fault;
+mod resolver;
+mod scopes;
 pub mod site;
 pub mod tree;
 pub mod types;
+
+pub use resolver::{resolve, sites};
+pub use scopes::{Denotation, RequiredProcedure, ScopeFault, Scopes};

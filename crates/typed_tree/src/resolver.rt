@@ -1,0 +1,359 @@
+use crate::fault::TypeFault;
+use crate::scopes::{Denotation, RequiredProcedure, ScopeFault, Scopes};
+use crate::site::{Site, SiteKind};
+use crate::tree::{Access, Block, Expr, Link, Sign, Stmt, Tree, Variable};
+use crate::types::{TypeId, TypeTable};
+use lexer::place::Place;
+use parser::tree as syntax;
+use std::alloc::{AllocError, Global};
+
+/// The most sites, and the most points, of a program.
+pub const MOST_SITES: usize = 1_000_000;
+
+/// The most statements and expressions of a program.
+pub const MOST_ENTRIES: u32 = 4_000_000;
+
+/// The largest number of type integer, and the value of maxint.
+pub const MAXINT: i32 = 2_147_483_647;
+
+/// The typed tree of a program, or a rule that it breaks, with the place.
+pub fn resolve(alloc: Global, program: &syntax::Program) -> Result<Tree, TypeFault> {
+    let types = TypeTable::required(alloc)?;
+    let mut scopes = Scopes::new(alloc);
+    open_required(alloc, &mut scopes)?;
+    open_block(alloc, &mut scopes, program)?;
+    let has_output = declare_parameters(alloc, &mut scopes, &program.parameters)?;
+    let variables = declare_variables(alloc, &mut scopes, &program.block.variables)?;
+    let mut resolver = Resolver {
+        alloc,
+        scopes,
+        has_output,
+        sites: Vec::new(alloc),
+        entries: 0,
+        latest: program.name.place,
+    };
+    let number = resolver.enter()?;
+    let statements = resolver.statements(&program.block.statements)?;
+    let mut blocks = Vec::new(alloc);
+    blocks.push(Block {
+        body: Stmt::Compound { number, statements },
+        end: program.block.end,
+    })?;
+    Ok(Tree {
+        blocks,
+        variables,
+        sites: resolver.sites,
+        points: Vec::new(alloc),
+        types,
+    })
+}
+
+/// The sites of a program, in the order of places and then of kinds, so in the order of their ids.
+pub fn sites(tree: &Tree) -> &[Site] {
+    tree.sites.as_slice()
+}
+
+// Small and capital letters are alike.
+fn folded(alloc: Global, name: &[u8]) -> Result<Vec<u8>, AllocError> {
+    name.iter().map(|letter| letter.to_ascii_lowercase()).collect(alloc)
+}
+
+fn declare(
+    alloc: Global,
+    scopes: &mut Scopes,
+    name: &syntax::Name,
+    denotation: Denotation,
+) -> Result<(), TypeFault> {
+    let key = folded(alloc, name.text)?;
+    scopes.declare(key, denotation).map_err(|fault| placed(fault, name.place))
+}
+
+fn find(alloc: Global, scopes: &Scopes, name: &syntax::Name) -> Result<Denotation, TypeFault> {
+    let key = folded(alloc, name.text)?;
+    scopes.find(key.as_slice()).map_err(|fault| placed(fault, name.place))
+}
+
+fn placed(fault: ScopeFault, place: Place) -> TypeFault {
+    match fault {
+        ScopeFault::Memory => TypeFault::Memory,
+        ScopeFault::DeclaredTwice => TypeFault::DeclaredTwice(place),
+        ScopeFault::UsedBeforeDeclared => TypeFault::UsedBeforeDeclared(place),
+        ScopeFault::NotDeclared => TypeFault::NotDeclared(place),
+    }
+}
+
+// The required identifiers stand round the program.
+fn open_required(alloc: Global, scopes: &mut Scopes) -> Result<(), TypeFault> {
+    let required: [(&[u8], Denotation); 3] = [
+        (b"integer", Denotation::Type(TypeTable::INTEGER)),
+        (b"maxint", Denotation::Constant { value: MAXINT, type_id: TypeTable::INTEGER }),
+        (b"writeln", Denotation::Procedure(RequiredProcedure::Writeln)),
+    ];
+    scopes.open(alloc, &[])?;
+    for (name, denotation) in required {
+        let place = Place { line: 1, column: 1 };
+        declare(alloc, scopes, &syntax::Name { text: name, place }, denotation)?;
+    }
+    Ok(())
+}
+
+// The names that the program's block defines: its parameters and its variables.
+fn open_block(alloc: Global, scopes: &mut Scopes, program: &syntax::Program) -> Result<(), TypeFault> {
+    let mut names = Vec::new(alloc);
+    for name in &program.parameters {
+        names.push(folded(alloc, name.text)?)?;
+    }
+    for group in &program.block.variables {
+        for name in &group.names {
+            names.push(folded(alloc, name.text)?)?;
+        }
+    }
+    scopes.open(alloc, &names)?;
+    Ok(())
+}
+
+// Whether output is a program parameter; no other name may be one.
+fn declare_parameters(
+    alloc: Global,
+    scopes: &mut Scopes,
+    parameters: &[syntax::Name],
+) -> Result<bool, TypeFault> {
+    for name in parameters {
+        if folded(alloc, name.text)?.as_slice() != b"output".as_slice() {
+            return Err(TypeFault::NotProgramParameter(name.place));
+        }
+        declare(alloc, scopes, name, Denotation::Output)?;
+    }
+    Ok(!parameters.is_empty())
+}
+
+fn declare_variables(
+    alloc: Global,
+    scopes: &mut Scopes,
+    groups: &[syntax::VariableGroup],
+) -> Result<Vec<Variable>, TypeFault> {
+    let mut variables = Vec::new(alloc);
+    for group in groups {
+        declare_group(alloc, scopes, group, &mut variables)?;
+    }
+    Ok(variables)
+}
+
+// Variables that are declared together: their names stand before the type.
+fn declare_group(
+    alloc: Global,
+    scopes: &mut Scopes,
+    group: &syntax::VariableGroup,
+    variables: &mut Vec<Variable>,
+) -> Result<(), TypeFault> {
+    let mut root = variables.len();
+    for name in &group.names {
+        let number = u32::try_from(root).map_err(|_| TypeFault::TooMany(name.place))?;
+        declare(alloc, scopes, name, Denotation::Variable(number))?;
+        root = root.saturating_add(1);
+    }
+    let type_id = denoted_type(alloc, scopes, &group.denoter)?;
+    for _ in &group.names {
+        variables.push(Variable { block: 0, type_id })?;
+    }
+    Ok(())
+}
+
+fn denoted_type(alloc: Global, scopes: &Scopes, denoter: &syntax::TypeDenoter) -> Result<TypeId, TypeFault> {
+    let syntax::TypeDenoter::Name(name) = denoter;
+    match find(alloc, scopes, name)? {
+        Denotation::Type(type_id) => Ok(type_id),
+        _ => Err(TypeFault::Mismatch(name.place)),
+    }
+}
+
+// What is known while the statements of a block are passed.
+#[derive(Drop)]
+struct Resolver {
+    alloc: Global,
+    scopes: Scopes,
+    has_output: bool,
+    sites: Vec<Site>,
+    // How many statements and expressions were entered.
+    entries: u32,
+    // The place of the latest token that the syntax tree tells.
+    latest: Place,
+}
+
+impl Resolver {
+    // The number of the statement or expression that is entered.
+    fn enter(&mut self) -> Result<u32, TypeFault> {
+        if self.entries >= MOST_ENTRIES {
+            return Err(TypeFault::TooMany(self.latest));
+        }
+        let number = self.entries;
+        self.entries += 1;
+        Ok(number)
+    }
+
+    // The id of a new site. Sites come in the order of their tokens.
+    fn site(&mut self, kind: SiteKind, place: Place) -> Result<u32, TypeFault> {
+        self.latest = place;
+        if self.sites.len() >= MOST_SITES {
+            return Err(TypeFault::TooMany(place));
+        }
+        let id = self.sites.len() as u32;
+        self.sites.push(Site { id, kind, place })?;
+        Ok(id)
+    }
+
+    fn find(&mut self, name: &syntax::Name) -> Result<Denotation, TypeFault> {
+        self.latest = name.place;
+        find(self.alloc, &self.scopes, name)
+    }
+
+    #[cycle(statements)]
+    fn statements(&mut self, statements: &[syntax::Stmt]) -> Result<Vec<Stmt>, TypeFault> {
+        let mut typed = Vec::new(self.alloc);
+        for statement in statements {
+            typed.push(self.statement(statement)?)?;
+        }
+        Ok(typed)
+    }
+
+    #[cycle(statements)]
+    fn statement(&mut self, statement: &syntax::Stmt) -> Result<Stmt, TypeFault> {
+        match statement {
+            syntax::Stmt::Empty => Ok(Stmt::Empty { number: self.enter()? }),
+            syntax::Stmt::Assign { name, becomes, value } => self.assignment(name, *becomes, value),
+            syntax::Stmt::Call { name, actuals } => self.call(name, actuals),
+            syntax::Stmt::Compound { statements } => {
+                let number = self.enter()?;
+                let statements = self.statements(statements)?;
+                Ok(Stmt::Compound { number, statements })
+            }
+        }
+    }
+
+    // The variable is accessed first, then comes the value, then its test.
+    fn assignment(
+        &mut self,
+        name: &syntax::Name,
+        becomes: Place,
+        value: &syntax::Expr,
+    ) -> Result<Stmt, TypeFault> {
+        let number = self.enter()?;
+        let Denotation::Variable(root) = self.find(name)? else {
+            return Err(TypeFault::NotVariable(name.place));
+        };
+        let target = Access { number: self.enter()?, root };
+        let fits = self.site(SiteKind::Subrange, becomes)?;
+        let value = self.expression(value)?;
+        Ok(Stmt::Assign { number, target, fits, value })
+    }
+
+    fn call(&mut self, name: &syntax::Name, actuals: &[syntax::Expr]) -> Result<Stmt, TypeFault> {
+        match self.find(name)? {
+            Denotation::Procedure(RequiredProcedure::Writeln) => self.writeln(name, actuals),
+            _ => Err(TypeFault::Mismatch(name.place)),
+        }
+    }
+
+    // The file may stand as the first parameter, and is no value.
+    fn writeln(&mut self, name: &syntax::Name, actuals: &[syntax::Expr]) -> Result<Stmt, TypeFault> {
+        if !self.has_output {
+            return Err(TypeFault::NotProgramParameter(name.place));
+        }
+        let number = self.enter()?;
+        let written = self.written_values(actuals)?;
+        let mut values = Vec::new(self.alloc);
+        for actual in written {
+            values.push(self.expression(actual)?)?;
+        }
+        Ok(Stmt::Writeln { number, values })
+    }
+
+    // What is written: the actuals without the file.
+    fn written_values<'e, 'a>(
+        &mut self,
+        actuals: &'e [syntax::Expr<'a>],
+    ) -> Result<&'e [syntax::Expr<'a>], TypeFault> {
+        let Some((first, rest)) = actuals.split_first() else {
+            return Ok(actuals);
+        };
+        if self.is_output(first)? {
+            return Ok(rest);
+        }
+        Ok(actuals)
+    }
+
+    fn is_output(&mut self, actual: &syntax::Expr) -> Result<bool, TypeFault> {
+        match actual {
+            syntax::Expr::Name(name) => Ok(self.find(name)? == Denotation::Output),
+            _ => Ok(false),
+        }
+    }
+
+    fn expression(&mut self, expression: &syntax::Expr) -> Result<Expr, TypeFault> {
+        match expression {
+            syntax::Expr::Number { value, place } => self.number(*value, *place),
+            syntax::Expr::Name(name) => self.named(name),
+            syntax::Expr::Parenthesized { open, inner } => {
+                self.latest = *open;
+                self.expression(inner)
+            }
+            syntax::Expr::Signed { sign, place, term } => {
+                self.latest = *place;
+                let number = self.enter()?;
+                let operand = self.expression(term)?;
+                Ok(Expr::Signed {
+                    number,
+                    sign: typed_sign(*sign),
+                    operand: Box::new(self.alloc, operand)?,
+                })
+            }
+            syntax::Expr::Sum { first, rest } => {
+                let first = self.expression(first)?;
+                let mut typed = Vec::new(self.alloc);
+                for link in rest {
+                    let (number, overflow) = self.operator(link.place)?;
+                    typed.push(Link {
+                        number,
+                        operator: typed_sign(link.operator),
+                        overflow,
+                        operand: self.expression(&link.operand)?,
+                    })?;
+                }
+                Ok(Expr::Sum { first: Box::new(self.alloc, first)?, rest: typed })
+            }
+        }
+    }
+
+    // An operator between operands: its number, and the site of its result's test.
+    fn operator(&mut self, place: Place) -> Result<(u32, u32), TypeFault> {
+        let overflow = self.site(SiteKind::Overflow, place)?;
+        Ok((self.enter()?, overflow))
+    }
+
+    fn number(&mut self, value: u32, place: Place) -> Result<Expr, TypeFault> {
+        self.latest = place;
+        let value = i32::try_from(value).map_err(|_| TypeFault::Mismatch(place))?;
+        Ok(Expr::Constant { number: self.enter()?, value })
+    }
+
+    // A name as an expression.
+    fn named(&mut self, name: &syntax::Name) -> Result<Expr, TypeFault> {
+        match self.find(name)? {
+            Denotation::Constant { value, .. } => Ok(Expr::Constant { number: self.enter()?, value }),
+            Denotation::Variable(root) => {
+                let access = Access { number: self.enter()?, root };
+                let defined = self.site(SiteKind::UndefinedVariable, name.place)?;
+                Ok(Expr::Variable { access, defined })
+            }
+            Denotation::Procedure(_) => Err(TypeFault::WrongParameters(name.place)),
+            Denotation::Type(_) | Denotation::Output => Err(TypeFault::Mismatch(name.place)),
+        }
+    }
+}
+
+fn typed_sign(sign: syntax::Sign) -> Sign {
+    match sign {
+        syntax::Sign::Plus => Sign::Plus,
+        syntax::Sign::Minus => Sign::Minus,
+    }
+}
