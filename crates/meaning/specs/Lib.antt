@@ -1,1 +1,4 @@
+pub mod Store
+pub mod Effect
+pub mod Meaning
 pub mod Weight

@@ -1,4 +1,3 @@
-use Rattle.std.proofs.Common.{ℕ}
 use Rattle.std.specs.Prelude.{sum_by}
 use Rattle.meaning.specs.Weight.{weight_of}
 use Rattle.meaning.proofs.interpreter.Run.finish.Given as goal

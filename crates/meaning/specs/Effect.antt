@@ -1,0 +1,92 @@
+-- What a piece of a program does: from a state to a reply, which gives a value or stops (ISO 7185:1990, 6.7, 6.8).
+-- It says nothing of how long that takes.
+use Rattle.std.specs.Prelude.{ℕ, ℤ, pos, ◌-◌, ◌++◌, Bool, List, [], ◌∷◌, Option, Some, None, if◌then◌else◌, length, replicate, unwrap_or, int_le, neg_ℤ}
+use Rattle.std.specs.Fmt.{signed_decimal}
+use Rattle.meaning.specs.declared.outcome.Ending.{Ending}
+use Rattle.meaning.specs.declared.outcome.Ending.TheVariants as ending
+use Rattle.meaning.specs.declared.store.Value.{Value}
+use Rattle.meaning.specs.declared.store.Value.TheVariants.{Number}
+use Rattle.meaning.specs.Store.{Environment, Place, Store, stored, written}
+
+-- an entry into the statement or expression with this number, for theorems alone
+pub record Visit : Type 0 where
+  pub number : ℕ
+  pub environment : Environment
+  pub store : Store
+
+-- what a run has made so far: the store, the input that is left, the output, the turns that are left, how many
+-- activations there were, and the entries
+pub record State : Type 0 where
+  pub store : Store
+  pub input : List ℕ
+  pub output : List ℕ
+  pub turns : ℕ
+  pub activations : ℕ
+  pub visited : List Visit
+
+-- a value and the state after it, or an ending and the state there
+pub data Reply (A : Type 0) : Type 0 where
+  Gives : A → State → Reply A
+  Stops : Ending → State → Reply A
+
+abbrev pub Action : Type 0 → Type 0
+Action A = State → Reply A
+
+-- goes on from a reply
+abbrev pub and_then : {A B : Type 0} → Reply A → (A → State → Reply B) → Reply B
+and_then (Gives a s) next = next a s
+and_then (Stops e s) next = Stops e s
+
+-- one after the other
+infixl 10 ◌>>=◌
+abbrev pub ◌>>=◌ : {A B : Type 0} → Action A → (A → Action B) → Action B
+(first >>= next) s = and_then (first s) next
+
+abbrev pub give : {A : Type 0} → A → Action A
+give a s = Gives a s
+
+abbrev pub stop : {A : Type 0} → Ending → Action A
+stop e s = Stops e s
+
+-- an error at the site, unless the test holds
+abbrev pub require : Bool → ℕ → Action (Unit {0})
+require holds site = if holds then give tt else stop (ending.Error site)
+
+-- the entry into a statement or expression
+abbrev pub enter : ℕ → Environment → Action (Unit {0})
+enter number env s =
+    Gives tt (record s { visited = s.visited ++ record { number = number; environment = env; store = s.store } ∷ [] })
+
+-- where a variable lies; each variable that a tree names is visible there
+abbrev pub place_of : Environment → ℕ → Place
+place_of env root = unwrap_or (env root) (record { activation = 0; variable = root; steps = [] })
+
+-- the value of a place, or an error at the site where it is undefined
+abbrev pub fetched : Option Value → ℕ → Action Value
+fetched None site = stop (ending.Error site)
+fetched (Some v) site = give v
+
+abbrev pub fetch : Place → ℕ → Action Value
+fetch p site s = fetched (stored s.store p) site s
+
+abbrev pub store : Place → Value → Action (Unit {0})
+store p v s = Gives tt (record s { store = written s.store p v })
+
+abbrev pub write : List ℕ → Action (Unit {0})
+write bytes s = Gives tt (record s { output = s.output ++ bytes })
+
+-- the largest number of type integer (6.4.2.2)
+abbrev pub maxint : ℤ
+maxint = pos 2147483647
+
+-- a number from lo to hi
+abbrev pub is_within : ℤ → ℤ → ℤ → Bool
+is_within lo hi n = if int_le lo n then int_le n hi else Bool.false
+
+-- a value of type integer
+abbrev pub is_integer : Value → Bool
+is_integer (Number n) = is_within (neg_ℤ maxint) maxint n
+
+-- an integer, set right in a width and never cut (6.9.3.2)
+abbrev pub integer_text : Value → ℕ → List ℕ
+integer_text (Number n) width = replicate (width - length (signed_decimal n)) 32 ++ signed_decimal n

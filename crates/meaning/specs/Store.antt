@@ -1,0 +1,58 @@
+-- Places, the store and environments (ISO 7185:1990, 6.2.3.2, 6.5.1): where the variables of activations lie,
+-- and what they hold. It says nothing of cells, addresses or sizes.
+use Rattle.std.specs.Prelude.{ℕ, ℤ, Bool, false, ◌&&◌, List, [], ◌∷◌, Option, Some, None, if◌then◌else◌, nat_eq}
+use Rattle.std.specs.Ordering.{int_eq}
+use Rattle.std.specs.Cmp.Lexicographic.{pointwise}
+use Rattle.meaning.specs.declared.store.Value.{Value}
+
+-- a step from a variable to a component of it: the element at an ordinal, or the field of a name
+pub data Step : Type 0 where
+  Element : (index : ℤ) → Step
+  Field : (name : List ℕ) → Step
+
+-- where a scalar or a set lies: an activation, a variable of it, and the steps to a component
+pub record Place : Type 0 where
+  pub activation : ℕ
+  pub variable : ℕ
+  pub steps : List Step
+
+-- a store, the latest writing first: it holds for a place what was written there last, or nothing where it is undefined
+abbrev pub Store : Type 0
+Store = List (Place × Option Value)
+
+-- the visible variables of a block by their roots, each with its place
+abbrev pub Environment : Type 0
+Environment = ℕ → Option Place
+
+abbrev pub step_eq : Step → Step → Bool
+step_eq (Element i) (Element j) = int_eq i j
+step_eq (Field a) (Field b) = pointwise nat_eq a b
+step_eq (Element i) (Field b) = false
+step_eq (Field a) (Element j) = false
+
+abbrev pub place_eq : Place → Place → Bool
+place_eq p q = nat_eq p.activation q.activation && (nat_eq p.variable q.variable && pointwise step_eq p.steps q.steps)
+
+-- what a place holds, if it is defined
+abbrev pub stored : Store → Place → Option Value
+stored [] p = None
+stored (entry ∷ store) p = if place_eq entry.0 p then entry.1 else stored store p
+
+-- the store after a value was written
+abbrev pub written : Store → Place → Value → Store
+written store p v = (p, Some v) ∷ store
+
+-- the store after a place became undefined
+abbrev pub undefined : Store → Place → Store
+undefined store p = (p, None) ∷ store
+
+-- the first steps of a row of steps
+abbrev pub is_beginning : List Step → List Step → Bool
+is_beginning [] steps = Bool.true
+is_beginning (s ∷ ss) [] = false
+is_beginning (s ∷ ss) (t ∷ ts) = step_eq s t && is_beginning ss ts
+
+-- one place is a part of the other, or they are the same
+abbrev pub overlap : Place → Place → Bool
+overlap p q =
+    nat_eq p.activation q.activation && (nat_eq p.variable q.variable && (if is_beginning p.steps q.steps then Bool.true else is_beginning q.steps p.steps))
