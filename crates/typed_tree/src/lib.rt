@@ -2,6 +2,7 @@
 //! (ISO 7185:1990, 6.2.2 and 6.4 to 6.9).
 #![tactic(auto)]
 
+mod denotation;
 pub mod fault;
 mod resolver;
 mod scopes;
@@ -10,4 +11,3 @@ pub mod tree;
 pub mod types;
 
 pub use resolver::{resolve, sites};
-pub use scopes::{Denotation, RequiredProcedure, ScopeFault, Scopes};

@@ -1,8 +1,9 @@
 use crate::fault::TypeFault;
-use crate::scopes::{Denotation, RequiredProcedure, ScopeFault, Scopes};
+use crate::denotation::{Denotation, RequiredProcedure, ScopeFault};
+use crate::scopes::Scopes;
 use crate::site::{Site, SiteKind};
 use crate::tree::{Access, Block, Expr, Link, Sign, Stmt, Tree, Variable};
-use crate::types::{TypeId, TypeTable};
+use crate::types::{MAXINT, TypeId, TypeTable};
 use lexer::place::Place;
 use parser::tree as syntax;
 use std::alloc::{AllocError, Global};
@@ -12,9 +13,6 @@ pub const MOST_SITES: usize = 1_000_000;
 
 /// The most statements and expressions of a program.
 pub const MOST_ENTRIES: u32 = 4_000_000;
-
-/// The largest number of type integer, and the value of maxint.
-pub const MAXINT: i32 = 2_147_483_647;
 
 /// The typed tree of a program, or a rule that it breaks, with the place.
 pub fn resolve(alloc: Global, program: &syntax::Program) -> Result<Tree, TypeFault> {

@@ -1,64 +1,24 @@
-ghost use Rattle.std.specs.Prelude.{◌≡◌, ◌≤◌, ◌<◌, length, IfOk, OnOk, OnErr, IsTrue, vec_len};
-ghost use Rattle.typed_tree.specs.declared.scopes.ScopeFault.TheVariants.{Memory};
+ghost use Rattle.std.specs.Prelude.{◌≡◌, nat_eq};
+ghost use Rattle.std.specs.Cmp.Lexicographic.{pointwise};
+ghost use Rattle.std.specs.HashMap.{get_by};
+ghost use Rattle.typed_tree.specs.Scopes.{decided};
 
-use crate::types::TypeId;
+use crate::denotation::{Denotation, ScopeFault};
 use indexmap::IndexMap;
-use std::alloc::{AllocError, AllocFailed, Global};
+use std::alloc::{AllocError, Global};
 
-/// What a name denotes (ISO 7185:1990, 6.2.2).
-#[derive(Clone, Copy, Debug, PartialEq, Eq)]
-pub enum Denotation {
-    Type(TypeId),
-    Constant {
-        value: i32,
-        type_id: TypeId,
-    },
-    /// The variable with this root number.
-    Variable(u32),
-    Procedure(RequiredProcedure),
-    /// The file output, a program parameter.
-    Output,
-}
-
-/// A required procedure (6.6.4, 6.9).
-#[derive(Clone, Copy, Debug, PartialEq, Eq)]
-pub enum RequiredProcedure {
-    Writeln,
-}
-
-/// Why a name has no meaning, or gets none.
-#[derive(Clone, Copy, Debug, PartialEq, Eq)]
-pub enum ScopeFault {
-    Memory,
-    DeclaredTwice,
-    UsedBeforeDeclared,
-    NotDeclared,
-}
-
-impl From<AllocError> for ScopeFault {
-    ghost from_gives = { λ _ e. e ≡ Memory };
-
-    fn from(_error: AllocError) -> ScopeFault {
-        ScopeFault::Memory
-    }
-}
-
-impl<T: Drop> From<AllocFailed<T>> for ScopeFault {
-    ghost from_gives = { λ _ e. e ≡ Memory };
-
-    fn from(_error: AllocFailed<T>) -> ScopeFault {
-        ScopeFault::Memory
-    }
-}
+// A region's names, each with what it denotes once its definition was passed.
+type Region = IndexMap<Vec<u8>, Option<Denotation>>;
 
 /// The regions round a place of a program, the outermost first. Names are in lower case.
 #[derive(Drop)]
 pub struct Scopes {
-    /// For each name that its block defines: what it denotes, once its definition was passed.
-    blocks: Vec<IndexMap<Vec<u8>, Option<Denotation>>>,
+    blocks: Vec<Region>,
 }
 
 impl Scopes {
+    ghost use Rattle.typed_tree.specs.Scopes.{found};
+
     /// No region.
     pub fn new(alloc: Global) -> Scopes {
         Scopes {
@@ -93,12 +53,28 @@ impl Scopes {
     }
 
     /// What a name denotes: its innermost region decides.
-    pub fn find(&self, name: &[u8]) -> Result<Denotation, ScopeFault> {
-        for region in self.blocks.iter().rev() {
-            if let Some(entry) = region.get(name) {
-                return entry.ok_or(ScopeFault::UsedBeforeDeclared);
-            }
+    pub fn find(&self, name: &[u8]) -> Result<Denotation, ScopeFault>
+        ensures { result ≡ found self.now.blocks.items name.now }
+    {
+        let mut found = Err(ScopeFault::NotDeclared);
+        for region in &self.blocks {
+            found = decided(region, name, found);
         }
-        Err(ScopeFault::NotDeclared)
+        found
+    }
+}
+
+// What a region says of a name, where the regions round it say `outer`.
+fn decided(
+    region: &Region,
+    name: &[u8],
+    outer: Result<Denotation, ScopeFault>,
+) -> Result<Denotation, ScopeFault>
+    ensures { result ≡ decided (get_by (λ key. pointwise nat_eq name.now key.items) region.now) outer }
+{
+    match region.get(name).copied() {
+        Some(Some(denotation)) => Ok(denotation),
+        Some(None) => Err(ScopeFault::UsedBeforeDeclared),
+        None => outer,
     }
 }

@@ -1,4 +1,5 @@
-ghost use Rattle.std.specs.Prelude.{◌≡◌, ◌<◌, ◌↔◌, IsTrue, IfOk, vec_len};
+ghost use Rattle.std.specs.Prelude.{◌≡◌, ◌<◌, ◌↔◌, [], ◌∷◌, IsTrue, IfOk, vec_len};
+ghost use Rattle.typed_tree.specs.Types.{form_at, range_at, cells_at, is_compatible};
 
 use std::alloc::{AllocError, Global};
 
@@ -22,6 +23,9 @@ pub struct OrdinalRange {
     pub last: i32,
 }
 
+/// The largest number of type integer, and the value of maxint (6.4.2.2).
+pub const MAXINT: i32 = 2_147_483_647;
+
 /// The types of a program.
 #[derive(Debug, Drop)]
 pub struct TypeTable {
@@ -32,10 +36,55 @@ impl TypeTable {
     /// The type integer in each table that `required` makes.
     pub const INTEGER: TypeId = TypeId { index: 0 };
 
-    /// The required types.
-    pub fn required(alloc: Global) -> Result<TypeTable, AllocError> {
+    /// The table of the required types.
+    pub fn required(alloc: Global) -> Result<TypeTable, AllocError>
+        ensures { IfOk result (λ table. table.forms.items ≡ TypeForm.Integer ∷ []) }
+    {
         let mut forms = Vec::new(alloc);
         forms.push(TypeForm::Integer)?;
         Ok(TypeTable { forms })
+    }
+
+    /// Whether two denoters denote the same type.
+    pub fn same(&self, first: TypeId, second: TypeId) -> bool
+        requires first { first.index < vec_len self.now.forms }
+        requires second { second.index < vec_len self.now.forms }
+        ensures { IsTrue result ↔ (first ≡ second) }
+    {
+        first == second
+    }
+
+    /// Whether two types are compatible (6.4.5).
+    pub fn compatible(&self, first: TypeId, second: TypeId) -> bool
+        requires first { first.index < vec_len self.now.forms }
+        requires second { second.index < vec_len self.now.forms }
+        ensures { result ≡ is_compatible (form_at self.now first) (form_at self.now second) }
+    {
+        match (self.forms[first.index], self.forms[second.index]) {
+            (TypeForm::Integer, TypeForm::Integer) => true,
+        }
+    }
+
+    /// The values of an ordinal type (6.4.2).
+    pub fn range(&self, id: TypeId) -> Option<OrdinalRange>
+        requires { id.index < vec_len self.now.forms }
+        ensures { result ≡ range_at (form_at self.now id) }
+    {
+        match self.forms[id.index] {
+            TypeForm::Integer => Some(OrdinalRange {
+                first: -MAXINT,
+                last: MAXINT,
+            }),
+        }
+    }
+
+    /// How many cells a variable of the type takes.
+    pub fn cells(&self, id: TypeId) -> u32
+        requires { id.index < vec_len self.now.forms }
+        ensures { result ≡ cells_at (form_at self.now id) }
+    {
+        match self.forms[id.index] {
+            TypeForm::Integer => 1,
+        }
     }
 }

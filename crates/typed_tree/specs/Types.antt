@@ -1,0 +1,28 @@
+-- The type rules (ISO 7185:1990, 6.4.2, 6.4.5): the same type, compatible types, the values of an ordinal type, and
+-- the cells that a variable takes. It says nothing of which type a denoter denotes.
+use Rattle.std.specs.Prelude.{ℕ, pos, neg_ℤ, Bool, true, false, Option, Some, None, slice_get}
+use Rattle.typed_tree.specs.declared.types.TypeForm.{TypeForm}
+use Rattle.typed_tree.specs.declared.types.TypeForm.TheVariants.{Integer}
+use Rattle.typed_tree.specs.declared.types.TypeId.{TypeId}
+use Rattle.typed_tree.specs.declared.types.OrdinalRange.{OrdinalRange}
+use Rattle.typed_tree.specs.declared.types.TypeTable.{TypeTable}
+
+-- the form of a type of a table; two types are the same if they have one number there
+abbrev pub form_at : TypeTable → TypeId → Option TypeForm
+form_at table id = slice_get table.forms.items id.index
+
+-- compatible types: here all are of host integer
+abbrev pub is_compatible : Option TypeForm → Option TypeForm → Bool
+is_compatible (Some Integer) (Some Integer) = true
+is_compatible (Some Integer) None = false
+is_compatible None second = false
+
+-- the first and the last value of an ordinal type
+abbrev pub range_at : Option TypeForm → Option OrdinalRange
+range_at None = None
+range_at (Some Integer) = Some (record { first = neg_ℤ (pos 2147483647); last = pos 2147483647 })
+
+-- a scalar takes one cell
+abbrev pub cells_at : Option TypeForm → ℕ
+cells_at None = 0
+cells_at (Some Integer) = 1
