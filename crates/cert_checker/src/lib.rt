@@ -1,2 +1,4 @@
 //! cert_checker
 #![tactic(auto)]
+pub mod fault;
+pub mod verdict;

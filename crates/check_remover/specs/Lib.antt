@@ -1,0 +1,2 @@
+pub mod Strip
+pub mod Places

@@ -1,2 +1,8 @@
-//! check_remover
+//! Takes the checks that can't fail out of symbolic stack code.
 #![tactic(auto)]
+
+mod places;
+pub mod remove;
+mod sites;
+#[cfg(test)]
+mod tests;

@@ -1,2 +1,3 @@
 //! code_generator
 #![tactic(auto)]
+pub mod fault;

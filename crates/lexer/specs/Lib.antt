@@ -1,0 +1,3 @@
+pub mod LexFault
+pub mod Place
+pub mod Piece

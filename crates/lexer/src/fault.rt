@@ -36,6 +36,44 @@ pub enum LexFault {
     StringByte(Place),
 }
 
+impl LexFault {
+    ghost use Rattle.lexer.specs.LexFault.{number_of, place_of_fault};
+
+    /// Its number behind the letter L, from 1 to 8, or 0 for `Memory`.
+    pub fn number(&self) -> u8
+        ensures { result ≡ number_of self.now }
+    {
+        match self {
+            LexFault::Memory => 0,
+            LexFault::UnknownByte(_) => 1,
+            LexFault::OpenComment(_) => 2,
+            LexFault::OpenString(_) => 3,
+            LexFault::EmptyString(_) => 4,
+            LexFault::LargeNumber(_) => 5,
+            LexFault::TouchingLetter(_) => 6,
+            LexFault::LongText(_) => 7,
+            LexFault::StringByte(_) => 8,
+        }
+    }
+
+    /// Where it stands in the text. `Memory` stands nowhere.
+    pub fn place(&self) -> Option<Place>
+        ensures { result ≡ place_of_fault self.now }
+    {
+        match self {
+            LexFault::Memory => None,
+            LexFault::UnknownByte(place)
+            | LexFault::OpenComment(place)
+            | LexFault::OpenString(place)
+            | LexFault::EmptyString(place)
+            | LexFault::LargeNumber(place)
+            | LexFault::TouchingLetter(place)
+            | LexFault::LongText(place)
+            | LexFault::StringByte(place) => Some(*place),
+        }
+    }
+}
+
 impl From<AllocError> for LexFault {
     ghost from_gives = { λ _ e. e ≡ Memory };
 

@@ -2,5 +2,14 @@
 #![tactic(auto)]
 
 pub mod fault;
+mod piece;
 pub mod place;
+mod scan;
+mod symbol;
 pub mod token;
+mod word;
+
+pub use scan::{MAX_TEXT, tokens};
+
+#[cfg(test)]
+mod tests;

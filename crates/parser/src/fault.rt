@@ -21,6 +21,34 @@ pub enum ParseFault {
     LeftOut(Place),
 }
 
+impl ParseFault {
+    ghost use Rattle.parser.specs.ParseFault.{number_of, place_of_fault};
+
+    /// Its number behind the letter P, from 1 to 3, or 0 for `Memory`.
+    pub fn number(&self) -> u8
+        ensures { result ≡ number_of self.now }
+    {
+        match self {
+            ParseFault::Memory => 0,
+            ParseFault::NoProgram(_) => 1,
+            ParseFault::TooDeep(_) => 2,
+            ParseFault::LeftOut(_) => 3,
+        }
+    }
+
+    /// Where it stands in the text. `Memory` stands nowhere.
+    pub fn place(&self) -> Option<Place>
+        ensures { result ≡ place_of_fault self.now }
+    {
+        match self {
+            ParseFault::Memory => None,
+            ParseFault::NoProgram(place)
+            | ParseFault::TooDeep(place)
+            | ParseFault::LeftOut(place) => Some(*place),
+        }
+    }
+}
+
 impl From<AllocError> for ParseFault {
     ghost from_gives = { λ _ e. e ≡ Memory };
 

@@ -1,5 +1,16 @@
 //! The syntax of a Pascal program (ISO 7185:1990, 6.2 to 6.10), from its tokens.
 #![tactic(auto)]
 
+mod cursor;
+mod expression;
 pub mod fault;
+mod nesting;
+mod program;
+mod statement;
 pub mod tree;
+
+pub use nesting::MAX_NESTING;
+pub use program::parse;
+
+#[cfg(test)]
+mod tests;

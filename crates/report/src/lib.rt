@@ -1,2 +1,5 @@
-//! report
+//! The whole compiler as calls over values, and the lines that its programs print.
 #![tactic(auto)]
+
+pub mod fault;
+pub mod text;

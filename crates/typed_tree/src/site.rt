@@ -1,29 +1,99 @@
+ghost use Rattle.std.specs.Prelude.{◌≡◌, ◌≤◌, length};
+ghost use Rattle.typed_tree.specs.Sites.{number_of, name_of, kind_of};
+
 use lexer::place::Place;
 
 /// A kind of error that a program may commit (ISO 7185:1990, 3.1), in the order of the numbers 1 to 13.
 #[derive(Clone, Copy, Debug, PartialEq, Eq, PartialOrd, Ord)]
 pub enum SiteKind {
     /// An index outside its type.
-    Index = 1,
+    Index,
     /// A value outside the type of its target.
-    Subrange = 2,
+    Subrange,
     /// The use of an undefined variable.
-    UndefinedVariable = 3,
+    UndefinedVariable,
     /// A function that ends without a result.
-    UndefinedResult = 4,
-    DivisionByZero = 5,
+    UndefinedResult,
+    DivisionByZero,
     /// A right operand of `mod` that is zero or less.
-    ModByZeroOrLess = 6,
+    ModByZeroOrLess,
     /// A case index without its constant.
-    Case = 7,
-    Chr = 8,
-    Succ = 9,
-    Pred = 10,
+    Case,
+    Chr,
+    Succ,
+    Pred,
     /// A result outside integer.
-    Overflow = 11,
+    Overflow,
     /// A total width below 1.
-    Width = 12,
-    SetMember = 13,
+    Width,
+    SetMember,
+}
+
+impl SiteKind {
+    /// Its number, from 1 to 13.
+    pub fn number(self) -> u8
+        ensures { result ≡ number_of self }
+    {
+        match self {
+            SiteKind::Index => 1,
+            SiteKind::Subrange => 2,
+            SiteKind::UndefinedVariable => 3,
+            SiteKind::UndefinedResult => 4,
+            SiteKind::DivisionByZero => 5,
+            SiteKind::ModByZeroOrLess => 6,
+            SiteKind::Case => 7,
+            SiteKind::Chr => 8,
+            SiteKind::Succ => 9,
+            SiteKind::Pred => 10,
+            SiteKind::Overflow => 11,
+            SiteKind::Width => 12,
+            SiteKind::SetMember => 13,
+        }
+    }
+
+    /// The kind of a number from 1 to 13.
+    pub fn with_number(number: u8) -> Option<SiteKind>
+        ensures { result ≡ kind_of number }
+    {
+        match number {
+            1 => Some(SiteKind::Index),
+            2 => Some(SiteKind::Subrange),
+            3 => Some(SiteKind::UndefinedVariable),
+            4 => Some(SiteKind::UndefinedResult),
+            5 => Some(SiteKind::DivisionByZero),
+            6 => Some(SiteKind::ModByZeroOrLess),
+            7 => Some(SiteKind::Case),
+            8 => Some(SiteKind::Chr),
+            9 => Some(SiteKind::Succ),
+            10 => Some(SiteKind::Pred),
+            11 => Some(SiteKind::Overflow),
+            12 => Some(SiteKind::Width),
+            13 => Some(SiteKind::SetMember),
+            _ => None,
+        }
+    }
+
+    /// Its name, as the programs print it.
+    pub fn name(self) -> &'static str
+        ensures name { result.now ≡ name_of self }
+        ensures short { length result.now ≤ 19 }
+    {
+        match self {
+            SiteKind::Index => "index",
+            SiteKind::Subrange => "subrange",
+            SiteKind::UndefinedVariable => "undefined variable",
+            SiteKind::UndefinedResult => "undefined result",
+            SiteKind::DivisionByZero => "division by zero",
+            SiteKind::ModByZeroOrLess => "mod by zero or less",
+            SiteKind::Case => "case",
+            SiteKind::Chr => "chr",
+            SiteKind::Succ => "succ",
+            SiteKind::Pred => "pred",
+            SiteKind::Overflow => "overflow",
+            SiteKind::Width => "width",
+            SiteKind::SetMember => "set member",
+        }
+    }
 }
 
 /// A place of the source at which a run may commit an error.

@@ -1,0 +1,37 @@
+ghost use Rattle.std.specs.Prelude.{◌≡◌};
+ghost use Rattle.certificate.specs.declared.fault.ReadFault.TheVariants.{Memory};
+
+use std::alloc::{AllocError, AllocFailed};
+use thiserror::Error;
+
+/// Why a text is no certificate. Lines are numbered from 1.
+#[derive(Clone, Copy, Debug, PartialEq, Eq, Error)]
+pub enum ReadFault {
+    #[error("no memory")]
+    Memory,
+    /// F1, a first line that names no version; at line 1 of a text without lines.
+    #[error("{line}: no certificate")]
+    FirstLine { line: u32 },
+    /// F2, a line that no certificate has.
+    #[error("{line}: no line of a certificate")]
+    NotInGrammar { line: u32 },
+    /// F5, a last line without its line end.
+    #[error("{line}: a line without its end")]
+    Unended { line: u32 },
+}
+
+impl From<AllocError> for ReadFault {
+    ghost from_gives = { λ _ e. e ≡ Memory };
+
+    fn from(_error: AllocError) -> ReadFault {
+        ReadFault::Memory
+    }
+}
+
+impl<T: Drop> From<AllocFailed<T>> for ReadFault {
+    ghost from_gives = { λ _ e. e ≡ Memory };
+
+    fn from(_error: AllocFailed<T>) -> ReadFault {
+        ReadFault::Memory
+    }
+}

@@ -1,0 +1,39 @@
+-- The new places of a list are those of the definition.
+use Rattle.std.proofs.Common.{◌≡◌, ℕ, ◌+◌, ◌-◌, ◌≤◌, Bool, List, length, take, min, sym, ap, subst, ◌∙◌, arith, slice_index}
+use Rattle.std.specs.Prelude.{count_by, map, filter}
+use Rattle.std.proofs.Math.Path.{fun_ext}
+use Rattle.std.proofs.lemmas.List.{take_min, length-take-le, length-take}
+use Rattle.std.proofs.lemmas.List.Sums.{count_by-le-length}
+use Rattle.pcode_assembler.specs.declared.instr.Instr.{Instr}
+use Rattle.check_remover.specs.Strip.{stays, moved_place, moved, strip_by}
+use Rattle.check_remover.specs.Places.{IsPlaces, new_place}
+
+-- a place past the end goes where the end goes
+moved_place-min : (is_open : ℕ → Bool) (code : List Instr) (place : ℕ) → moved_place is_open code (min (length code) place) ≡ moved_place is_open code place
+moved_place-min is_open code place =
+    let flip : min (length code) place ≡ min place (length code) = omega arith in
+    ap (λ n. count_by (stays is_open) (take n code)) flip ∙ ap (count_by (stays is_open)) (take_min place code)
+
+-- a list of new places gives each place its new one
+pub new_place-moved : (is_open : ℕ → Bool) (code : List Instr) (places : List ℕ) → IsPlaces (moved_place is_open code) (length code) places → (place : ℕ) → new_place places place ≡ moved_place is_open code place
+new_place-moved is_open code places h place =
+    let last : length places - 1 ≡ length code = omega (arith, h.count) in
+    let within : min (length code) place ≤ length code = omega arith in
+    ap (λ n. slice_index places (min n place)) last ∙ h.each (min (length code) place) within ∙ moved_place-min is_open code place
+
+-- no place moves up
+pub moved_place-le : (is_open : ℕ → Bool) (code : List Instr) (place : ℕ) → moved_place is_open code place ≤ place
+moved_place-le is_open code place =
+    let a = count_by-le-length (stays is_open) (take place code) in
+    let b = length-take place code in
+    omega arith
+
+pub new_place-le : (is_open : ℕ → Bool) (code : List Instr) (places : List ℕ) → IsPlaces (moved_place is_open code) (length code) places → (place : ℕ) → new_place places place ≤ place
+new_place-le is_open code places h place = rw (new_place-moved is_open code places h place) (moved_place-le is_open code place)
+
+-- what is kept by a test of ids and a list of new places is the stripped code of the test that it computes
+pub kept-strip_by : (test is_open : ℕ → Bool) (code rest : List Instr) (places : List ℕ) → ((id : ℕ) → test id ≡ is_open id) → IsPlaces (moved_place test code) (length code) places → rest ≡ map (moved (new_place places)) (filter (stays test) code) → rest ≡ strip_by is_open code
+kept-strip_by test is_open code rest places same h e =
+    let to : new_place places ≡ moved_place test code = fun_ext (new_place-moved test code places h) in
+    let tests : test ≡ is_open = fun_ext same in
+    e ∙ ap (λ f. map (moved f) (filter (stays test) code)) to ∙ ap (λ t. strip_by t code) tests

@@ -1,0 +1,60 @@
+ghost use Rattle.std.specs.Prelude.{◌≡◌, ℕ, ◌+◌, ◌-◌, ◌<◌, ◌≤◌, ◌^◌, nat_eq, IfOk, count_by, length, take, slice_index, vec_len};
+ghost use Rattle.std.specs.HashSet.{contains};
+ghost use Rattle.check_remover.specs.Places.{IsPlaces, new_place};
+ghost use Rattle.check_remover.specs.Strip.{moved, moved_place};
+
+use crate::sites::is_kept;
+use pcode_assembler::instr::Instr;
+use std::alloc::{AllocError, Global};
+use std::collections::HashSet;
+
+/// For each place of the code, and for the one past its end, how many instructions before it stay.
+pub fn places_of(
+    alloc: Global,
+    code: &[Instr],
+    open_ids: &HashSet<u32>,
+) -> Result<Vec<usize>, AllocError>
+    ensures { IfOk result (λ places. IsPlaces (moved_place (contains nat_eq open_ids.now) code.now) (length code.now) places.items) }
+{
+    let mut places = Vec::new(alloc);
+    let mut kept = 0;
+    for instr in code {
+        places.push(kept)?;
+        if is_kept(instr, open_ids) {
+            kept += 1;
+        }
+    }
+    places.push(kept)?;
+    Ok(places)
+}
+
+/// The instruction with its jump moved.
+pub fn with_moved_jump(instr: Instr, places: &[usize]) -> Instr
+    requires some { 1 ≤ length places.now }
+    requires small { (place : ℕ) → new_place places.now place ≤ place }
+    ensures { result ≡ moved (new_place places.now) instr }
+{
+    match instr {
+        Instr::Jump { target } => Instr::Jump {
+            target: place_in(places, target),
+        },
+        Instr::JumpIfFalse { target } => Instr::JumpIfFalse {
+            target: place_in(places, target),
+        },
+        Instr::CallProcedure { length, target } => Instr::CallProcedure {
+            length,
+            target: place_in(places, target),
+        },
+        other => other,
+    }
+}
+
+/// Where a jump to this place goes.
+fn place_in(places: &[usize], place: u32) -> u32
+    requires some { 1 ≤ length places.now }
+    requires small { new_place places.now place ≤ place }
+    ensures { result ≡ new_place places.now place }
+{
+    let last = places.len() - 1;
+    places[last.min(place as usize)] as u32
+}

@@ -1,0 +1,5 @@
+#[derive(Clone, Copy, Debug, PartialEq, Eq)]
+pub enum GenFault {
+    Memory,
+    TooLarge,
+}

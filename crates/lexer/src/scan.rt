@@ -1,0 +1,53 @@
+ghost use Rattle.std.specs.Prelude.{◌+◌, ◌^◌, ◌<◌, ◌≤◌, length};
+ghost use Rattle.lexer.specs.Piece.{offset_of};
+
+use crate::fault::LexFault;
+use crate::piece::{Piece, Refusal, next_piece};
+use crate::place::Place;
+use crate::token::Token;
+use std::alloc::Global;
+
+/// The most bytes that a text may have.
+pub const MAX_TEXT: usize = 1048576;
+
+/// The tokens of a text, in order (6.1), or its first fault: L7 of a text above `MAX_TEXT` before all
+/// others, then the first in the text, and of two at one place the one with the lower number. The tokens
+/// are as long as can be, and nothing but blanks, line ends and comments stands between them (6.1.8).
+pub fn tokens<'a>(alloc: Global, text: &'a [u8]) -> Result<Vec<Token<'a>>, LexFault> {
+    let mut place = Place::START;
+    if text.len() > MAX_TEXT {
+        return Err(LexFault::LongText(place));
+    }
+    let mut tokens = Vec::new(alloc);
+    let mut rest = text;
+    while !rest.is_empty() {
+        let (piece, length) = match next_piece(rest) {
+            Ok(found) => found,
+            Err(refusal) => return Err(fault_of(refusal, place, rest)),
+        };
+        let (text, behind) = rest.split_at(length);
+        if let Piece::Token(kind) = piece {
+            tokens.push(Token { kind, text, place })?;
+        }
+        place = place.after(text);
+        rest = behind;
+    }
+    Ok(tokens)
+}
+
+/// The fault of a text that is refused with this rest, which begins at `place`.
+fn fault_of(refusal: Refusal, place: Place, rest: &[u8]) -> LexFault
+    requires within { offset_of refusal ≤ length rest.now }
+    requires line_fits { place.line + length rest.now < 2 ^ 32 }
+    requires column_fits { place.column + length rest.now < 2 ^ 32 }
+{
+    match refusal {
+        Refusal::UnknownByte => LexFault::UnknownByte(place),
+        Refusal::OpenComment => LexFault::OpenComment(place),
+        Refusal::OpenString => LexFault::OpenString(place),
+        Refusal::EmptyString => LexFault::EmptyString(place),
+        Refusal::LargeNumber => LexFault::LargeNumber(place),
+        Refusal::TouchingLetter => LexFault::TouchingLetter(place),
+        Refusal::StringByte { offset } => LexFault::StringByte(place.after(&rest[..offset])),
+    }
+}

@@ -1,0 +1,150 @@
+ghost use Rattle.std.specs.Prelude.{◌≡◌, ◌<◌, ◌≤◌, OnSome, OnOk, OnErr, IfNone};
+
+use crate::fault::ParseFault;
+use crate::tree::{Name, Sign};
+use lexer::place::Place;
+use lexer::token::{Kind, Symbol, Token, Word};
+
+/// The tokens that are left to read.
+#[derive(Clone, Copy, Debug)]
+pub struct Cursor<'t, 'a> {
+    rest: &'t [Token<'a>],
+    /// Just past the last token of all.
+    end: Place,
+}
+
+impl<'t, 'a> Cursor<'t, 'a> {
+    ghost use Rattle.parser.specs.Cursor.{left};
+
+    pub fn new(tokens: &'t [Token<'a>]) -> Self {
+        Cursor {
+            rest: tokens,
+            end: end_of(tokens),
+        }
+    }
+
+    /// The kind of the next token.
+    pub fn peek(&self) -> Option<Kind> {
+        Some(self.rest.first()?.kind)
+    }
+
+    /// Where the next token stands, or the end.
+    pub fn place(&self) -> Place {
+        match self.rest {
+            [] => self.end,
+            [token, ..] => token.place,
+        }
+    }
+
+    /// P1, at the next token.
+    pub fn no_program(&self) -> ParseFault {
+        ParseFault::NoProgram(self.place())
+    }
+
+    /// Takes the next token if it is of this kind, and answers its place.
+    pub fn take(&mut self, kind: Kind) -> Option<Place>
+        ensures taken { OnSome result (left self.new < left self.old) }
+        ensures kept { IfNone result (self.new ≡ self.old) }
+    {
+        match self.rest {
+            [token, rest @ ..] if token.kind == kind => {
+                let place = token.place;
+                self.rest = rest;
+                Some(place)
+            }
+            _ => None,
+        }
+    }
+
+    pub fn take_word(&mut self, word: Word) -> Option<Place>
+        ensures taken { OnSome result (left self.new < left self.old) }
+        ensures kept { IfNone result (self.new ≡ self.old) }
+    {
+        self.take(Kind::Word(word))
+    }
+
+    pub fn take_symbol(&mut self, symbol: Symbol) -> Option<Place>
+        ensures taken { OnSome result (left self.new < left self.old) }
+        ensures kept { IfNone result (self.new ≡ self.old) }
+    {
+        self.take(Kind::Symbol(symbol))
+    }
+
+    pub fn expect_word(&mut self, word: Word) -> Result<Place, ParseFault>
+        ensures taken { OnOk result (left self.new < left self.old) }
+        ensures kept { OnErr result (self.new ≡ self.old) }
+    {
+        self.take_word(word).ok_or(self.no_program())
+    }
+
+    pub fn expect_symbol(&mut self, symbol: Symbol) -> Result<Place, ParseFault>
+        ensures taken { OnOk result (left self.new < left self.old) }
+        ensures kept { OnErr result (self.new ≡ self.old) }
+    {
+        self.take_symbol(symbol).ok_or(self.no_program())
+    }
+
+    /// Takes an identifier, if one is next.
+    pub fn take_name(&mut self) -> Option<Name<'a>>
+        ensures taken { OnSome result (left self.new < left self.old) }
+        ensures kept { IfNone result (self.new ≡ self.old) }
+    {
+        match self.rest {
+            [Token { kind: Kind::Identifier, text, place }, rest @ ..] => {
+                self.rest = rest;
+                Some(Name { text, place: *place })
+            }
+            _ => None,
+        }
+    }
+
+    pub fn expect_name(&mut self) -> Result<Name<'a>, ParseFault>
+        ensures taken { OnOk result (left self.new < left self.old) }
+        ensures kept { OnErr result (self.new ≡ self.old) }
+    {
+        self.take_name().ok_or(self.no_program())
+    }
+
+    /// Takes a number, if one is next.
+    pub fn take_number(&mut self) -> Option<(u32, Place)>
+        ensures taken { OnSome result (left self.new < left self.old) }
+        ensures kept { IfNone result (self.new ≡ self.old) }
+    {
+        match self.rest {
+            [token, rest @ ..] => match token.kind {
+                Kind::Number(value) => {
+                    self.rest = rest;
+                    Some((value, token.place))
+                }
+                _ => None,
+            },
+            _ => None,
+        }
+    }
+
+    /// Takes a sign, if one is next.
+    pub fn take_sign(&mut self) -> Option<(Sign, Place)>
+        ensures taken { OnSome result (left self.new < left self.old) }
+        ensures kept { IfNone result (self.new ≡ self.old) }
+    {
+        if let Some(place) = self.take_symbol(Symbol::Plus) {
+            return Some((Sign::Plus, place));
+        }
+        let place = self.take_symbol(Symbol::Minus)?;
+        Some((Sign::Minus, place))
+    }
+}
+
+/// Just past the last token, or where a text begins if there is none.
+fn end_of(tokens: &[Token<'_>]) -> Place {
+    match tokens.last() {
+        None => Place::START,
+        Some(token) => {
+            let length = u32::try_from(token.text.len()).unwrap_or(u32::MAX);
+            Place {
+                line: token.place.line,
+                column: token.place.column.saturating_add(length),
+            }
+        }
+    }
+}

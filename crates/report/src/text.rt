@@ -1,0 +1,290 @@
+ghost use Rattle.std.specs.Prelude.{◌≡◌, ℕ, ◌+◌, ◌<◌, ◌≤◌, ◌^◌, [], ◌∷◌, ◌++◌, length, decimal, codes, IfOk};
+ghost use Rattle.std.specs.List.{flat_map};
+ghost use Rattle.report.specs.Text.{place_text, open_line, refusal_of, refusal_line, refusal_status, stop_line, stop_status, error_name, input_name, machine_text, code_text};
+ghost use Rattle.report.specs.Text.{lexer_refusal, parser_refusal, typing_refusal, certificate_refusal, generator_refusal};
+
+use crate::fault::Fault;
+use cert_checker::verdict::Verdict;
+use certificate::fault::ReadFault;
+use code_generator::fault::GenFault;
+use itoa::Buffer;
+use lexer::fault::LexFault;
+use lexer::place::Place;
+use parser::fault::ParseFault;
+use smallvec::SmallVec;
+use stack_machine::stop::{InputFault, MachineFault, Stop};
+use std::alloc::{AllocError, Global};
+use typed_tree::fault::TypeFault;
+use typed_tree::site::{Site, SiteKind};
+
+/// A line with its line end, kept in place: none that a program prints is longer.
+pub type Line = SmallVec<u8, 96>;
+
+/// The lines of a verdict, one for each open site, in order: `LINE:COLUMN: possible error: NAME`.
+pub fn lines(alloc: Global, verdict: &Verdict) -> Result<Vec<u8>, AllocError>
+    ensures { IfOk result (λ text. text.items ≡ flat_map open_line verdict.now.open_sites.items) }
+{
+    let mut text = Vec::new(alloc);
+    for site in &verdict.open_sites {
+        text.extend_from_slice(open_site(alloc, *site).as_slice())?;
+    }
+    Ok(text)
+}
+
+/// The line of a fault, and the status that a program ends with.
+pub fn fault_text(alloc: Global, fault: &Fault) -> (Line, u8)
+    ensures line { result.0.items ≡ refusal_line (refusal_of fault.now) }
+    ensures status { result.1 ≡ refusal_status (refusal_of fault.now) }
+{
+    match refusal_told(fault) {
+        Refusal::Memory => (sentence(Line::new(alloc), "no memory", ""), 3),
+        Refusal::Whole(code) => (refused(sentence_start(Line::new(alloc), "refused "), code), 2),
+        Refusal::At { place, code } => {
+            let start = placed(alloc, place.line, place.column);
+            (refused(sentence_start(start, ": refused "), code), 2)
+        }
+        Refusal::Certificate { line, code } => {
+            let start = sentence_start(Line::new(alloc), "certificate:");
+            (refused(sentence_start(numbered(start, line), ": refused "), code), 2)
+        }
+    }
+}
+
+/// The line of a stop, and the status that a program ends with; no line for a run that finished.
+pub fn stop_text(alloc: Global, stop: &Stop) -> (Line, u8)
+    ensures line { result.0.items ≡ stop_line stop.now }
+    ensures status { result.1 ≡ stop_status stop.now }
+{
+    let empty = Line::new(alloc);
+    match stop {
+        Stop::Finished => (empty, 0),
+        Stop::Error(site) => {
+            let start = placed(alloc, site.line, site.column);
+            (sentence(start, ": error: ", error_text(site.kind)), 4)
+        }
+        Stop::Input { point, fault } => {
+            let start = placed(alloc, point.line, point.column);
+            (sentence(start, ": input: ", input_text(*fault)), 5)
+        }
+        Stop::More => (sentence(empty, "budget used up", ""), 3),
+        Stop::StoreFull => (sentence(empty, "store full", ""), 6),
+        Stop::Fault(fault) => (sentence(empty, "machine fault ", fault_name(*fault)), 7),
+        Stop::ReadFailed => (sentence(empty, "read failed", ""), 3),
+        Stop::WriteFailed => (sentence(empty, "write failed", ""), 3),
+    }
+}
+
+/// The letter and the number of a rule that a source breaks.
+#[derive(Clone, Copy, Debug, PartialEq, Eq)]
+pub struct Code {
+    pub letter: u8,
+    pub number: u8,
+}
+
+/// What a fault says: where, and which rule.
+#[derive(Clone, Copy, Debug, PartialEq, Eq)]
+pub enum Refusal {
+    Memory,
+    /// At a place of the source.
+    At { place: Place, code: Code },
+    /// At a line of the certificate.
+    Certificate { line: u32, code: Code },
+    /// Of the program as a whole.
+    Whole(Code),
+}
+
+/// What a fault says.
+pub fn refusal_told(fault: &Fault) -> Refusal
+    ensures { result ≡ refusal_of fault.now }
+{
+    match fault {
+        Fault::Memory => Refusal::Memory,
+        Fault::Lex(fault) => lexer_refusal(*fault),
+        Fault::Parse(fault) => parser_refusal(*fault),
+        Fault::Typing(fault) => typing_refusal(*fault),
+        Fault::Certificate(fault) => certificate_refusal(*fault),
+        Fault::Check(_) => Refusal::Memory,
+        Fault::Generate(fault) => generator_refusal(*fault),
+    }
+}
+
+fn at(place: Place, letter: u8, number: u8) -> Refusal
+    ensures { result ≡ Refusal.At place (record { letter = letter; number = number }) }
+{
+    Refusal::At {
+        place,
+        code: Code { letter, number },
+    }
+}
+
+fn lexer_refusal(fault: LexFault) -> Refusal
+    ensures { result ≡ lexer_refusal fault }
+{
+    match fault {
+        LexFault::Memory => Refusal::Memory,
+        LexFault::UnknownByte(place) => at(place, b'L', 1),
+        LexFault::OpenComment(place) => at(place, b'L', 2),
+        LexFault::OpenString(place) => at(place, b'L', 3),
+        LexFault::EmptyString(place) => at(place, b'L', 4),
+        LexFault::LargeNumber(place) => at(place, b'L', 5),
+        LexFault::TouchingLetter(place) => at(place, b'L', 6),
+        LexFault::LongText(place) => at(place, b'L', 7),
+        LexFault::StringByte(place) => at(place, b'L', 8),
+    }
+}
+
+fn parser_refusal(fault: ParseFault) -> Refusal
+    ensures { result ≡ parser_refusal fault }
+{
+    match fault {
+        ParseFault::Memory => Refusal::Memory,
+        ParseFault::NoProgram(place) => at(place, b'P', 1),
+        ParseFault::TooDeep(place) => at(place, b'P', 2),
+        ParseFault::LeftOut(place) => at(place, b'P', 3),
+    }
+}
+
+fn typing_refusal(fault: TypeFault) -> Refusal
+    ensures { result ≡ typing_refusal fault }
+{
+    match fault {
+        TypeFault::Memory => Refusal::Memory,
+        TypeFault::DeclaredTwice(place) => at(place, b'S', 1),
+        TypeFault::UsedBeforeDeclared(place) => at(place, b'S', 2),
+        TypeFault::NotDeclared(place) => at(place, b'S', 3),
+        TypeFault::Mismatch(place) => at(place, b'K', 1),
+        TypeFault::NotVariable(place) => at(place, b'K', 2),
+        TypeFault::WrongParameters(place) => at(place, b'K', 3),
+        TypeFault::NotProgramParameter(place) => at(place, b'K', 8),
+        TypeFault::TooMany(place) => at(place, b'K', 10),
+    }
+}
+
+fn certificate_refusal(fault: ReadFault) -> Refusal
+    ensures { result ≡ certificate_refusal fault }
+{
+    let (line, number) = match fault {
+        ReadFault::Memory => return Refusal::Memory,
+        ReadFault::FirstLine { line } => (line, 1),
+        ReadFault::NotInGrammar { line } => (line, 2),
+        ReadFault::Unended { line } => (line, 5),
+    };
+    Refusal::Certificate {
+        line,
+        code: Code { letter: b'F', number },
+    }
+}
+
+fn generator_refusal(fault: GenFault) -> Refusal
+    ensures { result ≡ generator_refusal fault }
+{
+    match fault {
+        GenFault::Memory => Refusal::Memory,
+        GenFault::TooLarge => Refusal::Whole(Code {
+            letter: b'G',
+            number: 1,
+        }),
+    }
+}
+
+fn error_text(kind: u8) -> &'static str
+    ensures name { result.now ≡ error_name kind }
+    ensures short { length result.now ≤ 19 }
+{
+    match SiteKind::with_number(kind) {
+        Some(kind) => kind.name(),
+        None => "unknown",
+    }
+}
+
+fn input_text(fault: InputFault) -> &'static str
+    ensures name { result.now ≡ input_name fault }
+    ensures short { length result.now ≤ 22 }
+{
+    match fault {
+        InputFault::EndOfInput => "end of input",
+        InputFault::NotANumber => "not a number",
+        InputFault::NumberTooLarge => "number too large",
+        InputFault::OutsideType => "value outside the type",
+        InputFault::NotACharacter => "not a character",
+    }
+}
+
+fn fault_name(fault: MachineFault) -> &'static str
+    ensures name { result.now ≡ machine_text fault }
+    ensures short { length result.now ≤ 2 }
+{
+    match fault {
+        MachineFault::Underflow => "M1",
+        MachineFault::OutOfBounds => "M2",
+        MachineFault::WrongKind => "M3",
+        MachineFault::WrongDivisor => "M4",
+    }
+}
+
+fn open_site(alloc: Global, site: Site) -> Line
+    ensures { result.items ≡ open_line site }
+{
+    let start = placed(alloc, site.place.line, site.place.column);
+    sentence(start, ": possible error: ", site.kind.name())
+}
+
+// `LINE:COLUMN`
+fn placed(alloc: Global, line: u32, column: u32) -> Line
+    ensures text { result.items ≡ place_text line column }
+    ensures capacity { result.capacity ≡ 96 }
+    ensures short { length result.items ≤ 21 }
+{
+    numbered(append(numbered(Line::new(alloc), line), ":"), column)
+}
+
+fn numbered(line: Line, number: u32) -> Line
+    requires capacity { line.capacity ≡ 96 }
+    requires short { length line.items ≤ 40 }
+    ensures text { result.items ≡ line.items ++ decimal number }
+    ensures capacity { result.capacity ≡ 96 }
+    ensures short { length result.items ≤ length line.items + 10 }
+{
+    let mut buffer = Buffer::new();
+    append(line, buffer.format(number))
+}
+
+fn sentence_start(line: Line, words: &str) -> Line
+    requires capacity { line.capacity ≡ 96 }
+    requires short { length line.items + length words.now ≤ 60 }
+    ensures text { result.items ≡ line.items ++ words.now }
+    ensures capacity { result.capacity ≡ 96 }
+    ensures short { length result.items ≡ length line.items + length words.now }
+{
+    append(line, words)
+}
+
+// The words, a name and the line end.
+fn sentence(line: Line, words: &str, name: &str) -> Line
+    requires capacity { line.capacity ≡ 96 }
+    requires short { length line.items + length words.now + length name.now ≤ 90 }
+    ensures { result.items ≡ line.items ++ words.now ++ name.now ++ 10 ∷ [] }
+{
+    append(append(append(line, words), name), "\n")
+}
+
+// The code and the line end.
+fn refused(line: Line, code: Code) -> Line
+    requires capacity { line.capacity ≡ 96 }
+    requires short { length line.items ≤ 39 }
+    ensures { result.items ≡ line.items ++ code_text code ++ 10 ∷ [] }
+{
+    let mut line = line;
+    line.push_reserved(code.letter);
+    append(numbered(line, u32::from(code.number)), "\n")
+}
+
+fn append(mut line: Line, text: &str) -> Line
+    requires capacity { line.capacity ≡ 96 }
+    requires short { length line.items + length text.now ≤ 96 }
+    ensures text { result.items ≡ line.items ++ text.now }
+    ensures capacity { result.capacity ≡ 96 }
+{
+    let _fits = line.extend_from_slice(text.as_bytes());
+    line
+}

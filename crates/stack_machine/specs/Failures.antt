@@ -1,0 +1,25 @@
+-- Which calls of a reader or a writer count as failures: a read or a write that answers an error, and a write that
+-- takes no byte of a piece that isn't empty. It does not say why a call fails, nor that one ever does.
+use Rattle.std.specs.Prelude.{ℕ, ◌==◌, ◌&&◌, nat_lt, if◌then◌else◌, length, List, Result, Ok, Err}
+use Rattle.stack_machine.specs.declared.stop.Stop.{Stop}
+use Rattle.stack_machine.specs.declared.stop.Stop.TheVariants.{WriteFailed}
+
+-- how many failures a read tells: one, or none
+abbrev pub read_failures : {E : Type 0} → Result ℕ E → ℕ
+read_failures (Ok count) = 0
+read_failures (Err error) = 1
+
+-- how many failures a write of the piece tells: one, or none
+abbrev pub write_failures : {E : Type 0} → List ℕ → Result ℕ E → ℕ
+write_failures piece (Ok count) = if (count == 0) && nat_lt 0 (length piece) then 1 else 0
+write_failures piece (Err error) = 1
+
+-- how many failures of the writer a stop tells: one, or none
+abbrev pub write_failures_of : Stop → ℕ
+write_failures_of WriteFailed = 1
+write_failures_of _ = 0
+
+-- the same of what a part of a run answers
+abbrev pub failures_told : {A : Type 0} → Result A Stop → ℕ
+failures_told (Ok value) = 0
+failures_told (Err stop) = write_failures_of stop

@@ -1,0 +1,115 @@
+ghost use Rattle.std.specs.Prelude.{◌≡◌, ℕ, ◌+◌, ◌^◌, ◌-◌, ◌<◌, List, Option, if◌then◌else◌};
+ghost use Rattle.std.specs.Io.{ReadsAtMost, WritesAtMost};
+ghost use Rattle.std.specs.Io.KnownBytes.{ReadConsumes, WriteAppends};
+ghost use Rattle.stack_machine.specs.Failures.{read_failures, write_failures};
+
+use std::io;
+use std::io::{Read, Write};
+
+/// Where a run gets its input.
+pub trait Feed {
+    /// The bytes that are left, where they are known.
+    ghost remaining: { Self → Option (List ℕ) };
+    /// How many calls have failed.
+    ghost failures: { Self → ℕ };
+
+    /// Puts the next bytes into the piece and answers their number; none are left where it answers 0 for
+    /// a piece that isn't empty.
+    fn read(&mut self, piece: &mut [u8]) -> io::Result<usize>
+        requires { failures self.old < 2 ^ 64 - 1 }
+        ensures bound { ReadsAtMost result piece.new }
+        ensures bytes { ReadConsumes (remaining self.old) (remaining self.new) result piece.new }
+        ensures counted { failures self.new ≡ failures self.old + read_failures result };
+}
+
+/// Where a run writes its output.
+pub trait Sink {
+    /// The bytes that it holds, where they are known.
+    ghost contents: { Self → Option (List ℕ) };
+    /// How many calls have failed: with an error, or by taking no byte of a piece that isn't empty.
+    ghost failures: { Self → ℕ };
+
+    /// Takes bytes from the front of the piece and answers their number.
+    fn write(&mut self, piece: &[u8]) -> io::Result<usize>
+        requires { failures self.old < 2 ^ 64 - 1 }
+        ensures bound { WritesAtMost result piece.now }
+        ensures bytes { WriteAppends (contents self.old) (contents self.new) result piece.now }
+        ensures counted { failures self.new ≡ failures self.old + write_failures piece.now result };
+}
+
+/// A reader or a writer with a count of its failures.
+#[derive(Debug, Drop)]
+pub struct Counted<T> {
+    inner: T,
+    failures: u64,
+}
+
+impl<T> Counted<T> {
+    ghost use Rattle.stack_machine.specs.Counted.{inner_of, failure_count};
+
+    /// Without a failure so far.
+    pub fn new(inner: T) -> Counted<T>
+        ensures inner { inner_of result ≡ inner }
+        ensures failures { failure_count result ≡ 0 }
+    {
+        Counted { inner, failures: 0 }
+    }
+
+    /// How many calls have failed.
+    pub fn failures(&self) -> u64
+        ensures { result ≡ failure_count self.now }
+    {
+        self.failures
+    }
+
+    /// The reader or writer itself.
+    pub fn inner(&self) -> &T
+        ensures { result.now ≡ inner_of self.now }
+    {
+        &self.inner
+    }
+
+    /// The reader or writer itself, its count gone.
+    pub fn into_inner(self) -> T
+        ensures { result ≡ inner_of self }
+    {
+        let Counted { inner, failures: _ } = self;
+        inner
+    }
+}
+
+impl<T: Read> Feed for Counted<T> {
+    ghost remaining = { λ c. T.remaining c.inner };
+    ghost failures = { λ c. c.failures };
+
+    fn read(&mut self, piece: &mut [u8]) -> io::Result<usize> {
+        let taken = self.inner.read(piece);
+        if taken.is_err() {
+            self.failures += 1;
+        }
+        taken
+    }
+}
+
+impl<T: Write> Sink for Counted<T> {
+    ghost contents = { λ c. T.contents c.inner };
+    ghost failures = { λ c. c.failures };
+
+    fn write(&mut self, piece: &[u8]) -> io::Result<usize> {
+        let taken = self.inner.write(piece);
+        if is_failure(&taken, piece) {
+            self.failures += 1;
+        }
+        taken
+    }
+}
+
+/// Whether a write failed, or took no byte of a piece that isn't empty.
+fn is_failure(taken: &io::Result<usize>, piece: &[u8]) -> bool
+    ensures { write_failures piece.now taken.now ≡ (if result then 1 else 0) }
+{
+    match taken {
+        Ok(count) => *count == 0 && !piece.is_empty(),
+        Err(_) => true,
+    }
+}

@@ -1,0 +1,7 @@
+/// A cell of the store.
+#[derive(Clone, Copy, Debug, PartialEq, Eq)]
+pub enum Cell {
+    /// What a variable holds before its first assignment.
+    Undefined,
+    Number(i32),
+}

@@ -1,0 +1,97 @@
+ghost use Rattle.std.specs.Prelude.{◌≡◌, ◌+◌, ◌^◌, ◌-◌, ◌<◌, ◌≤◌, vec_len};
+ghost use Rattle.stack_machine.specs.declared.output.TheConstants.{PIECE};
+ghost use Rattle.stack_machine.specs.Failures.{failures_told};
+
+use crate::bytes::Sink;
+use crate::stop::Stop;
+use std::alloc::{AllocError, Global};
+
+/// How many bytes a piece holds.
+pub const PIECE: usize = 4096;
+
+/// The output that a run holds back: it goes out when the piece is full and at every stop.
+#[derive(Debug, Drop)]
+pub struct Output {
+    bytes: Vec<u8>,
+    held: usize,
+    ghost whole: { vec_len bytes ≡ PIECE },
+    ghost within: { held < PIECE },
+}
+
+impl Output {
+
+    /// Holds nothing.
+    pub fn new(alloc: Global) -> Result<Output, AllocError> {
+        Ok(Output {
+            bytes: vec![in alloc; 0; PIECE]?,
+            held: 0,
+        })
+    }
+
+    /// Forgets what it holds.
+    pub fn clear(&mut self) {
+        self.held = 0;
+    }
+
+    /// Takes a byte; a piece that is full by it goes out.
+    pub fn put<W: Sink>(&mut self, byte: u8, writer: &mut W) -> Result<(), Stop>
+        requires { W.failures writer.old < 2 ^ 64 - 1 }
+        ensures { W.failures writer.new ≡ W.failures writer.old + failures_told result }
+    {
+        let held = self.held;
+        self.bytes[held] = byte;
+        if held + 1 == PIECE {
+            self.held = 0;
+            return write_all(self.bytes.as_slice(), writer);
+        }
+        self.held = held + 1;
+        Ok(())
+    }
+
+    /// Takes these bytes in turn.
+    pub fn put_all<W: Sink>(&mut self, bytes: &[u8], writer: &mut W) -> Result<(), Stop>
+        requires { W.failures writer.old < 2 ^ 64 - 1 }
+        ensures { W.failures writer.new ≡ W.failures writer.old + failures_told result }
+    {
+        for byte in bytes {
+            self.put(*byte, writer)?;
+        }
+        Ok(())
+    }
+
+    /// Takes so many blanks.
+    pub fn put_blanks<W: Sink>(&mut self, count: usize, writer: &mut W) -> Result<(), Stop>
+        requires { W.failures writer.old < 2 ^ 64 - 1 }
+        ensures { W.failures writer.new ≡ W.failures writer.old + failures_told result }
+    {
+        for _blank in 0..count {
+            self.put(b' ', writer)?;
+        }
+        Ok(())
+    }
+
+    /// What it holds goes out, if it holds anything.
+    pub fn write_out<W: Sink>(&mut self, writer: &mut W) -> Result<(), Stop>
+        requires { W.failures writer.old < 2 ^ 64 - 1 }
+        ensures { W.failures writer.new ≡ W.failures writer.old + failures_told result }
+    {
+        let held = self.held;
+        self.held = 0;
+        write_all(&self.bytes.as_slice()[..held], writer)
+    }
+}
+
+/// Writes the piece, in the parts that the writer takes.
+fn write_all<W: Sink>(piece: &[u8], writer: &mut W) -> Result<(), Stop>
+    requires { W.failures writer.old < 2 ^ 64 - 1 }
+    ensures { W.failures writer.new ≡ W.failures writer.old + failures_told result }
+{
+    let mut rest = piece;
+    while !rest.is_empty() {
+        match writer.write(rest) {
+            Ok(count) if count > 0 => rest = &rest[count..],
+            _ => return Err(Stop::WriteFailed),
+        }
+    }
+    Ok(())
+}

@@ -1,0 +1,62 @@
+ghost use Rattle.std.specs.Prelude.{◌≡◌};
+ghost use Rattle.stack_machine.specs.declared.stop.Stop.TheVariants.{Fault};
+
+use pcode_assembler::code::{Point, Site};
+
+/// Why a run ended.
+#[derive(Clone, Copy, Debug, PartialEq, Eq)]
+pub enum Stop {
+    /// The code came to its end.
+    Finished,
+    /// The program committed the error of this site.
+    Error(Site),
+    /// The input was at fault where this point wanted it.
+    Input { point: Point, fault: InputFault },
+    /// The budget of instructions was used up.
+    More,
+    /// The next frame doesn't fit into the store.
+    StoreFull,
+    /// The code did what no code of a program does.
+    Fault(MachineFault),
+    /// The reader failed.
+    ReadFailed,
+    /// The writer failed.
+    WriteFailed,
+}
+
+/// What was wrong with the input.
+#[derive(Clone, Copy, Debug, PartialEq, Eq)]
+pub enum InputFault {
+    /// N1: nothing was left.
+    EndOfInput,
+    /// N2: no number stood there.
+    NotANumber,
+    /// N3: a number outside -2147483647 to 2147483647.
+    NumberTooLarge,
+    /// N4: a value outside the type of its variable.
+    OutsideType,
+    /// N5: a byte above 127 was read as a char.
+    NotACharacter,
+}
+
+/// What was wrong with the code. Of several faults at one instruction the first of these is told.
+#[derive(Clone, Copy, Debug, PartialEq, Eq)]
+pub enum MachineFault {
+    /// M1: an instruction would take or look at one of the first four cells of its frame.
+    Underflow,
+    /// M2: an address or a link that isn't in use, a push at the frame's limit, or an instruction that
+    /// isn't there.
+    OutOfBounds,
+    /// M3: a cell of the wrong kind.
+    WrongKind,
+    /// M4: a division by zero, or a modulo by zero or less.
+    WrongDivisor,
+}
+
+impl From<MachineFault> for Stop {
+    ghost from_gives = { λ fault stop. stop ≡ Fault fault };
+
+    fn from(fault: MachineFault) -> Stop {
+        Stop::Fault(fault)
+    }
+}
