@@ -1,0 +1,5 @@
+pub mod State
+pub mod Walk
+pub mod Entries
+pub mod Holds
+pub mod Promise

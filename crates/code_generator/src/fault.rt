@@ -1,5 +1,31 @@
-#[derive(Clone, Copy, Debug, PartialEq, Eq)]
+ghost use Rattle.std.specs.Prelude.{◌≡◌};
+ghost use Rattle.code_generator.specs.declared.fault.GenFault.TheVariants.{Memory};
+
+use std::alloc::{AllocError, AllocFailed};
+use thiserror::Error;
+
+/// Why a typed tree has no code.
+#[derive(Clone, Copy, Debug, PartialEq, Eq, Error)]
 pub enum GenFault {
+    #[error("no memory")]
     Memory,
+    /// G1: over 1,000,000 instructions, or over 4,294,967,291 variables.
+    #[error("over 1000000 instructions")]
     TooLarge,
+}
+
+impl From<AllocError> for GenFault {
+    ghost from_gives = { λ _ e. e ≡ Memory };
+
+    fn from(_error: AllocError) -> GenFault {
+        GenFault::Memory
+    }
+}
+
+impl<T: Drop> From<AllocFailed<T>> for GenFault {
+    ghost from_gives = { λ _ e. e ≡ Memory };
+
+    fn from(_error: AllocFailed<T>) -> GenFault {
+        GenFault::Memory
+    }
 }

@@ -1,3 +1,10 @@
-//! code_generator
+//! From typed trees to symbolic stack code.
 #![tactic(auto)]
+
+mod depth;
+mod emit;
 pub mod fault;
+pub mod generate;
+mod tables;
+#[cfg(test)]
+mod tests;

@@ -1,2 +1,49 @@
-//! domain
+//! The domains of the checker's abstract values, and the facts of its states.
+//!
+//! `Domain` has the three operations that the checker's soundness stands on, with their laws; `Interval` is a
+//! domain, with the arithmetic of ranges. `Bound` and `Fact` are what a state says of variables.
 #![tactic(auto)]
+
+ghost use Rattle.std.specs.Prelude.{◌≡◌, Bool, true};
+
+pub mod bound;
+pub mod fact;
+pub mod interval;
+
+/// A set of abstract values, each of which stands for the concrete values that are its members.
+///
+/// The members are known to contracts alone.
+pub trait Domain: Sized {
+    /// The concrete values.
+    ghost Member: { Type 0 };
+
+    /// That a concrete value is a member.
+    ghost has: { Self → Member → Type 0 };
+
+    /// What `leq`, `join` and `meet` answer.
+    ghost below: { Self → Self → Bool };
+
+    ghost joined: { Self → Self → Self };
+
+    ghost common: { Self → Self → Self };
+
+    /// Whether all members of `self` are members of `other`; `false` may also mean that it can't be told.
+    fn leq(&self, other: &Self) -> bool
+        ensures { result ≡ below self.now other.now };
+
+    /// A value that has the members of both.
+    fn join(&self, other: &Self) -> Self
+        ensures { result ≡ joined self.now other.now };
+
+    /// A value that has the members that both have.
+    fn meet(&self, other: &Self) -> Self
+        ensures { result ≡ common self.now other.now };
+
+    ghost leq_includes: { (a b : Self) (m : Member) → below a b ≡ true → has a m → has b m };
+
+    ghost join_has_left: { (a b : Self) (m : Member) → has a m → has (joined a b) m };
+
+    ghost join_has_right: { (a b : Self) (m : Member) → has b m → has (joined a b) m };
+
+    ghost meet_has_common: { (a b : Self) (m : Member) → has a m → has b m → has (common a b) m };
+}

@@ -1,3 +1,6 @@
 pub mod LexFault
-pub mod Place
 pub mod Piece
+pub mod Place
+pub mod Shape
+pub mod Spelling
+pub mod Tokens

@@ -4,7 +4,7 @@ ghost use Rattle.report.specs.Text.{place_text, open_line, refusal_of, refusal_l
 ghost use Rattle.report.specs.Text.{lexer_refusal, parser_refusal, typing_refusal, certificate_refusal, generator_refusal};
 
 use crate::fault::Fault;
-use cert_checker::verdict::Verdict;
+use cert_checker::Verdict;
 use certificate::fault::ReadFault;
 use code_generator::fault::GenFault;
 use itoa::Buffer;

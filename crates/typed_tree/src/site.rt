@@ -7,26 +7,26 @@ use lexer::place::Place;
 #[derive(Clone, Copy, Debug, PartialEq, Eq, PartialOrd, Ord)]
 pub enum SiteKind {
     /// An index outside its type.
-    Index,
+    Index = 1,
     /// A value outside the type of its target.
-    Subrange,
+    Subrange = 2,
     /// The use of an undefined variable.
-    UndefinedVariable,
+    UndefinedVariable = 3,
     /// A function that ends without a result.
-    UndefinedResult,
-    DivisionByZero,
+    UndefinedResult = 4,
+    DivisionByZero = 5,
     /// A right operand of `mod` that is zero or less.
-    ModByZeroOrLess,
+    ModByZeroOrLess = 6,
     /// A case index without its constant.
-    Case,
-    Chr,
-    Succ,
-    Pred,
+    Case = 7,
+    Chr = 8,
+    Succ = 9,
+    Pred = 10,
     /// A result outside integer.
-    Overflow,
+    Overflow = 11,
     /// A total width below 1.
-    Width,
-    SetMember,
+    Width = 12,
+    SetMember = 13,
 }
 
 impl SiteKind {
@@ -34,21 +34,7 @@ impl SiteKind {
     pub fn number(self) -> u8
         ensures { result ≡ number_of self }
     {
-        match self {
-            SiteKind::Index => 1,
-            SiteKind::Subrange => 2,
-            SiteKind::UndefinedVariable => 3,
-            SiteKind::UndefinedResult => 4,
-            SiteKind::DivisionByZero => 5,
-            SiteKind::ModByZeroOrLess => 6,
-            SiteKind::Case => 7,
-            SiteKind::Chr => 8,
-            SiteKind::Succ => 9,
-            SiteKind::Pred => 10,
-            SiteKind::Overflow => 11,
-            SiteKind::Width => 12,
-            SiteKind::SetMember => 13,
-        }
+        self as u8
     }
 
     /// The kind of a number from 1 to 13.

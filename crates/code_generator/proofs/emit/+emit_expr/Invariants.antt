@@ -1,0 +1,7 @@
+use Rattle.std.proofs.Common.{◌≡◌, ◌++◌, take}
+use Rattle.std.specs.List.{flat_map}
+use Rattle.code_generator.specs.Code.{link_code}
+use Rattle.code_generator.proofs.emit.+emit_expr.Given as goal
+
+abbrev pub invariant-loop-link : goal.invariant-loop-link
+invariant-loop-link l = l.code.items ≡ l.initial.code.items ++ flat_map link_code (take l.link-index l.link-items)

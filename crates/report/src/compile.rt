@@ -1,0 +1,102 @@
+ghost use Rattle.std.specs.Prelude.{◌≤◌, ◌<◌, ◌-◌, ◌^◌};
+
+use crate::fault::Fault;
+use cert_checker::{Verdict, check};
+use certificate::Certificate;
+use check_remover::remove::remove;
+use code_generator::generate::generate;
+use lexer::tokens;
+use parser::parse;
+use pcode_assembler::code::{Code, Site};
+use stack_machine::bytes::{Feed, Sink};
+use stack_machine::machine::Machine;
+use stack_machine::stop::Stop;
+use std::alloc::{AllocError, Global};
+use typed_tree::resolve;
+use typed_tree::tree::Tree;
+
+/// The certificate that serves where none is given: it says nothing.
+pub const PLAIN_CERTIFICATE: &[u8] = b"pcert 1\n";
+
+/// What compiling a source gives.
+#[derive(Debug, Drop)]
+pub struct Compiled {
+    pub tree: Tree,
+    /// The certificate that was used.
+    pub certificate: Certificate,
+    pub verdict: Verdict,
+    /// The code with all its checks.
+    pub full: Code,
+    /// The code without the checks of the sites that aren't open.
+    pub stripped: Code,
+}
+
+/// Compiles a source, with the text of a certificate or with the plain one.
+///
+/// # Errors
+/// The fault of the first layer that refuses: tokens, syntax, names and types, certificate, its rules, code.
+pub fn compile(
+    alloc: Global,
+    source: &[u8],
+    certificate: Option<&[u8]>,
+) -> Result<Compiled, Fault> {
+    let tree = typed(alloc, source)?;
+    let text = certificate.unwrap_or(PLAIN_CERTIFICATE);
+    let certificate = certificate::read(alloc, text)?;
+    let verdict = check(alloc, &tree, &certificate)?;
+    let full = generate(alloc, &tree)?;
+    let open_sites = code_sites(alloc, &verdict)?;
+    let stripped = remove(alloc, &full, &open_sites)?;
+    Ok(Compiled {
+        tree,
+        certificate,
+        verdict,
+        full,
+        stripped,
+    })
+}
+
+/// Compiles a source and runs the code without the checks of the sites that aren't open, on a machine with
+/// so many cells (1 to 16,777,216) and for at most `budget` instructions.
+///
+/// # Errors
+/// Those of `compile`, and want of memory for the machine.
+pub fn go<R: Feed, W: Sink>(
+    alloc: Global,
+    source: &[u8],
+    certificate: Option<&[u8]>,
+    reader: &mut R,
+    writer: &mut W,
+    cells: u32,
+    budget: u64,
+) -> Result<(Verdict, Stop), Fault>
+    requires cells { (1 ≤ cells) × (cells ≤ 16777216) }
+    requires reader_counts { R.failures reader.old < 2 ^ 64 - 1 }
+    requires writer_counts { W.failures writer.old < 2 ^ 64 - 1 }
+{
+    let compiled = compile(alloc, source, certificate)?;
+    let mut machine = Machine::new(alloc, cells)?;
+    let stop = machine.run(&compiled.stripped, reader, writer, budget);
+    Ok((compiled.verdict, stop))
+}
+
+fn typed(alloc: Global, source: &[u8]) -> Result<Tree, Fault> {
+    let tokens = tokens(alloc, source)?;
+    let program = parse(alloc, &tokens)?;
+    let tree = resolve(alloc, &program)?;
+    Ok(tree)
+}
+
+// The open sites, as the code names them.
+fn code_sites(alloc: Global, verdict: &Verdict) -> Result<Vec<Site>, AllocError> {
+    verdict
+        .open_sites
+        .iter()
+        .map(|site| Site {
+            id: site.id,
+            line: site.place.line,
+            column: site.place.column,
+            kind: site.kind.number(),
+        })
+        .collect(alloc)
+}

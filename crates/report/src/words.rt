@@ -1,0 +1,56 @@
+use clap::{Arg, ArgAction, Command};
+use std::alloc::{AllocError, Global};
+
+/// What the words of `pcom` say.
+#[derive(Clone, Copy, Debug)]
+pub struct PcomWords<'a> {
+    /// The path of the source.
+    pub source: &'a str,
+    /// Whether the code is to be run.
+    pub go: bool,
+}
+
+/// Why words are not taken, and the text to print.
+#[derive(Debug, Drop)]
+pub enum WordsFault {
+    Memory,
+    /// The help, the version or a fault, as clap tells it.
+    Words(clap::Error),
+}
+
+impl From<AllocError> for WordsFault {
+    fn from(_error: AllocError) -> WordsFault {
+        WordsFault::Memory
+    }
+}
+
+impl From<clap::Error> for WordsFault {
+    fn from(error: clap::Error) -> WordsFault {
+        match error.kind() {
+            clap::error::ErrorKind::OutOfMemory => WordsFault::Memory,
+            _ => WordsFault::Words(error),
+        }
+    }
+}
+
+/// Reads the words of `pcom [--go] SOURCE`, the program's name first.
+pub fn pcom_words<'a>(alloc: Global, words: &'a [&'a str]) -> Result<PcomWords<'a>, WordsFault> {
+    let go = Arg::new(alloc, "go")
+        .long("go")
+        .help("Runs the program")
+        .action(ArgAction::SetTrue);
+    let source = Arg::new(alloc, "source")
+        .value_name("SOURCE")
+        .help("The Pascal source")
+        .required(true)
+        .action(ArgAction::Set);
+    let command = Command::new(alloc, "pcom")
+        .version("0.1.0")
+        .arg(go)?
+        .arg(source)?;
+    let matches = command.try_get_matches_from(words)?;
+    Ok(PcomWords {
+        source: matches.get_str("source").unwrap_or(""),
+        go: matches.get_flag("go"),
+    })
+}
