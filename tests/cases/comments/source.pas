@@ -1,0 +1,1 @@
+program p(output); { one *) begin (* two } writeln(1 { of (* any } ) (* kind *) end.

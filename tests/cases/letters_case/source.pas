@@ -1,0 +1,1 @@
+PROGRAM P(OUTPUT); VAR Number: INTEGER; BEGIN NUMBER := MaxInt; WriteLn(number) END.

@@ -1,0 +1,1 @@
+program p(output); var maxint: integer; begin maxint := 3; writeln(maxint) end.

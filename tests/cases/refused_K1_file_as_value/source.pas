@@ -1,0 +1,1 @@
+program p(output); begin writeln(1, output) end.

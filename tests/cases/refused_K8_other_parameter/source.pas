@@ -1,0 +1,1 @@
+program p(output, data); begin end.

@@ -1,0 +1,2 @@
+program p; begin 'open
+' end.

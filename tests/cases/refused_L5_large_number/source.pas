@@ -1,0 +1,1 @@
+program p; begin 2147483648 end.

@@ -1,0 +1,1 @@
+program p; begin if 10div 2 = 5 then end.

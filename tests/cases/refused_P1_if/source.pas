@@ -1,0 +1,1 @@
+program p; begin if 1 then end.

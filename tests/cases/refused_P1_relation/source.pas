@@ -1,0 +1,1 @@
+program p; begin x = 1 end.

@@ -1,0 +1,1 @@
+program p; label 1; begin end.

@@ -1,0 +1,1 @@
+program p(output); var output: integer; begin end.

@@ -1,0 +1,1 @@
+program p; var x, x: integer; begin end.

@@ -1,0 +1,1 @@
+program p; var x: integer; X: integer; begin end.

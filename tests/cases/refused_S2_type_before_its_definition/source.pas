@@ -1,0 +1,1 @@
+program p; var x: integer; integer: integer; begin end.

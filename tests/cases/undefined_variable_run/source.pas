@@ -1,0 +1,1 @@
+program p(output); var x: integer; begin writeln(x) end.

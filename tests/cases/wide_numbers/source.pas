@@ -1,0 +1,1 @@
+program p(output); begin writeln(2147483647, -2147483647) end.
