@@ -1,3 +1,6 @@
 pub mod Types
 pub mod Scopes
 pub mod Sites
+pub mod Names
+pub mod Entries
+pub mod Typing

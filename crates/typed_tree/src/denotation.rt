@@ -7,7 +7,7 @@ use std::alloc::{AllocError, AllocFailed};
 /// What a name denotes (ISO 7185:1990, 6.2.2).
 #[derive(Clone, Copy, Debug, PartialEq, Eq)]
 pub enum Denotation {
-    Type(TypeId),
+    TypeName(TypeId),
     Constant {
         value: i32,
         type_id: TypeId,

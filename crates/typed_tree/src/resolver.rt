@@ -83,7 +83,7 @@ fn placed(fault: ScopeFault, place: Place) -> TypeFault {
 // The required identifiers stand round the program.
 fn open_required(alloc: Global, scopes: &mut Scopes) -> Result<(), TypeFault> {
     let required: [(&[u8], Denotation); 3] = [
-        (b"integer", Denotation::Type(TypeTable::INTEGER)),
+        (b"integer", Denotation::TypeName(TypeTable::INTEGER)),
         (b"maxint", Denotation::Constant { value: MAXINT, type_id: TypeTable::INTEGER }),
         (b"writeln", Denotation::Procedure(RequiredProcedure::Writeln)),
     ];
@@ -160,7 +160,7 @@ fn declare_group(
 fn denoted_type(alloc: Global, scopes: &Scopes, denoter: &syntax::TypeDenoter) -> Result<TypeId, TypeFault> {
     let syntax::TypeDenoter::Name(name) = denoter;
     match find(alloc, scopes, name)? {
-        Denotation::Type(type_id) => Ok(type_id),
+        Denotation::TypeName(type_id) => Ok(type_id),
         _ => Err(TypeFault::Mismatch(name.place)),
     }
 }
@@ -344,7 +344,7 @@ impl Resolver {
                 Ok(Expr::Variable { access, defined })
             }
             Denotation::Procedure(_) => Err(TypeFault::WrongParameters(name.place)),
-            Denotation::Type(_) | Denotation::Output => Err(TypeFault::Mismatch(name.place)),
+            Denotation::TypeName(_) | Denotation::Output => Err(TypeFault::Mismatch(name.place)),
         }
     }
 }
