@@ -3,5 +3,7 @@
 
 pub mod compile;
 pub mod fault;
+#[cfg(test)]
+mod tests;
 pub mod text;
 pub mod words;

@@ -38,14 +38,20 @@ pub fn fault_text(alloc: Global, fault: &Fault) -> (Line, u8)
 {
     match refusal_told(fault) {
         Refusal::Memory => (sentence(Line::new(alloc), "no memory", ""), 3),
-        Refusal::Whole(code) => (refused(sentence_start(Line::new(alloc), "refused "), code), 2),
+        Refusal::Whole(code) => (
+            refused(sentence_start(Line::new(alloc), "refused "), code),
+            2,
+        ),
         Refusal::At { place, code } => {
             let start = placed(alloc, place.line, place.column);
             (refused(sentence_start(start, ": refused "), code), 2)
         }
         Refusal::Certificate { line, code } => {
             let start = sentence_start(Line::new(alloc), "certificate:");
-            (refused(sentence_start(numbered(start, line), ": refused "), code), 2)
+            (
+                refused(sentence_start(numbered(start, line), ": refused "), code),
+                2,
+            )
         }
     }
 }
@@ -171,7 +177,10 @@ fn certificate_refusal(fault: ReadFault) -> Refusal
     };
     Refusal::Certificate {
         line,
-        code: Code { letter: b'F', number },
+        code: Code {
+            letter: b'F',
+            number,
+        },
     }
 }
 

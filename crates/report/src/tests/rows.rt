@@ -1,0 +1,150 @@
+use super::*;
+
+// A source, what is told of it, what it writes, the line of its stop, and the status.
+type Row = (&'static str, &'static str, &'static str, &'static str, u8);
+
+const ROWS: [Row; 9] = [
+    (
+        "program p(output); var x, y: integer; begin x := 7; y := x - 10; writeln(x + y, -x) end.",
+        "",
+        "         4        -7\n",
+        "",
+        0,
+    ),
+    (
+        "program p(output); var x: integer; begin writeln(x) end.",
+        "1:50: possible error: undefined variable\n",
+        "",
+        "1:50: error: undefined variable\n",
+        4,
+    ),
+    (
+        "program p; var x: integer; begin x := 2147483647; x := x + 1 end.",
+        "1:58: possible error: overflow\n",
+        "",
+        "1:58: error: overflow\n",
+        4,
+    ),
+    ("program p(output); begin end.", "", "", "", 0),
+    (
+        "program p; var x: integer; begin x := 2147483647; x := x - 1 end.",
+        "",
+        "",
+        "",
+        0,
+    ),
+    (
+        "program p; var x, y: integer; begin x := 5; y := x + 2147483643 end.",
+        "1:52: possible error: overflow\n",
+        "",
+        "1:52: error: overflow\n",
+        4,
+    ),
+    (
+        "program p(output); var x, y: integer; begin x := maxint; x := x + 1; writeln(y) end.",
+        "1:65: possible error: overflow\n",
+        "",
+        "1:65: error: overflow\n",
+        4,
+    ),
+    (
+        "program p(output); begin writeln(1 - 2 - 3, -(1 - 2), -1 - 2) end.",
+        "",
+        "        -4         1        -3\n",
+        "",
+        0,
+    ),
+    (
+        "program p(output); var x: integer; begin x := -2147483647; writeln(x, x - 1) end.",
+        "1:73: possible error: overflow\n",
+        "-2147483647",
+        "1:73: error: overflow\n",
+        4,
+    ),
+];
+
+#[test]
+fn rows_run_as_the_rules_say(rt: HostRuntime) -> Result<(), Fail> {
+    let alloc = rt.alloc();
+    for (source, report, output, line, status) in ROWS {
+        let shown = show(alloc, source.as_bytes(), CELLS, u64::MAX)?;
+        assert_eq!(rt; shown.report.as_slice(), report.as_bytes(), "{source}");
+        assert_eq!(rt; shown.output.as_slice(), output.as_bytes(), "{source}");
+        let (told, ended) = stop_text(alloc, &shown.stop);
+        assert_eq!(rt; told.as_slice(), line.as_bytes(), "{source}");
+        assert_eq!(rt; ended, status, "{source}");
+        let (written, ending) = interpreted(alloc, source.as_bytes())?;
+        assert_eq!(rt; written.as_slice(), output.as_bytes(), "{source}");
+        assert!(rt; is_same_end(shown.stop, ending), "{source}");
+    }
+    Ok(())
+}
+
+#[test]
+fn refusals_stand_at_their_places(rt: HostRuntime) -> Result<(), Fail> {
+    let alloc = rt.alloc();
+    let rows = [
+        ("", "1:1: refused P1\n"),
+        (
+            "program p; begin if 10div 2 = 5 then end.",
+            "1:21: refused L6\n",
+        ),
+        ("program p; begin ? end.", "1:18: refused L1\n"),
+        ("program p; begin (* {", "1:18: refused L2\n"),
+        ("program p; begin 'x", "1:18: refused L3\n"),
+        ("program p; begin '' end.", "1:18: refused L4\n"),
+        ("program p; begin 99999999999a", "1:18: refused L5\n"),
+        ("program p; begin '\u{7}' end.", "1:19: refused L8\n"),
+        ("program p; begin x := 1 < 2 end.", "1:25: refused P1\n"),
+        ("program p; begin nil end.", "1:18: refused P3\n"),
+        (
+            "program p; var a, a: integer; begin end.",
+            "1:19: refused S1\n",
+        ),
+        (
+            "program p; var a: t; t: integer; begin end.",
+            "1:19: refused S2\n",
+        ),
+        ("program p; begin read end.", "1:18: refused S3\n"),
+        (
+            "program p; var a: integer; begin a := integer end.",
+            "1:39: refused K1\n",
+        ),
+        ("program p; begin integer := 1 end.", "1:18: refused K2\n"),
+        (
+            "program p; var a: integer; begin a := writeln end.",
+            "1:39: refused K3\n",
+        ),
+        ("program p; begin writeln(1) end.", "1:18: refused K8\n"),
+        ("program p(input); begin end.", "1:11: refused K8\n"),
+    ];
+    for (source, line) in rows {
+        let (told, status) = refusal(alloc, source.as_bytes())?;
+        assert_eq!(rt; told.as_slice(), line.as_bytes(), "{source}");
+        assert_eq!(rt; status, 2, "{source}");
+    }
+    Ok(())
+}
+
+#[test]
+fn certificates_are_read(rt: HostRuntime) -> Result<(), Fail> {
+    let alloc = rt.alloc();
+    let source = b"program p; begin end.";
+    assert!(rt; compile(alloc, source, Some(b"pcert 1\n")).is_ok());
+    let rows = [
+        ("", "certificate:1: refused F1\n"),
+        ("pcert 2\n", "certificate:1: refused F1\n"),
+        ("pcert 1", "certificate:1: refused F5\n"),
+        ("pcert 1\nproc 0\n", "certificate:2: refused F2\n"),
+        ("pcert 1\nproc 0", "certificate:2: refused F5\n"),
+    ];
+    for (text, line) in rows {
+        let told = match compile(alloc, source, Some(text.as_bytes())) {
+            Ok(_) => fault_text(alloc, &Fault::Memory),
+            Err(fault) => fault_text(alloc, &fault),
+        };
+        assert_eq!(rt; told.0.as_slice(), line.as_bytes(), "{text}");
+        assert_eq!(rt; told.1, 2, "{text}");
+    }
+    Ok(())
+}
