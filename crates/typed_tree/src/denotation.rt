@@ -8,10 +8,7 @@ use std::alloc::{AllocError, AllocFailed};
 #[derive(Clone, Copy, Debug, PartialEq, Eq)]
 pub enum Denotation {
     TypeName(TypeId),
-    Constant {
-        value: i32,
-        type_id: TypeId,
-    },
+    Constant { value: i32, type_id: TypeId },
     /// The variable with this root number.
     Variable(u32),
     Procedure(RequiredProcedure),

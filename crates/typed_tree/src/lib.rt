@@ -11,3 +11,6 @@ pub mod tree;
 pub mod types;
 
 pub use resolver::{resolve, sites};
+
+#[cfg(test)]
+mod tests;

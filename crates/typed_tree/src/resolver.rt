@@ -1,5 +1,7 @@
-use crate::fault::TypeFault;
+ghost use Rattle.std.specs.Prelude.{◌≡◌};
+
 use crate::denotation::{Denotation, RequiredProcedure, ScopeFault};
+use crate::fault::TypeFault;
 use crate::scopes::Scopes;
 use crate::site::{Site, SiteKind};
 use crate::tree::{Access, Block, Expr, Link, Sign, Stmt, Tree, Variable};
@@ -47,13 +49,17 @@ pub fn resolve(alloc: Global, program: &syntax::Program) -> Result<Tree, TypeFau
 }
 
 /// The sites of a program, in the order of places and then of kinds, so in the order of their ids.
-pub fn sites(tree: &Tree) -> &[Site] {
+pub fn sites(tree: &Tree) -> &[Site]
+    ensures { result.now ≡ tree.now.sites.items }
+{
     tree.sites.as_slice()
 }
 
 // Small and capital letters are alike.
 fn folded(alloc: Global, name: &[u8]) -> Result<Vec<u8>, AllocError> {
-    name.iter().map(|letter| letter.to_ascii_lowercase()).collect(alloc)
+    name.iter()
+        .map(|letter| letter.to_ascii_lowercase())
+        .collect(alloc)
 }
 
 fn declare(
@@ -63,12 +69,16 @@ fn declare(
     denotation: Denotation,
 ) -> Result<(), TypeFault> {
     let key = folded(alloc, name.text)?;
-    scopes.declare(key, denotation).map_err(|fault| placed(fault, name.place))
+    scopes
+        .declare(key, denotation)
+        .map_err(|fault| placed(fault, name.place))
 }
 
 fn find(alloc: Global, scopes: &Scopes, name: &syntax::Name) -> Result<Denotation, TypeFault> {
     let key = folded(alloc, name.text)?;
-    scopes.find(key.as_slice()).map_err(|fault| placed(fault, name.place))
+    scopes
+        .find(key.as_slice())
+        .map_err(|fault| placed(fault, name.place))
 }
 
 fn placed(fault: ScopeFault, place: Place) -> TypeFault {
@@ -84,19 +94,37 @@ fn placed(fault: ScopeFault, place: Place) -> TypeFault {
 fn open_required(alloc: Global, scopes: &mut Scopes) -> Result<(), TypeFault> {
     let required: [(&[u8], Denotation); 3] = [
         (b"integer", Denotation::TypeName(TypeTable::INTEGER)),
-        (b"maxint", Denotation::Constant { value: MAXINT, type_id: TypeTable::INTEGER }),
-        (b"writeln", Denotation::Procedure(RequiredProcedure::Writeln)),
+        (
+            b"maxint",
+            Denotation::Constant {
+                value: MAXINT,
+                type_id: TypeTable::INTEGER,
+            },
+        ),
+        (
+            b"writeln",
+            Denotation::Procedure(RequiredProcedure::Writeln),
+        ),
     ];
     scopes.open(alloc, &[])?;
     for (name, denotation) in required {
         let place = Place { line: 1, column: 1 };
-        declare(alloc, scopes, &syntax::Name { text: name, place }, denotation)?;
+        declare(
+            alloc,
+            scopes,
+            &syntax::Name { text: name, place },
+            denotation,
+        )?;
     }
     Ok(())
 }
 
 // The names that the program's block defines: its parameters and its variables.
-fn open_block(alloc: Global, scopes: &mut Scopes, program: &syntax::Program) -> Result<(), TypeFault> {
+fn open_block(
+    alloc: Global,
+    scopes: &mut Scopes,
+    program: &syntax::Program,
+) -> Result<(), TypeFault> {
     let mut names = Vec::new(alloc);
     for name in &program.parameters {
         names.push(folded(alloc, name.text)?)?;
@@ -157,7 +185,11 @@ fn declare_group(
     Ok(())
 }
 
-fn denoted_type(alloc: Global, scopes: &Scopes, denoter: &syntax::TypeDenoter) -> Result<TypeId, TypeFault> {
+fn denoted_type(
+    alloc: Global,
+    scopes: &Scopes,
+    denoter: &syntax::TypeDenoter,
+) -> Result<TypeId, TypeFault> {
     let syntax::TypeDenoter::Name(name) = denoter;
     match find(alloc, scopes, name)? {
         Denotation::TypeName(type_id) => Ok(type_id),
@@ -217,8 +249,14 @@ impl Resolver {
     #[cycle(statements)]
     fn statement(&mut self, statement: &syntax::Stmt) -> Result<Stmt, TypeFault> {
         match statement {
-            syntax::Stmt::Empty => Ok(Stmt::Empty { number: self.enter()? }),
-            syntax::Stmt::Assign { name, becomes, value } => self.assignment(name, *becomes, value),
+            syntax::Stmt::Empty => Ok(Stmt::Empty {
+                number: self.enter()?,
+            }),
+            syntax::Stmt::Assign {
+                name,
+                becomes,
+                value,
+            } => self.assignment(name, *becomes, value),
             syntax::Stmt::Call { name, actuals } => self.call(name, actuals),
             syntax::Stmt::Compound { statements } => {
                 let number = self.enter()?;
@@ -239,10 +277,18 @@ impl Resolver {
         let Denotation::Variable(root) = self.find(name)? else {
             return Err(TypeFault::NotVariable(name.place));
         };
-        let target = Access { number: self.enter()?, root };
+        let target = Access {
+            number: self.enter()?,
+            root,
+        };
         let fits = self.site(SiteKind::Subrange, becomes)?;
         let value = self.expression(value)?;
-        Ok(Stmt::Assign { number, target, fits, value })
+        Ok(Stmt::Assign {
+            number,
+            target,
+            fits,
+            value,
+        })
     }
 
     fn call(&mut self, name: &syntax::Name, actuals: &[syntax::Expr]) -> Result<Stmt, TypeFault> {
@@ -253,7 +299,11 @@ impl Resolver {
     }
 
     // The file may stand as the first parameter, and is no value.
-    fn writeln(&mut self, name: &syntax::Name, actuals: &[syntax::Expr]) -> Result<Stmt, TypeFault> {
+    fn writeln(
+        &mut self,
+        name: &syntax::Name,
+        actuals: &[syntax::Expr],
+    ) -> Result<Stmt, TypeFault> {
         if !self.has_output {
             return Err(TypeFault::NotProgramParameter(name.place));
         }
@@ -317,7 +367,10 @@ impl Resolver {
                         operand: self.expression(&link.operand)?,
                     })?;
                 }
-                Ok(Expr::Sum { first: Box::new(self.alloc, first)?, rest: typed })
+                Ok(Expr::Sum {
+                    first: Box::new(self.alloc, first)?,
+                    rest: typed,
+                })
             }
         }
     }
@@ -331,15 +384,24 @@ impl Resolver {
     fn number(&mut self, value: u32, place: Place) -> Result<Expr, TypeFault> {
         self.latest = place;
         let value = i32::try_from(value).map_err(|_| TypeFault::Mismatch(place))?;
-        Ok(Expr::Constant { number: self.enter()?, value })
+        Ok(Expr::Constant {
+            number: self.enter()?,
+            value,
+        })
     }
 
     // A name as an expression.
     fn named(&mut self, name: &syntax::Name) -> Result<Expr, TypeFault> {
         match self.find(name)? {
-            Denotation::Constant { value, .. } => Ok(Expr::Constant { number: self.enter()?, value }),
+            Denotation::Constant { value, .. } => Ok(Expr::Constant {
+                number: self.enter()?,
+                value,
+            }),
             Denotation::Variable(root) => {
-                let access = Access { number: self.enter()?, root };
+                let access = Access {
+                    number: self.enter()?,
+                    root,
+                };
                 let defined = self.site(SiteKind::UndefinedVariable, name.place)?;
                 Ok(Expr::Variable { access, defined })
             }

@@ -1,4 +1,4 @@
-ghost use Rattle.std.specs.Prelude.{◌≡◌, nat_eq};
+ghost use Rattle.std.specs.Prelude.{◌≡◌, ◌-◌, [], nat_eq, take, vec_len};
 ghost use Rattle.std.specs.Cmp.Lexicographic.{pointwise};
 ghost use Rattle.std.specs.HashMap.{get_by};
 ghost use Rattle.typed_tree.specs.Scopes.{decided};
@@ -20,7 +20,9 @@ impl Scopes {
     ghost use Rattle.typed_tree.specs.Scopes.{found};
 
     /// No region.
-    pub fn new(alloc: Global) -> Scopes {
+    pub fn new(alloc: Global) -> Scopes
+        ensures { result.blocks.items ≡ [] }
+    {
         Scopes {
             blocks: Vec::new(alloc),
         }
@@ -37,7 +39,9 @@ impl Scopes {
     }
 
     /// Ends the innermost region.
-    pub fn close(&mut self) {
+    pub fn close(&mut self)
+        ensures { self.new.blocks.items ≡ take (vec_len self.old.blocks - 1) self.old.blocks.items }
+    {
         let _ = self.blocks.pop();
     }
 

@@ -45,7 +45,9 @@ pub struct Access {
 /// A statement. Each has its number in the order of entry over the program.
 #[derive(Debug, Drop)]
 pub enum Stmt {
-    Empty { number: u32 },
+    Empty {
+        number: u32,
+    },
     /// The target is accessed, then comes the value, then its test at the site `fits` (subrange).
     Assign {
         number: u32,
@@ -54,8 +56,14 @@ pub enum Stmt {
         value: Expr,
     },
     /// Each value in turn, and then a line end.
-    Writeln { number: u32, values: Vec<Expr> },
-    Compound { number: u32, statements: Vec<Stmt> },
+    Writeln {
+        number: u32,
+        values: Vec<Expr>,
+    },
+    Compound {
+        number: u32,
+        statements: Vec<Stmt>,
+    },
 }
 
 /// The operator of a link or a sign.
@@ -71,16 +79,25 @@ pub enum Sign {
 #[derive(Debug, Drop)]
 pub enum Expr {
     /// A number or a constant, of -2147483647 to 2147483647.
-    Constant { number: u32, value: i32 },
+    Constant {
+        number: u32,
+        value: i32,
+    },
     /// The value of a variable, tested at the site `defined` (undefined variable).
-    Variable { access: Access, defined: u32 },
+    Variable {
+        access: Access,
+        defined: u32,
+    },
     Signed {
         number: u32,
         sign: Sign,
         operand: Box<Expr>,
     },
     /// From left to right.
-    Sum { first: Box<Expr>, rest: Vec<Link> },
+    Sum {
+        first: Box<Expr>,
+        rest: Vec<Link>,
+    },
 }
 
 /// An operator of a sum, the right operand, and the site of the result's test (overflow).

@@ -1,4 +1,7 @@
 use super::*;
+use crate::words::{WordsFault, pcom_words};
+use pcode_assembler::code::{Point, Site};
+use stack_machine::stop::{InputFault, MachineFault};
 
 // A source, what is told of it, what it writes, the line of its stop, and the status.
 type Row = (&'static str, &'static str, &'static str, &'static str, u8);
@@ -81,6 +84,18 @@ fn rows_run_as_the_rules_say(rt: HostRuntime) -> Result<(), Fail> {
 }
 
 #[test]
+fn each_entry_is_visited_once(rt: HostRuntime) -> Result<(), Fail> {
+    let alloc = rt.alloc();
+    // Of the first row: 4 statements, 2 targets, 6 factors, 2 operators and 1 sign.
+    let rows = [(ROWS[0].0, 15), ("program p; begin end.", 2)];
+    for (source, visits) in rows {
+        let compiled = compile(alloc, source.as_bytes(), None)?;
+        assert_eq!(rt; compiled.verdict.visits, visits, "{source}");
+    }
+    Ok(())
+}
+
+#[test]
 fn refusals_stand_at_their_places(rt: HostRuntime) -> Result<(), Fail> {
     let alloc = rt.alloc();
     let rows = [
@@ -145,6 +160,114 @@ fn certificates_are_read(rt: HostRuntime) -> Result<(), Fail> {
         };
         assert_eq!(rt; told.0.as_slice(), line.as_bytes(), "{text}");
         assert_eq!(rt; told.1, 2, "{text}");
+    }
+    Ok(())
+}
+
+#[test]
+fn every_stop_has_its_line(rt: HostRuntime) -> Result<(), Fail> {
+    let alloc = rt.alloc();
+    let point = Point {
+        id: 0,
+        line: 1,
+        column: 95,
+    };
+    let site = |kind| Site {
+        id: 0,
+        line: 1,
+        column: 58,
+        kind,
+    };
+    let input = |fault| Stop::Input { point, fault };
+    let rows = [
+        (Stop::Finished, "", 0),
+        (Stop::Error(site(1)), "1:58: error: index\n", 4),
+        (Stop::Error(site(13)), "1:58: error: set member\n", 4),
+        (
+            input(InputFault::EndOfInput),
+            "1:95: input: end of input\n",
+            5,
+        ),
+        (
+            input(InputFault::NotANumber),
+            "1:95: input: not a number\n",
+            5,
+        ),
+        (
+            input(InputFault::NumberTooLarge),
+            "1:95: input: number too large\n",
+            5,
+        ),
+        (
+            input(InputFault::OutsideType),
+            "1:95: input: value outside the type\n",
+            5,
+        ),
+        (
+            input(InputFault::NotACharacter),
+            "1:95: input: not a character\n",
+            5,
+        ),
+        (Stop::More, "budget used up\n", 3),
+        (Stop::StoreFull, "store full\n", 6),
+        (
+            Stop::Fault(MachineFault::Underflow),
+            "machine fault M1\n",
+            7,
+        ),
+        (
+            Stop::Fault(MachineFault::OutOfBounds),
+            "machine fault M2\n",
+            7,
+        ),
+        (
+            Stop::Fault(MachineFault::WrongKind),
+            "machine fault M3\n",
+            7,
+        ),
+        (
+            Stop::Fault(MachineFault::WrongDivisor),
+            "machine fault M4\n",
+            7,
+        ),
+        (Stop::ReadFailed, "read failed\n", 3),
+        (Stop::WriteFailed, "write failed\n", 3),
+    ];
+    for (stop, line, status) in rows {
+        let (told, ended) = stop_text(alloc, &stop);
+        assert_eq!(rt; told.as_slice(), line.as_bytes());
+        assert_eq!(rt; ended, status);
+    }
+    let (told, status) = fault_text(alloc, &Fault::Memory);
+    assert_eq!(rt; told.as_slice(), b"no memory\n".as_slice());
+    assert_eq!(rt; status, 3);
+    Ok(())
+}
+
+#[test]
+fn words_are_read(rt: HostRuntime) -> Result<(), Fail> {
+    let alloc = rt.alloc();
+    for (words, go) in [
+        (["pcom", "--go", "x.pas"].as_slice(), true),
+        (["pcom", "x.pas"].as_slice(), false),
+    ] {
+        match pcom_words(alloc, words) {
+            Ok(read) => {
+                assert_eq!(rt; read.source, "x.pas");
+                assert_eq!(rt; read.go, go);
+            }
+            Err(_) => panic!(rt; "words refused"),
+        }
+    }
+    for words in [
+        ["pcom"].as_slice(),
+        ["pcom", "--stop", "x.pas"].as_slice(),
+        ["pcom", "x.pas", "y.pas"].as_slice(),
+    ] {
+        match pcom_words(alloc, words) {
+            Err(WordsFault::Words(error)) => assert_eq!(rt; error.exit_code(), 2),
+            _ => panic!(rt; "words taken"),
+        }
     }
     Ok(())
 }
