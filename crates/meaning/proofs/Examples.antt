@@ -1,12 +1,12 @@
 -- The definitions on small rows, worked out by hand.
-use Rattle.std.proofs.Common.{◌≡◌, ℕ, refl, true, false, pos, negsuc, List, [], ◌∷◌, Option, Some, None, codes}
+use Rattle.std.proofs.Common.{◌≡◌, ℕ, refl, true, false, pos, negsuc, List, [], ◌∷◌, Some, None, codes}
 use Rattle.typed_tree.specs.declared.tree.Sign.TheVariants.{Plus, Minus}
 use Rattle.meaning.specs.declared.outcome.Ending.{Ending}
 use Rattle.meaning.specs.declared.outcome.Ending.TheVariants.{Error}
 use Rattle.meaning.specs.declared.store.Value.{Value}
 use Rattle.meaning.specs.declared.store.Value.TheVariants.{Number}
 use Rattle.meaning.specs.Store.{Place, Step, Element, Environment, stored, written, undefined, overlap}
-use Rattle.meaning.specs.Effect.{Reply, Gives, Stops, State, Action, give, enter, fetch, is_integer}
+use Rattle.meaning.specs.Effect.{Reply, Gives, Stops, give, fetch, is_integer}
 use Rattle.meaning.specs.Meaning.{Evaluation, link_step, in_turn, completed, first_state}
 
 abbrev place : ℕ → List Step → Place

@@ -79,7 +79,7 @@ impl<'t> Run<'t> {
     fn statements(&mut self, statements: &'t [Stmt]) -> Result<Option<Ending>, AllocError>
         ensures { OnOk result (
             sum_by weight_of self.new.pending.items
-                < sum_by weight_of self.old.pending.items + weight_of (Work.Statements statements.entry)) }
+            < sum_by weight_of self.old.pending.items + weight_of (Work.Statements statements.entry)) }
     {
         if let Some((first, rest)) = statements.split_first() {
             self.pending.push(Work::Statements(rest))?;
@@ -91,7 +91,7 @@ impl<'t> Run<'t> {
     fn statement(&mut self, statement: &'t Stmt) -> Result<Option<Ending>, AllocError>
         ensures { OnOk result (
             sum_by weight_of self.new.pending.items
-                < sum_by weight_of self.old.pending.items + weight_of (Work.Statement statement.entry)) }
+            < sum_by weight_of self.old.pending.items + weight_of (Work.Statement statement.entry)) }
     {
         match statement {
             Stmt::Empty { .. } => {}
@@ -116,7 +116,7 @@ impl<'t> Run<'t> {
     fn writes(&mut self, values: &'t [Expr]) -> Result<Option<Ending>, AllocError>
         ensures { OnOk result (
             sum_by weight_of self.new.pending.items
-                < sum_by weight_of self.old.pending.items + weight_of (Work.Writes values.entry)) }
+            < sum_by weight_of self.old.pending.items + weight_of (Work.Writes values.entry)) }
     {
         match values.split_first() {
             Some((first, rest)) => {
@@ -155,7 +155,7 @@ impl<'t> Run<'t> {
     fn value(&mut self, expression: &'t Expr) -> Result<Option<Ending>, AllocError>
         ensures { OnOk result (
             sum_by weight_of self.new.pending.items
-                < sum_by weight_of self.old.pending.items + weight_of (Work.Value expression.entry)) }
+            < sum_by weight_of self.old.pending.items + weight_of (Work.Value expression.entry)) }
     {
         match expression {
             Expr::Constant { value, .. } => self.values.push(Value::Number(*value))?,
@@ -199,7 +199,7 @@ impl<'t> Run<'t> {
     fn links(&mut self, links: &'t [Link]) -> Result<Option<Ending>, AllocError>
         ensures { OnOk result (
             sum_by weight_of self.new.pending.items
-                < sum_by weight_of self.old.pending.items + weight_of (Work.Links links.entry)) }
+            < sum_by weight_of self.old.pending.items + weight_of (Work.Links links.entry)) }
     {
         if let Some((first, rest)) = links.split_first() {
             self.pending.push(Work::Links(rest))?;

@@ -1,12 +1,11 @@
 -- What the names of a program denote (ISO 7185:1990, 6.2.2, 6.10): its block defines its parameters and variables,
 -- and the required identifiers stand round it. Small and capital letters are alike.
 -- It says nothing of the order in which a resolver passes them.
-use Rattle.std.specs.Prelude.{◌≡◌, ℕ, pos, ◌+◌, ◌&&◌, ◌++◌, Bool, true, false, List, [], ◌∷◌, Option, Some, None, if◌then◌else◌, nat_le, nat_eq, map, length, codes, AllPairs, flat_map, zip}
+use Rattle.std.specs.Prelude.{◌≡◌, ℕ, pos, ◌+◌, ◌&&◌, ◌++◌, Bool, false, List, [], ◌∷◌, Option, Some, None, if◌then◌else◌, nat_le, nat_eq, map, length, codes, AllPairs, flat_map, zip}
 use Rattle.std.specs.List.{range_with_len}
 use Rattle.std.specs.Cmp.Lexicographic.{pointwise}
 use Rattle.parser.specs.declared.tree.Program.{Program}
 use Rattle.parser.specs.declared.tree.Name.{Name}
-use Rattle.parser.specs.declared.tree.VariableGroup.{VariableGroup}
 use Rattle.typed_tree.specs.declared.types.TypeId.{TypeId}
 use Rattle.typed_tree.specs.declared.denotation.Denotation.{Denotation}
 use Rattle.typed_tree.specs.declared.denotation.Denotation.TheVariants.{TypeName, Constant, Variable, Procedure, Output}

@@ -1,7 +1,7 @@
 -- Typing (ISO 7185:1990, 6.2.2, 6.4, 6.7 to 6.10): which typed tree a program has, if it breaks no rule of names and types.
 -- Parentheses are gone, each name is bound, and sites stand in the order of places and then of kinds.
 -- It does not say which of several broken rules is told.
-use Rattle.std.specs.Prelude.{◌≡◌, cond, ℕ, ℤ, pos, ◌<◌, ◌≤◌, ◌&&◌, ◌++◌, Bool, true, false, IsTrue, List, [], ◌∷◌, Option, Some, None, All, codes, map, length, nat_eq, flat_map, option_map, ◌⊎◌}
+use Rattle.std.specs.Prelude.{◌≡◌, cond, ℕ, ℤ, pos, ◌<◌, ◌≤◌, ◌&&◌, ◌++◌, Bool, true, false, IsTrue, List, [], ◌∷◌, Option, Some, All, codes, map, length, nat_eq, flat_map, option_map, ◌⊎◌}
 use Rattle.std.specs.List.{range_with_len, list_all}
 use Rattle.std.specs.Ordering.{int_eq}
 use Rattle.lexer.specs.declared.place.Place.{Place}
@@ -9,7 +9,6 @@ use Rattle.parser.specs.declared.tree.Program.{Program}
 use Rattle.parser.specs.declared.tree.Name.{Name}
 use Rattle.parser.specs.declared.tree.TypeDenoter.{TypeDenoter}
 use Rattle.parser.specs.declared.tree.TypeDenoter.TheVariants as denoter
-use Rattle.parser.specs.declared.tree.VariableGroup.{VariableGroup}
 use Rattle.parser.specs.declared.tree.Sign.{Sign as SyntaxSign}
 use Rattle.parser.specs.declared.tree.Sign.TheVariants as syntax_sign
 use Rattle.parser.specs.declared.tree.Expr.{Expr as SyntaxExpr}
@@ -25,7 +24,6 @@ use Rattle.parser.specs.declared.tree.Stmt.TheFolds.{fold-Stmt as fold-SyntaxStm
 use Rattle.typed_tree.specs.declared.denotation.Denotation.{Denotation}
 use Rattle.typed_tree.specs.declared.denotation.Denotation.TheVariants as denotes
 use Rattle.typed_tree.specs.declared.denotation.RequiredProcedure.TheVariants as procedure
-use Rattle.typed_tree.specs.declared.site.Site.{Site}
 use Rattle.typed_tree.specs.declared.site.SiteKind.{SiteKind}
 use Rattle.typed_tree.specs.declared.site.SiteKind.TheVariants as kind
 use Rattle.typed_tree.specs.declared.types.TypeForm.TheVariants.{Integer}
@@ -36,15 +34,13 @@ use Rattle.typed_tree.specs.declared.tree.Sign.{Sign}
 use Rattle.typed_tree.specs.declared.tree.Sign.TheVariants as sign
 use Rattle.typed_tree.specs.declared.tree.Expr.{Expr}
 use Rattle.typed_tree.specs.declared.tree.Link.{Link}
-use Rattle.typed_tree.specs.declared.tree.Expr.TheOpen.{Expr-F, Link-F}
+use Rattle.typed_tree.specs.declared.tree.Expr.TheOpen.{Expr-F}
 use Rattle.typed_tree.specs.declared.tree.Expr.TheOpen.Expr-F.{Constant, Variable, Signed, Sum}
 use Rattle.typed_tree.specs.declared.tree.Expr.TheViews.{out-Expr, out-Link}
-use Rattle.typed_tree.specs.declared.tree.Expr.TheFolds.{fold-Expr}
 use Rattle.typed_tree.specs.declared.tree.Stmt.{Stmt}
 use Rattle.typed_tree.specs.declared.tree.Stmt.TheOpen.{Stmt-F}
 use Rattle.typed_tree.specs.declared.tree.Stmt.TheOpen.Stmt-F.{Empty, Assign, Writeln, Compound}
 use Rattle.typed_tree.specs.declared.tree.Stmt.TheViews.{out-Stmt}
-use Rattle.typed_tree.specs.declared.tree.Stmt.TheFolds.{fold-Stmt}
 use Rattle.typed_tree.specs.Entries.{joined, entries_of, sites_of}
 use Rattle.typed_tree.specs.Names.{folded, looked_up, or_outer, required, integer, definitions, defined_names, variable_names, denoted, AreDistinct}
 
