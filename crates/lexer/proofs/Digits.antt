@@ -1,7 +1,8 @@
 -- The digits that a text begins with.
-use Rattle.std.proofs.Common.{◌≡◌, ℕ, ◌<◌, ◌≤◌, true, List, length, take, get_or, All, arith, rules, sym, ◌∙◌, subst}
+use Rattle.std.proofs.Common.{◌≡◌, ℕ, ◌<◌, ◌≤◌, true, List, length, take, get_or, zero, suc, fold, [], ◌∷◌, ◌+◌, ◌*◌, ◌-◌, All, arith, sym, ◌∙◌, subst}
 use Rattle.std.specs.List.{prefix_len, take_while}
 use Rattle.std.specs.Char.{is_ascii_digit, IsAsciiDigit}
+use Rattle.lexer.specs.Piece.{value_of}
 use Rattle.std.proofs.lemmas.List.{get_or-take, length-take}
 use Rattle.std.proofs.lemmas.List.Folds.{length-prefix_len}
 use Rattle.std.proofs.lemmas.List.Sums.{prefix_len_passes}
@@ -18,3 +19,17 @@ all_digits xs n e k d h =
     let same = get_or-take n xs k d below in
     let passes : is_ascii_digit (get_or xs k d) ≡ true = prefix_len_passes is_ascii_digit xs k d (subst (λ m. k < m) m below) in
     subst (λ c. IsAsciiDigit c) (sym same) (digit_is (get_or xs k d) passes)
+
+-- the value of some of the digits is at most that of all
+grows : (xs : List ℕ) (v : ℕ) → v ≤ fold (λ value digit. value * 10 + (digit - 48)) v xs
+grows [] v = omega arith
+grows (x ∷ xs) v = let h = grows xs (v * 10 + (x - 48)) in omega arith
+
+front_from : (xs : List ℕ) (n v : ℕ) → fold (λ value digit. value * 10 + (digit - 48)) v (take n xs) ≤ fold (λ value digit. value * 10 + (digit - 48)) v xs
+front_from [] zero v = grows [] v
+front_from [] (suc n) v = grows [] v
+front_from (x ∷ xs) zero v = grows (x ∷ xs) v
+front_from (x ∷ xs) (suc n) v = front_from xs n (v * 10 + (x - 48))
+
+pub value_of_front : (xs : List ℕ) (n : ℕ) → value_of (take n xs) ≤ value_of xs
+value_of_front xs n = front_from xs n 0

@@ -1,7 +1,7 @@
 -- The tokens of a text, and its first fault (ISO 7185:1990, 6.1). A text is a row of separators and tokens,
 -- each of its class and as long as can be.
 -- This doesn't say what the tokens mean together: that is syntax.
-use Rattle.std.specs.Prelude.{◌≡◌, ◌≢◌, ℕ, ◌+◌, ◌-◌, ◌<◌, ◌≤◌, List, [], ◌∷◌, ◌++◌, length, take, drop, map, Result, Ok, Err, ◌⊎◌}
+use Rattle.std.specs.Prelude.{◌≡◌, ◌≢◌, ℕ, ◌+◌, ◌-◌, ◌<◌, ◌≤◌, List, [], ◌∷◌, ◌++◌, length, take, drop, Ok, Err, ◌⊎◌}
 use Rattle.lexer.specs.declared.place.Place.{Place}
 use Rattle.lexer.specs.declared.token.Kind.{Kind}
 use Rattle.lexer.specs.declared.token.Token.{Token}

@@ -1,5 +1,6 @@
-ghost use Rattle.std.specs.Prelude.{◌≡◌, ◌<◌, ◌≤◌, true, length, slice_index, take_while, IfOk, IfErr, IfSome, All};
+ghost use Rattle.std.specs.Prelude.{◌≡◌, ◌<◌, ◌≤◌, true, length, slice_index, take_while, IfOk, IfErr, IfSome, MatchOption, All};
 ghost use Rattle.std.specs.Char.{IsAsciiDigit, is_ascii_digit, is_ascii_alphanumeric};
+ghost use Rattle.lexer.specs.Piece as spec;
 ghost use Rattle.lexer.specs.Piece.{offset_of};
 
 use crate::symbol::symbol;
@@ -17,7 +18,8 @@ pub enum Piece {
     Token(Kind),
 }
 
-/// Why nothing can be cut off the rest of a text. Each fault stands where the rest begins, save `StringByte`.
+/// Why nothing can be cut off the rest of a text. Each fault stands where the rest begins, save
+/// `StringByte`.
 #[derive(Clone, Copy, Debug)]
 pub enum Refusal {
     UnknownByte,
@@ -48,7 +50,8 @@ pub fn next_piece(text: &[u8]) -> Result<(Piece, usize), Refusal>
     }
 }
 
-/// A comment whose opening mark takes `opening` bytes. Each closing mark closes either opening mark.
+/// A comment whose opening mark takes `opening` bytes. Each closing mark closes either opening
+/// mark.
 fn comment(text: &[u8], opening: usize) -> Result<(Piece, usize), Refusal>
     ensures cut { IfOk result (λ found. (0 < found.1) × (found.1 ≤ length text.now)) }
     ensures within { IfErr result (λ refusal. offset_of refusal ≤ length text.now) }
@@ -81,7 +84,8 @@ fn string(text: &[u8]) -> Result<(Piece, usize), Refusal>
     }
 }
 
-/// The length up to the apostrophe that closes a string in its line: the first that isn't one of two.
+/// The length up to the apostrophe that closes a string in its line: the first that isn't one of
+/// two.
 fn string_length(text: &[u8]) -> Option<usize>
     ensures { IfSome result (λ length_of. (2 ≤ length_of) × (length_of ≤ length text.now)) }
 {
@@ -123,6 +127,8 @@ fn digits_length(text: &[u8]) -> usize
 /// The value of digits, if it is at most `MAX_NUMBER`.
 fn value_of(digits: &[u8]) -> Option<u32>
     requires { All IsAsciiDigit digits.now }
+    ensures { MatchOption result (MAX_NUMBER < spec.value_of digits.now)
+        (λ value. value ≡ spec.value_of digits.now) }
 {
     let mut value = 0;
     for digit in digits {

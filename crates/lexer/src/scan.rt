@@ -1,5 +1,7 @@
-ghost use Rattle.std.specs.Prelude.{◌+◌, ◌^◌, ◌<◌, ◌≤◌, length};
+ghost use Rattle.std.specs.Prelude.{◌≡◌, ◌+◌, ◌^◌, ◌<◌, ◌≤◌, ◌↔◌, length, take, IsErrOf};
 ghost use Rattle.lexer.specs.Piece.{offset_of};
+ghost use Rattle.lexer.specs.Place.{start, place_after};
+ghost use Rattle.lexer.specs.Tokens.{fault_of};
 
 use crate::fault::LexFault;
 use crate::piece::{Piece, Refusal, next_piece};
@@ -10,10 +12,13 @@ use std::alloc::Global;
 /// The most bytes that a text may have.
 pub const MAX_TEXT: usize = 1048576;
 
-/// The tokens of a text, in order (6.1), or its first fault: L7 of a text above `MAX_TEXT` before all
-/// others, then the first in the text, and of two at one place the one with the lower number. The tokens
-/// are as long as can be, and nothing but blanks, line ends and comments stands between them (6.1.8).
-pub fn tokens<'a>(alloc: Global, text: &'a [u8]) -> Result<Vec<Token<'a>>, LexFault> {
+/// The tokens of a text, in order (6.1), or its first fault: L7 of a text above `MAX_TEXT` before
+/// all others, then the first in the text, and of two at one place the one with the lower number.
+/// The tokens are as long as can be, and nothing but blanks, line ends and comments stands between
+/// them (6.1.8).
+pub fn tokens<'a>(alloc: Global, text: &'a [u8]) -> Result<Vec<Token<'a>>, LexFault>
+    ensures long { IsErrOf result (LexFault.LongText start) ↔ (MAX_TEXT < length text.now) }
+{
     let mut place = Place::START;
     if text.len() > MAX_TEXT {
         return Err(LexFault::LongText(place));
@@ -40,6 +45,7 @@ fn fault_of(refusal: Refusal, place: Place, rest: &[u8]) -> LexFault
     requires within { offset_of refusal ≤ length rest.now }
     requires line_fits { place.line + length rest.now < 2 ^ 32 }
     requires column_fits { place.column + length rest.now < 2 ^ 32 }
+    ensures { result ≡ fault_of refusal (place_after place (take (offset_of refusal) rest.now)) }
 {
     match refusal {
         Refusal::UnknownByte => LexFault::UnknownByte(place),

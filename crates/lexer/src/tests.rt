@@ -10,11 +10,7 @@ fn at(line: u32, column: u32) -> Place {
 }
 
 /// Whether a text of one line has just these tokens: kind, spelling and column.
-fn has_tokens(
-    alloc: Global,
-    text: &[u8],
-    wanted: &[(Kind, &[u8], u32)],
-) -> Result<bool, LexFault> {
+fn has_tokens(alloc: Global, text: &[u8], wanted: &[(Kind, &[u8], u32)]) -> Result<bool, LexFault> {
     let found = tokens(alloc, text)?;
     let mut same = found.len() == wanted.len();
     for (token, (kind, spelling, column)) in found.iter().zip(wanted) {
@@ -140,7 +136,11 @@ fn knows_each_symbol(rt: HostRuntime) -> Result<(), Fail> {
     for (text, symbol) in symbols {
         let found = tokens(rt.alloc(), text)?;
         let kind = found.last().map(|token| token.kind);
-        assert_eq!(rt; (found.len(), kind), (1, Some(Kind::Symbol(symbol))), "{text:?}");
+        assert_eq!(rt;
+            (found.len(), kind),
+            (1, Some(Kind::Symbol(symbol))),
+            "{text:?}"
+        );
     }
     Ok(())
 }
@@ -148,7 +148,8 @@ fn knows_each_symbol(rt: HostRuntime) -> Result<(), Fail> {
 #[test]
 fn knows_each_word_in_any_case(rt: HostRuntime) -> Result<(), Fail> {
     let alloc = rt.alloc();
-    let text = b"AND array Begin cASE conST div do downto else end file for function goto if in label mod nil not of or packed PROCEDURE prograM record repeat set then to type until var while WITH";
+    let text =
+        b"AND array Begin cASE conST div do downto else end file for function goto if in label mod nil not of or packed PROCEDURE prograM record repeat set then to type until var while WITH";
     let words = [
         Word::And,
         Word::Array,

@@ -1,2 +1,7 @@
 pub mod Cursor
+pub mod Nesting
 pub mod ParseFault
+pub mod Rules
+pub mod Spelling
+pub mod Syntax
+pub mod WellFormed

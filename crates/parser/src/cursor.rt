@@ -1,4 +1,4 @@
-ghost use Rattle.std.specs.Prelude.{◌≡◌, ◌<◌, ◌≤◌, OnSome, OnOk, OnErr, IfNone};
+ghost use Rattle.std.specs.Prelude.{◌≡◌, ◌<◌, ◌≤◌, [], ◌∷◌, IfSome, IfOk, ◌↔◌, IsTrue, OnSome, OnOk, IfErr, IfNone};
 
 use crate::fault::ParseFault;
 use crate::tree::{Name, Sign};
@@ -14,9 +14,12 @@ pub struct Cursor<'t, 'a> {
 }
 
 impl<'t, 'a> Cursor<'t, 'a> {
-    ghost use Rattle.parser.specs.Cursor.{left};
+    ghost use Rattle.parser.specs.Spelling.{of_kind_at, identifier, sign};
+    ghost use Rattle.parser.specs.Cursor.{left, IsOfRules, Took};
 
-    pub fn new(tokens: &'t [Token<'a>]) -> Self {
+    pub fn new(tokens: &'t [Token<'a>]) -> Self
+        ensures { result.rest.now ≡ tokens.now }
+    {
         Cursor {
             rest: tokens,
             end: end_of(tokens),
@@ -24,7 +27,9 @@ impl<'t, 'a> Cursor<'t, 'a> {
     }
 
     /// The kind of the next token.
-    pub fn peek(&self) -> Option<Kind> {
+    pub fn peek(&self) -> Option<Kind>
+        ensures { IfNone result (self.now.rest.now ≡ []) }
+    {
         Some(self.rest.first()?.kind)
     }
 
@@ -37,7 +42,9 @@ impl<'t, 'a> Cursor<'t, 'a> {
     }
 
     /// P1, at the next token.
-    pub fn no_program(&self) -> ParseFault {
+    pub fn no_program(&self) -> ParseFault
+        ensures { IsOfRules result }
+    {
         ParseFault::NoProgram(self.place())
     }
 
@@ -45,9 +52,11 @@ impl<'t, 'a> Cursor<'t, 'a> {
     pub fn take(&mut self, kind: Kind) -> Option<Place>
         ensures taken { OnSome result (left self.new < left self.old) }
         ensures kept { IfNone result (self.new ≡ self.old) }
+        ensures spelled { IfSome result
+            (λ place. Took self.old self.new (of_kind_at kind place ∷ [])) }
     {
         match self.rest {
-            [token, rest @ ..] if token.kind == kind => {
+            [token, rest @ ..] if is_of_kind(token, kind) => {
                 let place = token.place;
                 self.rest = rest;
                 Some(place)
@@ -59,6 +68,8 @@ impl<'t, 'a> Cursor<'t, 'a> {
     pub fn take_word(&mut self, word: Word) -> Option<Place>
         ensures taken { OnSome result (left self.new < left self.old) }
         ensures kept { IfNone result (self.new ≡ self.old) }
+        ensures spelled { IfSome result
+            (λ place. Took self.old self.new (of_kind_at (Kind.Word word) place ∷ [])) }
     {
         self.take(Kind::Word(word))
     }
@@ -66,20 +77,26 @@ impl<'t, 'a> Cursor<'t, 'a> {
     pub fn take_symbol(&mut self, symbol: Symbol) -> Option<Place>
         ensures taken { OnSome result (left self.new < left self.old) }
         ensures kept { IfNone result (self.new ≡ self.old) }
+        ensures spelled { IfSome result
+            (λ place. Took self.old self.new (of_kind_at (Kind.Symbol symbol) place ∷ [])) }
     {
         self.take(Kind::Symbol(symbol))
     }
 
     pub fn expect_word(&mut self, word: Word) -> Result<Place, ParseFault>
         ensures taken { OnOk result (left self.new < left self.old) }
-        ensures kept { OnErr result (self.new ≡ self.old) }
+        ensures kept { IfErr result (λ fault. (self.new ≡ self.old) × IsOfRules fault) }
+        ensures spelled { IfOk result
+            (λ place. Took self.old self.new (of_kind_at (Kind.Word word) place ∷ [])) }
     {
         self.take_word(word).ok_or(self.no_program())
     }
 
     pub fn expect_symbol(&mut self, symbol: Symbol) -> Result<Place, ParseFault>
         ensures taken { OnOk result (left self.new < left self.old) }
-        ensures kept { OnErr result (self.new ≡ self.old) }
+        ensures kept { IfErr result (λ fault. (self.new ≡ self.old) × IsOfRules fault) }
+        ensures spelled { IfOk result
+            (λ place. Took self.old self.new (of_kind_at (Kind.Symbol symbol) place ∷ [])) }
     {
         self.take_symbol(symbol).ok_or(self.no_program())
     }
@@ -88,11 +105,22 @@ impl<'t, 'a> Cursor<'t, 'a> {
     pub fn take_name(&mut self) -> Option<Name<'a>>
         ensures taken { OnSome result (left self.new < left self.old) }
         ensures kept { IfNone result (self.new ≡ self.old) }
+        ensures spelled { IfSome result (λ name. Took self.old self.new (identifier name ∷ [])) }
     {
         match self.rest {
-            [Token { kind: Kind::Identifier, text, place }, rest @ ..] => {
+            [
+                Token {
+                    kind: Kind::Identifier,
+                    text,
+                    place,
+                },
+                rest @ ..,
+            ] => {
                 self.rest = rest;
-                Some(Name { text, place: *place })
+                Some(Name {
+                    text,
+                    place: *place,
+                })
             }
             _ => None,
         }
@@ -100,7 +128,8 @@ impl<'t, 'a> Cursor<'t, 'a> {
 
     pub fn expect_name(&mut self) -> Result<Name<'a>, ParseFault>
         ensures taken { OnOk result (left self.new < left self.old) }
-        ensures kept { OnErr result (self.new ≡ self.old) }
+        ensures kept { IfErr result (λ fault. (self.new ≡ self.old) × IsOfRules fault) }
+        ensures spelled { IfOk result (λ name. Took self.old self.new (identifier name ∷ [])) }
     {
         self.take_name().ok_or(self.no_program())
     }
@@ -109,6 +138,8 @@ impl<'t, 'a> Cursor<'t, 'a> {
     pub fn take_number(&mut self) -> Option<(u32, Place)>
         ensures taken { OnSome result (left self.new < left self.old) }
         ensures kept { IfNone result (self.new ≡ self.old) }
+        ensures spelled { IfSome result
+            (λ number. Took self.old self.new (of_kind_at (Kind.Number number.0) number.1 ∷ [])) }
     {
         match self.rest {
             [token, rest @ ..] => match token.kind {
@@ -126,6 +157,8 @@ impl<'t, 'a> Cursor<'t, 'a> {
     pub fn take_sign(&mut self) -> Option<(Sign, Place)>
         ensures taken { OnSome result (left self.new < left self.old) }
         ensures kept { IfNone result (self.new ≡ self.old) }
+        ensures spelled { IfSome result
+            (λ found. Took self.old self.new (sign found.0 found.1 ∷ [])) }
     {
         if let Some(place) = self.take_symbol(Symbol::Plus) {
             return Some((Sign::Plus, place));
@@ -133,6 +166,12 @@ impl<'t, 'a> Cursor<'t, 'a> {
         let place = self.take_symbol(Symbol::Minus)?;
         Some((Sign::Minus, place))
     }
+}
+
+fn is_of_kind(token: &Token<'_>, kind: Kind) -> bool
+    ensures { IsTrue result ↔ (token.now.kind ≡ kind) }
+{
+    token.kind == kind
 }
 
 /// Just past the last token, or where a text begins if there is none.

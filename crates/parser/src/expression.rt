@@ -1,5 +1,7 @@
-ghost use Rattle.std.specs.Prelude.{◌≤◌, OnOk};
-ghost use Rattle.parser.specs.Cursor.{left};
+ghost use Rattle.std.specs.Prelude.{◌≤◌, IfOk, MatchResult};
+ghost use Rattle.parser.specs.Cursor.{left, IsOfRules};
+ghost use Rattle.parser.specs.Rules.{GivesExpr, IsChain};
+ghost use Rattle.parser.specs.WellFormed.{sum_level, signed_level, term_level};
 
 use crate::cursor::Cursor;
 use crate::fault::ParseFault;
@@ -8,7 +10,7 @@ use crate::tree::{Expr, Link};
 use lexer::token::Symbol;
 use std::alloc::Global;
 
-// expression = [sign] term {("+" | "-") term}
+// expression = signed_term {("+" | "-") term}
 /// An expression, below which `levels` levels are left (6.7.1).
 #[cycle(expression)]
 pub fn expression<'a>(
@@ -16,16 +18,10 @@ pub fn expression<'a>(
     cursor: &mut Cursor<'_, 'a>,
     levels: u32,
 ) -> Result<Expr<'a>, ParseFault>
-    ensures { OnOk result (left cursor.new ≤ left cursor.old) }
+    ensures left { MatchResult result (λ _. left cursor.new ≤ left cursor.old) IsOfRules }
+    ensures given { IfOk result (GivesExpr sum_level levels cursor.old cursor.new) }
 {
-    let first = match cursor.take_sign() {
-        None => term(alloc, cursor, levels)?,
-        Some((sign, place)) => Expr::Signed {
-            sign,
-            place,
-            term: Box::new(alloc, term(alloc, cursor, levels)?)?,
-        },
-    };
+    let first = signed_term(alloc, cursor, levels)?;
     let mut rest = Vec::new(alloc);
     while let Some((operator, place)) = cursor.take_sign() {
         let operand = term(alloc, cursor, levels)?;
@@ -38,14 +34,31 @@ pub fn expression<'a>(
     chained(alloc, first, rest)
 }
 
-// term = number | name | "(" expression ")"
+// signed_term = [sign] term
 #[cycle(expression)]
-fn term<'a>(
+fn signed_term<'a>(
     alloc: Global,
     cursor: &mut Cursor<'_, 'a>,
     levels: u32,
 ) -> Result<Expr<'a>, ParseFault>
-    ensures { OnOk result (left cursor.new ≤ left cursor.old) }
+    ensures left { MatchResult result (λ _. left cursor.new ≤ left cursor.old) IsOfRules }
+    ensures given { IfOk result (GivesExpr signed_level levels cursor.old cursor.new) }
+{
+    match cursor.take_sign() {
+        None => term(alloc, cursor, levels),
+        Some((sign, place)) => Ok(Expr::Signed {
+            sign,
+            place,
+            term: Box::new(alloc, term(alloc, cursor, levels)?)?,
+        }),
+    }
+}
+
+// term = number | name | "(" expression ")"
+#[cycle(expression)]
+fn term<'a>(alloc: Global, cursor: &mut Cursor<'_, 'a>, levels: u32) -> Result<Expr<'a>, ParseFault>
+    ensures left { MatchResult result (λ _. left cursor.new ≤ left cursor.old) IsOfRules }
+    ensures given { IfOk result (GivesExpr term_level levels cursor.old cursor.new) }
 {
     if let Some((value, place)) = cursor.take_number() {
         return Ok(Expr::Number { value, place });
@@ -63,11 +76,9 @@ fn term<'a>(
 }
 
 /// A sum, or its first term where no operator stands behind it.
-fn chained<'a>(
-    alloc: Global,
-    first: Expr<'a>,
-    rest: Vec<Link<'a>>,
-) -> Result<Expr<'a>, ParseFault> {
+fn chained<'a>(alloc: Global, first: Expr<'a>, rest: Vec<Link<'a>>) -> Result<Expr<'a>, ParseFault>
+    ensures { MatchResult result (IsChain first.entry rest.entry.items) IsOfRules }
+{
     if rest.is_empty() {
         return Ok(first);
     }

@@ -1,15 +1,17 @@
-ghost use Rattle.std.specs.Prelude.{◌≡◌, ◌+◌, IfOk};
+ghost use Rattle.std.specs.Prelude.{◌≡◌, ◌+◌, MatchResult};
+ghost use Rattle.parser.specs.Cursor.{IsOfRules};
 
 use crate::fault::ParseFault;
 use lexer::place::Place;
 
-/// How deep a program may nest. Its own compound statement is the first level; each statement in a compound
-/// statement, each actual and each expression in parentheses is one level below what it stands in.
+/// How deep a program may nest. Its own compound statement is the first level; each statement in a
+/// compound statement, each actual and each expression in parentheses is one level below what it
+/// stands in.
 pub const MAX_NESTING: u32 = 128;
 
 /// The levels that are left inside the next one, which begins at `place`, or P2.
 pub fn inside(levels: u32, place: Place) -> Result<u32, ParseFault>
-    ensures { IfOk result (λ left. left + 1 ≡ levels) }
+    ensures { MatchResult result (λ left. left + 1 ≡ levels) IsOfRules }
 {
     levels.checked_sub(1).ok_or(ParseFault::TooDeep(place))
 }

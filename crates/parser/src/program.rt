@@ -1,46 +1,77 @@
-ghost use Rattle.std.specs.Prelude.{◌<◌, ◌≤◌, OnOk};
-ghost use Rattle.parser.specs.Cursor.{left};
+ghost use Rattle.std.specs.Prelude.{◌≡◌, ◌<◌, ◌≤◌, IfOk, IfErr, MatchOption, MatchResult};
+ghost use Rattle.parser.specs.Cursor.{left, IsOfRules, Took};
+ghost use Rattle.parser.specs.Rules.{GivesList, GivesGroup, GivesGroups, GivesVariables, GivesBlock, GivesProgram};
+ghost use Rattle.parser.specs.Spelling.{identifiers, in_parentheses};
+ghost use Rattle.parser.specs.Syntax.{first_left_out, is_left_out, IsTreeOf};
 
 use crate::cursor::Cursor;
 use crate::fault::ParseFault;
 use crate::nesting::{MAX_NESTING, inside};
 use crate::statement::compound;
 use crate::tree::{Block, Name, Program, TypeDenoter, VariableGroup};
+use lexer::place::Place;
 use lexer::token::{Kind, Symbol, Token, Word};
 use std::alloc::Global;
 
-/// The syntax tree that the tokens spell (6.2 to 6.10), its parentheses kept. P3 where a token stands that
-/// only forms left out have: the first of these, before all else. Otherwise P1 at the first token with
-/// which no program goes on, or just past the last, or P2 where the nesting passes `MAX_NESTING`.
-pub fn parse<'a>(alloc: Global, tokens: &[Token<'a>]) -> Result<Program<'a>, ParseFault> {
-    if let Some(token) = tokens.iter().find(|token| is_left_out(token.kind)) {
-        return Err(ParseFault::LeftOut(token.place));
-    }
-    let mut cursor = Cursor::new(tokens);
-    let program = program(alloc, &mut cursor)?;
-    match cursor.peek() {
-        None => Ok(program),
-        Some(_) => Err(cursor.no_program()),
+/// The syntax tree that the tokens spell (6.2 to 6.10), its parentheses kept. P3 where a token
+/// stands that only forms left out have: the first of these, before all else. Otherwise P1 at the
+/// first token with which no program goes on, or just past the last, or P2 where the nesting passes
+/// `MAX_NESTING`.
+pub fn parse<'a>(alloc: Global, tokens: &[Token<'a>]) -> Result<Program<'a>, ParseFault>
+    ensures left_out { MatchOption (first_left_out tokens.now) (IfErr result IsOfRules)
+        (λ place. result ≡ Err (ParseFault.LeftOut place)) }
+    ensures tree { IfOk result (λ tree. IsTreeOf tree tokens.now) }
+{
+    match first_left_out(tokens) {
+        Some(place) => Err(ParseFault::LeftOut(place)),
+        None => whole(alloc, &mut Cursor::new(tokens)),
     }
 }
 
+/// The place of the first token that only forms left out have.
+fn first_left_out(tokens: &[Token<'_>]) -> Option<Place>
+    ensures { result ≡ first_left_out tokens.now }
+{
+    for token in tokens {
+        if is_left_out(token.kind) {
+            return Some(token.place);
+        }
+    }
+    None
+}
+
 /// Whether a token is label, goto, nil, file or `^`.
-fn is_left_out(kind: Kind) -> bool {
+fn is_left_out(kind: Kind) -> bool
+    ensures { result ≡ is_left_out kind }
+{
     matches!(
         kind,
         Kind::Word(Word::Label | Word::Goto | Word::Nil | Word::File) | Kind::Symbol(Symbol::Arrow)
     )
 }
 
-// program = "program" name ["(" names ")"] ";" block "."
+/// A program and nothing behind it.
+fn whole<'a>(alloc: Global, cursor: &mut Cursor<'_, 'a>) -> Result<Program<'a>, ParseFault>
+    ensures fault { IfErr result IsOfRules }
+    ensures tree { IfOk result (λ tree. IsTreeOf tree cursor.old.rest.now) }
+{
+    let program = program(alloc, cursor)?;
+    match cursor.peek() {
+        None => Ok(program),
+        Some(_) => Err(cursor.no_program()),
+    }
+}
+
+// program = "program" name parameters ";" block "."
 fn program<'a>(alloc: Global, cursor: &mut Cursor<'_, 'a>) -> Result<Program<'a>, ParseFault>
-    ensures { OnOk result (left cursor.new ≤ left cursor.old) }
+    ensures left { MatchResult result (λ _. left cursor.new ≤ left cursor.old) IsOfRules }
+    ensures given { IfOk result (GivesProgram MAX_NESTING cursor.old cursor.new) }
 {
     cursor.expect_word(Word::Program)?;
     let name = cursor.expect_name()?;
     let parameters = parameters(alloc, cursor)?;
     cursor.expect_symbol(Symbol::Semicolon)?;
-    let block = block(alloc, cursor)?;
+    let block = block(alloc, cursor, MAX_NESTING)?;
     cursor.expect_symbol(Symbol::Period)?;
     Ok(Program {
         name,
@@ -49,12 +80,11 @@ fn program<'a>(alloc: Global, cursor: &mut Cursor<'_, 'a>) -> Result<Program<'a>
     })
 }
 
-// ["(" names ")"]
-fn parameters<'a>(
-    alloc: Global,
-    cursor: &mut Cursor<'_, 'a>,
-) -> Result<Vec<Name<'a>>, ParseFault>
-    ensures { OnOk result (left cursor.new ≤ left cursor.old) }
+// parameters = ["(" names ")"]
+fn parameters<'a>(alloc: Global, cursor: &mut Cursor<'_, 'a>) -> Result<Vec<Name<'a>>, ParseFault>
+    ensures left { MatchResult result (λ _. left cursor.new ≤ left cursor.old) IsOfRules }
+    ensures given { IfOk result
+        (λ found. Took cursor.old cursor.new (in_parentheses (identifiers found.items))) }
 {
     if cursor.take_symbol(Symbol::OpenParenthesis).is_none() {
         return Ok(Vec::new(alloc));
@@ -66,7 +96,9 @@ fn parameters<'a>(
 
 // names = name {"," name}
 fn names<'a>(alloc: Global, cursor: &mut Cursor<'_, 'a>) -> Result<Vec<Name<'a>>, ParseFault>
-    ensures { OnOk result (left cursor.new < left cursor.old) }
+    ensures left { MatchResult result (λ _. left cursor.new < left cursor.old) IsOfRules }
+    ensures given { IfOk result
+        (λ found. GivesList Symbol.Comma cursor.old cursor.new (identifiers found.items)) }
 {
     let mut names = Vec::new(alloc);
     names.push(cursor.expect_name()?)?;
@@ -76,14 +108,19 @@ fn names<'a>(alloc: Global, cursor: &mut Cursor<'_, 'a>) -> Result<Vec<Name<'a>>
     Ok(names)
 }
 
-// block = ["var" group {group}] compound
-fn block<'a>(alloc: Global, cursor: &mut Cursor<'_, 'a>) -> Result<Block<'a>, ParseFault>
-    ensures { OnOk result (left cursor.new ≤ left cursor.old) }
+// block = variables compound
+/// A block (6.2.1) in something below which `levels` levels are left.
+fn block<'a>(
+    alloc: Global,
+    cursor: &mut Cursor<'_, 'a>,
+    levels: u32,
+) -> Result<Block<'a>, ParseFault>
+    ensures left { MatchResult result (λ _. left cursor.new ≤ left cursor.old) IsOfRules }
+    ensures given { IfOk result (GivesBlock levels cursor.old cursor.new) }
 {
     let variables = variables(alloc, cursor)?;
-    let levels = inside(MAX_NESTING, cursor.place())?;
-    let statements = compound(alloc, cursor, levels)?;
-    let end = cursor.expect_word(Word::End)?;
+    let levels = inside(levels, cursor.place())?;
+    let (statements, end) = compound(alloc, cursor, levels)?;
     Ok(Block {
         variables,
         statements,
@@ -91,17 +128,29 @@ fn block<'a>(alloc: Global, cursor: &mut Cursor<'_, 'a>) -> Result<Block<'a>, Pa
     })
 }
 
-// ["var" group {group}]
+// variables = ["var" groups]
 fn variables<'a>(
     alloc: Global,
     cursor: &mut Cursor<'_, 'a>,
 ) -> Result<Vec<VariableGroup<'a>>, ParseFault>
-    ensures { OnOk result (left cursor.new ≤ left cursor.old) }
+    ensures left { MatchResult result (λ _. left cursor.new ≤ left cursor.old) IsOfRules }
+    ensures given { IfOk result (λ found. GivesVariables cursor.old cursor.new found.items) }
+{
+    if cursor.take_word(Word::Var).is_none() {
+        return Ok(Vec::new(alloc));
+    }
+    groups(alloc, cursor)
+}
+
+// groups = group {group}
+fn groups<'a>(
+    alloc: Global,
+    cursor: &mut Cursor<'_, 'a>,
+) -> Result<Vec<VariableGroup<'a>>, ParseFault>
+    ensures left { MatchResult result (λ _. left cursor.new ≤ left cursor.old) IsOfRules }
+    ensures given { IfOk result (λ found. GivesGroups cursor.old cursor.new found.items) }
 {
     let mut groups = Vec::new(alloc);
-    if cursor.take_word(Word::Var).is_none() {
-        return Ok(groups);
-    }
     groups.push(group(alloc, cursor)?)?;
     while let Some(Kind::Identifier) = cursor.peek() {
         groups.push(group(alloc, cursor)?)?;
@@ -110,11 +159,9 @@ fn variables<'a>(
 }
 
 // group = names ":" name ";"
-fn group<'a>(
-    alloc: Global,
-    cursor: &mut Cursor<'_, 'a>,
-) -> Result<VariableGroup<'a>, ParseFault>
-    ensures { OnOk result (left cursor.new < left cursor.old) }
+fn group<'a>(alloc: Global, cursor: &mut Cursor<'_, 'a>) -> Result<VariableGroup<'a>, ParseFault>
+    ensures left { MatchResult result (λ _. left cursor.new < left cursor.old) IsOfRules }
+    ensures given { IfOk result (GivesGroup cursor.old cursor.new) }
 {
     let names = names(alloc, cursor)?;
     cursor.expect_symbol(Symbol::Colon)?;

@@ -1,26 +1,46 @@
-ghost use Rattle.std.specs.Prelude.{◌≤◌, OnOk};
-ghost use Rattle.parser.specs.Cursor.{left};
+ghost use Rattle.std.specs.Prelude.{◌≤◌, IfOk, MatchResult};
+ghost use Rattle.parser.specs.Cursor.{left, IsOfRules};
+ghost use Rattle.parser.specs.Rules.{GivesActual, GivesActuals, GivesActualList, GivesSimple, GivesStmt, GivesStatements, GivesCompound};
 
 use crate::cursor::Cursor;
 use crate::expression::expression;
 use crate::fault::ParseFault;
 use crate::nesting::inside;
-use crate::tree::{Expr, Name, Stmt};
+use crate::tree::{Expr, Stmt};
+use lexer::place::Place;
 use lexer::token::{Kind, Symbol, Word};
 use std::alloc::Global;
 
-// compound = "begin" statement {";" statement} "end"
-/// The statements of a compound statement (6.8.3.2), before its `end`. Below the compound statement
-/// `levels` levels are left.
+// compound = "begin" statements "end"
+/// The statements of a compound statement (6.8.3.2), and its `end`. Below it `levels` levels are
+/// left.
 #[cycle(statement)]
 pub fn compound<'a>(
     alloc: Global,
     cursor: &mut Cursor<'_, 'a>,
     levels: u32,
-) -> Result<Vec<Stmt<'a>>, ParseFault>
-    ensures { OnOk result (left cursor.new ≤ left cursor.old) }
+) -> Result<(Vec<Stmt<'a>>, Place), ParseFault>
+    ensures left { MatchResult result (λ _. left cursor.new ≤ left cursor.old) IsOfRules }
+    ensures given { IfOk result
+        (λ found. GivesCompound levels cursor.old cursor.new found.0.items found.1) }
 {
     cursor.expect_word(Word::Begin)?;
+    let statements = statements(alloc, cursor, levels)?;
+    let end = cursor.expect_word(Word::End)?;
+    Ok((statements, end))
+}
+
+// statements = statement {";" statement}
+#[cycle(statement)]
+fn statements<'a>(
+    alloc: Global,
+    cursor: &mut Cursor<'_, 'a>,
+    levels: u32,
+) -> Result<Vec<Stmt<'a>>, ParseFault>
+    ensures left { MatchResult result (λ _. left cursor.new ≤ left cursor.old) IsOfRules }
+    ensures given { IfOk result
+        (λ found. GivesStatements levels cursor.old cursor.new found.items) }
+{
     let mut statements = Vec::new(alloc);
     statements.push(statement(alloc, cursor, levels)?)?;
     while cursor.take_symbol(Symbol::Semicolon).is_some() {
@@ -29,7 +49,7 @@ pub fn compound<'a>(
     Ok(statements)
 }
 
-// statement = [variable ":=" expression | name ["(" actual {"," actual} ")"] | compound]
+// statement = [simple | compound]
 /// A statement in something below which `levels` levels are left (6.8).
 #[cycle(statement)]
 fn statement<'a>(
@@ -37,27 +57,30 @@ fn statement<'a>(
     cursor: &mut Cursor<'_, 'a>,
     levels: u32,
 ) -> Result<Stmt<'a>, ParseFault>
-    ensures { OnOk result (left cursor.new ≤ left cursor.old) }
+    ensures left { MatchResult result (λ _. left cursor.new ≤ left cursor.old) IsOfRules }
+    ensures given { IfOk result (GivesStmt levels cursor.old cursor.new) }
 {
     let levels = inside(levels, cursor.place())?;
     match cursor.peek() {
         Some(Kind::Identifier) => simple(alloc, cursor, levels),
         Some(Kind::Word(Word::Begin)) => {
-            let statements = compound(alloc, cursor, levels)?;
-            cursor.expect_word(Word::End)?;
+            let (statements, _) = compound(alloc, cursor, levels)?;
             Ok(Stmt::Compound { statements })
         }
         _ => Ok(Stmt::Empty),
     }
 }
 
-/// A statement that begins with a name: an assignment or a call (6.8.2.2, 6.8.2.3).
+// simple = name ":=" expression | name actuals
+/// An assignment (6.8.2.2) or the call of a procedure (6.8.2.3), below which `levels` levels are
+/// left.
 fn simple<'a>(
     alloc: Global,
     cursor: &mut Cursor<'_, 'a>,
     levels: u32,
 ) -> Result<Stmt<'a>, ParseFault>
-    ensures { OnOk result (left cursor.new ≤ left cursor.old) }
+    ensures left { MatchResult result (λ _. left cursor.new ≤ left cursor.old) IsOfRules }
+    ensures given { IfOk result (GivesSimple levels cursor.old cursor.new) }
 {
     let name = cursor.expect_name()?;
     match cursor.take_symbol(Symbol::Becomes) {
@@ -73,33 +96,50 @@ fn simple<'a>(
     }
 }
 
-// actuals = ["(" actual {"," actual} ")"], actual = expression
+// actuals = ["(" actual_list ")"]
 /// The actual parameters of a call (6.7.3).
 fn actuals<'a>(
     alloc: Global,
     cursor: &mut Cursor<'_, 'a>,
     levels: u32,
 ) -> Result<Vec<Expr<'a>>, ParseFault>
-    ensures { OnOk result (left cursor.new ≤ left cursor.old) }
+    ensures left { MatchResult result (λ _. left cursor.new ≤ left cursor.old) IsOfRules }
+    ensures given { IfOk result (λ found. GivesActuals levels cursor.old cursor.new found.items) }
 {
-    let mut actuals = Vec::new(alloc);
     if cursor.take_symbol(Symbol::OpenParenthesis).is_none() {
-        return Ok(actuals);
+        return Ok(Vec::new(alloc));
     }
-    actuals.push(actual(alloc, cursor, levels)?)?;
-    while cursor.take_symbol(Symbol::Comma).is_some() {
-        actuals.push(actual(alloc, cursor, levels)?)?;
-    }
+    let actuals = actual_list(alloc, cursor, levels)?;
     cursor.expect_symbol(Symbol::CloseParenthesis)?;
     Ok(actuals)
 }
 
+// actual_list = actual {"," actual}
+fn actual_list<'a>(
+    alloc: Global,
+    cursor: &mut Cursor<'_, 'a>,
+    levels: u32,
+) -> Result<Vec<Expr<'a>>, ParseFault>
+    ensures left { MatchResult result (λ _. left cursor.new ≤ left cursor.old) IsOfRules }
+    ensures given { IfOk result
+        (λ found. GivesActualList levels cursor.old cursor.new found.items) }
+{
+    let mut actuals = Vec::new(alloc);
+    actuals.push(actual(alloc, cursor, levels)?)?;
+    while cursor.take_symbol(Symbol::Comma).is_some() {
+        actuals.push(actual(alloc, cursor, levels)?)?;
+    }
+    Ok(actuals)
+}
+
+// actual = expression
 fn actual<'a>(
     alloc: Global,
     cursor: &mut Cursor<'_, 'a>,
     levels: u32,
 ) -> Result<Expr<'a>, ParseFault>
-    ensures { OnOk result (left cursor.new ≤ left cursor.old) }
+    ensures left { MatchResult result (λ _. left cursor.new ≤ left cursor.old) IsOfRules }
+    ensures given { IfOk result (GivesActual levels cursor.old cursor.new) }
 {
     let levels = inside(levels, cursor.place())?;
     expression(alloc, cursor, levels)

@@ -79,7 +79,8 @@ fn tells_the_fault(rt: HostRuntime) -> Result<(), Fail> {
 
 #[test]
 fn keeps_what_stands_in_the_text(rt: HostRuntime) -> Result<(), Fail> {
-    let text = b"PROGRAM p(a, B); var x, y: t; z: u; begin x := -x+(1)-2; w; w(x, +3); ; begin end end.";
+    let text =
+        b"PROGRAM p(a, B); var x, y: t; z: u; begin x := -x+(1)-2; w; w(x, +3); ; begin end end.";
     let tokens = tokens(rt.alloc(), text)?;
     let program = parse(rt.alloc(), &tokens)?;
     assert_eq!(rt; program.parameters.len(), 2);
@@ -101,7 +102,9 @@ fn keeps_what_stands_in_the_text(rt: HostRuntime) -> Result<(), Fail> {
         operand: Number { value: 2, place: Place { line: 1, column: 55 } } }] } }";
     assert_eq!(rt; found.as_str(), wanted);
     for (index, actuals) in [(1, 0), (2, 2)] {
-        assert!(rt; matches!(&statements[index], Stmt::Call { actuals: found, .. } if found.len() == actuals));
+        assert!(rt;
+            matches!(&statements[index], Stmt::Call { actuals: found, .. } if found.len() == actuals)
+        );
     }
     assert!(rt; matches!(&statements[3], Stmt::Empty));
     assert!(rt; matches!(&statements[4], Stmt::Compound { statements } if statements.len() == 1));
@@ -109,7 +112,8 @@ fn keeps_what_stands_in_the_text(rt: HostRuntime) -> Result<(), Fail> {
     Ok(())
 }
 
-/// A way to nest: text before, what opens and closes a level, text inside and after, and how many levels fit.
+/// A way to nest: text before, what opens and closes a level, text inside and after, and how many
+/// levels fit.
 type Nest = (
     &'static [u8],
     &'static [u8],
@@ -127,8 +131,22 @@ fn nests_to_128(rt: HostRuntime) -> Result<(), Fail> {
         (b"", b"begin ", b"", b" end", b"", 126),
         (b"begin x := 2 - ", b"(-", b"1", b")", b"; end", 125),
         (b"f(1, (2), ", b"(3 + ", b"1", b")", b")", 125),
-        (b"begin ; begin x := ", b"(", b"y", b") - 1", b" end end", 124),
-        (b"x := (1); ", b"begin y := ((2)); ", b"f(1)", b" end", b"", 124),
+        (
+            b"begin ; begin x := ",
+            b"(",
+            b"y",
+            b") - 1",
+            b" end end",
+            124,
+        ),
+        (
+            b"x := (1); ",
+            b"begin y := ((2)); ",
+            b"f(1)",
+            b" end",
+            b"",
+            124,
+        ),
     ];
     for (before, open, inner, close, after, most) in nests {
         for (count, wanted) in [(most, None), (most + 1, Some(2))] {
@@ -190,18 +208,29 @@ fn answers_any_list(rt: HostRuntime) -> Result<(), Fail> {
     for _ in 0..1000 {
         let mut list = Vec::new(alloc);
         for kind in [kinds[0], kinds[6], kinds[10], kinds[1]] {
-            list.push(Token { kind, text: b"a", place })?;
+            list.push(Token {
+                kind,
+                text: b"a",
+                place,
+            })?;
         }
         list.truncate((seed >> 60) as usize);
         for _ in 0..seed >> 58 {
             seed = next_random(seed);
             let kind = kinds[(seed >> 60) as usize];
-            list.push(Token { kind, text: b"", place })?;
+            list.push(Token {
+                kind,
+                text: b"",
+                place,
+            })?;
         }
         seed = next_random(seed);
         let fault = parse(alloc, &list).err();
         let is_left_out = fault == Some(ParseFault::LeftOut(place));
-        assert_eq!(rt; is_left_out, list.iter().any(|token| token.kind == kinds[5]));
+        assert_eq!(rt;
+            is_left_out,
+            list.iter().any(|token| token.kind == kinds[5])
+        );
     }
     Ok(())
 }

@@ -55,7 +55,9 @@ pub enum Stmt<'a> {
         actuals: Vec<Expr<'a>>,
     },
     /// One or more statements.
-    Compound { statements: Vec<Stmt<'a>> },
+    Compound {
+        statements: Vec<Stmt<'a>>,
+    },
 }
 
 /// A sign or an operator that adds (6.7.2.1).
@@ -70,11 +72,17 @@ pub enum Sign {
 #[derive(Debug, Drop)]
 pub enum Expr<'a> {
     /// A number up to 2147483647.
-    Number { value: u32, place: Place },
+    Number {
+        value: u32,
+        place: Place,
+    },
     /// A variable, a constant or a call without actuals.
     Name(Name<'a>),
     /// `( inner )`, with the place of the opening parenthesis.
-    Parenthesized { open: Place, inner: Box<Expr<'a>> },
+    Parenthesized {
+        open: Place,
+        inner: Box<Expr<'a>>,
+    },
     /// A sign, which covers the whole first term of a sum.
     Signed {
         sign: Sign,

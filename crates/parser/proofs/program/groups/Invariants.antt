@@ -1,9 +1,10 @@
 use Rattle.std.proofs.Common.{◌≤◌}
 use Rattle.parser.specs.Cursor.{left}
-use Rattle.parser.proofs.program.variables.Given as goal
+use Rattle.parser.specs.Rules.{GivesGroups}
+use Rattle.parser.proofs.program.groups.Given as goal
 
 abbrev pub invariant-loop-groups : goal.invariant-loop-groups
-invariant-loop-groups l = left l.cursor ≤ left l.fn.cursor
+invariant-loop-groups l = (left l.cursor ≤ left l.fn.cursor) × GivesGroups l.fn.cursor l.cursor l.groups.items
 
 abbrev pub decreases-loop-groups : goal.decreases-loop-groups
 decreases-loop-groups l = left l.cursor

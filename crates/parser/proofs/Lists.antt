@@ -1,0 +1,37 @@
+-- Lists that grow by one at the end.
+use Rattle.std.proofs.Common.{◌≡◌, ℕ, ◌≤◌, max, Bool, true, false, ◌&&◌, List, [], ◌∷◌, ◌++◌, map, fold, refl, ap, arith}
+use Rattle.std.specs.List.{list_all}
+use Rattle.parser.specs.Nesting.{deepest}
+
+pub map_push : {A B : Type 0} (f : A → B) (xs : List A) (x : A) → map f (xs ++ x ∷ []) ≡ map f xs ++ f x ∷ []
+map_push f [] x = refl
+map_push f (y ∷ ys) x = ap (λ l. f y ∷ l) (map_push f ys x)
+
+pub and_true : (a b : Bool) → a ≡ true → b ≡ true → a && b ≡ true
+and_true true b h k = k
+and_true false b h k = h
+
+and_left : (a b : Bool) → a && b ≡ true → a ≡ true
+and_left true b h = refl
+and_left false b h = h
+
+and_right : (a b : Bool) → a && b ≡ true → b ≡ true
+and_right true b h = h
+and_right false b h = cc
+
+pub all_push : {A : Type 0} (p : A → Bool) (xs : List A) (x : A) → list_all p xs ≡ true → p x ≡ true → list_all p (xs ++ x ∷ []) ≡ true
+all_push p [] x h k = and_true (p x) true k refl
+all_push p (y ∷ ys) x h k =
+    and_true (p y) (list_all p (ys ++ x ∷ [])) (and_left (p y) (list_all p ys) h) (all_push p ys x (and_right (p y) (list_all p ys) h) k)
+
+fold_max_push : (a : ℕ) (xs : List ℕ) (x : ℕ) → fold max a (xs ++ x ∷ []) ≡ max (fold max a xs) x
+fold_max_push a [] x = refl
+fold_max_push a (y ∷ ys) x = fold_max_push (max a y) ys x
+
+pub deepest_push : (n : ℕ) (xs : List ℕ) (x : ℕ) → deepest xs ≤ n → x ≤ n → deepest (xs ++ x ∷ []) ≤ n
+deepest_push n xs x h k = let e = fold_max_push 0 xs x in omega arith
+
+-- a test of each of a list that was computed
+pub all_mapped : {A : Type 0} (f : A → Bool) (xs : List A) → list_all (λ b. b) (map f xs) ≡ list_all f xs
+all_mapped f [] = refl
+all_mapped f (x ∷ xs) = ap (λ b. f x && b) (all_mapped f xs)

@@ -1,0 +1,79 @@
+-- What the rules of declarations, blocks and programs give.
+use Rattle.std.proofs.Common.{◌≡◌, ℕ, ◌+◌, ◌<◌, true, ◌&&◌, List, [], ◌∷◌, ◌++◌, length, map, subst, sym, ap, ◌∙◌, append_assoc, arith}
+use Rattle.std.specs.List.{list_all}
+use Rattle.std.specs.declared.alloc.Global.{Global}
+use Rattle.std.specs.declared.vec.Vec.{Vec}
+use Rattle.std.proofs.lemmas.Bool.{lt-ltb}
+use Rattle.lexer.specs.declared.place.Place.{Place}
+use Rattle.lexer.specs.declared.token.Kind.TheVariants as kind
+use Rattle.lexer.specs.declared.token.Symbol.TheVariants as symbol
+use Rattle.lexer.specs.declared.token.Word.TheVariants as word
+use Rattle.parser.specs.declared.cursor.Cursor.{Cursor}
+use Rattle.parser.specs.declared.tree.Name.{Name}
+use Rattle.parser.specs.declared.tree.Stmt.{Stmt}
+use Rattle.parser.specs.declared.tree.TypeDenoter.TheVariants as denoter
+use Rattle.parser.specs.declared.tree.VariableGroup.{VariableGroup}
+use Rattle.parser.specs.declared.tree.Block.{Block}
+use Rattle.parser.specs.Cursor.{Took}
+use Rattle.parser.specs.Spelling.{of_kind_at, mark, word_symbol, identifier, identifiers, stmt_spelling, separated, joined, in_parentheses, group_spelling, variables_spelling, block_spelling}
+use Rattle.parser.specs.WellFormed.{is_group, is_statement, has_items}
+use Rattle.parser.specs.Rules.{GivesList, GivesGroup, GivesGroups, GivesVariables, GivesCompound, GivesBlock, GivesProgram}
+use Rattle.parser.proofs.Lists.{map_push, all_push, and_true}
+use Rattle.parser.proofs.Reading.{both, without_place, joined_push}
+use Rattle.parser.proofs.Statements.{list_goes_on, some_grown, length_map}
+
+has : {A : Type 0} (xs : List A) → 0 < length xs → has_items xs ≡ true
+has xs h = lt-ltb 0 (length xs) h
+
+-- one more name
+pub names_go_on : (a b c d : Cursor) (names grown : List Name) (p : Place) (n : Name)
+    → GivesList symbol.Comma a b (identifiers names) → Took b c (of_kind_at (kind.Symbol symbol.Comma) p ∷ []) → Took c d (identifier n ∷ []) → grown ≡ names ++ n ∷ [] → GivesList symbol.Comma a d (identifiers grown)
+names_go_on a b c d names grown p n list comma taken is =
+    list_goes_on symbol.Comma a b c d (identifiers names) (identifiers grown) p (identifier n ∷ []) list comma taken (ap identifiers is ∙ map_push (λ name. identifier name ∷ []) names n)
+
+-- variables declared together
+pub group_stands : (a b c d e : Cursor) (p q : Place) (names : Vec Name Global) (n : Name)
+    → GivesList symbol.Comma a b (identifiers names.items) → Took b c (of_kind_at (kind.Symbol symbol.Colon) p ∷ []) → Took c d (identifier n ∷ []) → Took d e (of_kind_at (kind.Symbol symbol.Semicolon) q ∷ [])
+    → GivesGroup a e (record { names = names; denoter = denoter.Name n })
+group_stands a b c d e p q names n list colon type semicolon = record {
+  spelled = both (separated symbol.Comma (identifiers names.items) ++ mark symbol.Colon ∷ identifier n ∷ []) (mark symbol.Semicolon ∷ []) a.rest.now d.rest.now e.rest.now
+      (both (separated symbol.Comma (identifiers names.items)) (mark symbol.Colon ∷ identifier n ∷ []) a.rest.now b.rest.now d.rest.now list.spelled
+      (both (mark symbol.Colon ∷ []) (identifier n ∷ []) b.rest.now c.rest.now d.rest.now (without_place (kind.Symbol symbol.Colon) p [] b.rest.now c.rest.now colon) type))
+      (without_place (kind.Symbol symbol.Semicolon) q [] d.rest.now e.rest.now semicolon);
+  formed = has names.items (let k = length_map (λ name. identifier name ∷ []) names.items in let h = list.some in omega arith);
+}
+
+-- one more group
+pub groups_go_on : (a b c : Cursor) (groups grown : List VariableGroup) (g : VariableGroup) → GivesGroups a b groups → GivesGroup b c g → grown ≡ groups ++ g ∷ [] → GivesGroups a c grown
+groups_go_on a b c groups grown g list given is = record {
+  some = subst (λ x. 0 < length x) (sym is) (some_grown groups g);
+  spelled = subst (λ x. Took a c x) (sym (ap (λ x. joined (map group_spelling x)) is ∙ ap joined (map_push group_spelling groups g) ∙ joined_push (map group_spelling groups) (group_spelling g)))
+      (both (joined (map group_spelling groups)) (group_spelling g) a.rest.now b.rest.now c.rest.now list.spelled given.spelled);
+  formed = subst (λ x. list_all is_group x ≡ true) (sym is) (all_push is_group groups g list.formed given.formed);
+}
+
+-- a block
+pub block_stands : (levels inner : ℕ) (a b c : Cursor) (variables : Vec VariableGroup Global) (statements : Vec Stmt Global) (end : Place)
+    → inner + 1 ≡ levels → GivesVariables a b variables.items → GivesCompound inner b c statements.items end → GivesBlock levels a c (record { variables = variables; statements = statements; end = end })
+block_stands levels inner a b c variables statements end less declared given = record {
+  spelled = subst (λ x. Took a c x) (sym (append_assoc (variables_spelling variables.items) (word_symbol word.Begin ∷ separated symbol.Semicolon (map stmt_spelling statements.items)) (of_kind_at (kind.Word word.End) end ∷ [])))
+      (both (variables_spelling variables.items) (word_symbol word.Begin ∷ separated symbol.Semicolon (map stmt_spelling statements.items) ++ of_kind_at (kind.Word word.End) end ∷ []) a.rest.now b.rest.now c.rest.now declared.spelled given.spelled);
+  formed = and_true (list_all is_group variables.items) (has_items statements.items && list_all is_statement statements.items) declared.formed
+      (and_true (has_items statements.items) (list_all is_statement statements.items) (has statements.items given.some) given.formed);
+  nests = let n = given.nests in omega arith;
+}
+
+-- a program
+pub program_stands : (levels : ℕ) (a b c d e f g : Cursor) (p q r : Place) (name : Name) (parameters : Vec Name Global) (block : Block)
+    → Took a b (of_kind_at (kind.Word word.Program) p ∷ []) → Took b c (identifier name ∷ []) → Took c d (in_parentheses (identifiers parameters.items)) → Took d e (of_kind_at (kind.Symbol symbol.Semicolon) q ∷ [])
+    → GivesBlock levels e f block → Took f g (of_kind_at (kind.Symbol symbol.Period) r ∷ []) → GivesProgram levels a g (record { name = name; parameters = parameters; block = block })
+program_stands levels a b c d e f g p q r name parameters block opened named listed semicolon given period = record {
+  spelled = both ((word_symbol word.Program ∷ identifier name ∷ in_parentheses (identifiers parameters.items)) ++ mark symbol.Semicolon ∷ block_spelling block) (mark symbol.Period ∷ []) a.rest.now f.rest.now g.rest.now
+      (both (word_symbol word.Program ∷ identifier name ∷ in_parentheses (identifiers parameters.items)) (mark symbol.Semicolon ∷ block_spelling block) a.rest.now d.rest.now f.rest.now
+      (both (word_symbol word.Program ∷ []) (identifier name ∷ in_parentheses (identifiers parameters.items)) a.rest.now b.rest.now d.rest.now (without_place (kind.Word word.Program) p [] a.rest.now b.rest.now opened)
+      (both (identifier name ∷ []) (in_parentheses (identifiers parameters.items)) b.rest.now c.rest.now d.rest.now named listed))
+      (both (mark symbol.Semicolon ∷ []) (block_spelling block) d.rest.now e.rest.now f.rest.now (without_place (kind.Symbol symbol.Semicolon) q [] d.rest.now e.rest.now semicolon) given.spelled))
+      (without_place (kind.Symbol symbol.Period) r [] f.rest.now g.rest.now period);
+  formed = given.formed;
+  nests = given.nests;
+}

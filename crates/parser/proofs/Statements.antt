@@ -1,0 +1,116 @@
+-- What the rules of lists and statements give.
+use Rattle.std.proofs.Common.{◌≡◌, ℕ, ◌+◌, ◌<◌, ◌≤◌, true, List, [], ◌∷◌, ◌++◌, length, map, Option, Some, None, is_some, Bool, not, false, IfSome, OnSome, refl, subst, sym, ap, ◌∙◌, arith}
+use Rattle.std.specs.List.{list_all}
+use Rattle.std.specs.declared.alloc.Global.{Global}
+use Rattle.std.specs.declared.vec.Vec.{Vec}
+use Rattle.lexer.specs.declared.place.Place.{Place}
+use Rattle.std.proofs.lemmas.Bool.{lt-ltb}
+use Rattle.lexer.specs.declared.token.Kind.{Kind}
+use Rattle.lexer.specs.declared.token.Kind.TheVariants as kind
+use Rattle.lexer.specs.declared.token.Symbol.{Symbol}
+use Rattle.lexer.specs.declared.token.Symbol.TheVariants as symbol
+use Rattle.lexer.specs.declared.token.Word.TheVariants as word
+use Rattle.parser.specs.declared.cursor.Cursor.{Cursor}
+use Rattle.parser.specs.declared.tree.Expr.{Expr}
+use Rattle.parser.specs.declared.tree.Stmt.{Stmt}
+use Rattle.parser.specs.declared.tree.Stmt.TheVariants as statement
+use Rattle.parser.specs.Cursor.{Took}
+use Rattle.parser.specs.Spelling.{Spelling, expr_spelling, stmt_spelling, of_kind_at, mark, word_symbol, separated, in_parentheses}
+use Rattle.parser.specs.WellFormed.{is_expression, is_statement, has_items}
+use Rattle.parser.specs.Nesting.{expr_levels, stmt_levels, deepest}
+use Rattle.parser.specs.Rules.{GivesList, GivesActual, GivesActualList, GivesActuals, GivesStmt, GivesStatements, GivesCompound}
+use Rattle.parser.proofs.Equations.{spelling-Compound, form-Compound, levels-Compound}
+use Rattle.parser.proofs.Lists.{map_push, all_push, deepest_push, all_mapped, and_true}
+use Rattle.parser.proofs.Reading.{both, without_place, without_last_place, separated_more, in_parentheses_some}
+
+-- a token was taken where the call answered its place
+pub taken : (a b : Cursor) (k : Kind) (o : Option Place) → is_some o ≡ true → IfSome o (λ place. Took a b (of_kind_at k place ∷ [])) → (place : Place) × Took a b (of_kind_at k place ∷ [])
+taken a b k None h t = cc
+taken a b k (Some place) h t = (place, t)
+
+-- and then fewer are left
+pub fewer : (m n : ℕ) (o : Option Place) → is_some o ≡ true → OnSome o (m < n) → m < n
+fewer m n None h t = cc
+fewer m n (Some place) h t = t
+
+pub taken_if : (a b : Cursor) (k : Kind) (o : Option Place) (none : Bool) → is_some o ≡ not none → none ≡ false → IfSome o (λ place. Took a b (of_kind_at k place ∷ [])) → (place : Place) × Took a b (of_kind_at k place ∷ [])
+taken_if a b k None none e h t = cc
+taken_if a b k (Some place) none e h t = (place, t)
+
+pub length_map : {A B : Type 0} (f : A → B) (xs : List A) → length (map f xs) ≡ length xs
+length_map f [] = refl
+length_map f (x ∷ xs) = let e = length_map f xs in omega arith
+
+pub some_grown : {A : Type 0} (xs : List A) (x : A) → 0 < length (xs ++ x ∷ [])
+some_grown [] x = omega arith
+some_grown (y ∷ ys) x = omega arith
+
+has : (xs : List Stmt) → 0 < length xs → has_items (map is_statement xs) ≡ true
+has [] h = absurd (omega arith)
+has (x ∷ xs) h = lt-ltb 0 (length (map is_statement (x ∷ xs))) (omega arith)
+
+-- one more part
+pub list_goes_on : (m : Symbol) (a b c d : Cursor) (parts grown : List Spelling) (p : Place) (last : Spelling)
+    → GivesList m a b parts → Took b c (of_kind_at (kind.Symbol m) p ∷ []) → Took c d last → grown ≡ parts ++ last ∷ [] → GivesList m a d grown
+list_goes_on m a b c d parts grown p last given comma taken e = record {
+  some = subst (λ x. 0 < length x) (sym e) (some_grown parts last);
+  spelled = subst (λ x. Took a d (separated m x)) (sym e) (subst (λ x. Took a d x) (sym (separated_more m parts last given.some))
+      (both (separated m parts) (mark m ∷ last) a.rest.now b.rest.now d.rest.now given.spelled
+      (both (mark m ∷ []) last b.rest.now c.rest.now d.rest.now (without_place (kind.Symbol m) p [] b.rest.now c.rest.now comma) taken)));
+}
+
+-- one more actual
+pub actuals_go_on : (levels : ℕ) (a b c d : Cursor) (actuals grown : List Expr) (p : Place) (e : Expr)
+    → GivesActualList levels a b actuals → Took b c (of_kind_at (kind.Symbol symbol.Comma) p ∷ []) → GivesActual levels c d e → grown ≡ actuals ++ e ∷ [] → GivesActualList levels a d grown
+actuals_go_on levels a b c d actuals grown p e list comma given is =
+    let level : Expr → ℕ = λ x. 1 + expr_levels x in
+    record {
+      list = list_goes_on symbol.Comma a b c d (map expr_spelling actuals) (map expr_spelling grown) p (expr_spelling e) list.list comma given.spelled (ap (map expr_spelling) is ∙ map_push expr_spelling actuals e);
+      formed = subst (λ x. list_all is_expression x ≡ true) (sym is) (all_push is_expression actuals e list.formed given.formed);
+      nests = subst (λ x. deepest x ≤ levels) (sym (ap (map level) is ∙ map_push level actuals e)) (deepest_push levels (map level actuals) (level e) list.nests given.nests);
+    }
+
+-- a list in its parentheses
+pub in_their_parentheses : (a b c d : Cursor) (p q : Place) (parts : List Spelling)
+    → Took a b (of_kind_at (kind.Symbol symbol.OpenParenthesis) p ∷ []) → GivesList symbol.Comma b c parts → Took c d (of_kind_at (kind.Symbol symbol.CloseParenthesis) q ∷ []) → Took a d (in_parentheses parts)
+in_their_parentheses a b c d p q parts opened list closed =
+    subst (λ x. Took a d x) (sym (in_parentheses_some parts list.some))
+    (both (mark symbol.OpenParenthesis ∷ []) (separated symbol.Comma parts ++ mark symbol.CloseParenthesis ∷ []) a.rest.now b.rest.now d.rest.now (without_place (kind.Symbol symbol.OpenParenthesis) p [] a.rest.now b.rest.now opened)
+    (both (separated symbol.Comma parts) (mark symbol.CloseParenthesis ∷ []) b.rest.now c.rest.now d.rest.now list.spelled (without_place (kind.Symbol symbol.CloseParenthesis) q [] c.rest.now d.rest.now closed)))
+
+-- actuals in their parentheses
+pub actuals_closed : (levels : ℕ) (a b c d : Cursor) (p q : Place) (actuals : List Expr)
+    → Took a b (of_kind_at (kind.Symbol symbol.OpenParenthesis) p ∷ []) → GivesActualList levels b c actuals → Took c d (of_kind_at (kind.Symbol symbol.CloseParenthesis) q ∷ []) → GivesActuals levels a d actuals
+actuals_closed levels a b c d p q actuals opened list closed = record {
+  spelled = in_their_parentheses a b c d p q (map expr_spelling actuals) opened list.list closed;
+  formed = list.formed;
+  nests = list.nests;
+}
+
+-- one more statement
+pub statements_go_on : (levels : ℕ) (a b c d : Cursor) (statements grown : List Stmt) (p : Place) (s : Stmt)
+    → GivesStatements levels a b statements → Took b c (of_kind_at (kind.Symbol symbol.Semicolon) p ∷ []) → GivesStmt levels c d s → grown ≡ statements ++ s ∷ [] → GivesStatements levels a d grown
+statements_go_on levels a b c d statements grown p s list semicolon given is = record {
+  list = list_goes_on symbol.Semicolon a b c d (map stmt_spelling statements) (map stmt_spelling grown) p (stmt_spelling s) list.list semicolon given.spelled (ap (map stmt_spelling) is ∙ map_push stmt_spelling statements s);
+  formed = subst (λ x. list_all is_statement x ≡ true) (sym is) (all_push is_statement statements s list.formed given.formed);
+  nests = subst (λ x. deepest x ≤ levels) (sym (ap (map stmt_levels) is ∙ map_push stmt_levels statements s)) (deepest_push levels (map stmt_levels statements) (stmt_levels s) list.nests given.nests);
+}
+
+-- statements between their word symbols
+pub compound_closed : (levels : ℕ) (a b c d : Cursor) (p end : Place) (statements : List Stmt)
+    → Took a b (of_kind_at (kind.Word word.Begin) p ∷ []) → GivesStatements levels b c statements → Took c d (of_kind_at (kind.Word word.End) end ∷ []) → GivesCompound levels a d statements end
+compound_closed levels a b c d p end statements opened list closed = record {
+  spelled = both (word_symbol word.Begin ∷ []) (separated symbol.Semicolon (map stmt_spelling statements) ++ of_kind_at (kind.Word word.End) end ∷ []) a.rest.now b.rest.now d.rest.now (without_place (kind.Word word.Begin) p [] a.rest.now b.rest.now opened)
+      (both (separated symbol.Semicolon (map stmt_spelling statements)) (of_kind_at (kind.Word word.End) end ∷ []) b.rest.now c.rest.now d.rest.now list.list.spelled closed);
+  some = let e = length_map stmt_spelling statements in let h = list.list.some in omega arith;
+  formed = list.formed;
+  nests = list.nests;
+}
+
+-- a compound statement as a statement
+pub compound_stands : (levels inner : ℕ) (a b : Cursor) (end : Place) (v : Vec Stmt Global) → inner + 1 ≡ levels → GivesCompound inner a b v.items end → GivesStmt levels a b (statement.Compound v)
+compound_stands levels inner a b end v less given = record {
+  spelled = subst (λ s. Took a b s) (sym (spelling-Compound v)) (without_last_place (kind.Word word.End) end (word_symbol word.Begin ∷ separated symbol.Semicolon (map stmt_spelling v.items)) a.rest.now b.rest.now given.spelled);
+  formed = form-Compound v ∙ and_true (has_items (map is_statement v.items)) (list_all (λ b. b) (map is_statement v.items)) (has v.items given.some) (all_mapped is_statement v.items ∙ given.formed);
+  nests = let e = levels-Compound v in let n = given.nests in omega arith;
+}
