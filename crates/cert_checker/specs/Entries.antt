@@ -1,6 +1,6 @@
 -- How many statements and expressions a program has (ISO 7185:1990, 6.7, 6.8): each factor, sign and operator counts,
 -- and the variable to the left of `:=`. It does not say in which order they are entered.
-use Rattle.std.specs.Prelude.{ℕ, suc, ◌+◌, sum, map}
+use Rattle.std.specs.Prelude.{ℕ, ◌+◌, sum, map}
 use Rattle.typed_tree.specs.declared.tree.Tree.{Tree}
 use Rattle.typed_tree.specs.declared.tree.Expr.{Expr}
 use Rattle.typed_tree.specs.declared.tree.Expr.TheOpen.{Expr-F, Link-F}

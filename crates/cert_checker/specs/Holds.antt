@@ -1,11 +1,10 @@
 -- What facts and states say of the variables of a run, and when variables share no place (ISO 7185:1990, 6.5.1).
 -- It does not say that a run keeps them.
-use Rattle.std.specs.Prelude.{◌≡◌, ◌≢◌, ℕ, ℤ, Bool, true, ◌⊎◌, List, Option, Some, slice_get, Contains}
-use Rattle.domain.specs.declared.interval.Interval.{Interval}
+use Rattle.std.specs.Prelude.{◌≡◌, ◌≢◌, ℕ, true, ◌⊎◌, List, Option, Some, slice_get, Contains}
 use Rattle.domain.specs.declared.fact.LeafPath.{LeafPath}
 use Rattle.domain.specs.declared.fact.Fact.{Fact}
 use Rattle.domain.specs.declared.fact.Fact.TheVariants.{Range, Defined}
-use Rattle.domain.specs.Interval.{HasMember}
+use Rattle.domain.specs.Interval.{Interval, HasMember}
 use Rattle.meaning.specs.declared.store.Value.{Value}
 use Rattle.meaning.specs.declared.store.Value.TheVariants.{Number}
 use Rattle.meaning.specs.Store.{Place, Store, Environment, stored, overlap}

@@ -1,12 +1,12 @@
 -- What a verdict promises of the runs of a program: they err at its open sites alone (ISO 7185:1990, 3.1), and at each
 -- entry the state of the walk holds. It does not say that an open site can err.
-use Rattle.std.specs.Prelude.{◌≡◌, ℕ, Bool, List, [], ◌==◌, Contains, filter, ◌++◌, ◌∷◌}
+use Rattle.std.specs.Prelude.{◌≡◌, ℕ, List, [], ◌==◌, Contains, filter}
 use Rattle.std.specs.List.{list_any}
 use Rattle.certificate.specs.declared.Certificate.{Certificate}
 use Rattle.typed_tree.specs.declared.tree.Tree.{Tree}
 use Rattle.typed_tree.specs.declared.site.Site.{Site}
 use Rattle.meaning.specs.declared.outcome.Ending.TheVariants.{Error}
-use Rattle.meaning.specs.Effect.{Reply, Gives, Stops, Visit, State as RunState}
+use Rattle.meaning.specs.Effect.{Reply, Gives, Stops, Visit}
 use Rattle.meaning.specs.Meaning.{run, meaning}
 use Rattle.cert_checker.specs.Walk.{Entry, program_walk}
 use Rattle.cert_checker.specs.Holds.{StateHolds, Separate}

@@ -1,9 +1,8 @@
 -- What a checker knows at a point of a program: of each variable the range of its values, and whether it is defined
 -- (ISO 7185:1990, 6.5.1: a variable is undefined or has a value). It does not say how such a state comes about, nor
 -- what it means for a store.
-use Rattle.std.specs.Prelude.{ℕ, ◌<◌, Bool, true, false, neg_ℤ, List, Option, Some, None, if◌then◌else◌, unwrap_or, replicate, slice_get, slice_set}
-use Rattle.domain.specs.declared.interval.Interval.{Interval}
-use Rattle.domain.specs.Interval.{vacant, is_vacant}
+use Rattle.std.specs.Prelude.{ℕ, Bool, true, false, neg_ℤ, List, if◌then◌else◌, unwrap_or, replicate, slice_get, slice_set}
+use Rattle.domain.specs.Interval.{Interval, vacant, is_vacant}
 use Rattle.meaning.specs.Effect.{maxint}
 
 -- by the root numbers of the variables

@@ -1,22 +1,23 @@
 -- The walk of the checker over a program, one equation a form: the state after it, the sites that it leaves open, the
 -- rules that are broken, and the state at each entry into a statement or expression (ISO 7185:1990, 6.7, 6.8).
 -- It does not say that a program does what the walk says of it.
-use Rattle.std.specs.Prelude.{ℕ, ℤ, Bool, ◌||◌, List, [], ◌∷◌, ◌++◌, if◌then◌else◌, map, length}
+use Rattle.std.specs.Prelude.{ℕ, Bool, ◌||◌, List, [], ◌∷◌, ◌++◌, if◌then◌else◌, map, length}
 use Rattle.lexer.specs.declared.place.Place.{Place}
 use Rattle.typed_tree.specs.declared.tree.Tree.{Tree}
 use Rattle.typed_tree.specs.declared.tree.Block.{Block}
+use Rattle.typed_tree.specs.declared.tree.Access.{Access}
 use Rattle.typed_tree.specs.declared.tree.Sign.{Sign}
 use Rattle.typed_tree.specs.declared.tree.Sign.TheVariants.{Plus, Minus}
 use Rattle.typed_tree.specs.declared.tree.Expr.{Expr}
+use Rattle.typed_tree.specs.declared.tree.Link.{Link}
 use Rattle.typed_tree.specs.declared.tree.Expr.TheOpen.{Expr-F, Link-F}
 use Rattle.typed_tree.specs.declared.tree.Expr.TheOpen.Expr-F.{Constant, Variable, Signed, Sum}
-use Rattle.typed_tree.specs.declared.tree.Expr.TheFolds.{fold-Expr}
+use Rattle.typed_tree.specs.declared.tree.Expr.TheFolds.{fold-Expr, fold-Link}
 use Rattle.typed_tree.specs.declared.tree.Stmt.{Stmt}
 use Rattle.typed_tree.specs.declared.tree.Stmt.TheOpen.{Stmt-F}
 use Rattle.typed_tree.specs.declared.tree.Stmt.TheOpen.Stmt-F.{Empty, Assign, Writeln, Compound}
 use Rattle.typed_tree.specs.declared.tree.Stmt.TheFolds.{fold-Stmt}
-use Rattle.domain.specs.declared.interval.Interval.{Interval}
-use Rattle.domain.specs.Interval.{is_included, common, sum, difference, negated}
+use Rattle.domain.specs.Interval.{Interval, is_included, common, sum, difference, negated}
 use Rattle.cert_checker.specs.State.{State, Dead, start, integer, is_dead, is_defined, range_of, with_defined, with_value, with_made}
 
 -- a rule of certificates that is broken at a place, by the number of its refusal (C1 is 1)
@@ -48,7 +49,7 @@ followed first second = record {
   after = second.after;
   open_ids = first.open_ids ++ second.open_ids;
   broken = first.broken ++ second.broken;
-  linked = first.linked ++ second.linked
+  linked = first.linked ++ second.linked;
 }
 
 -- one after the other
@@ -65,38 +66,37 @@ abbrev pub enter : ℕ → Walking (Unit {0})
 enter number state =
     record { value = tt; after = state; open_ids = []; broken = []; linked = record { number = number; state = state } ∷ [] }
 
--- a change of the state
-abbrev pub change : (State → State) → Walking (Unit {0})
-change step state = record { value = tt; after = step state; open_ids = []; broken = []; linked = [] }
+-- a site is left open unless it is closed
+abbrev pub left_open : Bool → ℕ → List ℕ
+left_open closed site = if closed then [] else site ∷ []
 
--- a site, which is open unless the state closes it
-abbrev pub test : (State → Bool) → ℕ → Walking (Unit {0})
-test closed site state =
-    record { value = tt; after = state; open_ids = if closed state then [] else site ∷ []; broken = []; linked = [] }
-
--- the range of a variable
-abbrev pub range_here : ℕ → Walking Interval
-range_here root state = give (range_of state root) state
-
--- a value of the range is made
-abbrev pub make : Interval → Walking Interval
-make range = do
-  _ ← change (with_made range)
-  give range
-
--- the use of a variable is closed where the variable is defined, and it is defined afterwards
+-- the use of a variable: closed where the variable is defined, which it is afterwards
 abbrev pub use_of : ℕ → ℕ → Walking Interval
-use_of root site = do
-  _ ← test (λ state. is_defined state root) site
-  range ← range_here root
-  _ ← change (with_defined root)
-  make range
+use_of root site state = record {
+  value = range_of state root;
+  after = with_made (range_of state root) (with_defined root state);
+  open_ids = left_open (is_defined state root) site;
+  broken = [];
+  linked = [];
+}
 
--- a value that has to lie in limits: closed where its range does, and its range is met with the limits
+-- a value that has to lie in limits: closed where its range does; afterwards its range is met with the limits
 abbrev pub within : Interval → ℕ → Interval → Walking Interval
-within limits site range = do
-  _ ← test (λ state. is_dead state || is_included range limits) site
-  make (common range limits)
+within limits site range state = record {
+  value = common range limits;
+  after = with_made (common range limits) state;
+  open_ids = left_open (is_dead state || is_included range limits) site;
+  broken = [];
+  linked = [];
+}
+
+-- the assignment of a value of a range to a variable
+abbrev pub assign : ℕ → Interval → Walking (Unit {0})
+assign root range state = record { value = tt; after = with_value root range state; open_ids = []; broken = []; linked = [] }
+
+-- the start of a block of so many variables
+abbrev pub begin : ℕ → Walking (Unit {0})
+begin variables state = record { value = tt; after = start variables; open_ids = []; broken = []; linked = [] }
 
 -- the range of a signed term
 abbrev pub signed : Sign → Interval → Interval
@@ -141,6 +141,10 @@ value_step (Sum first rest) = do
   range ← first.value
   in_turn rest.items range
 
+-- the walk over an operator and its right operand
+abbrev pub link_walk : Link → Combination
+link_walk = fold-Link (Walking Interval) Combination value_step link_step
+
 -- the walk over an expression: the range of its value
 abbrev pub value_walk : Expr → Walking Interval
 value_walk = fold-Expr (Walking Interval) Combination value_step link_step
@@ -159,14 +163,19 @@ each_of (value ∷ values) = do
   _ ← value
   each_of values
 
+-- an assignment: the target is entered, and then comes the value
+abbrev pub assignment : Access → ℕ → Expr → Walking (Unit {0})
+assignment target fits value = do
+  _ ← enter target.number
+  range ← value_walk value
+  fitting ← within integer fits range
+  assign target.root fitting
+
 abbrev pub statement_step : Stmt-F (Walking (Unit {0})) → Walking (Unit {0})
 statement_step (Empty number) = enter number
 statement_step (Assign number target fits value) = do
   _ ← enter number
-  _ ← enter target.number
-  range ← value_walk value
-  fitting ← within integer fits range
-  change (with_value target.root fitting)
+  assignment target fits value
 statement_step (Writeln number values) = do
   _ ← enter number
   each_of (map value_walk values.items)
@@ -181,7 +190,7 @@ statement_walk = fold-Stmt (Walking (Unit {0})) statement_step
 -- the walk over a block of so many variables
 abbrev pub block_walk : ℕ → Block → Walking (Unit {0})
 block_walk variables block = do
-  _ ← change (λ state. start variables)
+  _ ← begin variables
   statement_walk block.body
 
 -- the walk over a program, block by block

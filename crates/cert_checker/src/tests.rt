@@ -8,7 +8,9 @@ use typed_tree::tree::{Access, Block, Expr, Link, Sign, Stmt, Variable};
 use typed_tree::types::{TypeForm, TypeId, TypeTable};
 
 const HERE: Place = Place { line: 1, column: 1 };
+
 const X: u32 = 0;
+
 const Y: u32 = 1;
 
 /// A program of two variables with these statements; site `id` is the one that has that id in a statement.
@@ -60,7 +62,13 @@ fn variable(root: u32, defined: u32) -> Expr {
     }
 }
 
-fn sum(alloc: Global, first: Expr, operator: Sign, overflow: u32, operand: Expr) -> Result<Expr, AllocError> {
+fn sum(
+    alloc: Global,
+    first: Expr,
+    operator: Sign,
+    overflow: u32,
+    operand: Expr,
+) -> Result<Expr, AllocError> {
     let link = Link {
         number: 0,
         operator,
@@ -81,7 +89,11 @@ fn writeln(alloc: Global, value: Expr) -> Result<Stmt, AllocError> {
 }
 
 /// The ids of the open sites, and the visits.
-fn checked(alloc: Global, statements: Vec<Stmt>, sites: u32) -> Result<(Vec<u32>, u64), CheckFault> {
+fn checked(
+    alloc: Global,
+    statements: Vec<Stmt>,
+    sites: u32,
+) -> Result<(Vec<u32>, u64), CheckFault> {
     let tree = tree(alloc, statements, sites)?;
     let certificate = Certificate {
         version: Version::One,
@@ -117,11 +129,19 @@ fn reckons_with_ranges(rt: HostRuntime) -> Result<(), Fail> {
     let alloc = rt.alloc();
     // x := 2147483647; x := x - 1
     let less = sum(alloc, variable(X, 1), Sign::Minus, 2, constant(1))?;
-    let (open, _) = checked(alloc, vec![in alloc; assign(X, 0, constant(i32::MAX)), assign(X, 3, less)]?, 4)?;
+    let (open, _) = checked(
+        alloc,
+        vec![in alloc; assign(X, 0, constant(i32::MAX)), assign(X, 3, less)]?,
+        4,
+    )?;
     assert_eq!(rt; open.len(), 0);
     // x := 5; y := x + 2147483643
     let more = sum(alloc, variable(X, 1), Sign::Plus, 2, constant(2147483643))?;
-    let (open, _) = checked(alloc, vec![in alloc; assign(X, 0, constant(5)), assign(Y, 3, more)]?, 4)?;
+    let (open, _) = checked(
+        alloc,
+        vec![in alloc; assign(X, 0, constant(5)), assign(Y, 3, more)]?,
+        4,
+    )?;
     assert_eq!(rt; open.as_slice(), [2].as_slice());
     Ok(())
 }
@@ -132,12 +152,18 @@ fn nothing_errs_where_no_run_comes(rt: HostRuntime) -> Result<(), Fail> {
     // x := maxint; x := x + 1; writeln(y)
     let more = sum(alloc, variable(X, 1), Sign::Plus, 2, constant(1))?;
     let statements = vec![in alloc;
-        assign(X, 0, constant(i32::MAX)), assign(X, 3, more), writeln(alloc, variable(Y, 4))?]?;
+        assign(X, 0, constant(i32::MAX)),
+        assign(X, 3, more),
+        writeln(alloc, variable(Y, 4))?,
+    ]?;
     let (open, visits) = checked(alloc, statements, 5)?;
     assert_eq!(rt; open.as_slice(), [2].as_slice());
     assert_eq!(rt; visits, 11);
     // writeln(y); writeln(y)
-    let statements = vec![in alloc; writeln(alloc, variable(Y, 1))?, writeln(alloc, variable(Y, 0))?]?;
+    let statements = vec![in alloc;
+        writeln(alloc, variable(Y, 1))?,
+        writeln(alloc, variable(Y, 0))?,
+    ]?;
     let (open, _) = checked(alloc, statements, 2)?;
     assert_eq!(rt; open.as_slice(), [1].as_slice());
     Ok(())
@@ -148,7 +174,10 @@ fn takes_any_tree(rt: HostRuntime) -> Result<(), Fail> {
     let alloc = rt.alloc();
     // A root that isn't there and sites that aren't in the table: the first is never closed, the others aren't told.
     let statements = vec![in alloc;
-        assign(9, 7, constant(1)), writeln(alloc, variable(9, 0))?, writeln(alloc, variable(Y, 8))?]?;
+        assign(9, 7, constant(1)),
+        writeln(alloc, variable(9, 0))?,
+        writeln(alloc, variable(Y, 8))?,
+    ]?;
     let (open, _) = checked(alloc, statements, 1)?;
     assert_eq!(rt; open.as_slice(), [0].as_slice());
     // A chain of operators as long as a text can have them.

@@ -2,8 +2,12 @@
 -- and negatives. The operators are those of integer (ISO 7185:1990, 6.7.2.2), here over all whole numbers.
 -- It does not say which ranges a type has, nor what an operation of a program does outside integer.
 use Rattle.std.specs.Prelude.{Bool, ◌||◌, ◌&&◌, if◌then◌else◌, ℤ, pos, ◌+ℤ◌, ◌-ℤ◌, neg_ℤ, ◌≤ℤ◌, int_lt, int_le}
-use Rattle.std.specs.Int.{int_min, int_max, saturate_signed, w64}
-use Rattle.domain.specs.declared.interval.Interval.{Interval}
+use Rattle.std.specs.Int.{int_min, int_max}
+
+-- the whole numbers from a first to a last one
+pub record Interval : Type 0 where
+  pub first : ℤ
+  pub last : ℤ
 
 -- a number lies in a range
 abbrev pub HasMember : Interval → ℤ → Type 0
@@ -50,6 +54,18 @@ difference a b = if is_vacant a || is_vacant b then vacant else record { first =
 abbrev pub negated : Interval → Interval
 negated a = if is_vacant a then vacant else record { first = neg_ℤ a.last; last = neg_ℤ a.first }
 
--- the same range, an end that leaves 64 bits held at their end
+-- the greatest end that an interval of the program has
+abbrev pub limit : ℤ
+limit = pos 4611686018427387903
+
+-- a number that may be an end of an interval of the program
+abbrev pub IsEnd : ℤ → Type 0
+IsEnd z = (neg_ℤ limit ≤ℤ z) × (z ≤ℤ limit)
+
+-- the end nearest to a number
+abbrev pub nearest_end : ℤ → ℤ
+nearest_end z = int_max (int_min z limit) (neg_ℤ limit)
+
+-- the same range, as far as its ends are ends of an interval of the program
 abbrev pub held : Interval → Interval
-held a = record { first = saturate_signed w64 a.first; last = saturate_signed w64 a.last }
+held a = record { first = nearest_end a.first; last = nearest_end a.last }

@@ -1,10 +1,7 @@
-use Rattle.std.proofs.Common.{◌≡◌, ◌↔◌, ℤ, pos, ◌+ℤ◌, ◌-ℤ◌, neg_ℤ, ◌≤ℤ◌, ◌<ℤ◌, Bool, true, false, IsTrue, FitsSigned, cond, arith, refl}
+use Rattle.std.proofs.Common.{◌≡◌, ℤ, ◌+ℤ◌, ◌-ℤ◌, neg_ℤ, Bool, true, false, cond, ◌||◌, arith, refl, ap, ◌∙◌}
 use Rattle.std.proofs.lemmas.Int.{ints, clamps, by_lt_z}
-use Rattle.std.proofs.lemmas.Grind.{common_steps}
-use Rattle.std.proofs.lemmas.Bool.Decides.{nat_tests}
-use Rattle.std.specs.Int.{w64, saturate_signed}
-use Rattle.domain.specs.Interval.{HasMember, Includes, is_vacant, is_included, joined, common, sum, difference, negated, held}
-use Rattle.domain.specs.declared.interval.Interval.{Interval}
+use Rattle.std.specs.Int.{int_min, int_max}
+use Rattle.domain.specs.Interval.{Interval, vacant, IsEnd, nearest_end, HasMember, Includes, is_vacant, is_included, joined, common, sum, difference, negated, held}
 
 -- an included range has no number of its own
 pub included-has : (a b : Interval) (z : ℤ) → is_included a b ≡ true → HasMember a z → HasMember b z
@@ -48,26 +45,34 @@ common-has_left a b z has = (grind (arith, ints, clamps), grind (arith, ints, cl
 pub common-has_right : (a b : Interval) (z : ℤ) → HasMember (common a b) z → HasMember b z
 common-has_right a b z has = (grind (arith, ints, clamps), grind (arith, ints, clamps))
 
--- an end that is held at the ends of 64 bits stays on its side of a number of 64 bits
-pub held-below : (end first z : ℤ) → first ≡ saturate_signed w64 end → FitsSigned w64 z → end ≤ℤ z → first ≤ℤ z
-held-below end first z is fits below = grind (arith, ints)
+-- the lesser and the greater of two ends are ends
+pub end-min : (x y z : ℤ) → IsEnd x → IsEnd y → z ≡ int_min x y → IsEnd z
+end-min x y z left right is = (grind (arith, ints, clamps), grind (arith, ints, clamps))
 
-pub held-above : (end last z : ℤ) → last ≡ saturate_signed w64 end → FitsSigned w64 z → z ≤ℤ end → z ≤ℤ last
-held-above end last z is fits above = grind (arith, ints)
+pub end-max : (x y z : ℤ) → IsEnd x → IsEnd y → z ≡ int_max x y → IsEnd z
+end-max x y z left right is = (grind (arith, ints, clamps), grind (arith, ints, clamps))
 
--- a sum, a difference and a negative lie between the ends, held at those of 64 bits
-pub sum-between : (a b : Interval) (first last x y : ℤ) → first ≡ saturate_signed w64 (a.first +ℤ b.first) → last ≡ saturate_signed w64 (a.last +ℤ b.last) → HasMember a x → HasMember b y → FitsSigned w64 (x +ℤ y) → (first ≤ℤ (x +ℤ y)) × ((x +ℤ y) ≤ℤ last)
-sum-between a b first last x y first_is last_is left right fits =
-    (held-below _ first _ first_is fits (omega (arith, ints)), held-above _ last _ last_is fits (omega (arith, ints)))
+-- the negatives of a range that has numbers
+pub negated-present : (a : Interval) (first last : ℤ) → false ≡ is_vacant a → first ≡ neg_ℤ a.last → last ≡ neg_ℤ a.first → ◌≡◌ {A = Interval} (record { first = first; last = last }) (negated a)
+negated-present a first last present first_is last_is = grind (arith, ints)
 
-pub difference-between : (a b : Interval) (first last x y : ℤ) → first ≡ saturate_signed w64 (a.first -ℤ b.last) → last ≡ saturate_signed w64 (a.last -ℤ b.first) → HasMember a x → HasMember b y → FitsSigned w64 (x -ℤ y) → (first ≤ℤ (x -ℤ y)) × ((x -ℤ y) ≤ℤ last)
-difference-between a b first last x y first_is last_is left right fits =
-    (held-below _ first _ first_is fits (omega (arith, ints)), held-above _ last _ last_is fits (omega (arith, ints)))
+neither : (u v : Bool) (x y : Interval) → false ≡ u → false ≡ v → y ≡ cond (u || v) x y
+neither true v x y left right = cc
+neither false true x y left right = cc
+neither false false x y left right = refl
 
-pub negative-between : (a : Interval) (first last x : ℤ) → first ≡ saturate_signed w64 (neg_ℤ a.last) → last ≡ saturate_signed w64 (neg_ℤ a.first) → HasMember a x → FitsSigned w64 (neg_ℤ x) → (first ≤ℤ neg_ℤ x) × (neg_ℤ x ≤ℤ last)
-negative-between a first last x first_is last_is has fits =
-    (held-below _ first _ first_is fits (omega (arith, ints)), held-above _ last _ last_is fits (omega (arith, ints)))
+same_ends : (r : Interval) (first last : ℤ) → r.first ≡ first → r.last ≡ last → ◌≡◌ {A = Interval} r (record { first = first; last = last })
+same_ends r first last first_is last_is =
+    ap (λ (z : ℤ). let i : Interval = record { first = z; last = r.last } in i) first_is
+    ∙ ap (λ (z : ℤ). let i : Interval = record { first = first; last = z } in i) last_is
 
--- to take from 0 is to negate
-pub from_zero : (x : ℤ) → pos 0 -ℤ x ≡ neg_ℤ x
-from_zero x = omega (arith, ints)
+-- the sums and the differences of ranges that have numbers
+pub sum-present : (a b r : Interval) → false ≡ is_vacant a → false ≡ is_vacant b → r.first ≡ nearest_end (a.first +ℤ b.first) → r.last ≡ nearest_end (a.last +ℤ b.last) → r ≡ held (sum a b)
+sum-present a b r left right first last =
+    same_ends r (nearest_end (a.first +ℤ b.first)) (nearest_end (a.last +ℤ b.last)) first last
+    ∙ ap held (neither (is_vacant a) (is_vacant b) vacant (record { first = a.first +ℤ b.first; last = a.last +ℤ b.last }) left right)
+
+pub difference-present : (a b r : Interval) → false ≡ is_vacant a → false ≡ is_vacant b → r.first ≡ nearest_end (a.first -ℤ b.last) → r.last ≡ nearest_end (a.last -ℤ b.first) → r ≡ held (difference a b)
+difference-present a b r left right first last =
+    same_ends r (nearest_end (a.first -ℤ b.last)) (nearest_end (a.last -ℤ b.first)) first last
+    ∙ ap held (neither (is_vacant a) (is_vacant b) vacant (record { first = a.first -ℤ b.last; last = a.last -ℤ b.first }) left right)

@@ -1,16 +1,29 @@
-ghost use Rattle.std.specs.Prelude.{◌≡◌, ◌↔◌, ◌≢◌, ℤ, pos, ◌+ℤ◌, ◌-ℤ◌, neg_ℤ, IsTrue, FitsSigned};
-ghost use Rattle.std.specs.Int.{w64};
-ghost use Rattle.domain.specs.Interval.{HasMember, Includes, is_vacant, is_included, joined, common, sum, difference, negated, held};
+ghost use Rattle.std.specs.Prelude.{◌≡◌, ◌↔◌, ℤ, pos, ◌+ℤ◌, ◌-ℤ◌, neg_ℤ, IsTrue};
+ghost use Rattle.domain.specs.Interval.{Interval as Range, IsEnd, HasMember, Includes, is_vacant, is_included, joined, common, sum, difference, negated, held, nearest_end};
 ghost use Rattle.domain.specs.Ranges.{included-has, joined-has_left, joined-has_right, common-has};
-ghost use Rattle.domain.specs.declared.interval.Interval.{Interval};
 
 use crate::Domain;
+use std::marker::Model;
 
-/// A range of whole numbers. It is empty where `first` is above `last`; the empty range is written 1..0.
+/// The greatest end of a range: sums of two ends fit 64 bits.
+const LIMIT: i64 = 4611686018427387903;
+
+/// A range of whole numbers between -4611686018427387903 and 4611686018427387903. It is empty where its first number
+/// is above its last; the empty range is written 1..0.
 #[derive(Clone, Copy, Debug, PartialEq, Eq)]
 pub struct Interval {
-    pub first: i64,
-    pub last: i64,
+    first: i64,
+    last: i64,
+}
+
+impl Model for Interval {
+    ghost Value = { Range };
+
+    ghost view = { λ i. record { first = i.first; last = i.last } };
+
+    ghost inverse = { λ r. record { first = r.first; last = r.last } };
+
+    ghost invariant = { λ i. IsEnd i.first × IsEnd i.last };
 }
 
 impl Interval {
@@ -23,14 +36,30 @@ impl Interval {
         last: 2147483647,
     };
 
-    /// The range of one number.
-    pub fn of(number: i64) -> Interval
-        ensures { result ≡ record { first = number; last = number } }
+    /// The numbers from a first to a last one.
+    pub fn between(first: i32, last: i32) -> Interval
+        ensures { result ≡ record { first = first; last = last } }
     {
         Interval {
-            first: number,
-            last: number,
+            first: i64::from(first),
+            last: i64::from(last),
         }
+    }
+
+    /// The first number of a range that isn't empty.
+    pub fn first(&self) -> i64
+        ensures value { result ≡ self.now.first }
+        ensures bounds { IsEnd result }
+    {
+        self.first
+    }
+
+    /// The last number of a range that isn't empty.
+    pub fn last(&self) -> i64
+        ensures value { result ≡ self.now.last }
+        ensures bounds { IsEnd result }
+    {
+        self.last
     }
 
     /// Whether no number lies in the range.
@@ -38,50 +67,54 @@ impl Interval {
         ensures answer { result ≡ is_vacant self.now }
         ensures vacant { IsTrue result ↔ ((z : ℤ) → ¬ HasMember self.now z) }
     {
-        self.last < self.first
+        self.last() < self.first()
     }
 
-    /// The sums of a number of each range. An end that leaves 64 bits is held at their end.
+    /// The sums of a number of each range. An end that no interval has becomes the nearest that one has.
     pub fn add(&self, other: &Interval) -> Interval
         ensures ends { result ≡ held (sum self.now other.now) }
         ensures members { (x y : ℤ) → HasMember self.now x → HasMember other.now y
-            → FitsSigned w64 (x +ℤ y) → HasMember result (x +ℤ y) }
+            → IsEnd (x +ℤ y) → HasMember result (x +ℤ y) }
     {
         if self.is_empty() || other.is_empty() {
             return Interval::EMPTY;
         }
-        Interval {
-            first: self.first.saturating_add(other.first),
-            last: self.last.saturating_add(other.last),
-        }
+        Interval::held(self.first() + other.first(), self.last() + other.last())
     }
 
-    /// The differences of a number of each range. An end that leaves 64 bits is held at their end.
+    /// The differences of a number of each range. An end that no interval has becomes the nearest that one has.
     pub fn subtract(&self, other: &Interval) -> Interval
         ensures ends { result ≡ held (difference self.now other.now) }
         ensures members { (x y : ℤ) → HasMember self.now x → HasMember other.now y
-            → FitsSigned w64 (x -ℤ y) → HasMember result (x -ℤ y) }
+            → IsEnd (x -ℤ y) → HasMember result (x -ℤ y) }
     {
         if self.is_empty() || other.is_empty() {
             return Interval::EMPTY;
         }
-        Interval {
-            first: self.first.saturating_sub(other.last),
-            last: self.last.saturating_sub(other.first),
-        }
+        Interval::held(self.first() - other.last(), self.last() - other.first())
     }
 
-    /// The negatives of the range's numbers. An end that leaves 64 bits is held at their end.
+    /// The negatives of the range's numbers.
     pub fn negate(&self) -> Interval
-        ensures ends { result ≡ held (negated self.now) }
-        ensures members { (x : ℤ) → HasMember self.now x → FitsSigned w64 (neg_ℤ x) → HasMember result (neg_ℤ x) }
+        ensures ends { result ≡ negated self.now }
+        ensures members { (x : ℤ) → HasMember self.now x → HasMember result (neg_ℤ x) }
     {
         if self.is_empty() {
             return Interval::EMPTY;
         }
         Interval {
-            first: 0i64.saturating_sub(self.last),
-            last: 0i64.saturating_sub(self.first),
+            first: -self.last(),
+            last: -self.first(),
+        }
+    }
+
+    /// The range whose ends are nearest to these.
+    fn held(first: i64, last: i64) -> Interval
+        ensures { result ≡ held (record { first = first; last = last }) }
+    {
+        Interval {
+            first: first.min(LIMIT).max(-LIMIT),
+            last: last.min(LIMIT).max(-LIMIT),
         }
     }
 }
@@ -101,12 +134,12 @@ impl Domain for Interval {
         ensures answer { result ≡ is_included self.now other.now }
         ensures exact { IsTrue result ↔ Includes other.now self.now }
     {
-        self.is_empty() || (other.first <= self.first && self.last <= other.last)
+        self.is_empty() || (other.first() <= self.first() && self.last() <= other.last())
     }
 
     fn join(&self, other: &Interval) -> Interval
         ensures answer { result ≡ joined self.now other.now }
-        ensures least { (c : Interval) → Includes c self.now → Includes c other.now → Includes c result }
+        ensures least { (c : Range) → Includes c self.now → Includes c other.now → Includes c result }
     {
         if self.is_empty() {
             return *other;
@@ -115,8 +148,8 @@ impl Domain for Interval {
             return *self;
         }
         Interval {
-            first: self.first.min(other.first),
-            last: self.last.max(other.last),
+            first: self.first().min(other.first()),
+            last: self.last().max(other.last()),
         }
     }
 
@@ -124,8 +157,8 @@ impl Domain for Interval {
         ensures answer { result ≡ common self.now other.now }
         ensures exact { (z : ℤ) → HasMember result z ↔ (HasMember self.now z × HasMember other.now z) }
     {
-        let first = self.first.max(other.first);
-        let last = self.last.min(other.last);
+        let first = self.first().max(other.first());
+        let last = self.last().min(other.last());
         if last < first {
             return Interval::EMPTY;
         }
@@ -145,40 +178,33 @@ impl Domain for Interval {
 mod tests {
     use super::*;
 
-    const ONE_TO_NINE: Interval = Interval { first: 1, last: 9 };
-
     #[test]
     fn keeps_what_both_have(rt: HostRuntime) {
-        let low = Interval { first: -5, last: 3 };
-        assert_eq!(rt; ONE_TO_NINE.meet(&low), Interval { first: 1, last: 3 });
-        assert_eq!(rt; Interval::of(12).meet(&low), Interval::EMPTY);
-        assert_eq!(rt; ONE_TO_NINE.join(&low), Interval { first: -5, last: 9 });
+        let low = Interval::between(-5, 3);
+        assert_eq!(rt; Interval::between(1, 9).meet(&low), Interval::between(1, 3));
+        assert_eq!(rt; Interval::between(12, 12).meet(&low), Interval::EMPTY);
+        assert_eq!(rt;
+            Interval::between(1, 9).join(&low),
+            Interval::between(-5, 9)
+        );
         assert_eq!(rt; Interval::EMPTY.join(&low), low);
-        assert!(rt; Interval::EMPTY.leq(&Interval::EMPTY) && !low.leq(&ONE_TO_NINE));
+        assert!(rt; Interval::EMPTY.leq(&Interval::EMPTY) && !low.leq(&Interval::between(1, 9)));
         assert!(rt; Interval::EMPTY.is_empty());
     }
 
     #[test]
     fn reckons_by_the_ends(rt: HostRuntime) {
-        let low = Interval { first: -5, last: 3 };
+        let low = Interval::between(-5, 3);
         assert_eq!(rt;
-            ONE_TO_NINE.add(&low),
-            Interval {
-                first: -4,
-                last: 12
-            }
+            Interval::between(1, 9).add(&low),
+            Interval::between(-4, 12)
         );
         assert_eq!(rt;
-            ONE_TO_NINE.subtract(&low),
-            Interval {
-                first: -2,
-                last: 14
-            }
+            Interval::between(1, 9).subtract(&low),
+            Interval::between(-2, 14)
         );
-        assert_eq!(rt; low.negate(), Interval { first: -3, last: 5 });
+        assert_eq!(rt; low.negate(), Interval::between(-3, 5));
         assert_eq!(rt; Interval::EMPTY.add(&low), Interval::EMPTY);
-        let top = Interval::of(i64::MAX);
-        assert_eq!(rt; top.add(&top), top);
     }
 
     fn least_both<D: Domain + Drop>(a: &D, b: &D) -> bool {
@@ -188,6 +214,6 @@ mod tests {
 
     #[test]
     fn is_a_domain(rt: HostRuntime) {
-        assert!(rt; least_both(&ONE_TO_NINE, &Interval::INTEGER));
+        assert!(rt; least_both(&Interval::between(1, 9), &Interval::INTEGER));
     }
 }

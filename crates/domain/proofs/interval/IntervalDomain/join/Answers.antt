@@ -1,11 +1,13 @@
-use Rattle.std.proofs.Common.{rules, ◌≡◌, ◌↔◌, ℤ, pos, ◌+ℤ◌, ◌-ℤ◌, neg_ℤ, IsTrue, FitsSigned, arith, subst, sym, refl}
-use Rattle.std.proofs.lemmas.Int.{ints}
-use Rattle.std.proofs.lemmas.Grind.{common_steps}
-use Rattle.std.specs.Int.{w64, saturate_signed}
-use Rattle.domain.specs.Interval.{HasMember, Includes, is_vacant, is_included, joined, common, sum, difference, negated, held}
-use Rattle.domain.specs.Ranges.{included-has, has-included, joined-least, common-has, common-has_left, common-has_right, sum-between}
-use Rattle.domain.specs.declared.interval.Interval.{Interval}
+use Rattle.std.proofs.Common.{rules, arith}
+use Rattle.std.proofs.lemmas.Int.{to_z-of_z}
+use Rattle.domain.specs.Ranges.{joined-least, end-min, end-max}
 use Rattle.domain.proofs.interval.IntervalDomain.join.Goals as goal
+
+pub invariant_of-result : goal.invariant_of-result
+invariant_of-result c = (
+  end-min c.first.result c.first-2.result _ c.first.ensures.bounds c.first-2.ensures.bounds (grind (arith, to_z-of_z)),
+  end-max c.last.result c.last-2.result _ c.last.ensures.bounds c.last-2.ensures.bounds (grind (arith, to_z-of_z)),
+)
 
 pub returns-clause-least : goal.returns-clause-least
 returns-clause-least c = λ c' left right z has.

@@ -1,0 +1,40 @@
+use Rattle.cert_checker.proofs.Steps.{empty-done, assign-done, writeln-done, compound-begun, all-step, all-end, if_ok-map}
+use Rattle.std.proofs.Common.{map}
+use Rattle.cert_checker.specs.Walk.{assignment, each_of, value_walk}
+use Rattle.cert_checker.specs.View.{Walks}
+use Rattle.cert_checker.proofs.walk.Walk.+statement.Goals as goal
+
+pub returns-in-Empty : goal.returns-in-Empty
+returns-in-Empty t c =
+    empty-done c.args.statement.now c.in-Empty.number c.args.self.now c.enter.new.self c.in-Empty.is (c.in_ok-enter.ensures c.in-Empty.number)
+
+pub returns-in-Assign : goal.returns-in-Assign
+returns-in-Assign t c =
+    let target = c.in-Assign.target in
+    if_ok-map c.assignment.result (λ _. Walks (assignment target c.in-Assign.fits c.in-Assign.value) c.enter.new.self c.assignment.new.self tt) _
+    (λ _ assigned. assign-done c.args.statement.now c.in-Assign.number target c.in-Assign.fits c.in-Assign.value c.args.self.now c.enter.new.self c.assignment.new.self
+    c.in-Assign.is (c.in_ok-enter.ensures c.in-Assign.number) assigned)
+    c.assignment.ensures
+
+pub returns-in-Writeln : goal.returns-in-Writeln
+returns-in-Writeln t c =
+    if_ok-map c.values.result (λ _. Walks (each_of (map value_walk c.deref.result.now)) c.enter.new.self c.values.new.self tt) _
+    (λ _ written. writeln-done c.args.statement.now c.in-Writeln.number c.in-Writeln.values c.deref.result.now c.args.self.now c.enter.new.self c.values.new.self
+    c.in-Writeln.is c.deref.ensures.value (c.in_ok-enter.ensures c.in-Writeln.number) written)
+    c.values.ensures
+
+pub loop-statement-init : goal.loop-statement-init
+loop-statement-init t c =
+    compound-begun c.args.statement.now c.in-Compound.number c.in-Compound.statements c.deref-statement-items.result.now c.args.self.now c.enter.new.self
+    c.in-Compound.is c.deref-statement-items.ensures.value (c.in_ok-enter.ensures c.in-Compound.number)
+
+pub loop-statement-preserved : goal.loop-statement-preserved
+loop-statement-preserved t c = λ new left.
+    c.loop-statement.invariant new
+    (all-step c.deref-statement-items.result.now c.loop-statement.statement-index c.statement-item.result c.loop-statement.self c.statement.new.self new
+    c.loop-statement-test.true c.statement-item.is c.in_ok-statement-in-Compound.ensures left)
+
+pub returns-after-loop-statement : goal.returns-after-loop-statement
+returns-after-loop-statement t c =
+    c.loop-statement.invariant c.loop-statement.self
+    (all-end c.deref-statement-items.result.now c.loop-statement.statement-index c.loop-statement.self c.loop-statement-test.false)
