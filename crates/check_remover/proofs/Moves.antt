@@ -1,8 +1,8 @@
 -- The new places of a list are those of the definition.
-use Rattle.std.proofs.Common.{◌≡◌, ℕ, ◌+◌, ◌-◌, ◌≤◌, Bool, List, length, take, min, sym, ap, subst, ◌∙◌, arith, slice_index}
+use Rattle.std.proofs.Common.{◌≡◌, ℕ, ◌-◌, ◌≤◌, Bool, List, length, take, min, ap, ◌∙◌, arith, slice_index}
 use Rattle.std.specs.Prelude.{count_by, map, filter}
 use Rattle.std.proofs.Math.Path.{fun_ext}
-use Rattle.std.proofs.lemmas.List.{take_min, length-take-le, length-take}
+use Rattle.std.proofs.lemmas.List.{take_min, length-take}
 use Rattle.std.proofs.lemmas.List.Sums.{count_by-le-length}
 use Rattle.pcode_assembler.specs.declared.instr.Instr.{Instr}
 use Rattle.check_remover.specs.Strip.{stays, moved_place, moved, strip_by}

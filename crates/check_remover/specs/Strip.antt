@@ -1,6 +1,6 @@
 -- Stripped code: the code without its checks at sites that aren't open, its jumps moved. It does not say when a check
 -- may be taken out: that it never stops a run is for the reader of the open sites to know.
-use Rattle.std.specs.Prelude.{ℕ, ◌==◌, Bool, true, List, Option, Some, None, map, filter, take, count_by}
+use Rattle.std.specs.Prelude.{◌≡◌, ℕ, ◌==◌, Bool, true, List, Option, Some, None, map, filter, take, count_by, slice_get}
 use Rattle.std.specs.List.{list_any}
 use Rattle.std.specs.Option.{option_map_or}
 use Rattle.pcode_assembler.specs.declared.code.Site.{Site}
@@ -47,3 +47,8 @@ strip_by is_open code = map (moved (moved_place is_open code)) (filter (stays is
 -- the code without the checks of sites that aren't open
 abbrev pub strip : List Site → List Instr → List Instr
 strip open_sites code = strip_by (is_among open_sites) code
+
+-- each instruction that stays is found where a jump to it goes, its own jump moved
+abbrev pub KeepsInstructions : List Site → List Instr → List Instr → Type 0
+KeepsInstructions open_sites code stripped =
+    (place : ℕ) (i : Instr) → slice_get code place ≡ Some i → stays (is_among open_sites) i ≡ true → slice_get stripped (moved_place (is_among open_sites) code place) ≡ Some (moved (moved_place (is_among open_sites) code) i)

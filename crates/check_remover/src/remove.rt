@@ -1,7 +1,7 @@
 ghost use Rattle.std.specs.Prelude.{◌≡◌, ℕ, ◌≤◌, nat_eq, IfOk, length, map, filter};
 ghost use Rattle.std.specs.HashSet.{contains};
 ghost use Rattle.check_remover.specs.Places.{new_place};
-ghost use Rattle.check_remover.specs.Strip.{moved, stays, strip};
+ghost use Rattle.check_remover.specs.Strip.{KeepsInstructions, moved, stays, strip};
 
 use crate::places::{places_of, with_moved_jump};
 use crate::sites::{ids_of, is_kept};
@@ -15,6 +15,8 @@ use std::collections::HashSet;
 pub fn remove(alloc: Global, code: &Code, open_sites: &[Site]) -> Result<Code, AllocError>
     ensures instructions { IfOk result
         (λ stripped. stripped.instructions.items ≡ strip open_sites.now code.now.instructions.items) }
+    ensures kept { IfOk result (λ stripped.
+        KeepsInstructions open_sites.now code.now.instructions.items stripped.instructions.items) }
     ensures sites { IfOk result (λ stripped. stripped.sites.items ≡ code.now.sites.items) }
     ensures points { IfOk result (λ stripped. stripped.points.items ≡ code.now.points.items) }
 {

@@ -1,19 +1,21 @@
 -- Pieces of code, one after another.
-use Rattle.std.proofs.Common.{◌≡◌, ℕ, ◌≤◌, length, take, List, [], ◌∷◌, ◌++◌, map, refl, ap, sym, ◌∙◌}
+use Rattle.std.proofs.Common.{◌≡◌, ℕ, ◌+◌, ◌<◌, ◌≤◌, length, length-append, take, get_or, List, [], ◌∷◌, ◌++◌, map, refl, ap, sym, ◌∙◌}
 use Rattle.std.specs.List.{flat_map}
-use Rattle.std.proofs.lemmas.List.{take_all}
+use Rattle.std.proofs.lemmas.List.{take_all, take_more, flat_map_more}
 use Rattle.std.specs.Global.{Vec, Box}
 use Rattle.pcode_assembler.specs.declared.instr.Instr.{Instr}
 use Rattle.typed_tree.specs.declared.tree.Expr.{Expr}
 use Rattle.typed_tree.specs.declared.tree.Link.{Link}
-use Rattle.typed_tree.specs.declared.tree.Expr.TheVariants.{Sum, rolls-Sum}
-use Rattle.typed_tree.specs.declared.tree.Expr.TheOpen.Expr-F.{Sum as Sum-layer}
-use Rattle.typed_tree.specs.declared.tree.Expr.TheFolds.{fold-roll-Expr}
+use Rattle.typed_tree.specs.declared.tree.Expr.TheVariants.{Sum, rolls-Sum, Signed, rolls-Signed}
+use Rattle.typed_tree.specs.declared.tree.Sign.{Sign}
+use Rattle.typed_tree.specs.declared.tree.Sign.TheVariants.{Plus, Minus}
+use Rattle.typed_tree.specs.declared.tree.Expr.TheOpen.Expr-F.{Sum as Sum-layer, Signed as Signed-layer}
+use Rattle.typed_tree.specs.declared.tree.Expr.TheFolds.{fold-roll-Expr, fold_out-Link}
 use Rattle.typed_tree.specs.declared.tree.Stmt.{Stmt}
 use Rattle.typed_tree.specs.declared.tree.Stmt.TheVariants.{Compound, rolls-Compound}
 use Rattle.typed_tree.specs.declared.tree.Stmt.TheOpen.Stmt-F.{Compound as Compound-layer}
 use Rattle.typed_tree.specs.declared.tree.Stmt.TheFolds.{fold-roll-Stmt}
-use Rattle.code_generator.specs.Code.{joined, expr_step, link_step, expr_code, link_code, stmt_step, stmt_code}
+use Rattle.code_generator.specs.Code.{joined, operation_code, sign_code, expr_step, link_step, expr_code, link_code, stmt_step, stmt_code}
 
 -- the pieces of a list, one for each element
 pub joined-map : {X : Type 0} (piece_of : X → List Instr) (xs : List X) → joined (map piece_of xs) ≡ flat_map piece_of xs
@@ -34,3 +36,26 @@ stmt_code-Compound number statements =
 pub joined_at_end : {X : Type 0} (piece_of : X → List Instr) (code start : List Instr) (xs ys : List X) (i : ℕ) → code ≡ start ++ flat_map piece_of (take i xs) → length xs ≤ i → xs ≡ ys → code ≡ start ++ flat_map piece_of ys
 joined_at_end piece_of code start xs ys i e h same =
     e ∙ ap (λ zs. start ++ flat_map piece_of zs) (take_all i xs h ∙ same)
+
+-- a signed operand
+pub expr_code-Signed : (number : ℕ) (sign : Sign) (operand : Box Expr) → expr_code (Signed number sign operand) ≡ expr_code operand.value ++ sign_code sign
+expr_code-Signed number sign operand =
+    ap expr_code (sym (rolls-Signed number sign operand)) ∙ fold-roll-Expr (List Instr) (List Instr) expr_step link_step (Signed-layer number sign operand)
+
+-- an operator has two instructions
+length-operation_code : (sign : Sign) (overflow : ℕ) → length (operation_code sign overflow) ≡ 2
+length-operation_code Plus overflow = refl
+length-operation_code Minus overflow = refl
+
+pub length-link_code : (link : Link) → length (link_code link) ≡ length (expr_code link.operand) + 2
+length-link_code link =
+    ap length (fold_out-Link (List Instr) (List Instr) expr_step link_step link) ∙ length-append (expr_code link.operand) (operation_code link.operator link.overflow) ∙ ap (λ n. length (expr_code link.operand) + n) (length-operation_code link.operator link.overflow)
+
+-- how many instructions the first links have, and one more
+pub length-links_more : (links : List Link) (i : ℕ) (link : Link) → i < length links → link ≡ get_or links i link → length (flat_map link_code (take (i + 1) links)) ≡ length (flat_map link_code (take i links)) + (length (expr_code link.operand) + 2)
+length-links_more links i link h e =
+    ap (λ ls. length (flat_map link_code ls)) (take_more links i link h) ∙ ap length (sym (flat_map_more link_code [] (take i links) (get_or links i link))) ∙ length-append (flat_map link_code (take i links)) (link_code (get_or links i link)) ∙ ap (λ l. length (flat_map link_code (take i links)) + length (link_code l)) (sym e) ∙ ap (λ n. length (flat_map link_code (take i links)) + n) (length-link_code link)
+
+-- the pieces of a loop at its end
+pub all_pieces : {X : Type 0} (piece_of : X → List Instr) (xs ys : List X) (i : ℕ) → length xs ≤ i → xs ≡ ys → flat_map piece_of (take i xs) ≡ flat_map piece_of ys
+all_pieces piece_of xs ys i h same = ap (flat_map piece_of) (take_all i xs h ∙ same)

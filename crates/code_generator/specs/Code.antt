@@ -1,6 +1,6 @@
 -- The code of a typed tree: of an expression (ISO 7185:1990, 6.7), of a statement (6.8) and of a program (6.10), as
 -- functions of the tree. It does not say what the code does: that is for the machine to say.
-use Rattle.std.specs.Prelude.{ℕ, ℤ, pos, neg_ℤ, ◌+◌, max, List, [], ◌∷◌, ◌++◌, Option, Some, None, length, map, slice_get, fold}
+use Rattle.std.specs.Prelude.{ℕ, pos, neg_ℤ, ◌+◌, max, min, List, [], ◌∷◌, ◌++◌, Option, Some, None, length, map, slice_get, fold}
 use Rattle.std.specs.List.{flat_map}
 use Rattle.pcode_assembler.specs.declared.instr.Instr.{Instr}
 use Rattle.pcode_assembler.specs.declared.instr.Instr.TheVariants as instr
@@ -26,9 +26,13 @@ joined pieces = flat_map (λ piece. piece) pieces
 abbrev pub greatest : List ℕ → ℕ
 greatest depths = fold max 0 depths
 
+-- a number as an operand, or the greatest operand
+abbrev pub operand : ℕ → ℕ
+operand n = min n 4294967295
+
 -- where a variable stands in the program's frame: behind the four links
 abbrev pub variable_offset : ℕ → ℕ
-variable_offset root = root + 4
+variable_offset root = operand (root + 4)
 
 -- what a sign does to the value before it
 abbrev pub sign_code : Sign → List Instr
@@ -117,7 +121,7 @@ stmt_depth = fold-Stmt ℕ stmt_depth_step
 
 -- the code of a block with so many variables
 abbrev pub block_code : ℕ → Stmt → List Instr
-block_code variables body = instr.Enter variables (stmt_depth body) ∷ stmt_code body
+block_code variables body = instr.Enter variables (operand (stmt_depth body)) ∷ stmt_code body
 
 -- the code of the program's block; a tree that has none does nothing
 abbrev pub body_code : ℕ → Option Block → List Instr
@@ -126,4 +130,4 @@ body_code variables (Some block) = block_code variables block.body
 
 -- the code of a program: its block, and the end of the run
 abbrev pub program_code : Tree → List Instr
-program_code tree = body_code (length tree.variables.items) (slice_get tree.blocks.items 0) ++ (instr.Stop ∷ [])
+program_code tree = body_code (operand (length tree.variables.items)) (slice_get tree.blocks.items 0) ++ (instr.Stop ∷ [])

@@ -1,2 +1,4 @@
 pub mod Code
+pub mod Follows
+pub mod Need
 pub mod Tables

@@ -1,8 +1,8 @@
-ghost use Rattle.std.specs.Prelude.{◌≡◌, ◌+◌, [], ◌∷◌, ◌++◌, IfOk, OnOk};
+ghost use Rattle.std.specs.Prelude.{◌≡◌, [], ◌∷◌, ◌++◌, OnOk};
 ghost use Rattle.code_generator.specs.Code.{assign_code, expr_code, operation_code, sign_code, stmt_code, variable_code, variable_offset, writeln_code};
 
-use crate::fault::GenFault;
 use pcode_assembler::instr::Instr;
+use std::alloc::AllocError;
 use typed_tree::tree::{Access, Expr, Sign, Stmt};
 
 /// The greatest value of the type integer (ISO 7185:1990, 6.4.2.2); the least is its negation.
@@ -14,11 +14,8 @@ const WIDTH: i32 = 10;
 /// How many cells a frame has before its variables.
 const LINKS: u32 = 4;
 
-/// The most instructions that a code may have.
-const MOST: usize = 1000000;
-
 /// The instructions of a statement.
-pub fn emit_stmt(code: &mut Vec<Instr>, stmt: &Stmt) -> Result<(), GenFault>
+pub fn emit_stmt(code: &mut Vec<Instr>, stmt: &Stmt) -> Result<(), AllocError>
     ensures { OnOk result (code.new.items ≡ code.old.items ++ stmt_code stmt.now) }
 {
     match stmt {
@@ -45,10 +42,10 @@ fn emit_assign(
     target: Access,
     fits: u32,
     value: &Expr,
-) -> Result<(), GenFault>
+) -> Result<(), AllocError>
     ensures { OnOk result (code.new.items ≡ code.old.items ++ assign_code target.root fits value.now) }
 {
-    let offset = offset_of(target)?;
+    let offset = offset_of(target);
     emit_expr(code, value)?;
     put(
         code,
@@ -62,7 +59,7 @@ fn emit_assign(
 }
 
 /// Each value with its width, and a line end.
-fn emit_writeln(code: &mut Vec<Instr>, values: &[Expr]) -> Result<(), GenFault>
+fn emit_writeln(code: &mut Vec<Instr>, values: &[Expr]) -> Result<(), AllocError>
     ensures { OnOk result (code.new.items ≡ code.old.items ++ writeln_code values.now) }
 {
     for value in values {
@@ -74,7 +71,7 @@ fn emit_writeln(code: &mut Vec<Instr>, values: &[Expr]) -> Result<(), GenFault>
 }
 
 /// The instructions of an expression: its value is pushed.
-pub fn emit_expr(code: &mut Vec<Instr>, expr: &Expr) -> Result<(), GenFault>
+pub fn emit_expr(code: &mut Vec<Instr>, expr: &Expr) -> Result<(), AllocError>
     ensures { OnOk result (code.new.items ≡ code.old.items ++ expr_code expr.now) }
 {
     match expr {
@@ -96,10 +93,10 @@ pub fn emit_expr(code: &mut Vec<Instr>, expr: &Expr) -> Result<(), GenFault>
 }
 
 /// The value of a variable, and its check.
-fn emit_variable(code: &mut Vec<Instr>, access: Access, defined: u32) -> Result<(), GenFault>
+fn emit_variable(code: &mut Vec<Instr>, access: Access, defined: u32) -> Result<(), AllocError>
     ensures { OnOk result (code.new.items ≡ code.old.items ++ variable_code access.root defined) }
 {
-    let offset = offset_of(access)?;
+    let offset = offset_of(access);
     put(code, Instr::Load { level: 0, offset })?;
     put(
         code,
@@ -111,7 +108,7 @@ fn emit_variable(code: &mut Vec<Instr>, access: Access, defined: u32) -> Result<
 }
 
 /// What a sign does to the value before it.
-fn emit_sign(code: &mut Vec<Instr>, sign: Sign) -> Result<(), GenFault>
+fn emit_sign(code: &mut Vec<Instr>, sign: Sign) -> Result<(), AllocError>
     ensures { OnOk result (code.new.items ≡ code.old.items ++ sign_code sign) }
 {
     match sign {
@@ -121,7 +118,7 @@ fn emit_sign(code: &mut Vec<Instr>, sign: Sign) -> Result<(), GenFault>
 }
 
 /// What an operator does to the two values before it, checked.
-fn emit_operation(code: &mut Vec<Instr>, operator: Sign, overflow: u32) -> Result<(), GenFault>
+fn emit_operation(code: &mut Vec<Instr>, operator: Sign, overflow: u32) -> Result<(), AllocError>
     ensures { OnOk result (code.new.items ≡ code.old.items ++ operation_code operator overflow) }
 {
     match operator {
@@ -136,20 +133,17 @@ fn emit_operation(code: &mut Vec<Instr>, operator: Sign, overflow: u32) -> Resul
     }
 }
 
-/// Where a variable stands in the program's frame.
-fn offset_of(access: Access) -> Result<u32, GenFault>
-    ensures { IfOk result (λ offset. offset ≡ variable_offset access.root) }
+/// Where a variable stands in the program's frame, or the greatest operand.
+fn offset_of(access: Access) -> u32
+    ensures { result ≡ variable_offset access.root }
 {
-    access.root.checked_add(LINKS).ok_or(GenFault::TooLarge)
+    access.root.saturating_add(LINKS)
 }
 
 /// One more instruction.
-pub fn put(code: &mut Vec<Instr>, instr: Instr) -> Result<(), GenFault>
+pub fn put(code: &mut Vec<Instr>, instr: Instr) -> Result<(), AllocError>
     ensures { OnOk result (code.new.items ≡ code.old.items ++ instr ∷ []) }
 {
-    if code.len() >= MOST {
-        return Err(GenFault::TooLarge);
-    }
     code.push(instr)?;
     Ok(())
 }

@@ -9,7 +9,7 @@ use thiserror::Error;
 pub enum GenFault {
     #[error("no memory")]
     Memory,
-    /// G1: over 1,000,000 instructions, or over 4,294,967,291 variables.
+    /// G1: over 1,000,000 instructions.
     #[error("over 1000000 instructions")]
     TooLarge,
 }

@@ -5,6 +5,7 @@ mod depth;
 mod emit;
 pub mod fault;
 pub mod generate;
+mod size;
 mod tables;
 #[cfg(test)]
 mod tests;

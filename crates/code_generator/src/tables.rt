@@ -35,7 +35,7 @@ fn plain_site(site: Site) -> plain::Site
         id: site.id,
         line: site.place.line,
         column: site.place.column,
-        kind: site.kind as u8,
+        kind: site.kind.number(),
     }
 }
 

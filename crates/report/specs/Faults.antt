@@ -13,7 +13,7 @@ use Rattle.cert_checker.specs.declared.fault.CheckFault.TheVariants as check
 use Rattle.code_generator.specs.declared.fault.GenFault.{GenFault}
 use Rattle.code_generator.specs.declared.fault.GenFault.TheVariants as generate
 use Rattle.report.specs.declared.fault.Fault.{Fault}
-use Rattle.report.specs.declared.fault.Fault.TheVariants.{Memory, Lex, Parse, Typing, Certificate, Check, Generate}
+use Rattle.report.specs.declared.fault.Fault.TheVariants.{Memory, Lex, Parse, Typing, Certificate, Generate}
 
 abbrev pub lexer_fault : LexFault → Fault
 lexer_fault lex.Memory = Memory

@@ -80,6 +80,7 @@ impl<T> Counted<T> {
 
 impl<T: Read> Feed for Counted<T> {
     ghost remaining = { λ c. T.remaining c.inner };
+
     ghost failures = { λ c. c.failures };
 
     fn read(&mut self, piece: &mut [u8]) -> io::Result<usize> {
@@ -93,6 +94,7 @@ impl<T: Read> Feed for Counted<T> {
 
 impl<T: Write> Sink for Counted<T> {
     ghost contents = { λ c. T.contents c.inner };
+
     ghost failures = { λ c. c.failures };
 
     fn write(&mut self, piece: &[u8]) -> io::Result<usize> {

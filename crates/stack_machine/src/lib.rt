@@ -3,11 +3,10 @@
 
 pub mod bytes;
 pub mod cell;
+mod input;
 pub mod machine;
-pub mod stop;
-
 mod output;
+pub mod stop;
 mod store;
-
 #[cfg(test)]
 mod tests;

@@ -1,9 +1,12 @@
-ghost use Rattle.std.specs.Prelude.{◌≡◌, ◌+◌, ◌^◌, ◌-◌, ◌<◌, ◌≤◌, vec_len};
+ghost use Rattle.std.specs.Prelude.{◌≡◌, ◌+◌, ◌^◌, ◌-◌, ◌<◌, [], ◌∷◌, replicate, IsOkUnless, OnOk, vec_len};
+ghost use Rattle.std.specs.Io.KnownBytes.{Appends};
 ghost use Rattle.stack_machine.specs.declared.output.TheConstants.{PIECE};
 ghost use Rattle.stack_machine.specs.Failures.{failures_told};
+ghost use Rattle.stack_machine.specs.Machine.{blanks_of, integer_text};
 
 use crate::bytes::Sink;
 use crate::stop::Stop;
+use itoa::Buffer;
 use std::alloc::{AllocError, Global};
 
 /// How many bytes a piece holds.
@@ -19,6 +22,7 @@ pub struct Output {
 }
 
 impl Output {
+    ghost use Rattle.stack_machine.specs.Output.{held_by, told};
 
     /// Holds nothing.
     pub fn new(alloc: Global) -> Result<Output, AllocError> {
@@ -29,14 +33,19 @@ impl Output {
     }
 
     /// Forgets what it holds.
-    pub fn clear(&mut self) {
+    pub fn clear(&mut self)
+        ensures { self.new.held ≡ 0 }
+    {
         self.held = 0;
     }
 
     /// Takes a byte; a piece that is full by it goes out.
     pub fn put<W: Sink>(&mut self, byte: u8, writer: &mut W) -> Result<(), Stop>
         requires { W.failures writer.old < 2 ^ 64 - 1 }
-        ensures { W.failures writer.new ≡ W.failures writer.old + failures_told result }
+        ensures only { IsOkUnless result Stop.WriteFailed }
+        ensures failures { W.failures writer.new ≡ W.failures writer.old + failures_told result }
+        ensures bytes { OnOk result (Appends (told (W.contents writer.old) (held_by self.old))
+            (told (W.contents writer.new) (held_by self.new)) (byte ∷ [])) }
     {
         let held = self.held;
         self.bytes[held] = byte;
@@ -51,7 +60,10 @@ impl Output {
     /// Takes these bytes in turn.
     pub fn put_all<W: Sink>(&mut self, bytes: &[u8], writer: &mut W) -> Result<(), Stop>
         requires { W.failures writer.old < 2 ^ 64 - 1 }
-        ensures { W.failures writer.new ≡ W.failures writer.old + failures_told result }
+        ensures only { IsOkUnless result Stop.WriteFailed }
+        ensures failures { W.failures writer.new ≡ W.failures writer.old + failures_told result }
+        ensures bytes { OnOk result (Appends (told (W.contents writer.old) (held_by self.old))
+            (told (W.contents writer.new) (held_by self.new)) bytes.now) }
     {
         for byte in bytes {
             self.put(*byte, writer)?;
@@ -62,7 +74,10 @@ impl Output {
     /// Takes so many blanks.
     pub fn put_blanks<W: Sink>(&mut self, count: usize, writer: &mut W) -> Result<(), Stop>
         requires { W.failures writer.old < 2 ^ 64 - 1 }
-        ensures { W.failures writer.new ≡ W.failures writer.old + failures_told result }
+        ensures only { IsOkUnless result Stop.WriteFailed }
+        ensures failures { W.failures writer.new ≡ W.failures writer.old + failures_told result }
+        ensures bytes { OnOk result (Appends (told (W.contents writer.old) (held_by self.old))
+            (told (W.contents writer.new) (held_by self.new)) (replicate count 32)) }
     {
         for _blank in 0..count {
             self.put(b' ', writer)?;
@@ -70,10 +85,34 @@ impl Output {
         Ok(())
     }
 
+    /// Takes a number to the right of as many places as the width says, and never cut.
+    pub fn put_integer<W: Sink>(
+        &mut self,
+        value: i32,
+        width: i32,
+        writer: &mut W,
+    ) -> Result<(), Stop>
+        requires { W.failures writer.old < 2 ^ 64 - 1 }
+        ensures only { IsOkUnless result Stop.WriteFailed }
+        ensures failures { W.failures writer.new ≡ W.failures writer.old + failures_told result }
+        ensures bytes { OnOk result (Appends (told (W.contents writer.old) (held_by self.old))
+            (told (W.contents writer.new) (held_by self.new)) (integer_text value width)) }
+    {
+        let mut buffer = Buffer::new();
+        let text = buffer.format(value).as_bytes();
+        let blanks = blanks_before(text.len(), width);
+        self.put_blanks(blanks, writer)?;
+        self.put_all(text, writer)
+    }
+
     /// What it holds goes out, if it holds anything.
     pub fn write_out<W: Sink>(&mut self, writer: &mut W) -> Result<(), Stop>
         requires { W.failures writer.old < 2 ^ 64 - 1 }
-        ensures { W.failures writer.new ≡ W.failures writer.old + failures_told result }
+        ensures only { IsOkUnless result Stop.WriteFailed }
+        ensures failures { W.failures writer.new ≡ W.failures writer.old + failures_told result }
+        ensures bytes { OnOk result (Appends (told (W.contents writer.old) (held_by self.old))
+            (told (W.contents writer.new) (held_by self.new)) []) }
+        ensures nothing_held { self.new.held ≡ 0 }
     {
         let held = self.held;
         self.held = 0;
@@ -84,7 +123,9 @@ impl Output {
 /// Writes the piece, in the parts that the writer takes.
 fn write_all<W: Sink>(piece: &[u8], writer: &mut W) -> Result<(), Stop>
     requires { W.failures writer.old < 2 ^ 64 - 1 }
-    ensures { W.failures writer.new ≡ W.failures writer.old + failures_told result }
+    ensures only { IsOkUnless result Stop.WriteFailed }
+    ensures failures { W.failures writer.new ≡ W.failures writer.old + failures_told result }
+    ensures bytes { OnOk result (Appends (W.contents writer.old) (W.contents writer.new) piece.now) }
 {
     let mut rest = piece;
     while !rest.is_empty() {
@@ -94,4 +135,14 @@ fn write_all<W: Sink>(piece: &[u8], writer: &mut W) -> Result<(), Stop>
         }
     }
     Ok(())
+}
+
+/// How many blanks stand before a text of this length in so many places.
+fn blanks_before(length: usize, width: i32) -> usize
+    ensures { result ≡ blanks_of length width }
+{
+    match usize::try_from(width) {
+        Ok(places) => places.saturating_sub(length),
+        Err(_) => 0,
+    }
 }

@@ -1,7 +1,11 @@
-ghost use Rattle.std.specs.Prelude.{◌≡◌, ◌+◌, ◌<◌, ◌≤◌, IfOk, vec_len};
+ghost use Rattle.std.specs.Prelude.{◌≡◌, ◌+◌, ◌-◌, ◌<◌, ◌≤◌, ◌++◌, nat_le, if◌then◌else◌, replicate, take, IfOk, OnOk, vec_len};
+ghost use Rattle.stack_machine.specs.declared.cell.Cell.TheVariants.{Undefined};
+ghost use Rattle.std.specs.List.{list_all};
+ghost use Rattle.stack_machine.specs.Frames as frames;
 
 use crate::cell::Cell;
 use crate::stop::MachineFault;
+use pcode_assembler::instr::Instr;
 use std::alloc::{AllocError, Global};
 
 /// The greatest value of the type integer (ISO 7185:1990, 6.4.2.2); the least is its negation.
@@ -32,9 +36,12 @@ pub struct Store {
 }
 
 impl Store {
+    ghost use Rattle.stack_machine.specs.View.{Acts, view};
+
     /// A store of so many cells.
     pub fn new(alloc: Global, cells: u32) -> Result<Store, AllocError>
         requires { cells ≤ 16777216 }
+        ensures { IfOk result (λ store. store.size ≡ cells) }
     {
         let size = cells as usize;
         Ok(Store {
@@ -47,7 +54,11 @@ impl Store {
     }
 
     /// The store as a run begins: the program's frame with its links alone. Answers whether that fits.
-    pub fn begin(&mut self) -> bool {
+    pub fn begin(&mut self) -> bool
+        ensures fits { result ≡ nat_le 4 self.old.size }
+        ensures frames { view self.new ≡ frames.first_frames self.old.size }
+        ensures size { self.new.size ≡ self.old.size }
+    {
         self.cells[0] = Cell::Number(0);
         self.cells[1] = Cell::Number(0);
         self.cells[2] = Cell::Undefined;
@@ -59,7 +70,11 @@ impl Store {
     }
 
     /// `ent`: so many undefined cells, and the limit further than they reach. Answers whether that fits.
-    pub fn enter(&mut self, variables: u32, evaluation: u32) -> bool {
+    pub fn enter(&mut self, variables: u32, evaluation: u32) -> bool
+        ensures value { frames.entered variables evaluation (view self.old)
+            ≡ (if result then Some (view self.new) else None) }
+        ensures size { self.new.size ≡ self.old.size }
+    {
         let first = self.used;
         let end = first + variables as usize;
         let limit = end + evaluation as usize;
@@ -72,15 +87,37 @@ impl Store {
         true
     }
 
+    /// An instruction of the store alone; another is at fault.
+    pub fn act(&mut self, instr: Instr) -> Result<(), MachineFault>
+        ensures value { Acts result (view self.new) (frames.acted instr (view self.old)) }
+        ensures size { self.new.size ≡ self.old.size }
+    {
+        match instr {
+            Instr::LoadConstant { value } => self.load_constant(value),
+            Instr::Load { level, offset } => self.load(level, offset),
+            Instr::Store { level, offset } => self.store(level, offset),
+            Instr::Add => self.add(),
+            Instr::Subtract => self.subtract(),
+            Instr::Negate => self.negate(),
+            _ => Err(MachineFault::OutOfBounds),
+        }
+    }
+
     /// `ldc`
-    pub fn load_constant(&mut self, value: i32) -> Result<(), MachineFault> {
+    fn load_constant(&mut self, value: i32) -> Result<(), MachineFault>
+        ensures value { Acts result (view self.new) (frames.load_constant value (view self.old)) }
+        ensures size { self.new.size ≡ self.old.size }
+    {
         self.has_room_after(0)?;
         self.replace(0, Cell::Number(value));
         Ok(())
     }
 
     /// `lod`: its cell may be of any kind.
-    pub fn load(&mut self, level: u8, offset: u32) -> Result<(), MachineFault> {
+    fn load(&mut self, level: u8, offset: u32) -> Result<(), MachineFault>
+        ensures value { Acts result (view self.new) (frames.load level offset (view self.old)) }
+        ensures size { self.new.size ≡ self.old.size }
+    {
         self.has_room_after(0)?;
         let used = self.used;
         let address = self.address(level, offset, used)?;
@@ -90,7 +127,10 @@ impl Store {
     }
 
     /// `str`: the cell that it pops is out of use when the address is looked for.
-    pub fn store(&mut self, level: u8, offset: u32) -> Result<(), MachineFault> {
+    fn store(&mut self, level: u8, offset: u32) -> Result<(), MachineFault>
+        ensures value { Acts result (view self.new) (frames.store level offset (view self.old)) }
+        ensures size { self.new.size ≡ self.old.size }
+    {
         self.has(1)?;
         let used = self.used - 1;
         let address = self.address(level, offset, used)?;
@@ -100,7 +140,10 @@ impl Store {
     }
 
     /// `adi`
-    pub fn add(&mut self) -> Result<(), MachineFault> {
+    fn add(&mut self) -> Result<(), MachineFault>
+        ensures value { Acts result (view self.new) (frames.add (view self.old)) }
+        ensures size { self.new.size ≡ self.old.size }
+    {
         self.has(2)?;
         self.has_room_after(2)?;
         let (left, right) = self.top_two()?;
@@ -109,7 +152,10 @@ impl Store {
     }
 
     /// `sbi`
-    pub fn subtract(&mut self) -> Result<(), MachineFault> {
+    fn subtract(&mut self) -> Result<(), MachineFault>
+        ensures value { Acts result (view self.new) (frames.subtract (view self.old)) }
+        ensures size { self.new.size ≡ self.old.size }
+    {
         self.has(2)?;
         self.has_room_after(2)?;
         let (left, right) = self.top_two()?;
@@ -118,7 +164,10 @@ impl Store {
     }
 
     /// `ngi`
-    pub fn negate(&mut self) -> Result<(), MachineFault> {
+    fn negate(&mut self) -> Result<(), MachineFault>
+        ensures value { Acts result (view self.new) (frames.negate (view self.old)) }
+        ensures size { self.new.size ≡ self.old.size }
+    {
         self.has(1)?;
         self.has_room_after(1)?;
         let value = self.top()?;
@@ -127,7 +176,11 @@ impl Store {
     }
 
     /// Pops two numbers and answers them, the lower one first.
-    pub fn pop_two(&mut self) -> Result<(i32, i32), MachineFault> {
+    pub fn pop_two(&mut self) -> Result<(i32, i32), MachineFault>
+        ensures value { result ≡ frames.top_two (view self.old) }
+        ensures popped { OnOk result (view self.new ≡ frames.popped 2 (view self.old)) }
+        ensures size { self.new.size ≡ self.old.size }
+    {
         self.has(2)?;
         let numbers = self.top_two()?;
         self.used -= 2;
@@ -135,29 +188,37 @@ impl Store {
     }
 
     /// `chk`: whether the number on top lies in the range.
-    pub fn is_in_range(&self, low: i32, high: i32) -> Result<bool, MachineFault> {
+    pub fn is_in_range(&self, low: i32, high: i32) -> Result<bool, MachineFault>
+        ensures { result ≡ frames.top_is_in_range low high (view self.now) }
+    {
         self.has(1)?;
         let value = self.top()?;
         Ok(low <= value && value <= high)
     }
 
     /// `ckd`: whether each of the topmost cells is defined.
-    pub fn are_defined(&self, length: u32) -> Result<bool, MachineFault> {
+    pub fn are_defined(&self, length: u32) -> Result<bool, MachineFault>
+        ensures { result ≡ frames.top_is_defined length (view self.now) }
+    {
         let length = length as usize;
         self.has(length)?;
-        let cells = &self.cells.as_slice()[self.used - length..self.used];
-        Ok(cells.iter().all(|cell| *cell != Cell::Undefined))
+        let used = self.used;
+        Ok(all_defined(&self.cells.as_slice()[used - length..used]))
     }
 
     /// `cka`: whether the sum of the topmost two numbers is an integer.
-    pub fn sum_fits(&self) -> Result<bool, MachineFault> {
+    pub fn sum_fits(&self) -> Result<bool, MachineFault>
+        ensures { result ≡ frames.sum_is_integer (view self.now) }
+    {
         self.has(2)?;
         let (left, right) = self.top_two()?;
         Ok(fits(i64::from(left) + i64::from(right)))
     }
 
     /// `cks`: whether the difference of the topmost two numbers is an integer.
-    pub fn difference_fits(&self) -> Result<bool, MachineFault> {
+    pub fn difference_fits(&self) -> Result<bool, MachineFault>
+        ensures { result ≡ frames.difference_is_integer (view self.now) }
+    {
         self.has(2)?;
         let (left, right) = self.top_two()?;
         Ok(fits(i64::from(left) - i64::from(right)))
@@ -165,7 +226,8 @@ impl Store {
 
     /// A fault where one of the topmost cells, so many, is one of the frame's links.
     fn has(&self, count: usize) -> Result<(), MachineFault>
-        ensures { IfOk result (λ _. self.now.frame + 4 + count ≤ self.now.used) }
+        ensures within { IfOk result (λ _. self.now.frame + 4 + count ≤ self.now.used) }
+        ensures value { result ≡ frames.has count (view self.now) }
     {
         if self.used - self.frame - LINKS < count {
             return Err(MachineFault::Underflow);
@@ -176,7 +238,8 @@ impl Store {
     /// A fault where a push after so many pops would be at the limit or past it.
     fn has_room_after(&self, count: usize) -> Result<(), MachineFault>
         requires { count ≤ self.now.used }
-        ensures { IfOk result (λ _. self.now.used < self.now.limit + count) }
+        ensures room { IfOk result (λ _. self.now.used < self.now.limit + count) }
+        ensures value { result ≡ frames.has_room_after count (view self.now) }
     {
         if self.used - count >= self.limit {
             return Err(MachineFault::OutOfBounds);
@@ -187,6 +250,7 @@ impl Store {
     /// The number on top.
     fn top(&self) -> Result<i32, MachineFault>
         requires { 1 ≤ self.now.used }
+        ensures { result ≡ frames.number_at 1 (view self.now) }
     {
         number(self.cells[self.used - 1])
     }
@@ -194,6 +258,7 @@ impl Store {
     /// The topmost two numbers, the lower one first.
     fn top_two(&self) -> Result<(i32, i32), MachineFault>
         requires { 2 ≤ self.now.used }
+        ensures { result ≡ frames.two_numbers (view self.now) }
     {
         let left = number(self.cells[self.used - 2])?;
         let right = number(self.cells[self.used - 1])?;
@@ -204,6 +269,8 @@ impl Store {
     fn replace(&mut self, count: usize, cell: Cell)
         requires above_links { self.old.frame + 4 + count ≤ self.old.used }
         requires below_limit { self.old.used < self.old.limit + count }
+        ensures value { view self.new ≡ frames.pushed cell (frames.popped count (view self.old)) }
+        ensures size { self.new.size ≡ self.old.size }
     {
         let place = self.used - count;
         self.cells[place] = cell;
@@ -215,22 +282,45 @@ impl Store {
     fn address(&self, level: u8, offset: u32, used: usize) -> Result<usize, MachineFault>
         requires in_use { used ≤ self.now.used }
         requires in_frame { self.now.frame < used }
-        ensures { IfOk result (λ address. address < used) }
+        ensures within { IfOk result (λ address. address < used) }
+        ensures value { result ≡ frames.variable level offset
+            (record (view self.now) { cells = take used self.now.cells.items }) }
+    {
+        let base = self.base(level, used)?;
+        in_use(base + offset as usize, used)
+    }
+
+    /// Where so many static links lead to while so many cells are in use.
+    fn base(&self, level: u8, used: usize) -> Result<usize, MachineFault>
+        requires in_use { used ≤ self.now.used }
+        requires in_frame { self.now.frame < used }
+        ensures within { IfOk result (λ base. base < used) }
+        ensures value { result ≡ frames.base level self.now.frame (take used self.now.cells.items) }
     {
         let mut base = self.frame;
         for _link in 0..level {
-            base = in_use(number(self.cells[base])?, used)?;
+            base = self.linked(base, used)?;
         }
-        let address = base + offset as usize;
-        if address >= used {
-            return Err(MachineFault::OutOfBounds);
-        }
-        Ok(address)
+        Ok(base)
+    }
+
+    /// Where the static link of this frame leads to.
+    fn linked(&self, frame: usize, used: usize) -> Result<usize, MachineFault>
+        requires in_use { used ≤ self.now.used }
+        requires in_frame { frame < used }
+        ensures within { IfOk result (λ base. base < used) }
+        ensures value { result ≡ frames.linked frame (take used self.now.cells.items) }
+    {
+        let link = number(self.cells[frame])?;
+        address_of(link, used)
     }
 
     /// Makes the cells from the first place to before the second undefined.
     fn undefine(&mut self, first: usize, end: usize)
-        requires { end ≤ vec_len self.old.cells }
+        requires within { end ≤ vec_len self.old.cells }
+        requires ordered { first ≤ end }
+        ensures undefined { take end self.new.cells.items
+            ≡ take first self.old.cells.items ++ replicate (end - first) Undefined }
         ensures cells { vec_len self.new.cells ≡ vec_len self.old.cells }
         ensures used { self.new.used ≡ self.old.used }
         ensures frame { self.new.frame ≡ self.old.frame }
@@ -244,24 +334,57 @@ impl Store {
 }
 
 /// The number in a cell.
-fn number(cell: Cell) -> Result<i32, MachineFault> {
+fn number(cell: Cell) -> Result<i32, MachineFault>
+    ensures { result ≡ frames.number (Some cell) }
+{
     match cell {
         Cell::Number(value) => Ok(value),
         Cell::Undefined => Err(MachineFault::WrongKind),
     }
 }
 
-/// The number as the address of one of the first `used` cells.
-fn in_use(address: i32, used: usize) -> Result<usize, MachineFault>
-    ensures { IfOk result (λ address. address < used) }
+/// A number as the address of a cell, of which so many are in use.
+fn address_of(number: i32, used: usize) -> Result<usize, MachineFault>
+    ensures within { IfOk result (λ address. address < used) }
+    ensures value { result ≡ frames.address_of number used }
 {
-    match usize::try_from(address) {
-        Ok(place) if place < used => Ok(place),
-        _ => Err(MachineFault::OutOfBounds),
+    match usize::try_from(number) {
+        Ok(address) => in_use(address, used),
+        Err(_) => Err(MachineFault::OutOfBounds),
+    }
+}
+
+/// The address of a cell, of which so many are in use.
+fn in_use(address: usize, used: usize) -> Result<usize, MachineFault>
+    ensures within { IfOk result (λ place. place < used) }
+    ensures value { result ≡ frames.in_use address used }
+{
+    if address >= used {
+        return Err(MachineFault::OutOfBounds);
+    }
+    Ok(address)
+}
+
+/// Whether all of these cells are defined.
+fn all_defined(cells: &[Cell]) -> bool
+    ensures { result ≡ list_all frames.is_defined cells.now }
+{
+    cells.iter().all(|cell| is_defined(*cell))
+}
+
+/// Whether the cell is defined.
+fn is_defined(cell: Cell) -> bool
+    ensures { result ≡ frames.is_defined cell }
+{
+    match cell {
+        Cell::Undefined => false,
+        Cell::Number(_) => true,
     }
 }
 
 /// Whether the number is of the type integer.
-fn fits(number: i64) -> bool {
+fn fits(number: i64) -> bool
+    ensures { result ≡ frames.is_integer number }
+{
     -MAXINT <= number && number <= MAXINT
 }

@@ -1,6 +1,6 @@
 ghost use Rattle.std.specs.Prelude.{◌≤◌};
 
-use crate::bytes::Counted;
+use crate::bytes::{Counted, Feed};
 use crate::machine::Machine;
 use crate::stop::{MachineFault, Stop};
 use pcode_assembler::code::{Code, Site};
@@ -72,5 +72,124 @@ fn writes_a_number(rt: HostRuntime) -> Result<(), Fail> {
     let (output, stop) = run_of(rt.alloc(), &code, 3, 0)?;
     assert_eq!(rt; stop, Stop::StoreFull);
     assert!(rt; output.is_empty());
+    Ok(())
+}
+
+/// Takes a few bytes at a time, and fails once it has so many.
+#[derive(Drop)]
+struct Narrow {
+    taken: Vec<u8>,
+    most: usize,
+    calls: usize,
+}
+
+impl io::Write for Narrow {
+    fn write(&mut self, piece: &[u8]) -> io::Result<usize> {
+        self.calls = self.calls.saturating_add(1);
+        if self.taken.len() >= self.most {
+            return Ok(0);
+        }
+        let count = piece.len().min(1000);
+        self.taken.extend_from_slice(&piece[..count])?;
+        Ok(count)
+    }
+
+    fn flush(&mut self) -> io::Result<()> {
+        Ok(())
+    }
+}
+
+/// What a run of the instructions writes to such a writer, how it stops, and how often the writer failed.
+fn run_narrow(
+    alloc: Global,
+    instructions: &[Instr],
+    most: usize,
+) -> Result<(Narrow, Stop, u64), AllocError> {
+    let code = code_of(alloc, instructions)?;
+    let mut machine = Machine::new(alloc, 6)?;
+    let mut reader = Counted::new(io::empty());
+    let narrow = Narrow {
+        taken: Vec::new(alloc),
+        most,
+        calls: 0,
+    };
+    let mut writer = Counted::new(narrow);
+    let stop = machine.run(&code, &mut reader, &mut writer, 100);
+    let failures = writer.failures();
+    Ok((writer.into_inner(), stop, failures))
+}
+
+#[test]
+fn writes_more_than_a_piece_in_parts(rt: HostRuntime) -> Result<(), Fail> {
+    let code = [
+        ENTER,
+        number(7),
+        number(5000),
+        Instr::WriteInteger,
+        Instr::Stop,
+    ];
+    let (narrow, stop, failures) = run_narrow(rt.alloc(), &code, 10000)?;
+    assert_eq!(rt; stop, Stop::Finished);
+    assert_eq!(rt; failures, 0);
+    assert_eq!(rt; narrow.taken.len(), 5000);
+    assert_eq!(rt; narrow.calls, 6);
+    assert_eq!(rt; narrow.taken.last().copied(), Some(b'7'));
+    Ok(())
+}
+
+#[test]
+fn stops_where_the_writer_fails(rt: HostRuntime) -> Result<(), Fail> {
+    let code = [
+        ENTER,
+        number(7),
+        number(5000),
+        Instr::WriteInteger,
+        Instr::Stop,
+    ];
+    let (narrow, stop, failures) = run_narrow(rt.alloc(), &code, 2000)?;
+    assert_eq!(rt; stop, Stop::WriteFailed);
+    assert_eq!(rt; failures, 1);
+    assert_eq!(rt; narrow.taken.len(), 2000);
+    assert_eq!(rt; narrow.calls, 3);
+    let (_, stop, failures) = run_narrow(rt.alloc(), &[ENTER, Instr::WriteLine, Instr::Stop], 0)?;
+    assert_eq!(rt; stop, Stop::WriteFailed);
+    assert_eq!(rt; failures, 1);
+    Ok(())
+}
+
+#[test]
+fn tells_errors_and_faults(rt: HostRuntime) -> Result<(), Fail> {
+    let alloc = rt.alloc();
+    let overflow = [
+        ENTER,
+        number(2147483647),
+        number(1),
+        Instr::CheckSum { site: 0 },
+        Instr::Add,
+        Instr::Stop,
+    ];
+    let (_, stop) = run_of(alloc, &overflow, 6, 100)?;
+    assert_eq!(rt; stop, Stop::Error(CHECKED));
+    let (_, stop) = run_of(alloc, &[ENTER, Instr::Add], 6, 100)?;
+    assert_eq!(rt; stop, Stop::Fault(MachineFault::Underflow));
+    let (_, stop) = run_of(alloc, &[number(1)], 6, 100)?;
+    assert_eq!(rt; stop, Stop::Fault(MachineFault::OutOfBounds));
+    let load = Instr::Load {
+        level: 0,
+        offset: 2,
+    };
+    let (_, stop) = run_of(alloc, &[ENTER, load, Instr::Negate], 6, 100)?;
+    assert_eq!(rt; stop, Stop::Fault(MachineFault::WrongKind));
+    Ok(())
+}
+
+#[test]
+fn counts_the_failures_of_a_reader(rt: HostRuntime) -> Result<(), Fail> {
+    let mut reader = Counted::new(b"ab".as_slice());
+    let mut piece = [0u8; 4];
+    assert_eq!(rt; reader.read(&mut piece)?, 2);
+    assert_eq!(rt; reader.read(&mut piece)?, 0);
+    assert_eq!(rt; reader.failures(), 0);
+    assert_eq!(rt; reader.inner().len(), 0);
     Ok(())
 }

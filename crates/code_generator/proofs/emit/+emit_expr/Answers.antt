@@ -1,4 +1,4 @@
-use Rattle.std.proofs.Common.{◌≡◌, ◌++◌, ap, ◌∙◌, sym, append_assoc}
+use Rattle.std.proofs.Common.{◌++◌, ap, ◌∙◌, sym, append_assoc}
 use Rattle.std.specs.List.{flat_map}
 use Rattle.code_generator.specs.Code.{expr_code, link_code}
 use Rattle.code_generator.proofs.Pieces.{expr_code-Sum, joined_at_end}

@@ -1,4 +1,4 @@
-use Rattle.std.proofs.Common.{◌≡◌, ◌++◌, ap, ◌∙◌, sym}
+use Rattle.std.proofs.Common.{◌++◌, ap, ◌∙◌, sym}
 use Rattle.code_generator.specs.Code.{stmt_code}
 use Rattle.code_generator.proofs.Pieces.{stmt_code-Compound, joined_at_end}
 use Rattle.code_generator.proofs.emit.+emit_stmt.Goals as goal

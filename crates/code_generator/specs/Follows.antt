@@ -1,0 +1,65 @@
+-- Code follows a program: on the machine it writes what the program writes and stops as the program ends, for every
+-- input and every number of cells. There are no routines yet, so the only frame that may not fit is the program's own. It does
+-- not say that a run ends, nor what happens where a reader or a writer fails.
+use Rattle.std.specs.Prelude.{◌≡◌, ℕ, ◌<◌, ◌⊎◌, List, [], ◌++◌, Some, slice_get}
+use Rattle.pcode_assembler.specs.declared.code.Code.{Code}
+use Rattle.typed_tree.specs.declared.tree.Tree.{Tree}
+use Rattle.typed_tree.specs.declared.site.Site.{Site}
+use Rattle.typed_tree.specs.declared.site.Point.{Point}
+use Rattle.meaning.specs.declared.outcome.Ending.{Ending}
+use Rattle.meaning.specs.declared.outcome.Ending.TheVariants as ending
+use Rattle.meaning.specs.declared.outcome.InputFault.{InputFault as FaultOfInput}
+use Rattle.meaning.specs.declared.outcome.InputFault.TheVariants as fault_of_input
+use Rattle.meaning.specs.Meaning.{Meaning, meaning}
+use Rattle.stack_machine.specs.declared.stop.Stop.{Stop}
+use Rattle.stack_machine.specs.declared.stop.Stop.TheVariants as stop
+use Rattle.stack_machine.specs.declared.stop.InputFault.{InputFault}
+use Rattle.stack_machine.specs.declared.stop.InputFault.TheVariants as input_fault
+use Rattle.stack_machine.specs.Run.{Outcome, machine}
+use Rattle.code_generator.specs.Need.{program_need}
+use Rattle.code_generator.specs.Tables.{in_plain_numbers, point_in_plain_numbers}
+
+-- a text begins with another
+abbrev pub BeginsWith : List ℕ → List ℕ → Type 0
+BeginsWith whole part = (rest : List ℕ) × (whole ≡ part ++ rest)
+
+-- the same fault of the input, in the machine's words
+abbrev pub same_fault : FaultOfInput → InputFault
+same_fault fault_of_input.EndOfInput = input_fault.EndOfInput
+same_fault fault_of_input.NotANumber = input_fault.NotANumber
+same_fault fault_of_input.NumberTooLarge = input_fault.NumberTooLarge
+same_fault fault_of_input.ValueOutsideType = input_fault.OutsideType
+same_fault fault_of_input.NotACharacter = input_fault.NotACharacter
+
+-- the run stops as the program ends: finished, at the same site, or at the same point for the same fault
+abbrev pub StopsAs : Tree → Ending → Stop → Type 0
+StopsAs tree ending.Finished s = s ≡ stop.Finished
+StopsAs tree (ending.Error id) s =
+    (site : Site) × (slice_get tree.sites.items id ≡ Some site) × (s ≡ stop.Error (in_plain_numbers site))
+StopsAs tree (ending.Input id fault) s =
+    (point : Point) × (slice_get tree.points.items id ≡ Some point) × (s ≡ stop.Input (point_in_plain_numbers point) (same_fault fault))
+StopsAs tree ending.More s = ⊥
+
+-- the run did all that the program does
+abbrev pub DoesAll : Tree → Meaning → Outcome → Type 0
+DoesAll tree m run = (run.output ≡ m.output) × StopsAs tree m.ending run.stop
+
+-- the run did what the program does up to its last turn, or all of it
+abbrev pub DoesAsMuch : Tree → Meaning → Outcome → Type 0
+DoesAsMuch tree m run = elim m.ending [ ending.More ↦ BeginsWith run.output m.output | _ ↦ DoesAll tree m run ]
+
+-- what a run's stop says of the program, which is seen for each number of turns
+abbrev pub IsExplained : Tree → ℕ → (ℕ → Meaning) → Outcome → Stop → Type 0
+IsExplained tree cells means run (stop.Fault fault) = ⊥
+IsExplained tree cells means run stop.More = (turns : ℕ) × BeginsWith (means turns).output run.output
+IsExplained tree cells means run stop.StoreFull = (run.output ≡ []) × (cells < program_need tree)
+IsExplained tree cells means run stop.ReadFailed = ⊥
+IsExplained tree cells means run stop.WriteFailed = ⊥
+IsExplained tree cells means run _ = (turns : ℕ) × DoesAll tree (means turns) run
+
+-- the code follows the program
+pub record Follows (code : Code) (tree : Tree) : Type 0 where
+  -- no run is at fault, and each run has its reason in the program
+  pub sound : (input : List ℕ) (cells budget : ℕ) → IsExplained tree cells (meaning tree input) (machine code input cells budget) (machine code input cells budget).stop
+  -- what the program does is done by some run, unless the store was full
+  pub complete : (input : List ℕ) (cells turns : ℕ) → ((budget : ℕ) × DoesAsMuch tree (meaning tree input turns) (machine code input cells budget)) ⊎ ((budget : ℕ) × ((machine code input cells budget).stop ≡ stop.StoreFull))

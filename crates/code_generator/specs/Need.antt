@@ -1,0 +1,49 @@
+-- How many cells a block may need at most, by which a full store is judged: 8 for an activation, the cells of its
+-- variables, and 8 and the cells of its value for each statement and each expression of the block. It does not say how
+-- many a frame takes, which are fewer.
+use Rattle.std.specs.Prelude.{ℕ, ◌+◌, Option, Some, None, length, sum, sum_by, slice_get}
+use Rattle.typed_tree.specs.declared.tree.Tree.{Tree}
+use Rattle.typed_tree.specs.declared.tree.Block.{Block}
+use Rattle.typed_tree.specs.declared.tree.Expr.{Expr}
+use Rattle.typed_tree.specs.declared.tree.Expr.TheOpen.{Expr-F, Link-F}
+use Rattle.typed_tree.specs.declared.tree.Expr.TheOpen.Expr-F.{Constant, Variable, Signed, Sum}
+use Rattle.typed_tree.specs.declared.tree.Expr.TheFolds.{fold-Expr}
+use Rattle.typed_tree.specs.declared.tree.Stmt.{Stmt}
+use Rattle.typed_tree.specs.declared.tree.Stmt.TheOpen.{Stmt-F}
+use Rattle.typed_tree.specs.declared.tree.Stmt.TheOpen.Stmt-F.{Empty, Assign, Writeln, Compound}
+use Rattle.typed_tree.specs.declared.tree.Stmt.TheFolds.{fold-Stmt}
+
+-- an expression whose value is an integer, which has one cell
+abbrev pub one_value : ℕ
+one_value = 8 + 1
+
+-- a factor, a sign, or an operator, and what is in it
+abbrev pub expr_need_step : Expr-F ℕ ℕ → ℕ
+expr_need_step (Constant number value) = one_value
+expr_need_step (Variable access defined) = one_value
+expr_need_step (Signed number sign operand) = one_value + operand.value
+expr_need_step (Sum first rest) = first.value + sum rest.items
+
+abbrev pub link_need_step : Link-F ℕ ℕ → ℕ
+link_need_step link = one_value + link.operand
+
+abbrev pub expr_need : Expr → ℕ
+expr_need = fold-Expr ℕ ℕ expr_need_step link_need_step
+
+-- a statement, which has no value, and what is in it; the target of an assignment is an expression
+abbrev pub stmt_need_step : Stmt-F ℕ → ℕ
+stmt_need_step (Empty number) = 8
+stmt_need_step (Assign number target fits value) = 8 + one_value + expr_need value
+stmt_need_step (Writeln number values) = 8 + sum_by expr_need values.items
+stmt_need_step (Compound number statements) = 8 + sum statements.items
+
+abbrev pub stmt_need : Stmt → ℕ
+stmt_need = fold-Stmt ℕ stmt_need_step
+
+abbrev pub body_need : Option Block → ℕ
+body_need None = 0
+body_need (Some block) = stmt_need block.body
+
+-- the program's block; each of its variables is an integer and has one cell
+abbrev pub program_need : Tree → ℕ
+program_need tree = 8 + length tree.variables.items + body_need (slice_get tree.blocks.items 0)

@@ -1,0 +1,4 @@
+pub mod Written
+pub mod Cells
+mod Examples
+pub mod Steps
