@@ -1,4 +1,10 @@
-ghost use Rattle.std.specs.Prelude.{◌≤◌, ◌<◌, ◌-◌, ◌^◌};
+ghost use Rattle.std.specs.Prelude.{◌≡◌, ◌≤◌, ◌<◌, ◌+◌, ◌-◌, ◌^◌, IfOk};
+ghost use Rattle.cert_checker.specs.Entries.{entries};
+ghost use Rattle.cert_checker.specs.Promise.{Valid};
+ghost use Rattle.code_generator.specs.Code.{program_code};
+ghost use Rattle.code_generator.specs.Tables.{site_table};
+ghost use Rattle.stack_machine.specs.Failures.{write_failures_of};
+ghost use Rattle.report.specs.Whole.{IsStripped, RunsStripped};
 
 use crate::fault::Fault;
 use cert_checker::{Verdict, check};
@@ -35,11 +41,16 @@ pub struct Compiled {
 ///
 /// # Errors
 /// The fault of the first layer that refuses: tokens, syntax, names and types, certificate, its rules, code.
-pub fn compile(
-    alloc: Global,
-    source: &[u8],
-    certificate: Option<&[u8]>,
-) -> Result<Compiled, Fault> {
+pub fn compile(alloc: Global, source: &[u8], certificate: Option<&[u8]>) -> Result<Compiled, Fault>
+    // The list of open sites is the checker's, and each statement and expression was entered once.
+    ensures checked { IfOk result (λ c. Valid c.tree c.certificate c.verdict.open_sites.items) }
+    ensures visits { IfOk result (λ c. c.verdict.visits ≡ entries c.tree) }
+
+    // The code is that of the tree, and the stripped code is without the checks of the sites that aren't open.
+    ensures full { IfOk result (λ c. c.full.instructions.items ≡ program_code c.tree) }
+    ensures sites { IfOk result (λ c. c.full.sites.items ≡ site_table c.tree.sites.items) }
+    ensures stripped { IfOk result (λ c. IsStripped c.tree c.verdict.open_sites.items c.stripped) }
+{
     let tree = typed(alloc, source)?;
     let text = certificate.unwrap_or(PLAIN_CERTIFICATE);
     let certificate = certificate::read(alloc, text)?;
@@ -73,6 +84,8 @@ pub fn go<R: Feed, W: Sink>(
     requires cells { (1 ≤ cells) × (cells ≤ 16777216) }
     requires reader_counts { R.failures reader.old < 2 ^ 64 - 1 }
     requires writer_counts { W.failures writer.old < 2 ^ 64 - 1 }
+    ensures ran { IfOk result (λ r. RunsStripped r.0.open_sites.items r.1 cells budget (W.contents writer.old) (W.contents writer.new)) }
+    ensures write_failed { IfOk result (λ r. W.failures writer.new ≡ W.failures writer.old + write_failures_of r.1) }
 {
     let compiled = compile(alloc, source, certificate)?;
     let mut machine = Machine::new(alloc, cells)?;
@@ -88,7 +101,9 @@ fn typed(alloc: Global, source: &[u8]) -> Result<Tree, Fault> {
 }
 
 // The open sites, as the code names them.
-fn code_sites(alloc: Global, verdict: &Verdict) -> Result<Vec<Site>, AllocError> {
+fn code_sites(alloc: Global, verdict: &Verdict) -> Result<Vec<Site>, AllocError>
+    ensures { IfOk result (λ sites. sites.items ≡ site_table verdict.now.open_sites.items) }
+{
     verdict
         .open_sites
         .iter()

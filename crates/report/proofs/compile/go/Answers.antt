@@ -1,0 +1,20 @@
+use Rattle.std.proofs.Common.{subst}
+use Rattle.stack_machine.specs.Does.{Tells}
+use Rattle.stack_machine.specs.Run.{machine}
+use Rattle.report.proofs.compile.go.Goals as goal
+
+-- the tree, the certificate and the code are those that were compiled
+pub returns-clause-ran : goal.returns-clause-ran
+returns-clause-ran g c =
+    let compiled = c.in_ok-compiled.compiled in
+    record {
+      tree = compiled.tree;
+      certificate = compiled.certificate;
+      code = compiled.stripped;
+      valid = c.in_ok-compiled.ensures.checked;
+      stripped = c.in_ok-compiled.ensures.stripped;
+      ran = λ input. subst
+          (λ n. Tells c.run-stop.result (machine compiled.stripped input n c.args.budget) (g.W.Sink.contents c.args.writer.now) (g.W.Sink.contents c.run-stop.new.writer))
+          c.in_ok-machine.ensures
+          (c.run-stop.ensures.tells input);
+    }
