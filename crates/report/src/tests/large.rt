@@ -53,6 +53,9 @@ fn nesting_goes_to_128(rt: HostRuntime) -> Result<(), Fail> {
             "{compounds} and {parentheses}"
         );
     }
+    // The first parenthesis stands at column 39.
+    let (line, _) = refusal(alloc, &nested(alloc, 0, 127)?)?;
+    assert_eq!(rt; line.as_slice(), b"1:165: refused P2\n".as_slice());
     Ok(())
 }
 
@@ -78,6 +81,8 @@ fn long_lists_use_no_stack(rt: HostRuntime) -> Result<(), Fail> {
     )?;
     let compiled = compile(alloc, &compound, None)?;
     assert_eq!(rt; compiled.verdict.visits, 100_002);
+    let (_, ending) = interpreted(alloc, &compound)?;
+    assert_eq!(rt; ending, Ending::Finished);
     Ok(())
 }
 
@@ -94,7 +99,8 @@ fn limits_are_told(rt: HostRuntime) -> Result<(), Fail> {
         ],
     )?;
     let (line, status) = refusal(alloc, &many_sites)?;
-    assert!(rt; line.ends_with(b": refused K10\n"));
+    // The first site is that of `:=`, and each further one stands a column on from the first `x`, at column 39.
+    assert_eq!(rt; line.as_slice(), b"1:1000038: refused K10\n".as_slice());
     assert_eq!(rt; status, 2);
     let many_instructions = repeated(
         alloc,
@@ -125,6 +131,9 @@ fn output_passes_its_piece(rt: HostRuntime) -> Result<(), Fail> {
     let shown = show(alloc, &source, CELLS, u64::MAX)?;
     assert_eq!(rt; shown.output.as_slice(), want.as_slice());
     assert_eq!(rt; shown.stop, Stop::Finished);
+    let (written, ending) = interpreted(alloc, &source)?;
+    assert_eq!(rt; written.as_slice(), want.as_slice());
+    assert!(rt; is_same_end(shown.stop, ending));
     Ok(())
 }
 
