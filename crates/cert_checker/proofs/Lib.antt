@@ -2,3 +2,8 @@ pub mod Steps
 pub mod Held
 pub mod Among
 pub mod Counting
+pub mod Ranged
+pub mod Known
+pub mod Sound
+pub mod SoundForms
+pub mod SoundProgram

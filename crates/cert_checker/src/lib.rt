@@ -3,7 +3,7 @@
 
 ghost use Rattle.std.specs.Prelude.{◌≡◌, IfOk};
 ghost use Rattle.cert_checker.specs.Entries.{entries};
-ghost use Rattle.cert_checker.specs.Promise.{Valid};
+ghost use Rattle.cert_checker.specs.Promise.{Valid, ClosedNeverErr, StatesHold};
 
 pub mod fault;
 mod open_sites;
@@ -30,10 +30,16 @@ pub struct Verdict {
 
 /// Checks a program by a certificate.
 ///
+/// No run of the program commits an error at a site of the tree that isn't among the open ones (ISO 7185:1990, 3.1).
+/// Whenever a run enters a statement or an expression, what the walk knows there holds, and no two variables share a
+/// place. Both hold for every input and every number of turns.
+///
 /// # Errors
 /// `Memory` alone: a certificate without claims is right for every program.
 pub fn check(alloc: Global, tree: &Tree, certificate: &Certificate) -> Result<Verdict, CheckFault>
     ensures valid { IfOk result (λ verdict. Valid tree.now certificate.now verdict.open_sites.items) }
+    ensures closed_never_err { IfOk result (λ verdict. ClosedNeverErr tree.now verdict.open_sites.items) }
+    ensures states_hold { IfOk result (λ _. StatesHold tree.now) }
     ensures visits { IfOk result (λ verdict. verdict.visits ≡ entries tree.now) }
 {
     let Version::One = certificate.version;
