@@ -1,6 +1,6 @@
 ghost use Rattle.std.specs.Prelude.{◌≡◌, ◌≤◌, ◌<◌, ◌+◌, ◌-◌, ◌^◌, IfOk};
 ghost use Rattle.cert_checker.specs.Entries.{entries};
-ghost use Rattle.cert_checker.specs.Promise.{Valid};
+ghost use Rattle.cert_checker.specs.Promise.{Valid, ClosedNeverErr, StatesHold};
 ghost use Rattle.code_generator.specs.Code.{program_code};
 ghost use Rattle.code_generator.specs.Tables.{site_table};
 ghost use Rattle.stack_machine.specs.Failures.{write_failures_of};
@@ -45,6 +45,10 @@ pub fn compile(alloc: Global, source: &[u8], certificate: Option<&[u8]>) -> Resu
     // The list of open sites is the checker's, and each statement and expression was entered once.
     ensures checked { IfOk result (λ c. Valid c.tree c.certificate c.verdict.open_sites.items) }
     ensures visits { IfOk result (λ c. c.verdict.visits ≡ entries c.tree) }
+
+    // For every input and every number of turns the program's meaning commits no error at another site.
+    ensures closed_never_err { IfOk result (λ c. ClosedNeverErr c.tree c.verdict.open_sites.items) }
+    ensures states_hold { IfOk result (λ c. StatesHold c.tree) }
 
     // The code is that of the tree, and the stripped code is without the checks of the sites that aren't open.
     ensures full { IfOk result (λ c. c.full.instructions.items ≡ program_code c.tree) }
