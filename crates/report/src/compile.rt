@@ -1,4 +1,5 @@
-ghost use Rattle.std.specs.Prelude.{◌≡◌, ◌≤◌, ◌<◌, ◌+◌, ◌-◌, ◌^◌, IfOk};
+ghost use Rattle.std.specs.Prelude.{◌≡◌, ◌≤◌, ◌<◌, ◌+◌, ◌-◌, ◌^◌, IfOk, MatchOption, codes};
+ghost use Rattle.certificate.specs.Text.{spelling};
 ghost use Rattle.cert_checker.specs.Entries.{entries};
 ghost use Rattle.cert_checker.specs.Promise.{Valid, ClosedNeverErr, StatesHold};
 ghost use Rattle.code_generator.specs.Code.{program_code};
@@ -42,6 +43,10 @@ pub struct Compiled {
 /// # Errors
 /// The fault of the first layer that refuses: tokens, syntax, names and types, certificate, its rules, code.
 pub fn compile(alloc: Global, source: &[u8], certificate: Option<&[u8]>) -> Result<Compiled, Fault>
+    // The certificate is the one that the text spells.
+    ensures certificate { IfOk result (λ c. MatchOption certificate.entry
+        (codes "pcert 1\n" ≡ spelling c.certificate) (λ text. text.now ≡ spelling c.certificate)) }
+
     // The list of open sites is the checker's, and each statement and expression was entered once.
     ensures checked { IfOk result (λ c. Valid c.tree c.certificate c.verdict.open_sites.items) }
     ensures visits { IfOk result (λ c. c.verdict.visits ≡ entries c.tree) }
