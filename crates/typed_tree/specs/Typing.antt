@@ -41,6 +41,7 @@ use Rattle.typed_tree.specs.declared.tree.Stmt.{Stmt}
 use Rattle.typed_tree.specs.declared.tree.Stmt.TheOpen.{Stmt-F}
 use Rattle.typed_tree.specs.declared.tree.Stmt.TheOpen.Stmt-F.{Empty, Assign, Writeln, Compound}
 use Rattle.typed_tree.specs.declared.tree.Stmt.TheViews.{out-Stmt}
+use Rattle.typed_tree.specs.Ids.{AreInOrder}
 use Rattle.typed_tree.specs.Entries.{joined, entries_of, sites_of}
 use Rattle.typed_tree.specs.Names.{folded, looked_up, or_outer, required, integer, definitions, defined_names, variable_names, denoted, AreDistinct}
 
@@ -233,7 +234,7 @@ pub record IsTyped (program : Program) (tree : Tree) : Type 0 where
   -- sites stand in the order of the text, and each test names its own
   pub places : map (λ site. (site.kind, site.place)) tree.sites.items ≡ stands_in program
   pub tests : sites_of tree ≡ map (λ site. (site.kind, site.id)) tree.sites.items
-  pub ids : map (λ site. site.id) tree.sites.items ≡ range_with_len 0 (length tree.sites.items)
+  pub ids : AreInOrder tree.sites.items
   pub few_sites : length tree.sites.items ≤ 1000000
   pub points : tree.points.items ≡ []
 

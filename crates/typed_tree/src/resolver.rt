@@ -1,4 +1,7 @@
-ghost use Rattle.std.specs.Prelude.{◌≡◌};
+ghost use Rattle.std.specs.Prelude.{◌≡◌, ◌≤◌, [], ◌∷◌, IfOk, vec_len};
+ghost use Rattle.typed_tree.specs.Ids.{AreInOrder};
+ghost use Rattle.typed_tree.specs.declared.types.TypeForm.TheVariants.{Integer};
+ghost use Rattle.typed_tree.specs.declared.resolver.TheConstants.{MOST_SITES, MOST_ENTRIES};
 
 use crate::denotation::{Denotation, RequiredProcedure, ScopeFault};
 use crate::fault::TypeFault;
@@ -17,7 +20,14 @@ pub const MOST_SITES: usize = 1_000_000;
 pub const MOST_ENTRIES: u32 = 4_000_000;
 
 /// The typed tree of a program, or a rule that it breaks, with the place.
-pub fn resolve(alloc: Global, program: &syntax::Program) -> Result<Tree, TypeFault> {
+pub fn resolve(alloc: Global, program: &syntax::Program) -> Result<Tree, TypeFault>
+    // Sites have their places in the table as ids.
+    ensures in_order { IfOk result (λ tree. AreInOrder tree.sites.items) }
+    ensures few_sites { IfOk result (λ tree. vec_len tree.sites ≤ MOST_SITES) }
+    ensures points { IfOk result (λ tree. tree.points.items ≡ []) }
+    ensures types { IfOk result (λ tree. tree.types.forms.items ≡ Integer ∷ []) }
+    ensures one_block { IfOk result (λ tree. vec_len tree.blocks ≡ 1) }
+{
     let types = TypeTable::required(alloc)?;
     let mut scopes = Scopes::new(alloc);
     open_required(alloc, &mut scopes)?;
@@ -208,6 +218,9 @@ struct Resolver {
     entries: u32,
     // The place of the latest token that the syntax tree tells.
     latest: Place,
+    ghost in_order: { AreInOrder sites.items },
+    ghost few_sites: { vec_len sites ≤ MOST_SITES },
+    ghost few_entries: { entries ≤ MOST_ENTRIES },
 }
 
 impl Resolver {
