@@ -5,7 +5,7 @@ use Rattle.std.proofs.lemmas.Int.{ints, clamps, by_lt_z}
 use Rattle.typed_tree.specs.declared.tree.Sign.{Sign}
 use Rattle.typed_tree.specs.declared.tree.Sign.TheVariants.{Plus, Minus}
 use Rattle.domain.specs.Interval.{Interval, held, vacant, is_vacant, is_included, common, between, nearest_end, limit}
-use Rattle.meaning.specs.Effect.{maxint}
+use Rattle.meaning.specs.Integers.{maxint}
 use Rattle.cert_checker.specs.State.{integer, is_dead, with_made}
 use Rattle.cert_checker.specs.Walk.{Walking, within, combined, left_open}
 

@@ -3,7 +3,7 @@
 -- what it means for a store.
 use Rattle.std.specs.Prelude.{ℕ, Bool, true, false, neg_ℤ, List, if◌then◌else◌, unwrap_or, replicate, slice_get, slice_set}
 use Rattle.domain.specs.Interval.{Interval, vacant, is_vacant}
-use Rattle.meaning.specs.Effect.{maxint}
+use Rattle.meaning.specs.Integers.{maxint}
 
 -- by the root numbers of the variables
 pub record Facts : Type 0 where

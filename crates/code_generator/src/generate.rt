@@ -1,6 +1,8 @@
 ghost use Rattle.std.specs.Prelude.{◌≡◌, ◌<◌, ◌↔◌, length, ◌++◌, IfOk, OnOk, vec_len};
 ghost use Rattle.code_generator.specs.Code.{block_code, operand, program_code};
+ghost use Rattle.code_generator.specs.Follows.{Follows};
 ghost use Rattle.code_generator.specs.Tables.{point_table, site_table};
+ghost use Rattle.typed_tree.specs.WellFormed.{IsWellFormed};
 
 use crate::depth::needed_by;
 use crate::emit::{emit_stmt, put};
@@ -16,12 +18,14 @@ use typed_tree::tree::{Stmt, Tree};
 const MOST: u32 = 1000000;
 
 /// The code of the program: its frame with its variables and as many cells further as its evaluation needs,
-/// its body, and the end of the run. Each check has its site.
+/// its body, and the end of the run. Each check has its site. For every input and
+/// every number of cells the code follows the program, if the tree is well formed.
 pub fn generate(alloc: Global, tree: &Tree) -> Result<Code, GenFault>
     ensures instructions { IfOk result (λ code. code.instructions.items ≡ program_code tree.now) }
     ensures too_large { (result ≡ Err GenFault.TooLarge) ↔ (1000000 < length (program_code tree.now)) }
     ensures sites { IfOk result (λ code. code.sites.items ≡ site_table tree.now.sites.items) }
     ensures points { IfOk result (λ code. code.points.items ≡ point_table tree.now.points.items) }
+    ensures follows { IfOk result (λ code. IsWellFormed tree.now → Follows code tree.now) }
 {
     if program_size(tree) > MOST {
         return Err(GenFault::TooLarge);

@@ -69,6 +69,11 @@ piece_from text (Some found) = with_length found.0 (piece_of found.1 (take found
 unfoldable pub piece_at : List ℕ → Result (Piece × ℕ) Refusal
 piece_at text = piece_from text (longest (length text) text)
 
+-- the piece that a text begins with, where this is how far the string that opens there goes, if it closes
+abbrev pub string_piece : List ℕ → Option ℕ → Result (Piece × ℕ) Refusal
+string_piece text None = Err OpenString
+string_piece text (Some n) = with_length n (piece_of Quoted (take n text) (drop n text))
+
 -- how many bytes of the text stand before the fault
 abbrev pub offset_of : Refusal → ℕ
 offset_of (StringByte offset) = offset

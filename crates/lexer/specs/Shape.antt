@@ -1,7 +1,7 @@
 -- The shapes of what a text is made of, each of a whole row of bytes: separators (ISO 7185:1990, 6.1.8),
 -- identifiers and word symbols (6.1.2, 6.1.3), digits (6.1.5), character strings (6.1.7), special symbols.
 -- This doesn't say which values a number may have, which characters a string, nor where a shape stands.
-use Rattle.std.specs.Prelude.{ℕ, List, [], ◌∷◌, ◌++◌, length, drop, Bool, false, not, ◌==◌, ◌||◌, ◌&&◌, nat_eq, Option, Some, None, codes, if◌then◌else◌}
+use Rattle.std.specs.Prelude.{◌≡◌, ℕ, ◌⊎◌, List, [], ◌∷◌, ◌++◌, length, drop, Bool, true, false, not, ◌==◌, ◌||◌, ◌&&◌, nat_eq, Option, Some, None, codes, if◌then◌else◌}
 use Rattle.std.specs.Option.{option_map}
 use Rattle.std.specs.List.{list_all, starts_with}
 use Rattle.std.specs.Char.{is_ascii_digit, is_ascii_alphabetic, is_ascii_alphanumeric}
@@ -21,14 +21,23 @@ pub data Shape : Type 0 where
 abbrev pub begins : List ℕ → List ℕ → Bool
 begins characters text = starts_with nat_eq text characters
 
+-- a byte that is a blank or a line end
+abbrev pub is_blank_byte : ℕ → Bool
+is_blank_byte b = b == 9 || b == 10 || b == 13 || b == 32
+
 -- a blank or a line end
 abbrev pub is_blank : List ℕ → Bool
 is_blank [] = false
-is_blank (b ∷ bs) = (length bs == 0) && (b == 9 || b == 10 || b == 13 || b == 32)
+is_blank (b ∷ bs) = (length bs == 0) && is_blank_byte b
 
 -- a comment opens here
 abbrev pub opens_comment : List ℕ → Bool
 opens_comment text = begins (codes "{") text || begins (codes "(*") text
+
+-- a comment opens here with a mark of so many bytes
+abbrev pub Opens : List ℕ → ℕ → Type 0
+Opens text opening =
+    ((opening ≡ 1) × (begins (codes "{") text ≡ true)) ⊎ ((opening ≡ 2) × (begins (codes "(*") text ≡ true))
 
 -- the first closing mark in these bytes is their end
 abbrev pub ends_comment : List ℕ → Bool

@@ -2,6 +2,8 @@
 -- second spellings `(.`, `.)` and `@`. The case of letters doesn't matter in a word symbol (6.1.1).
 -- This doesn't say where in a text a symbol stands.
 use Rattle.std.specs.Prelude.{ℕ, List, [], ◌∷◌, map, Option, Some, None, codes, if◌then◌else◌}
+use Rattle.std.specs.Borrow.{Bor}
+use Rattle.std.specs.Option.{option_map, option_or}
 use Rattle.std.specs.Char.{to_ascii_lowercase}
 use Rattle.std.specs.Str.{bytes_eq}
 use Rattle.lexer.specs.declared.token.Word.{Word}
@@ -40,6 +42,10 @@ abbrev pub entry : {A : Type 0} → List (List ℕ × A) → List ℕ → Option
 entry [] spelling = None
 entry (row ∷ rows) spelling = if bytes_eq row.0 spelling then Some row.1 else entry rows spelling
 
+-- a table of a program, with its spellings in small letters
+abbrev pub in_small_letters : List (Bor (List ℕ) × Word) → List (List ℕ × Word)
+in_small_letters table = map (λ row. (map to_ascii_lowercase row.0.now, row.1)) table
+
 -- the word symbol that letters spell
 unfoldable pub word_of : List ℕ → Option Word
 word_of letters = entry word_table (map to_ascii_lowercase letters)
@@ -47,3 +53,10 @@ word_of letters = entry word_table (map to_ascii_lowercase letters)
 -- the special symbol that bytes spell
 unfoldable pub symbol_of : List ℕ → Option Symbol
 symbol_of bytes = entry symbol_table bytes
+
+-- the special symbol that a text begins with, of two bytes or else of one, and its length
+abbrev pub symbol_at : List ℕ → Option (Symbol × ℕ)
+symbol_at [] = None
+symbol_at (b ∷ []) = option_map (λ s. (s, 1)) (symbol_of (b ∷ []))
+symbol_at (b ∷ c ∷ bs) =
+    option_or (option_map (λ s. (s, 2)) (symbol_of (b ∷ c ∷ []))) (option_map (λ s. (s, 1)) (symbol_of (b ∷ [])))

@@ -1,7 +1,8 @@
 ghost use Rattle.std.specs.Prelude.{◌≡◌, ◌<◌, ◌≤◌, true, length, slice_index, take_while, IfOk, IfErr, IfSome, MatchOption, All};
-ghost use Rattle.std.specs.Char.{IsAsciiDigit, is_ascii_digit, is_ascii_alphanumeric};
+ghost use Rattle.std.specs.Char.{IsAsciiDigit, is_ascii_alphabetic, is_ascii_digit, is_ascii_alphanumeric};
 ghost use Rattle.lexer.specs.Piece as spec;
-ghost use Rattle.lexer.specs.Piece.{offset_of};
+ghost use Rattle.lexer.specs.Piece.{offset_of, piece_at};
+ghost use Rattle.lexer.specs.Shape.{Opens, is_blank_byte};
 
 use crate::symbol::symbol;
 use crate::token::Kind;
@@ -33,34 +34,60 @@ pub enum Refusal {
 
 /// What a text that isn't empty begins with, and its length.
 pub fn next_piece(text: &[u8]) -> Result<(Piece, usize), Refusal>
+    ensures exact { result ≡ piece_at text.now }
     ensures cut { IfOk result (λ found. (0 < found.1) × (found.1 ≤ length text.now)) }
     ensures within { IfErr result (λ refusal. offset_of refusal ≤ length text.now) }
 {
-    match text {
-        [b'\t' | b'\n' | b'\r' | b' ', ..] => Ok((Piece::Separator, 1)),
-        [b'{', ..] => comment(text, 1),
-        [b'(', b'*', ..] => comment(text, 2),
-        [b'\'', ..] => string(text),
-        [b'0'..=b'9', ..] => number(text),
-        [b'a'..=b'z' | b'A'..=b'Z', ..] => Ok(name(text)),
-        _ => match symbol(text) {
-            Some((symbol, length)) => Ok((Piece::Token(Kind::Symbol(symbol)), length)),
-            None => Err(Refusal::UnknownByte),
-        },
+    if text.is_empty() {
+        return Err(Refusal::UnknownByte);
     }
+    let first = text[0];
+    if is_blank(first) {
+        return Ok((Piece::Separator, 1));
+    }
+    if text.starts_with(b"{") {
+        return comment(text, 1);
+    }
+    if text.starts_with(b"(*") {
+        return comment(text, 2);
+    }
+    if first == b'\'' {
+        return string(text);
+    }
+    if first.is_ascii_digit() {
+        return number(text);
+    }
+    if first.is_ascii_alphabetic() {
+        return Ok(name(text));
+    }
+    match symbol(text) {
+        Some((symbol, length)) => Ok((Piece::Token(Kind::Symbol(symbol)), length)),
+        None => Err(Refusal::UnknownByte),
+    }
+}
+
+/// A blank or a line end (6.1.8).
+fn is_blank(byte: u8) -> bool
+    ensures { result ≡ is_blank_byte byte }
+{
+    matches!(byte, b'\t' | b'\n' | b'\r' | b' ')
 }
 
 /// A comment whose opening mark takes `opening` bytes. Each closing mark closes either opening
 /// mark.
 fn comment(text: &[u8], opening: usize) -> Result<(Piece, usize), Refusal>
+    requires { Opens text.now opening }
+    ensures exact { result ≡ piece_at text.now }
     ensures cut { IfOk result (λ found. (0 < found.1) × (found.1 ≤ length text.now)) }
     ensures within { IfErr result (λ refusal. offset_of refusal ≤ length text.now) }
 {
     for at in opening..text.len() {
-        match &text[at..] {
-            [b'}', ..] => return Ok((Piece::Separator, at + 1)),
-            [b'*', b')', ..] => return Ok((Piece::Separator, at + 2)),
-            _ => {}
+        let rest = &text[at..];
+        if rest.starts_with(b"}") {
+            return Ok((Piece::Separator, at + 1));
+        }
+        if rest.starts_with(b"*)") {
+            return Ok((Piece::Separator, at + 2));
         }
     }
     Err(Refusal::OpenComment)
@@ -68,6 +95,8 @@ fn comment(text: &[u8], opening: usize) -> Result<(Piece, usize), Refusal>
 
 /// A character string, at its first apostrophe (6.1.7).
 fn string(text: &[u8]) -> Result<(Piece, usize), Refusal>
+    requires { slice_index text.now 0 ≡ 39 }
+    ensures exact { result ≡ piece_at text.now }
     ensures cut { IfOk result (λ found. (0 < found.1) × (found.1 ≤ length text.now)) }
     ensures within { IfErr result (λ refusal. offset_of refusal ≤ length text.now) }
 {
@@ -77,25 +106,38 @@ fn string(text: &[u8]) -> Result<(Piece, usize), Refusal>
     if length == 2 {
         return Err(Refusal::EmptyString);
     }
-    let is_bad = |byte: &u8| *byte < 32 || *byte > 126;
-    match text[..length].iter().position(is_bad) {
+    match bad_byte(&text[..length]) {
         Some(offset) => Err(Refusal::StringByte { offset }),
         None => Ok((Piece::Token(Kind::Text), length)),
     }
 }
 
+/// Where the first byte stands that no string may have.
+fn bad_byte(string: &[u8]) -> Option<usize>
+    ensures exact { result ≡ spec.bad_byte string.now }
+    ensures within { IfSome result (λ offset. offset < length string.now) }
+{
+    string.iter().position(|byte| !matches!(*byte, 32..=126))
+}
+
 /// The length up to the apostrophe that closes a string in its line: the first that isn't one of
 /// two.
 fn string_length(text: &[u8]) -> Option<usize>
-    ensures { IfSome result (λ length_of. (2 ≤ length_of) × (length_of ≤ length text.now)) }
+    requires { slice_index text.now 0 ≡ 39 }
+    ensures exact { spec.string_piece text.now result ≡ piece_at text.now }
+    ensures within { IfSome result (λ length_of. (2 ≤ length_of) × (length_of ≤ length text.now)) }
 {
     let mut at = 1;
     while at < text.len() {
-        match &text[at..] {
-            [b'\'', b'\'', ..] => at += 2,
-            [b'\'', ..] => return Some(at + 1),
-            [b'\n', ..] => return None,
-            _ => at += 1,
+        let rest = &text[at..];
+        if rest.starts_with(b"''") {
+            at += 2;
+        } else if rest.starts_with(b"'") {
+            return Some(at + 1);
+        } else if rest.starts_with(b"\n") {
+            return None;
+        } else {
+            at += 1;
         }
     }
     None
@@ -104,6 +146,7 @@ fn string_length(text: &[u8]) -> Option<usize>
 /// A number, at its first digit (6.1.5). Too large a value is told before a letter behind it.
 fn number(text: &[u8]) -> Result<(Piece, usize), Refusal>
     requires { is_ascii_digit (slice_index text.now 0) ≡ true }
+    ensures exact { result ≡ piece_at text.now }
     ensures cut { IfOk result (λ found. (0 < found.1) × (found.1 ≤ length text.now)) }
     ensures within { IfErr result (λ refusal. offset_of refusal ≤ length text.now) }
 {
@@ -128,7 +171,7 @@ fn digits_length(text: &[u8]) -> usize
 fn value_of(digits: &[u8]) -> Option<u32>
     requires { All IsAsciiDigit digits.now }
     ensures { MatchOption result (MAX_NUMBER < spec.value_of digits.now)
-        (λ value. value ≡ spec.value_of digits.now) }
+        (λ value. (value ≡ spec.value_of digits.now) × (value ≤ MAX_NUMBER)) }
 {
     let mut value = 0;
     for digit in digits {
@@ -142,12 +185,22 @@ fn value_of(digits: &[u8]) -> Option<u32>
 
 /// A word symbol or an identifier, at its first letter (6.1.2, 6.1.3).
 fn name(text: &[u8]) -> (Piece, usize)
-    requires { is_ascii_alphanumeric (slice_index text.now 0) ≡ true }
-    ensures { (0 < result.1) × (result.1 ≤ length text.now) }
+    requires { is_ascii_alphabetic (slice_index text.now 0) ≡ true }
+    ensures exact { piece_at text.now ≡ Ok result }
+    ensures cut { (0 < result.1) × (result.1 ≤ length text.now) }
 {
     let length = name_length(text);
-    let kind = word_of(&text[..length]).map_or(Kind::Identifier, Kind::Word);
-    (Piece::Token(kind), length)
+    (Piece::Token(kind_of(&text[..length])), length)
+}
+
+/// The class of a name's letters and digits.
+fn kind_of(letters: &[u8]) -> Kind
+    ensures { result ≡ spec.kind_of letters.now }
+{
+    match word_of(letters) {
+        Some(word) => Kind::Word(word),
+        None => Kind::Identifier,
+    }
 }
 
 /// How many letters and digits a text begins with.

@@ -1,7 +1,8 @@
-ghost use Rattle.std.specs.Prelude.{◌≡◌, ◌+◌, ◌^◌, ◌<◌, ◌≤◌, ◌↔◌, length, take, IsErrOf};
+ghost use Rattle.std.specs.Prelude.{◌≡◌, ◌+◌, ◌^◌, ◌<◌, ◌≤◌, ◌↔◌, ◌≢◌, List, map, length, take, IfOk, IfErr, IsErrOf};
 ghost use Rattle.lexer.specs.Piece.{offset_of};
 ghost use Rattle.lexer.specs.Place.{start, place_after};
-ghost use Rattle.lexer.specs.Tokens.{fault_of};
+ghost use Rattle.lexer.specs.Tokens.{Lexeme, lexeme_of, fault_of, IsTokenList, IsFirstFault};
+ghost use Rattle.lexer.specs.declared.fault.LexFault.{LexFault};
 
 use crate::fault::LexFault;
 use crate::piece::{Piece, Refusal, next_piece};
@@ -15,8 +16,17 @@ pub const MAX_TEXT: usize = 1048576;
 /// The tokens of a text, in order (6.1), or its first fault: L7 of a text above `MAX_TEXT` before
 /// all others, then the first in the text, and of two at one place the one with the lower number.
 /// The tokens are as long as can be, and nothing but blanks, line ends and comments stands between
-/// them (6.1.8).
+/// them (6.1.8). A text has at most one list, at most one first fault, and never both. `Memory` is
+/// the only other answer.
 pub fn tokens<'a>(alloc: Global, text: &'a [u8]) -> Result<Vec<Token<'a>>, LexFault>
+    ensures list { IfOk result (λ found. IsTokenList text.now (map lexeme_of found.items)) }
+    ensures fault { IfErr result (λ found. found ≢ LexFault.Memory → IsFirstFault text.now found) }
+    ensures one_list { (a b : List Lexeme)
+        → IsTokenList text.now a → IsTokenList text.now b → a ≡ b }
+    ensures one_fault { (a b : LexFault)
+        → IsFirstFault text.now a → IsFirstFault text.now b → a ≡ b }
+    ensures list_or_fault { (list : List Lexeme) (found : LexFault)
+        → IsTokenList text.now list → IsFirstFault text.now found → ⊥ }
     ensures long { IsErrOf result (LexFault.LongText start) ↔ (MAX_TEXT < length text.now) }
 {
     let mut place = Place::START;

@@ -1,36 +1,48 @@
-ghost use Rattle.std.specs.Prelude.{◌<◌, ◌≤◌, length, IfSome};
+ghost use Rattle.std.specs.Prelude.{◌≡◌, ◌∷◌, []};
+ghost use Rattle.lexer.specs.Spelling.{symbol_of, symbol_at};
 
 use crate::token::Symbol;
 
 /// The symbol that a text begins with, as long as can be, and its length (6.1.2, 6.1.9).
 pub fn symbol(text: &[u8]) -> Option<(Symbol, usize)>
-    ensures { IfSome result (λ found. (0 < found.1) × (found.1 ≤ length text.now)) }
+    ensures { result ≡ symbol_at text.now }
 {
-    double_symbol(text).or(single_symbol(text))
+    if let [first, second, ..] = text {
+        if let Some(symbol) = double_symbol(*first, *second) {
+            return Some((symbol, 2));
+        }
+    }
+    let [first, ..] = text else {
+        return None;
+    };
+    let symbol = single_symbol(*first)?;
+    Some((symbol, 1))
 }
 
-/// The same of the symbols that take two bytes.
-fn double_symbol(text: &[u8]) -> Option<(Symbol, usize)>
-    ensures { IfSome result (λ found. (0 < found.1) × (found.1 ≤ length text.now)) }
+/// The symbol of two bytes.
+#[tactic(auto, unfolding(crate::specs::Spelling::symbol_of))]
+fn double_symbol(first: u8, second: u8) -> Option<Symbol>
+    ensures { result ≡ symbol_of (first ∷ second ∷ []) }
 {
-    let symbol = match text {
-        [b'<', b'>', ..] => Symbol::NotEqual,
-        [b'<', b'=', ..] => Symbol::LessOrEqual,
-        [b'>', b'=', ..] => Symbol::GreaterOrEqual,
-        [b':', b'=', ..] => Symbol::Becomes,
-        [b'.', b'.', ..] => Symbol::Range,
-        [b'(', b'.', ..] => Symbol::OpenBracket,
-        [b'.', b')', ..] => Symbol::CloseBracket,
+    let symbol = match (first, second) {
+        (b'<', b'>') => Symbol::NotEqual,
+        (b'<', b'=') => Symbol::LessOrEqual,
+        (b'>', b'=') => Symbol::GreaterOrEqual,
+        (b':', b'=') => Symbol::Becomes,
+        (b'.', b'.') => Symbol::Range,
+        (b'(', b'.') => Symbol::OpenBracket,
+        (b'.', b')') => Symbol::CloseBracket,
         _ => return None,
     };
-    Some((symbol, 2))
+    Some(symbol)
 }
 
-/// The same of the symbols that take one byte.
-fn single_symbol(text: &[u8]) -> Option<(Symbol, usize)>
-    ensures { IfSome result (λ found. (0 < found.1) × (found.1 ≤ length text.now)) }
+/// The symbol of one byte.
+#[tactic(auto, unfolding(crate::specs::Spelling::symbol_of))]
+fn single_symbol(byte: u8) -> Option<Symbol>
+    ensures { result ≡ symbol_of (byte ∷ []) }
 {
-    let symbol = match text.first()? {
+    let symbol = match byte {
         b'+' => Symbol::Plus,
         b'-' => Symbol::Minus,
         b'*' => Symbol::Times,
@@ -49,5 +61,5 @@ fn single_symbol(text: &[u8]) -> Option<(Symbol, usize)>
         b'^' | b'@' => Symbol::Arrow,
         _ => return None,
     };
-    Some((symbol, 1))
+    Some(symbol)
 }

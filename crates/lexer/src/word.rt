@@ -1,3 +1,7 @@
+ghost use Rattle.std.specs.Prelude.{◌≡◌, map};
+ghost use Rattle.std.specs.Char.{to_ascii_lowercase};
+ghost use Rattle.lexer.specs.Spelling.{entry, in_small_letters, word_of};
+
 use crate::token::Word;
 
 /// The word symbols (6.1.2).
@@ -40,8 +44,17 @@ static WORDS: [(&[u8], Word); 35] = [
 ];
 
 /// The word symbol that these letters spell, in upper or lower case (6.1.1).
-pub fn word_of(letters: &[u8]) -> Option<Word> {
-    for (spelling, word) in &WORDS {
+pub fn word_of(letters: &[u8]) -> Option<Word>
+    ensures { result ≡ word_of letters.now }
+{
+    look_up(&WORDS, letters)
+}
+
+/// What a table has under these letters, in upper or lower case.
+fn look_up(table: &[(&[u8], Word)], letters: &[u8]) -> Option<Word>
+    ensures { result ≡ entry (in_small_letters table.now) (map to_ascii_lowercase letters.now) }
+{
+    for (spelling, word) in table {
         if spelling.eq_ignore_ascii_case(letters) {
             return Some(*word);
         }

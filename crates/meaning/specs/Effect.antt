@@ -1,11 +1,12 @@
 -- What a piece of a program does: from a state to a reply, which gives a value or stops (ISO 7185:1990, 6.7, 6.8).
 -- It says nothing of how long that takes.
-use Rattle.std.specs.Prelude.{ℕ, ℤ, pos, ◌-◌, ◌++◌, Bool, List, [], ◌∷◌, Option, Some, None, if◌then◌else◌, length, replicate, unwrap_or, int_le, neg_ℤ}
+use Rattle.std.specs.Prelude.{ℕ, ◌-◌, ◌++◌, Bool, List, [], ◌∷◌, Option, Some, None, if◌then◌else◌, length, replicate, unwrap_or}
 use Rattle.std.specs.Fmt.{signed_decimal}
 use Rattle.meaning.specs.declared.outcome.Ending.{Ending}
 use Rattle.meaning.specs.declared.outcome.Ending.TheVariants as ending
 use Rattle.meaning.specs.declared.store.Value.{Value}
 use Rattle.meaning.specs.declared.store.Value.TheVariants.{Number}
+use Rattle.meaning.specs.Integers.{is_integer_number}
 use Rattle.meaning.specs.Store.{Environment, Place, Store, stored, written}
 
 -- an entry into the statement or expression with this number, for theorems alone
@@ -75,17 +76,9 @@ store p v s = Gives tt (record s { store = written s.store p v })
 abbrev pub write : List ℕ → Action (Unit {0})
 write bytes s = Gives tt (record s { output = s.output ++ bytes })
 
--- the largest number of type integer (6.4.2.2)
-abbrev pub maxint : ℤ
-maxint = pos 2147483647
-
--- a number from lo to hi
-abbrev pub is_within : ℤ → ℤ → ℤ → Bool
-is_within lo hi n = if int_le lo n then int_le n hi else Bool.false
-
 -- a value of type integer
 abbrev pub is_integer : Value → Bool
-is_integer (Number n) = is_within (neg_ℤ maxint) maxint n
+is_integer (Number n) = is_integer_number n
 
 -- an integer, set right in a width and never cut (6.9.3.2)
 abbrev pub integer_text : Value → ℕ → List ℕ

@@ -1,4 +1,7 @@
+pub mod Integers
 pub mod Store
 pub mod Effect
 pub mod Meaning
 pub mod Weight
+pub mod Pending
+pub mod Laws

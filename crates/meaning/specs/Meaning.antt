@@ -7,9 +7,10 @@ use Rattle.typed_tree.specs.declared.tree.Block.{Block}
 use Rattle.typed_tree.specs.declared.tree.Sign.{Sign}
 use Rattle.typed_tree.specs.declared.tree.Sign.TheVariants.{Plus, Minus}
 use Rattle.typed_tree.specs.declared.tree.Expr.{Expr}
+use Rattle.typed_tree.specs.declared.tree.Link.{Link}
 use Rattle.typed_tree.specs.declared.tree.Expr.TheOpen.{Expr-F, Link-F}
 use Rattle.typed_tree.specs.declared.tree.Expr.TheOpen.Expr-F.{Constant, Variable, Signed, Sum}
-use Rattle.typed_tree.specs.declared.tree.Expr.TheFolds.{fold-Expr}
+use Rattle.typed_tree.specs.declared.tree.Expr.TheFolds.{fold-Expr, fold-Link}
 use Rattle.typed_tree.specs.declared.tree.Stmt.{Stmt}
 use Rattle.typed_tree.specs.declared.tree.Stmt.TheOpen.{Stmt-F}
 use Rattle.typed_tree.specs.declared.tree.Stmt.TheOpen.Stmt-F.{Empty, Assign, Writeln, Compound}
@@ -72,6 +73,10 @@ value_step (Sum first rest) env = do
 -- the value of an expression
 abbrev pub value_of : Expr → Evaluation
 value_of = fold-Expr Evaluation Combination value_step link_step
+
+-- what an operator of a sum does, with its right operand
+abbrev pub link_of : Link → Combination
+link_of = fold-Link Evaluation Combination value_step link_step
 
 -- what a statement does in an environment
 abbrev pub Execution : Type 0

@@ -3,8 +3,12 @@
 #![tactic(auto)]
 
 mod interpreter;
+pub mod laws;
 pub mod outcome;
 pub mod store;
 mod work;
 
 pub use interpreter::interpret;
+
+#[cfg(test)]
+mod tests;

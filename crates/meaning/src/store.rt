@@ -1,3 +1,8 @@
+ghost use Rattle.std.specs.Prelude.{◌≡◌, ◌+ℤ◌, ◌-ℤ◌, ◌≤ℤ◌, ℤ, pos, neg_ℤ, if◌then◌else◌, Option};
+ghost use Rattle.meaning.specs.Integers.{integer_or_none, is_integer_number};
+
+use std::marker::Model;
+
 /// A step from a variable to a component of it.
 #[derive(Debug, PartialEq, Eq, PartialOrd, Ord, Drop)]
 pub enum Step {
@@ -19,5 +24,80 @@ pub struct Place {
 /// A value: an ordinal by its number.
 #[derive(Clone, Copy, Debug, PartialEq, Eq)]
 pub enum Value {
-    Number(i32),
+    Number(Ordinal),
+}
+
+/// The number of an ordinal, or of one whose sign was changed: -2147483648 to 2147483648.
+#[derive(Clone, Copy, Debug, PartialEq, Eq)]
+pub struct Ordinal {
+    number: i64,
+}
+
+impl Model for Ordinal {
+    ghost Value = { ℤ };
+
+    ghost view = { λ o. o.number };
+
+    ghost invariant = { λ o. (neg_ℤ (pos 2147483648) ≤ℤ o.number) × (o.number ≤ℤ pos 2147483648) };
+
+    ghost inverse = { λ n. record { number = n } };
+}
+
+impl Ordinal {
+    /// The ordinal of a number.
+    pub fn new(number: i32) -> Ordinal
+        ensures { result ≡ number }
+    {
+        Ordinal {
+            number: i64::from(number),
+        }
+    }
+
+    /// Its number.
+    pub fn number(self) -> i64
+        ensures { result ≡ self }
+    {
+        self.number
+    }
+
+    /// The ordinal with the other sign.
+    pub fn negated(self) -> Ordinal
+        ensures { result ≡ neg_ℤ self }
+    {
+        Ordinal {
+            number: -self.number,
+        }
+    }
+
+    /// Whether it is of type integer: -2147483647 to 2147483647 (ISO 7185:1990, 6.4.2.2).
+    pub fn is_integer(self) -> bool
+        ensures { result ≡ is_integer_number self }
+    {
+        -2_147_483_647 <= self.number && self.number <= 2_147_483_647
+    }
+
+    /// The sum, if it is of type integer.
+    pub fn plus(self, other: Ordinal) -> Option<Ordinal>
+        ensures { result ≡ integer_or_none (self +ℤ other) }
+    {
+        integer(self.number + other.number)
+    }
+
+    /// The difference, if it is of type integer.
+    pub fn minus(self, other: Ordinal) -> Option<Ordinal>
+        ensures { result ≡ integer_or_none (self -ℤ other) }
+    {
+        integer(self.number - other.number)
+    }
+}
+
+// The ordinal of a number of type integer.
+fn integer(number: i64) -> Option<Ordinal>
+    ensures { result ≡ integer_or_none number }
+{
+    if -2_147_483_647 <= number && number <= 2_147_483_647 {
+        Some(Ordinal { number })
+    } else {
+        None
+    }
 }

@@ -1,4 +1,4 @@
 pub mod Faults
 pub mod Text
-pub mod Whole
 pub mod Headline
+pub mod Whole

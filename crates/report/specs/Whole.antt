@@ -1,10 +1,10 @@
 -- What the whole compiler gives: the answers of its layers, one over the other, and a run of the code without the checks
--- of the sites that aren't open. It does not say which source a tree comes from, nor that the code does what the tree means.
+-- of the sites that aren't open. It does not say which source a tree comes from.
 use Rattle.std.specs.Prelude.{◌≡◌, ℕ, List, Option}
 use Rattle.typed_tree.specs.declared.tree.Tree.{Tree}
 use Rattle.typed_tree.specs.declared.site.Site.{Site}
 use Rattle.certificate.specs.declared.Certificate.{Certificate}
-use Rattle.cert_checker.specs.Promise.{Valid, ClosedNeverErr}
+use Rattle.cert_checker.specs.Promise.{Valid}
 use Rattle.pcode_assembler.specs.declared.code.Code.{Code}
 use Rattle.check_remover.specs.Strip.{strip}
 use Rattle.code_generator.specs.Code.{program_code}
@@ -12,19 +12,20 @@ use Rattle.code_generator.specs.Tables.{site_table}
 use Rattle.stack_machine.specs.declared.stop.Stop.{Stop}
 use Rattle.stack_machine.specs.Does.{Tells}
 use Rattle.stack_machine.specs.Run.{machine}
+use Rattle.report.specs.Headline.{Headline}
 
 -- the code of a tree, without the checks of the sites that aren't open
 pub record IsStripped (tree : Tree) (open_sites : List Site) (code : Code) : Type 0 where
   pub instructions : code.instructions.items ≡ strip (site_table open_sites) (program_code tree)
   pub sites : code.sites.items ≡ site_table tree.sites.items
 
--- A tree was checked with these open sites, its meaning errs at no other, and its code without the other checks was run: the stop is that of the run,
+-- A tree was checked with these open sites, for which the headline holds, and its code without the other checks was run: the stop is that of the run,
 -- and the writer's known bytes grew by its output.
 pub record RunsStripped (open_sites : List Site) (stop : Stop) (cells budget : ℕ) (before after : Option (List ℕ)) : Type 0 where
   pub tree : Tree
   pub certificate : Certificate
   pub code : Code
   pub valid : Valid tree certificate open_sites
-  pub closed_never_err : ClosedNeverErr tree open_sites
   pub stripped : IsStripped tree open_sites code
+  pub headline : Headline tree open_sites code
   pub ran : (input : List ℕ) → Tells stop (machine code input cells budget) before after

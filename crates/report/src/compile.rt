@@ -1,9 +1,13 @@
 ghost use Rattle.std.specs.Prelude.{◌≡◌, ◌≤◌, ◌<◌, ◌+◌, ◌-◌, ◌^◌, IfOk, MatchOption, codes};
 ghost use Rattle.certificate.specs.Text.{spelling};
 ghost use Rattle.cert_checker.specs.Entries.{entries};
-ghost use Rattle.cert_checker.specs.Promise.{Valid, ClosedNeverErr, StatesHold};
+ghost use Rattle.cert_checker.specs.Promise.{Valid, StatesHold};
 ghost use Rattle.code_generator.specs.Code.{program_code};
+ghost use Rattle.code_generator.specs.Follows.{Follows};
 ghost use Rattle.code_generator.specs.Tables.{site_table};
+ghost use Rattle.typed_tree.specs.WellFormed.{IsWellFormed};
+ghost use Rattle.typed_tree.specs.Ids.{AreInOrder};
+ghost use Rattle.report.specs.Headline.{Headline};
 ghost use Rattle.stack_machine.specs.Failures.{write_failures_of};
 ghost use Rattle.report.specs.Whole.{IsStripped, RunsStripped};
 
@@ -51,9 +55,13 @@ pub fn compile(alloc: Global, source: &[u8], certificate: Option<&[u8]>) -> Resu
     ensures checked { IfOk result (λ c. Valid c.tree c.certificate c.verdict.open_sites.items) }
     ensures visits { IfOk result (λ c. c.verdict.visits ≡ entries c.tree) }
 
-    // For every input and every number of turns the program's meaning commits no error at another site.
-    ensures closed_never_err { IfOk result (λ c. ClosedNeverErr c.tree c.verdict.open_sites.items) }
+    // The headline: for every input and every number of turns the program's meaning commits no error at another
+    // site, and the stripped code writes what that meaning writes and stops as it stops.
+    ensures headline { IfOk result (λ c. Headline c.tree c.verdict.open_sites.items c.stripped) }
     ensures states_hold { IfOk result (λ c. StatesHold c.tree) }
+
+    // With all its checks the code follows the program too.
+    ensures follows { IfOk result (λ c. Follows c.full c.tree) }
 
     // The code is that of the tree, and the stripped code is without the checks of the sites that aren't open.
     ensures full { IfOk result (λ c. c.full.instructions.items ≡ program_code c.tree) }
@@ -102,7 +110,10 @@ pub fn go<R: Feed, W: Sink>(
     Ok((compiled.verdict, stop))
 }
 
-fn typed(alloc: Global, source: &[u8]) -> Result<Tree, Fault> {
+fn typed(alloc: Global, source: &[u8]) -> Result<Tree, Fault>
+    ensures well_formed { IfOk result IsWellFormed }
+    ensures in_order { IfOk result (λ tree. AreInOrder tree.sites.items) }
+{
     let tokens = tokens(alloc, source)?;
     let program = parse(alloc, &tokens)?;
     let tree = resolve(alloc, &program)?;

@@ -1,1 +1,2 @@
 mod SiteIds
+mod FormedLemmas

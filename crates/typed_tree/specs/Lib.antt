@@ -5,3 +5,5 @@ pub mod Ids
 pub mod Names
 pub mod Entries
 pub mod Typing
+pub mod WellFormed
+pub mod Formed

@@ -1,4 +1,6 @@
-ghost use Rattle.std.specs.Prelude.{◌≡◌, ◌≤◌, [], ◌∷◌, IfOk, vec_len};
+ghost use Rattle.std.specs.Prelude.{◌≡◌, ◌≤◌, ◌<◌, [], ◌∷◌, IfOk, length, vec_len};
+ghost use Rattle.typed_tree.specs.Formed.{IsFormedExpr, IsFormedLink, AreFormedLinks, AreFormedExprs, IsFormedStmt, AreFormedStmts};
+ghost use Rattle.typed_tree.specs.WellFormed.{IsWellFormed};
 ghost use Rattle.typed_tree.specs.Ids.{AreInOrder};
 ghost use Rattle.typed_tree.specs.declared.types.TypeForm.TheVariants.{Integer};
 ghost use Rattle.typed_tree.specs.declared.resolver.TheConstants.{MOST_SITES, MOST_ENTRIES};
@@ -16,6 +18,9 @@ use std::alloc::{AllocError, Global};
 /// The most sites, and the most points, of a program.
 pub const MOST_SITES: usize = 1_000_000;
 
+/// The most variables of a program: no text that the lexer takes has as many.
+pub const MOST_VARIABLES: usize = 1_000_000;
+
 /// The most statements and expressions of a program.
 pub const MOST_ENTRIES: u32 = 4_000_000;
 
@@ -27,6 +32,9 @@ pub fn resolve(alloc: Global, program: &syntax::Program) -> Result<Tree, TypeFau
     ensures points { IfOk result (λ tree. tree.points.items ≡ []) }
     ensures types { IfOk result (λ tree. tree.types.forms.items ≡ Integer ∷ []) }
     ensures one_block { IfOk result (λ tree. vec_len tree.blocks ≡ 1) }
+
+    // Each variable and each site that the tree names is in its table.
+    ensures well_formed { IfOk result IsWellFormed }
 {
     let types = TypeTable::required(alloc)?;
     let mut scopes = Scopes::new(alloc);
@@ -34,24 +42,27 @@ pub fn resolve(alloc: Global, program: &syntax::Program) -> Result<Tree, TypeFau
     open_block(alloc, &mut scopes, program)?;
     let has_output = declare_parameters(alloc, &mut scopes, &program.parameters)?;
     let variables = declare_variables(alloc, &mut scopes, &program.block.variables)?;
+    if variables.len() > MOST_VARIABLES {
+        return Err(TypeFault::TooMany(program.name.place));
+    }
     let mut resolver = Resolver {
         alloc,
         scopes,
+        variables,
         has_output,
         sites: Vec::new(alloc),
         entries: 0,
         latest: program.name.place,
     };
-    let number = resolver.enter()?;
-    let statements = resolver.statements(&program.block.statements)?;
+    let body = resolver.compound(&program.block.statements)?;
     let mut blocks = Vec::new(alloc);
     blocks.push(Block {
-        body: Stmt::Compound { number, statements },
+        body,
         end: program.block.end,
     })?;
     Ok(Tree {
         blocks,
-        variables,
+        variables: resolver.variables,
         sites: resolver.sites,
         points: Vec::new(alloc),
         types,
@@ -212,6 +223,7 @@ fn denoted_type(
 struct Resolver {
     alloc: Global,
     scopes: Scopes,
+    variables: Vec<Variable>,
     has_output: bool,
     sites: Vec<Site>,
     // How many statements and expressions were entered.
@@ -225,7 +237,11 @@ struct Resolver {
 
 impl Resolver {
     // The number of the statement or expression that is entered.
-    fn enter(&mut self) -> Result<u32, TypeFault> {
+    fn enter(&mut self) -> Result<u32, TypeFault>
+        ensures same { self.new.variables ≡ self.old.variables }
+        ensures grows { length self.old.sites.items ≤ length self.new.sites.items }
+        ensures sites { self.new.sites ≡ self.old.sites }
+    {
         if self.entries >= MOST_ENTRIES {
             return Err(TypeFault::TooMany(self.latest));
         }
@@ -235,7 +251,11 @@ impl Resolver {
     }
 
     // The id of a new site. Sites come in the order of their tokens.
-    fn site(&mut self, kind: SiteKind, place: Place) -> Result<u32, TypeFault> {
+    fn site(&mut self, kind: SiteKind, place: Place) -> Result<u32, TypeFault>
+        ensures same { self.new.variables ≡ self.old.variables }
+        ensures grows { length self.old.sites.items ≤ length self.new.sites.items }
+        ensures known { IfOk result (λ id. id < length self.new.sites.items) }
+    {
         self.latest = place;
         if self.sites.len() >= MOST_SITES {
             return Err(TypeFault::TooMany(place));
@@ -245,13 +265,21 @@ impl Resolver {
         Ok(id)
     }
 
-    fn find(&mut self, name: &syntax::Name) -> Result<Denotation, TypeFault> {
+    fn find(&mut self, name: &syntax::Name) -> Result<Denotation, TypeFault>
+        ensures same { self.new.variables ≡ self.old.variables }
+        ensures grows { length self.old.sites.items ≤ length self.new.sites.items }
+        ensures sites { self.new.sites ≡ self.old.sites }
+    {
         self.latest = name.place;
         find(self.alloc, &self.scopes, name)
     }
 
     #[cycle(statements)]
-    fn statements(&mut self, statements: &[syntax::Stmt]) -> Result<Vec<Stmt>, TypeFault> {
+    fn statements(&mut self, statements: &[syntax::Stmt]) -> Result<Vec<Stmt>, TypeFault>
+        ensures same { self.new.variables ≡ self.old.variables }
+        ensures grows { length self.old.sites.items ≤ length self.new.sites.items }
+        ensures formed { IfOk result (λ typed. AreFormedStmts (length self.old.variables.items) (length self.new.sites.items) typed.items) }
+    {
         let mut typed = Vec::new(self.alloc);
         for statement in statements {
             typed.push(self.statement(statement)?)?;
@@ -260,7 +288,22 @@ impl Resolver {
     }
 
     #[cycle(statements)]
-    fn statement(&mut self, statement: &syntax::Stmt) -> Result<Stmt, TypeFault> {
+    fn compound(&mut self, statements: &[syntax::Stmt]) -> Result<Stmt, TypeFault>
+        ensures same { self.new.variables ≡ self.old.variables }
+        ensures grows { length self.old.sites.items ≤ length self.new.sites.items }
+        ensures formed { IfOk result (IsFormedStmt (length self.old.variables.items) (length self.new.sites.items)) }
+    {
+        let number = self.enter()?;
+        let statements = self.statements(statements)?;
+        Ok(Stmt::Compound { number, statements })
+    }
+
+    #[cycle(statements)]
+    fn statement(&mut self, statement: &syntax::Stmt) -> Result<Stmt, TypeFault>
+        ensures same { self.new.variables ≡ self.old.variables }
+        ensures grows { length self.old.sites.items ≤ length self.new.sites.items }
+        ensures formed { IfOk result (IsFormedStmt (length self.old.variables.items) (length self.new.sites.items)) }
+    {
         match statement {
             syntax::Stmt::Empty => Ok(Stmt::Empty {
                 number: self.enter()?,
@@ -271,11 +314,7 @@ impl Resolver {
                 value,
             } => self.assignment(name, *becomes, value),
             syntax::Stmt::Call { name, actuals } => self.call(name, actuals),
-            syntax::Stmt::Compound { statements } => {
-                let number = self.enter()?;
-                let statements = self.statements(statements)?;
-                Ok(Stmt::Compound { number, statements })
-            }
+            syntax::Stmt::Compound { statements } => self.compound(statements),
         }
     }
 
@@ -285,15 +324,16 @@ impl Resolver {
         name: &syntax::Name,
         becomes: Place,
         value: &syntax::Expr,
-    ) -> Result<Stmt, TypeFault> {
+    ) -> Result<Stmt, TypeFault>
+        ensures same { self.new.variables ≡ self.old.variables }
+        ensures grows { length self.old.sites.items ≤ length self.new.sites.items }
+        ensures formed { IfOk result (IsFormedStmt (length self.old.variables.items) (length self.new.sites.items)) }
+    {
         let number = self.enter()?;
         let Denotation::Variable(root) = self.find(name)? else {
             return Err(TypeFault::NotVariable(name.place));
         };
-        let target = Access {
-            number: self.enter()?,
-            root,
-        };
+        let target = self.access(root, name.place)?;
         let fits = self.site(SiteKind::Subrange, becomes)?;
         let value = self.expression(value)?;
         Ok(Stmt::Assign {
@@ -304,7 +344,11 @@ impl Resolver {
         })
     }
 
-    fn call(&mut self, name: &syntax::Name, actuals: &[syntax::Expr]) -> Result<Stmt, TypeFault> {
+    fn call(&mut self, name: &syntax::Name, actuals: &[syntax::Expr]) -> Result<Stmt, TypeFault>
+        ensures same { self.new.variables ≡ self.old.variables }
+        ensures grows { length self.old.sites.items ≤ length self.new.sites.items }
+        ensures formed { IfOk result (IsFormedStmt (length self.old.variables.items) (length self.new.sites.items)) }
+    {
         match self.find(name)? {
             Denotation::Procedure(RequiredProcedure::Writeln) => self.writeln(name, actuals),
             _ => Err(TypeFault::Mismatch(name.place)),
@@ -316,24 +360,41 @@ impl Resolver {
         &mut self,
         name: &syntax::Name,
         actuals: &[syntax::Expr],
-    ) -> Result<Stmt, TypeFault> {
+    ) -> Result<Stmt, TypeFault>
+        ensures same { self.new.variables ≡ self.old.variables }
+        ensures grows { length self.old.sites.items ≤ length self.new.sites.items }
+        ensures formed { IfOk result (IsFormedStmt (length self.old.variables.items) (length self.new.sites.items)) }
+    {
         if !self.has_output {
             return Err(TypeFault::NotProgramParameter(name.place));
         }
         let number = self.enter()?;
         let written = self.written_values(actuals)?;
+        let values = self.values(written)?;
+        Ok(Stmt::Writeln { number, values })
+    }
+
+    fn values(&mut self, written: &[syntax::Expr]) -> Result<Vec<Expr>, TypeFault>
+        ensures same { self.new.variables ≡ self.old.variables }
+        ensures grows { length self.old.sites.items ≤ length self.new.sites.items }
+        ensures formed { IfOk result (λ typed. AreFormedExprs (length self.old.variables.items) (length self.new.sites.items) typed.items) }
+    {
         let mut values = Vec::new(self.alloc);
         for actual in written {
             values.push(self.expression(actual)?)?;
         }
-        Ok(Stmt::Writeln { number, values })
+        Ok(values)
     }
 
     // What is written: the actuals without the file.
     fn written_values<'e, 'a>(
         &mut self,
         actuals: &'e [syntax::Expr<'a>],
-    ) -> Result<&'e [syntax::Expr<'a>], TypeFault> {
+    ) -> Result<&'e [syntax::Expr<'a>], TypeFault>
+        ensures same { self.new.variables ≡ self.old.variables }
+        ensures grows { length self.old.sites.items ≤ length self.new.sites.items }
+        ensures sites { self.new.sites ≡ self.old.sites }
+    {
         let Some((first, rest)) = actuals.split_first() else {
             return Ok(actuals);
         };
@@ -343,14 +404,23 @@ impl Resolver {
         Ok(actuals)
     }
 
-    fn is_output(&mut self, actual: &syntax::Expr) -> Result<bool, TypeFault> {
+    fn is_output(&mut self, actual: &syntax::Expr) -> Result<bool, TypeFault>
+        ensures same { self.new.variables ≡ self.old.variables }
+        ensures grows { length self.old.sites.items ≤ length self.new.sites.items }
+        ensures sites { self.new.sites ≡ self.old.sites }
+    {
         match actual {
             syntax::Expr::Name(name) => Ok(self.find(name)? == Denotation::Output),
             _ => Ok(false),
         }
     }
 
-    fn expression(&mut self, expression: &syntax::Expr) -> Result<Expr, TypeFault> {
+    #[cycle(expressions)]
+    fn expression(&mut self, expression: &syntax::Expr) -> Result<Expr, TypeFault>
+        ensures same { self.new.variables ≡ self.old.variables }
+        ensures grows { length self.old.sites.items ≤ length self.new.sites.items }
+        ensures formed { IfOk result (IsFormedExpr (length self.old.variables.items) (length self.new.sites.items)) }
+    {
         match expression {
             syntax::Expr::Number { value, place } => self.number(*value, *place),
             syntax::Expr::Name(name) => self.named(name),
@@ -370,51 +440,104 @@ impl Resolver {
             }
             syntax::Expr::Sum { first, rest } => {
                 let first = self.expression(first)?;
-                let mut typed = Vec::new(self.alloc);
-                for link in rest {
-                    let (number, overflow) = self.operator(link.place)?;
-                    typed.push(Link {
-                        number,
-                        operator: typed_sign(link.operator),
-                        overflow,
-                        operand: self.expression(&link.operand)?,
-                    })?;
-                }
+                let rest = self.links(rest)?;
                 Ok(Expr::Sum {
                     first: Box::new(self.alloc, first)?,
-                    rest: typed,
+                    rest,
                 })
             }
         }
     }
 
+    #[cycle(expressions)]
+    fn links(&mut self, rest: &[syntax::Link]) -> Result<Vec<Link>, TypeFault>
+        ensures same { self.new.variables ≡ self.old.variables }
+        ensures grows { length self.old.sites.items ≤ length self.new.sites.items }
+        ensures formed { IfOk result (λ typed. AreFormedLinks (length self.old.variables.items) (length self.new.sites.items) typed.items) }
+    {
+        let mut typed = Vec::new(self.alloc);
+        for link in rest {
+            typed.push(self.link(link)?)?;
+        }
+        Ok(typed)
+    }
+
+    #[cycle(expressions)]
+    fn link(&mut self, link: &syntax::Link) -> Result<Link, TypeFault>
+        ensures same { self.new.variables ≡ self.old.variables }
+        ensures grows { length self.old.sites.items ≤ length self.new.sites.items }
+        ensures formed { IfOk result (IsFormedLink (length self.old.variables.items) (length self.new.sites.items)) }
+    {
+        let (number, overflow) = self.operator(link.place)?;
+        Ok(Link {
+            number,
+            operator: typed_sign(link.operator),
+            overflow,
+            operand: self.expression(&link.operand)?,
+        })
+    }
+
     // An operator between operands: its number, and the site of its result's test.
-    fn operator(&mut self, place: Place) -> Result<(u32, u32), TypeFault> {
+    fn operator(&mut self, place: Place) -> Result<(u32, u32), TypeFault>
+        ensures same { self.new.variables ≡ self.old.variables }
+        ensures grows { length self.old.sites.items ≤ length self.new.sites.items }
+        ensures known { IfOk result (λ r. r.1 < length self.new.sites.items) }
+    {
         let overflow = self.site(SiteKind::Overflow, place)?;
         Ok((self.enter()?, overflow))
     }
 
-    fn number(&mut self, value: u32, place: Place) -> Result<Expr, TypeFault> {
+    fn number(&mut self, value: u32, place: Place) -> Result<Expr, TypeFault>
+        ensures same { self.new.variables ≡ self.old.variables }
+        ensures grows { length self.old.sites.items ≤ length self.new.sites.items }
+        ensures formed { IfOk result (IsFormedExpr (length self.old.variables.items) (length self.new.sites.items)) }
+    {
         self.latest = place;
         let value = i32::try_from(value).map_err(|_| TypeFault::Mismatch(place))?;
+        self.constant(value, place)
+    }
+
+    // A constant of type integer.
+    fn constant(&mut self, value: i32, place: Place) -> Result<Expr, TypeFault>
+        ensures same { self.new.variables ≡ self.old.variables }
+        ensures grows { length self.old.sites.items ≤ length self.new.sites.items }
+        ensures formed { IfOk result (IsFormedExpr (length self.old.variables.items) (length self.new.sites.items)) }
+    {
+        if value < -MAXINT {
+            return Err(TypeFault::Mismatch(place));
+        }
         Ok(Expr::Constant {
             number: self.enter()?,
             value,
         })
     }
 
+    // The access of a variable that the program has.
+    fn access(&mut self, root: u32, place: Place) -> Result<Access, TypeFault>
+        ensures same { self.new.variables ≡ self.old.variables }
+        ensures grows { length self.old.sites.items ≤ length self.new.sites.items }
+        ensures sites { self.new.sites ≡ self.old.sites }
+        ensures known { IfOk result (λ access. access.root < length self.old.variables.items) }
+    {
+        if self.variables.get(root as usize).is_none() {
+            return Err(TypeFault::NotDeclared(place));
+        }
+        Ok(Access {
+            number: self.enter()?,
+            root,
+        })
+    }
+
     // A name as an expression.
-    fn named(&mut self, name: &syntax::Name) -> Result<Expr, TypeFault> {
+    fn named(&mut self, name: &syntax::Name) -> Result<Expr, TypeFault>
+        ensures same { self.new.variables ≡ self.old.variables }
+        ensures grows { length self.old.sites.items ≤ length self.new.sites.items }
+        ensures formed { IfOk result (IsFormedExpr (length self.old.variables.items) (length self.new.sites.items)) }
+    {
         match self.find(name)? {
-            Denotation::Constant { value, .. } => Ok(Expr::Constant {
-                number: self.enter()?,
-                value,
-            }),
+            Denotation::Constant { value, .. } => self.constant(value, name.place),
             Denotation::Variable(root) => {
-                let access = Access {
-                    number: self.enter()?,
-                    root,
-                };
+                let access = self.access(root, name.place)?;
                 let defined = self.site(SiteKind::UndefinedVariable, name.place)?;
                 Ok(Expr::Variable { access, defined })
             }

@@ -12,8 +12,8 @@ returns-clause-ran g c =
       certificate = compiled.certificate;
       code = compiled.stripped;
       valid = c.in_ok-compiled.ensures.checked;
-      closed_never_err = c.in_ok-compiled.ensures.closed_never_err;
       stripped = c.in_ok-compiled.ensures.stripped;
+      headline = c.in_ok-compiled.ensures.headline;
       ran = λ input. subst
           (λ n. Tells c.run-stop.result (machine compiled.stripped input n c.args.budget) (g.W.Sink.contents c.args.writer.now) (g.W.Sink.contents c.run-stop.new.writer))
           c.in_ok-machine.ensures

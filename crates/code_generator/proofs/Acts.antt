@@ -1,0 +1,163 @@
+-- What each instruction does to a store whose topmost cells are known, in the program's own frame.
+use Rattle.std.proofs.Common.{◌≡◌, ℕ, ◌+◌, ◌-◌, ◌<◌, ◌≤◌, List, [], ◌∷◌, ◌++◌, length, take, drop, Some, None, Ok, Err, ap, ◌∙◌, arith, append_assoc, length-append, true}
+use Rattle.std.specs.Prelude.{slice_get, slice_set, ℤ, neg_ℤ, ◌+ℤ◌, ◌-ℤ◌, int_le, ◌&&◌, if◌then◌else◌}
+use Rattle.std.specs.Int.{w32, int_wrapping_add, int_wrapping_sub, int_wrapping_neg}
+use Rattle.std.specs.Int.RustNames.{FitsSigned}
+use Rattle.std.specs.List.{list_all}
+use Rattle.std.proofs.lemmas.Int.{ints, int_wrap_fits, wrapping_add_is, wrapping_sub_is, wrapping_neg_is}
+use Rattle.std.proofs.lemmas.Bool.{lt-ltb, le-leb}
+use Rattle.std.proofs.Math.Seq.{get_or-append_seam, take-append_seam, drop-append_seam}
+use Rattle.std.proofs.lemmas.Option.{slice_get-get_or}
+use Rattle.stack_machine.specs.declared.cell.Cell.{Cell}
+use Rattle.stack_machine.specs.declared.cell.Cell.TheVariants.{Undefined, Number}
+use Rattle.stack_machine.specs.declared.stop.MachineFault.TheVariants.{Underflow, OutOfBounds}
+use Rattle.stack_machine.specs.Frames.{Frames, ◌>>=◌, unless_fault, has, has_room_after, number, number_at, popped, pushed, in_use, variable, cell_at, load_constant, load, store, two_numbers, on_two, negate, top_two, is_integer, is_defined, top_is_in_range, top_is_defined, sum_is_integer, difference_is_integer}
+
+-- the element behind the first ones
+pub slice_get_seam : {A : Type 0} (below : List A) (a : A) (above : List A) → slice_get (below ++ a ∷ above) (length below) ≡ Some a
+slice_get_seam below a above =
+    let within : length below < length (below ++ a ∷ above) = omega (arith, length-append below (a ∷ above)) in
+    slice_get-get_or (below ++ a ∷ above) (length below) a within ∙ ap Some (get_or-append_seam below a above a)
+
+-- two more elements
+pub length_two : {A : Type 0} (below : List A) (a b : A) → length ((below ++ a ∷ []) ++ b ∷ []) ≡ length below + 2
+length_two below a b = omega (arith, length-append below (a ∷ []), length-append (below ++ a ∷ []) (b ∷ []))
+
+pub length_one : {A : Type 0} (below : List A) (a : A) → length (below ++ a ∷ []) ≡ length below + 1
+length_one below a = omega (arith, length-append below (a ∷ []))
+
+-- a number of the type integer
+pub record Fits (n : ℤ) : Type 0 where
+  pub is : is_integer n ≡ true
+
+pub fits_signed : (n : ℤ) → Fits n → FitsSigned w32 n
+fits_signed n h = let e = h.is in grind (arith, ints)
+
+pub fits_negated : (n : ℤ) → Fits n → Fits (neg_ℤ n)
+fits_negated n h = let e = h.is in record { is = grind (arith, ints) }
+
+pub negated_is : (n : ℤ) → Fits n → int_wrapping_neg w32 n ≡ neg_ℤ n
+negated_is n h = wrapping_neg_is w32 n (fits_signed n h) ∙ int_wrap_fits w32 (neg_ℤ n) (fits_signed (neg_ℤ n) (fits_negated n h))
+
+pub sum_is : (a b : ℤ) → Fits a → Fits b → Fits (a +ℤ b) → int_wrapping_add w32 a b ≡ a +ℤ b
+sum_is a b f g h = wrapping_add_is w32 a b (fits_signed a f) (fits_signed b g) ∙ int_wrap_fits w32 (a +ℤ b) (fits_signed (a +ℤ b) h)
+
+pub difference_is : (a b : ℤ) → Fits a → Fits b → Fits (a -ℤ b) → int_wrapping_sub w32 a b ≡ a -ℤ b
+difference_is a b f g h = wrapping_sub_is w32 a b (fits_signed a f) (fits_signed b g) ∙ int_wrap_fits w32 (a -ℤ b) (fits_signed (a -ℤ b) h)
+
+module _ (limit size : ℕ) where
+  -- the program's frame with these cells
+  abbrev pub framed : List Cell → Frames
+  framed cells = record { cells = cells; frame = 0; limit = limit; size = size }
+
+  has_some : (count : ℕ) (cells : List Cell) → 4 + count ≤ length cells → has count (framed cells) ≡ Ok tt
+  has_some count cells h = ap (λ b. unless_fault b Underflow) (le-leb (4 + count) (length cells) h)
+
+  has_room : (count : ℕ) (cells : List Cell) → length cells - count < limit → has_room_after count (framed cells) ≡ Ok tt
+  has_room count cells h = ap (λ b. unless_fault b OutOfBounds) (lt-ltb (length cells - count) limit h)
+
+  in_use_is : (offset used : ℕ) → offset < used → in_use (0 + offset) used ≡ Ok offset
+  in_use_is offset used h =
+      let e : 0 + offset ≡ offset = omega arith in
+      ap (λ n. in_use n used) e ∙ ap (λ b. if b then Ok offset else Err OutOfBounds) (lt-ltb offset used h)
+
+  -- a push
+  pub pushes : (cells : List Cell) (value : ℤ) → length cells < limit → load_constant value (framed cells) ≡ Ok (framed (cells ++ Number value ∷ []))
+  pushes cells value h = ap (λ r. r >>= λ _. Ok (pushed (Number value) (framed cells))) (has_room 0 cells (omega arith))
+
+  -- the value of a variable
+  pub loads : (cells : List Cell) (offset : ℕ) (cell : Cell) → length cells < limit → offset < length cells → slice_get cells offset ≡ Some cell → load 0 offset (framed cells) ≡ Ok (framed (cells ++ cell ∷ []))
+  loads cells offset cell room h e =
+      ap (λ r. r >>= λ _. variable 0 offset (framed cells) >>= λ a. Ok (pushed (cell_at a (framed cells)) (framed cells))) (has_room 0 cells (omega arith))
+      ∙ ap (λ r. r >>= λ a. Ok (pushed (cell_at a (framed cells)) (framed cells))) (in_use_is offset (length cells) h)
+      ∙ ap (λ o. Ok (framed (cells ++ (elim o as (λ _. Cell) [ Some there ↦ there | None ↦ Undefined ]) ∷ []))) e
+
+  module _ (below : List Cell) (linked : 4 ≤ length below) where
+    -- the topmost cell
+    top_at : (cell : Cell) → slice_get (below ++ cell ∷ []) (length (below ++ cell ∷ []) - 1) ≡ Some cell
+    top_at cell =
+        let e : length (below ++ cell ∷ []) - 1 ≡ length below = omega (arith, length_one below cell) in
+        ap (slice_get (below ++ cell ∷ [])) e ∙ slice_get_seam below cell []
+
+    one_popped : (cell : Cell) → take (length (below ++ cell ∷ []) - 1) (below ++ cell ∷ []) ≡ below
+    one_popped cell =
+        let e : length (below ++ cell ∷ []) - 1 ≡ length below = omega (arith, length_one below cell) in
+        ap (λ n. take n (below ++ cell ∷ [])) e ∙ take-append_seam below (cell ∷ [])
+
+    has_one : (cell : Cell) → has 1 (framed (below ++ cell ∷ [])) ≡ Ok tt
+    has_one cell = has_some 1 (below ++ cell ∷ []) (omega (arith, length_one below cell))
+
+    pub defines : (cell : Cell) → top_is_defined 1 (framed (below ++ cell ∷ [])) ≡ Ok (list_all is_defined (cell ∷ []))
+    defines cell =
+        let cells = below ++ cell ∷ [] in
+        let e : length cells - 1 ≡ length below = omega (arith, length_one below cell) in
+        ap (λ r. r >>= λ _. Ok (list_all is_defined (drop (length cells - 1) cells))) (has_one cell)
+        ∙ ap (λ n. Ok (list_all is_defined (drop n cells))) e
+        ∙ ap (λ cs. Ok (list_all is_defined cs)) (drop-append_seam below (cell ∷ []))
+
+    pub negates : (n : ℤ) → length below < limit → negate (framed (below ++ Number n ∷ [])) ≡ Ok (framed (below ++ Number (int_wrapping_neg w32 n) ∷ []))
+    negates n room =
+        let s = framed (below ++ Number n ∷ []) in
+        ap (λ r. r >>= λ _. has_room_after 1 s >>= λ _. number_at 1 s >>= λ v. Ok (pushed (Number (int_wrapping_neg w32 v)) (popped 1 s))) (has_one (Number n))
+        ∙ ap (λ r. r >>= λ _. number_at 1 s >>= λ v. Ok (pushed (Number (int_wrapping_neg w32 v)) (popped 1 s))) (has_room 1 (below ++ Number n ∷ []) (omega (arith, length_one below (Number n))))
+        ∙ ap (λ o. number o >>= λ v. Ok (pushed (Number (int_wrapping_neg w32 v)) (popped 1 s))) (top_at (Number n))
+        ∙ ap (λ cs. Ok (framed (cs ++ Number (int_wrapping_neg w32 n) ∷ []))) (one_popped (Number n))
+
+    pub is_in_range : (low high n : ℤ) → top_is_in_range low high (framed (below ++ Number n ∷ [])) ≡ Ok (int_le low n && int_le n high)
+    is_in_range low high n =
+        let s = framed (below ++ Number n ∷ []) in
+        ap (λ r. r >>= λ _. number_at 1 s >>= λ v. Ok (int_le low v && int_le v high)) (has_one (Number n))
+        ∙ ap (λ o. number o >>= λ v. Ok (int_le low v && int_le v high)) (top_at (Number n))
+
+    pub stores : (cell : Cell) (offset : ℕ) → offset < length below → store 0 offset (framed (below ++ cell ∷ [])) ≡ Ok (framed (slice_set below offset cell))
+    stores cell offset h =
+        let s = framed (below ++ cell ∷ []) in
+        ap (λ r. r >>= λ _. variable 0 offset (popped 1 s) >>= λ a. Ok (record (popped 1 s) { cells = slice_set (popped 1 s).cells a (cell_at (length s.cells - 1) s) })) (has_one cell)
+        ∙ ap (λ cs. variable 0 offset (framed cs) >>= λ a. Ok (framed (slice_set cs a (cell_at (length s.cells - 1) s)))) (one_popped cell)
+        ∙ ap (λ r. r >>= λ a. Ok (framed (slice_set below a (cell_at (length s.cells - 1) s)))) (in_use_is offset (length below) h)
+        ∙ ap (λ o. Ok (framed (slice_set below offset (elim o as (λ _. Cell) [ Some there ↦ there | None ↦ Undefined ])))) (top_at cell)
+
+    -- two numbers at the top
+    module _ (a b : ℤ) where
+      abbrev two : List Cell
+      two = (below ++ Number a ∷ []) ++ Number b ∷ []
+
+      right_at : slice_get two (length two - 1) ≡ Some (Number b)
+      right_at =
+          let e : length two - 1 ≡ length (below ++ Number a ∷ []) = omega (arith, length_two below (Number a) (Number b), length_one below (Number a)) in
+          ap (slice_get two) e ∙ slice_get_seam (below ++ Number a ∷ []) (Number b) []
+
+      left_at : slice_get two (length two - 2) ≡ Some (Number a)
+      left_at =
+          let e : length two - 2 ≡ length below = omega (arith, length_two below (Number a) (Number b)) in
+          ap (slice_get two) e ∙ ap (λ cs. slice_get cs (length below)) (append_assoc below (Number a ∷ []) (Number b ∷ [])) ∙ slice_get_seam below (Number a) (Number b ∷ [])
+
+      pub two_popped : take (length two - 2) two ≡ below
+      two_popped =
+          let e : length two - 2 ≡ length below = omega (arith, length_two below (Number a) (Number b)) in
+          ap (λ n. take n two) e ∙ ap (take (length below)) (append_assoc below (Number a ∷ []) (Number b ∷ [])) ∙ take-append_seam below (Number a ∷ Number b ∷ [])
+
+      has_two : has 2 (framed two) ≡ Ok tt
+      has_two = has_some 2 two (omega (arith, length_two below (Number a) (Number b)))
+
+      numbers_are : two_numbers (framed two) ≡ Ok (a, b)
+      numbers_are =
+          ap (λ o. number o >>= λ l. number_at 1 (framed two) >>= λ r. Ok (l, r)) left_at
+          ∙ ap (λ o. number o >>= λ r. Ok (a, r)) right_at
+
+      pub top_is : top_two (framed two) ≡ Ok (a, b)
+      top_is = ap (λ r. r >>= λ _. two_numbers (framed two)) has_two ∙ numbers_are
+
+      pub sums : sum_is_integer (framed two) ≡ Ok (is_integer (a +ℤ b))
+      sums = ap (λ r. r >>= λ ns. Ok (is_integer (ns.0 +ℤ ns.1))) top_is
+
+      pub differs : difference_is_integer (framed two) ≡ Ok (is_integer (a -ℤ b))
+      differs = ap (λ r. r >>= λ ns. Ok (is_integer (ns.0 -ℤ ns.1))) top_is
+
+      pub on_two_is : (f : ℤ → ℤ → ℤ) → length below < limit → on_two f (framed two) ≡ Ok (framed (below ++ Number (f a b) ∷ []))
+      on_two_is f room =
+          let s = framed two in
+          ap (λ r. r >>= λ _. has_room_after 2 s >>= λ _. two_numbers s >>= λ ns. Ok (pushed (Number (f ns.0 ns.1)) (popped 2 s))) has_two
+          ∙ ap (λ r. r >>= λ _. two_numbers s >>= λ ns. Ok (pushed (Number (f ns.0 ns.1)) (popped 2 s))) (has_room 2 two (omega (arith, length_two below (Number a) (Number b))))
+          ∙ ap (λ r. r >>= λ ns. Ok (pushed (Number (f ns.0 ns.1)) (popped 2 s))) numbers_are
+          ∙ ap (λ cs. Ok (framed (cs ++ Number (f a b) ∷ []))) two_popped

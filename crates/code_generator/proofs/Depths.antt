@@ -1,0 +1,140 @@
+-- How many cells an evaluation needs at once is no more than its code has instructions, nor than the count that a full
+-- store is judged by.
+use Rattle.std.proofs.Common.{◌≡◌, ℕ, ◌+◌, ◌≤◌, max, List, [], ◌∷◌, ◌++◌, length, map, refl, sym, subst, arith, length-append}
+use Rattle.std.specs.Prelude.{fold, sum, sum_by}
+use Rattle.std.specs.List.{flat_map}
+use Rattle.std.proofs.lemmas.List.Sums.{sum_by-cons}
+use Rattle.pcode_assembler.specs.declared.instr.Instr.{Instr}
+use Rattle.typed_tree.specs.declared.tree.Sign.{Sign}
+use Rattle.typed_tree.specs.declared.tree.Sign.TheVariants.{Plus, Minus}
+use Rattle.typed_tree.specs.declared.tree.Expr.{Expr}
+use Rattle.typed_tree.specs.declared.tree.Link.{Link}
+use Rattle.typed_tree.specs.declared.tree.Expr.TheOpen.{Expr-F, Link-F}
+use Rattle.typed_tree.specs.declared.tree.Expr.TheOpen.Expr-F.{Constant, Variable, Signed, Sum}
+use Rattle.typed_tree.specs.declared.tree.Expr.TheViews.{roll-Expr, roll-Link}
+use Rattle.typed_tree.specs.declared.tree.Expr.TheFolds.{fold-Link, map-Expr, map-Link, fold-roll-Expr, fold-roll-Link, ind-Expr}
+use Rattle.typed_tree.specs.declared.tree.Stmt.{Stmt}
+use Rattle.typed_tree.specs.declared.tree.Stmt.TheOpen.{Stmt-F}
+use Rattle.typed_tree.specs.declared.tree.Stmt.TheOpen.Stmt-F.{Empty, Assign, Writeln, Compound}
+use Rattle.typed_tree.specs.declared.tree.Stmt.TheViews.{roll-Stmt}
+use Rattle.typed_tree.specs.declared.tree.Stmt.TheFolds.{map-Stmt, fold-roll-Stmt, ind-Stmt}
+use Rattle.code_generator.specs.Code.{joined, sign_code, operation_code, expr_code, link_code, expr_step, link_step, expr_depth, link_depth, expr_depth_step, link_depth_step, value_depth, write_code, stmt_code, stmt_step, stmt_depth, stmt_depth_step}
+use Rattle.code_generator.specs.Need.{expr_need, expr_need_step, link_need_step, stmt_need, stmt_need_step}
+
+-- a depth is within the length of some code and within a need
+pub record Within (depth : ℕ) (code : List Instr) (need : ℕ) : Type 0 where
+  pub code_is : depth ≤ length code
+  pub need_is : depth ≤ need
+
+same_within : (d d' : ℕ) (c c' : List Instr) (n n' : ℕ) → d ≡ d' → c ≡ c' → n ≡ n' → Within d' c' n' → Within d c n
+same_within d d' c c' n n' p q r w =
+    subst (λ x. Within x c n) (sym p) (subst (λ x. Within d' x n) (sym q) (subst (λ x. Within d' c' x) (sym r) w))
+
+-- the need of an operator and its right operand
+abbrev link_need : Link → ℕ
+link_need = fold-Link ℕ ℕ expr_need_step link_need_step
+
+abbrev ExprWithin : Expr → Type 0
+ExprWithin e = Within (expr_depth e) (expr_code e) (expr_need e)
+
+abbrev LinkWithin : Link → Type 0
+LinkWithin l = Within (link_depth l) (link_code l) (link_need l)
+
+sum-cons : (n : ℕ) (ns : List ℕ) → sum (n ∷ ns) ≡ n + sum ns
+sum-cons n ns = sum_by-cons (λ x. x) n ns
+
+-- the greatest of some depths, behind a first one
+row_within : {X : Type 0} (f : X → ℕ) (c : X → List Instr) (g : X → ℕ) (xs : List ((x : X) × Within (f x) (c x) (g x))) (depth : ℕ) (first : List Instr) (need : ℕ) → Within depth first need → Within (fold max depth (map f (map (λ x. x.0) xs))) (first ++ joined (map c (map (λ x. x.0) xs))) (need + sum (map g (map (λ x. x.0) xs)))
+row_within f c g [] depth first need w =
+    let a = w.code_is in let b = w.need_is in record { code_is = omega (arith, length-append first []); need_is = omega arith }
+row_within f c g (x ∷ xs) depth first need w =
+    let a = w.code_is in let b = w.need_is in
+    let a' = x.1.code_is in let b' = x.1.need_is in
+    let rest = joined (map c (map (λ y. y.0) xs)) in
+    let needs = sum (map g (map (λ y. y.0) xs)) in
+    let both = length-append first (c x.0) in
+    let w' : Within (max depth (f x.0)) (first ++ c x.0) (need + g x.0) = record { code_is = omega arith; need_is = omega arith } in
+    let r = row_within f c g xs (max depth (f x.0)) (first ++ c x.0) (need + g x.0) w' in
+    let p = r.code_is in let q = r.need_is in
+    let all = sum-cons (g x.0) (map g (map (λ y. y.0) xs)) in
+    record {
+      code_is = omega (arith, length-append (first ++ c x.0) rest, length-append first (c x.0 ++ rest), length-append (c x.0) rest);
+      need_is = omega arith;
+    }
+
+rolled_expr : (x : Expr-F Expr Link) → Within (expr_depth_step (map-Expr Expr Link ℕ ℕ expr_depth link_depth x)) (expr_step (map-Expr Expr Link (List Instr) (List Instr) expr_code link_code x)) (expr_need_step (map-Expr Expr Link ℕ ℕ expr_need link_need x)) → ExprWithin (roll-Expr x)
+rolled_expr x =
+    same_within _ _ _ _ _ _ (fold-roll-Expr ℕ ℕ expr_depth_step link_depth_step x) (fold-roll-Expr (List Instr) (List Instr) expr_step link_step x) (fold-roll-Expr ℕ ℕ expr_need_step link_need_step x)
+
+rolled_link : (x : Link-F Expr Link) → Within (link_depth_step (map-Link Expr Link ℕ ℕ expr_depth link_depth x)) (link_step (map-Link Expr Link (List Instr) (List Instr) expr_code link_code x)) (link_need_step (map-Link Expr Link ℕ ℕ expr_need link_need x)) → LinkWithin (roll-Link x)
+rolled_link x =
+    same_within _ _ _ _ _ _ (fold-roll-Link ℕ ℕ expr_depth_step link_depth_step x) (fold-roll-Link (List Instr) (List Instr) expr_step link_step x) (fold-roll-Link ℕ ℕ expr_need_step link_need_step x)
+
+length-operation_code : (sign : Sign) (overflow : ℕ) → length (operation_code sign overflow) ≡ 2
+length-operation_code Plus overflow = refl
+length-operation_code Minus overflow = refl
+
+expr_layer : (y : Expr-F ((e : Expr) × ExprWithin e) ((l : Link) × LinkWithin l)) → ExprWithin (roll-Expr (map-Expr ((e : Expr) × ExprWithin e) ((l : Link) × LinkWithin l) Expr Link (λ e. e.0) (λ l. l.0) y))
+expr_layer (Constant number n) = rolled_expr (Constant number n) (record { code_is = omega arith; need_is = omega arith })
+expr_layer (Variable access defined) = rolled_expr (Variable access defined) (record { code_is = omega arith; need_is = omega arith })
+expr_layer (Signed number sign operand) =
+    let a = operand.value.1.code_is in let b = operand.value.1.need_is in
+    rolled_expr (map-Expr ((e : Expr) × ExprWithin e) ((l : Link) × LinkWithin l) Expr Link (λ e. e.0) (λ l. l.0) (Signed number sign operand)) (record { code_is = omega (arith, length-append (expr_code operand.value.0) (sign_code sign)); need_is = omega arith })
+expr_layer (Sum first rest) =
+    rolled_expr (map-Expr ((e : Expr) × ExprWithin e) ((l : Link) × LinkWithin l) Expr Link (λ e. e.0) (λ l. l.0) (Sum first rest)) (row_within link_depth link_code link_need rest.items (expr_depth first.value.0) (expr_code first.value.0) (expr_need first.value.0) first.value.1)
+
+link_layer : (y : Link-F ((e : Expr) × ExprWithin e) ((l : Link) × LinkWithin l)) → LinkWithin (roll-Link (map-Link ((e : Expr) × ExprWithin e) ((l : Link) × LinkWithin l) Expr Link (λ e. e.0) (λ l. l.0) y))
+link_layer y =
+    let a = y.operand.1.code_is in let b = y.operand.1.need_is in
+    rolled_link (map-Link ((e : Expr) × ExprWithin e) ((l : Link) × LinkWithin l) Expr Link (λ e. e.0) (λ l. l.0) y) (record { code_is = omega (arith, length-append (expr_code y.operand.0) (operation_code y.operator y.overflow), length-operation_code y.operator y.overflow); need_is = omega arith })
+
+pub expr_within : (e : Expr) → ExprWithin e
+expr_within =
+    ind-Expr ExprWithin LinkWithin (λ x y is. subst (λ z. ExprWithin (roll-Expr z)) is (expr_layer y)) (λ x y is. subst (λ z. LinkWithin (roll-Link z)) is (link_layer y))
+
+-- the values of a writeln
+values_within : (es : List Expr) (depth : ℕ) (first : List Instr) (need : ℕ) → 2 ≤ need → Within depth first need → Within (fold max depth (map value_depth es)) (first ++ flat_map write_code es) (need + sum_by expr_need es)
+values_within [] depth first need h w =
+    let a = w.code_is in let b = w.need_is in record { code_is = omega (arith, length-append first []); need_is = omega arith }
+values_within (e ∷ es) depth first need h w =
+    let a = w.code_is in let b = w.need_is in
+    let v = expr_within e in
+    let a' = v.code_is in let b' = v.need_is in
+    let rest = flat_map write_code es in
+    let needs = sum_by expr_need es in
+    let both = length-append first (write_code e) in
+    let one : length (write_code e) ≡ length (expr_code e) + 2 = length-append (expr_code e) _ in
+    let w' : Within (max depth (value_depth e)) (first ++ write_code e) (need + expr_need e) = record { code_is = omega arith; need_is = omega arith } in
+    let r = values_within es (max depth (value_depth e)) (first ++ write_code e) (need + expr_need e) (omega arith) w' in
+    let p = r.code_is in let q = r.need_is in
+    let all = sum_by-cons expr_need e es in
+    record {
+      code_is = omega (arith, length-append (first ++ write_code e) rest, length-append first (write_code e ++ rest), length-append (write_code e) rest);
+      need_is = omega arith;
+    }
+
+abbrev StmtWithin : Stmt → Type 0
+StmtWithin s = Within (stmt_depth s) (stmt_code s) (stmt_need s)
+
+rolled_stmt : (x : Stmt-F Stmt) → Within (stmt_depth_step (map-Stmt Stmt ℕ stmt_depth x)) (stmt_step (map-Stmt Stmt (List Instr) stmt_code x)) (stmt_need_step (map-Stmt Stmt ℕ stmt_need x)) → StmtWithin (roll-Stmt x)
+rolled_stmt x =
+    same_within _ _ _ _ _ _ (fold-roll-Stmt ℕ stmt_depth_step x) (fold-roll-Stmt (List Instr) stmt_step x) (fold-roll-Stmt ℕ stmt_need_step x)
+
+stmt_layer : (y : Stmt-F ((s : Stmt) × StmtWithin s)) → StmtWithin (roll-Stmt (map-Stmt ((s : Stmt) × StmtWithin s) Stmt (λ s. s.0) y))
+stmt_layer (Empty number) = rolled_stmt (Empty number) (record { code_is = omega arith; need_is = omega arith })
+stmt_layer (Assign number target fits value) =
+    let v = expr_within value in
+    let a = v.code_is in let b = v.need_is in
+    rolled_stmt (Assign number target fits value) (record { code_is = omega (arith, length-append {A = Instr}); need_is = omega arith })
+stmt_layer (Writeln number values) =
+    let none : Within 0 [] 8 = record { code_is = omega arith; need_is = omega arith } in
+    let w = values_within values.items 0 [] 8 (omega arith) none in
+    let a = w.code_is in let b = w.need_is in
+    rolled_stmt (Writeln number values) (record { code_is = omega (arith, length-append {A = Instr}); need_is = b })
+stmt_layer (Compound number statements) =
+    let none : Within 0 [] 8 = record { code_is = omega arith; need_is = omega arith } in
+    rolled_stmt (map-Stmt ((s : Stmt) × StmtWithin s) Stmt (λ s. s.0) (Compound number statements)) (row_within stmt_depth stmt_code stmt_need statements.items 0 [] 8 none)
+
+-- the same of a statement
+pub stmt_within : (s : Stmt) → StmtWithin s
+stmt_within = ind-Stmt StmtWithin (λ x y is. subst (λ z. StmtWithin (roll-Stmt z)) is (stmt_layer y))

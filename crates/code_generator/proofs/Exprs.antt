@@ -1,0 +1,321 @@
+-- The code of an expression leaves its value on top, or stops as the expression does.
+use Rattle.std.proofs.Common.{◌≡◌, ℕ, zero, suc, ◌+◌, ◌<◌, ◌≤◌, max, List, [], ◌∷◌, ◌++◌, length, map, Option, Some, None, Ok, Err, refl, sym, ap, ◌∙◌, subst, arith, length-append, Bool, true, false}
+use Rattle.std.specs.Prelude.{slice_get, ℤ, pos, neg_ℤ, ◌+ℤ◌, ◌-ℤ◌, int_le, nat_lt, ◌&&◌, if◌then◌else◌, fold}
+use Rattle.std.proofs.lemmas.Bool.{ltb-true, and_parts}
+use Rattle.pcode_assembler.specs.declared.code.Site.{Site as Plain}
+use Rattle.pcode_assembler.specs.declared.instr.Instr.{Instr}
+use Rattle.pcode_assembler.specs.declared.instr.Instr.TheVariants as instr
+use Rattle.typed_tree.specs.declared.tree.Tree.{Tree}
+use Rattle.typed_tree.specs.declared.tree.Access.{Access}
+use Rattle.typed_tree.specs.declared.tree.Sign.{Sign}
+use Rattle.typed_tree.specs.declared.tree.Sign.TheVariants.{Plus, Minus}
+use Rattle.typed_tree.specs.declared.tree.Expr.{Expr}
+use Rattle.typed_tree.specs.declared.tree.Link.{Link}
+use Rattle.typed_tree.specs.declared.tree.Expr.TheOpen.{Expr-F, Link-F}
+use Rattle.typed_tree.specs.declared.tree.Expr.TheOpen.Expr-F.{Constant, Variable, Signed, Sum}
+use Rattle.typed_tree.specs.declared.tree.Expr.TheViews.{roll-Expr, roll-Link}
+use Rattle.typed_tree.specs.declared.tree.Expr.TheFolds.{fold-Expr, fold-Link, map-Expr, map-Link, fold-roll-Expr, fold-roll-Link, ind-Expr}
+use Rattle.meaning.specs.declared.outcome.Ending.{Ending}
+use Rattle.meaning.specs.declared.outcome.Ending.TheVariants as ending
+use Rattle.meaning.specs.declared.store.Value.{Value}
+use Rattle.meaning.specs.declared.store.Value.TheVariants as value
+use Rattle.meaning.specs.Store as meant
+use Rattle.meaning.specs.Store.{Environment, Place, stored}
+use Rattle.meaning.specs.Effect as effect
+use Rattle.meaning.specs.Effect.{Reply, Gives, Action, ◌>>=◌, place_of, fetched, require, give}
+use Rattle.meaning.specs.Meaning.{Evaluation, Combination, value_of, value_step, combined, signed, in_turn}
+use Rattle.meaning.specs.Meaning as meaning
+use Rattle.stack_machine.specs.declared.stop.Stop.{Stop}
+use Rattle.stack_machine.specs.declared.stop.Stop.TheVariants as stop
+use Rattle.stack_machine.specs.declared.cell.Cell.{Cell}
+use Rattle.stack_machine.specs.declared.cell.Cell.TheVariants.{Undefined, Number}
+use Rattle.stack_machine.specs.Frames as frames
+use Rattle.stack_machine.specs.Frames.{Attempt}
+use Rattle.stack_machine.specs.Machine.{State, obeyed, and_then, checked, with_frames, error_of}
+use Rattle.code_generator.specs.Code.{joined, operand, variable_offset, sign_code, operation_code, variable_code, expr_code, link_code, expr_step, link_step, expr_depth, link_depth, expr_depth_step, link_depth_step}
+use Rattle.code_generator.specs.Follows.{StopsAs}
+use Rattle.code_generator.specs.Tables.{site_table, in_plain_numbers}
+use Rattle.typed_tree.specs.WellFormed.{all_hold, expr_is_well_formed, link_is_well_formed, is_well_formed_expr, is_well_formed_link}
+use Rattle.code_generator.proofs.Reach.{HasAt, has_front, has_back, Comes, Stops, comes_on, comes_nowhere, comes_by, stops_on, stops_by}
+use Rattle.code_generator.proofs.Acts.{Fits, framed, length_one, pushes, loads, defines, negates, sums, differs, on_two_is, negated_is, sum_is, difference_is, fits_negated}
+
+-- an element of a table, and of the table that was made from it
+pub found_at : {A B : Type 0} (f : A → B) (xs : List A) (i : ℕ) → i < length xs → (x : A) × (slice_get xs i ≡ Some x) × (slice_get (map f xs) i ≡ Some (f x))
+found_at f [] i h = absurd (omega arith)
+found_at f (x ∷ xs) zero h = (x, refl, refl)
+found_at f (x ∷ xs) (suc i) h = found_at f xs i (omega arith)
+
+-- an operand that is small enough is the number itself
+pub operand_is : (n : ℕ) → n ≤ 4294967295 → operand n ≡ n
+operand_is n h = omega arith
+
+-- the start of a greatest number is no more than it
+pub start_within : (d : ℕ) (ds : List ℕ) → d ≤ fold max d ds
+start_within d [] = omega arith
+start_within d (e ∷ ds) = let r = start_within (max d e) ds in omega arith
+
+-- both tests of a number are the same
+pub same_test : (n : ℤ) → effect.is_integer (value.Number n) ≡ frames.is_integer n
+same_test n = both (int_le (neg_ℤ (pos 2147483647)) n)
+  where
+    both : (b : Bool) → (if b then int_le n (pos 2147483647) else false) ≡ (b && int_le n (pos 2147483647))
+    both true = refl
+    both false = refl
+
+-- what a cell holds for a variable
+abbrev pub cell_of : Option Value → Cell
+cell_of None = Undefined
+cell_of (Some (value.Number n)) = Number n
+
+-- a value of a variable is of its type
+abbrev pub HasFit : Option Value → Type 0
+HasFit None = Unit {0}
+HasFit (Some (value.Number n)) = Fits n
+
+-- where a variable of the program lies
+abbrev pub here : ℕ → Place
+here root = record { activation = 0; variable = root; steps = [] }
+
+-- the store of a program with so many variables, and the cells of its frame
+pub record Agrees (variables : ℕ) (store : meant.Store) (cells : List Cell) : Type 0 where
+  pub enough : 4 + variables ≤ length cells
+  pub each : (root : ℕ) → root < variables → slice_get cells (root + 4) ≡ Some (cell_of (stored store (here root)))
+  pub fit : (root : ℕ) → root < variables → HasFit (stored store (here root))
+
+slice_get-front : {A : Type 0} (xs ys : List A) (i : ℕ) (x : A) → slice_get xs i ≡ Some x → slice_get (xs ++ ys) i ≡ Some x
+slice_get-front [] ys i x e = cc
+slice_get-front (z ∷ xs) ys zero x e = e
+slice_get-front (z ∷ xs) ys (suc i) x e = slice_get-front xs ys i x e
+
+pub agrees_above : (variables : ℕ) (store : meant.Store) (cells : List Cell) (cell : Cell) → Agrees variables store cells → Agrees variables store (cells ++ cell ∷ [])
+agrees_above variables store cells cell a =
+    let enough = a.enough in record {
+      enough = omega (arith, length_one cells cell);
+      each = λ root h. slice_get-front cells (cell ∷ []) (root + 4) _ (a.each root h);
+      fit = a.fit;
+    }
+
+-- a run of some code of the program, in an environment, with what stays as it is while an expression is evaluated
+module _ (tree : Tree) (code : List Instr) (variables limit size : ℕ) (input : List ℕ) (env : Environment) (few : variables ≤ 4294967291) (visible : (root : ℕ) → place_of env root ≡ here root) where
+  abbrev pub plain_sites : List Plain
+  plain_sites = site_table tree.sites.items
+
+  -- the machine in the program's frame
+  abbrev pub at : List Cell → ℕ → List ℕ → State
+  at cells place output = record { frames = framed limit size cells; place = place; input = input; output = output }
+
+  -- from here it stops as the program ends
+  pub record Ends (m : State) (end : Ending) (output : List ℕ) : Type 0 where
+    pub why : Stop
+    pub stops : Stops plain_sites code m (record { output = output; stop = why })
+    pub so : StopsAs tree end why
+
+  pub ends_on : (a b : State) (end : Ending) (output : List ℕ) → Comes plain_sites code a b → Ends b end output → Ends a end output
+  ends_on a b end output l e = record { why = e.why; stops = stops_on plain_sites code a b _ l e.stops; so = e.so }
+
+  -- a check that fails
+  pub fails_at : (i : Instr) (m : State) (site : ℕ) → site < length tree.sites.items → slice_get code m.place ≡ Some i → obeyed plain_sites i (record m { place = m.place + 1 }) ≡ Err (error_of (slice_get plain_sites site)) → Ends m (ending.Error site) m.output
+  fails_at i m site h has does =
+      let found = found_at in_plain_numbers tree.sites.items site h in
+      let e = does ∙ ap (λ o. Err (error_of o)) found.2 in
+      record { why = stop.Error (in_plain_numbers found.0); stops = stops_by plain_sites code i m (stop.Error (in_plain_numbers found.0)) has e; so = (found.0, found.1, refl) }
+
+  -- an instruction of the store alone
+  pub acts : (i : Instr) (cells after : List Cell) (place : ℕ) (output : List ℕ) (attempt : Attempt frames.Frames) → slice_get code place ≡ Some i → obeyed plain_sites i (at cells (place + 1) output) ≡ and_then attempt (with_frames (at cells (place + 1) output)) → attempt ≡ Ok (framed limit size after) → Comes plain_sites code (at cells place output) (at after (place + 1) output)
+  acts i cells after place output attempt has rule e =
+      comes_by plain_sites code i (at cells place output) (at after (place + 1) output) has (rule ∙ ap (λ a. and_then a (with_frames (at cells (place + 1) output))) e)
+
+  -- a check that holds, and one that fails
+  pub passes : (i : Instr) (cells : List Cell) (place site : ℕ) (output : List ℕ) (holds : Attempt Bool) → slice_get code place ≡ Some i → obeyed plain_sites i (at cells (place + 1) output) ≡ checked plain_sites site (at cells (place + 1) output) holds → holds ≡ Ok true → Comes plain_sites code (at cells place output) (at cells (place + 1) output)
+  passes i cells place site output holds has rule e =
+      comes_by plain_sites code i (at cells place output) (at cells (place + 1) output) has (rule ∙ ap (checked plain_sites site (at cells (place + 1) output)) e)
+
+  pub refuses : (i : Instr) (cells : List Cell) (place site : ℕ) (output : List ℕ) (holds : Attempt Bool) → site < length tree.sites.items → slice_get code place ≡ Some i → obeyed plain_sites i (at cells (place + 1) output) ≡ checked plain_sites site (at cells (place + 1) output) holds → holds ≡ Ok false → Ends (at cells place output) (ending.Error site) output
+  refuses i cells place site output holds h has rule e =
+      fails_at i (at cells place output) site h has (rule ∙ ap (checked plain_sites site (at cells (place + 1) output)) e)
+
+  module _ (store : meant.Store) (output : List ℕ) where
+    -- the program's state is still the same, but for its entries
+    pub record Still (s : effect.State) : Type 0 where
+      pub store_is : s.store ≡ store
+      pub output_is : s.output ≡ output
+
+    -- what an expression's code does: its value on top, or a stop
+    abbrev pub Evaluates : State → List Cell → ℕ → Reply Value → Type 0
+    Evaluates m cells place (Gives (value.Number n) s) = Comes plain_sites code m (at (cells ++ Number n ∷ []) place output) × Fits n × Still s × (length cells < limit)
+    Evaluates m cells place (effect.Stops end s) = Ends m end output × Still s
+
+    evaluates_on : (a b : State) (cells : List Cell) (place : ℕ) (r : Reply Value) → Comes plain_sites code a b → Evaluates b cells place r → Evaluates a cells place r
+    evaluates_on a b cells place (Gives (value.Number n) s) l e = (comes_on plain_sites code _ _ _ l e.0, e.1, e.2, e.3)
+    evaluates_on a b cells place (effect.Stops end s) l e = (ends_on a b end output l e.0, e.1)
+
+    then_evaluates : (m : State) (cells cells' : List Cell) (place place' : ℕ) (r : Reply Value) (next : Value → Action Value) → Evaluates m cells place r → ((n : ℤ) (s : effect.State) → Fits n → Still s → length cells < limit → Evaluates (at (cells ++ Number n ∷ []) place output) cells' place' (next (value.Number n) s)) → Evaluates m cells' place' (effect.and_then r next)
+    then_evaluates m cells cells' place place' (Gives (value.Number n) s) next e h =
+        evaluates_on _ _ cells' place' (next (value.Number n) s) e.0 (h n s e.1 e.2 e.3)
+    then_evaluates m cells cells' place place' (effect.Stops end s) next e h = e
+
+    -- the code c of an evaluation
+    abbrev pub RunsAs : List Instr → ℕ → Bool → Evaluation → Type 0
+    RunsAs c depth well evaluation =
+        (place : ℕ) (cells : List Cell) (s : effect.State) → HasAt code place c → well ≡ true → Agrees variables store cells → length cells + depth ≤ limit → Still s → Evaluates (at cells place output) cells (place + length c) (evaluation env s)
+
+    -- the code c of an operator and its right operand
+    abbrev pub CombinesAs : List Instr → ℕ → Bool → Combination → Type 0
+    CombinesAs c depth well combination =
+        (place : ℕ) (cells : List Cell) (a : ℤ) (s : effect.State) → HasAt code place c → well ≡ true → Agrees variables store cells → length cells + depth ≤ limit → Fits a → Still s → Evaluates (at (cells ++ Number a ∷ []) place output) cells (place + length c) (combination env (value.Number a) s)
+
+    -- a constant
+    constant_runs : (number : ℕ) (n : ℤ) → RunsAs (expr_step (Constant number n)) (expr_depth_step (Constant number n)) (expr_is_well_formed variables (length tree.sites.items) (Constant number n)) (value_step (Constant number n))
+    constant_runs number n place cells s has well agrees room still =
+        (acts (instr.LoadConstant n) cells _ place output _ has.0 refl (pushes limit size cells n (omega arith)), record { is = well }, record { store_is = still.store_is; output_is = still.output_is }, omega arith)
+
+    -- a variable by what it holds
+    fetched_runs : (place offset defined : ℕ) (cells : List Cell) (s : effect.State) (held : Option Value) → slice_get code place ≡ Some (instr.CheckDefined defined 1) → defined < length tree.sites.items → 4 ≤ length cells → length cells < limit → HasFit held → Still s → Evaluates (at (cells ++ cell_of held ∷ []) place output) cells (place + 1) (fetched held defined s)
+    fetched_runs place offset defined cells s None has h linked room fit still =
+        (refuses (instr.CheckDefined defined 1) (cells ++ Undefined ∷ []) place defined output _ h has refl (defines limit size cells linked Undefined), still)
+    fetched_runs place offset defined cells s (Some (value.Number n)) has h linked room fit still =
+        (passes (instr.CheckDefined defined 1) (cells ++ Number n ∷ []) place defined output _ has refl (defines limit size cells linked (Number n)), fit, still, room)
+
+    variable_runs : (access : Access) (defined : ℕ) → RunsAs (variable_code access.root defined) 1 (nat_lt access.root variables && nat_lt defined (length tree.sites.items)) (value_step (Variable access defined))
+    variable_runs access defined place cells s has well agrees room still =
+        let parts = and_parts _ _ well in
+        let root_within = ltb-true access.root variables parts.0 in
+        let site_within = ltb-true defined (length tree.sites.items) parts.1 in
+        let enough = agrees.enough in
+        let offset = operand_is (access.root + 4) (omega arith) in
+        let s' : effect.State = record s { visited = s.visited ++ record { number = access.number; environment = env; store = s.store } ∷ [] } in
+        let still' : Still s' = record { store_is = still.store_is; output_is = still.output_is } in
+        let held = ap (λ st. stored st (place_of env access.root)) still.store_is ∙ ap (stored store) (visible access.root) in
+        let cell = cell_of (stored store (here access.root)) in
+        let loaded = acts (instr.Load 0 (variable_offset access.root)) cells (cells ++ cell ∷ []) place output _ has.0 refl (ap (λ o. frames.load 0 o (framed limit size cells)) offset ∙ loads limit size cells (access.root + 4) cell (omega arith) (omega arith) (agrees.each access.root root_within)) in
+        let checked' = fetched_runs (place + 1) (access.root + 4) defined cells s' (stored store (here access.root)) has.1.0 site_within (omega arith) (omega arith) (agrees.fit access.root root_within) still' in
+        let whole = evaluates_on _ _ cells (place + 1 + 1) _ loaded checked' in
+        let e : place + 1 + 1 ≡ place + 2 = omega arith in
+        subst (λ o. Evaluates (at cells place output) cells (place + 2) (fetched o defined s')) (sym held) (subst (λ p. Evaluates (at cells place output) cells p (fetched (stored store (here access.root)) defined s')) e whole)
+
+    -- a sign
+    sign_runs : (sign : Sign) (place : ℕ) (cells : List Cell) (n : ℤ) (s : effect.State) → HasAt code place (sign_code sign) → 4 ≤ length cells → length cells < limit → Fits n → Still s → Evaluates (at (cells ++ Number n ∷ []) place output) cells (place + length (sign_code sign)) (give (signed sign (value.Number n)) s)
+    sign_runs Plus place cells n s has linked room fit still =
+        let e : place ≡ place + 0 = omega arith in
+        (subst (λ p. Comes plain_sites code (at (cells ++ Number n ∷ []) place output) (at (cells ++ Number n ∷ []) p output)) e (comes_nowhere plain_sites code (at (cells ++ Number n ∷ []) place output)), fit, still, room)
+    sign_runs Minus place cells n s has linked room fit still =
+        let negated = negates limit size cells linked n room ∙ ap (λ v. Ok (framed limit size (cells ++ Number v ∷ []))) (negated_is n fit) in
+        (acts instr.Negate (cells ++ Number n ∷ []) (cells ++ Number (neg_ℤ n) ∷ []) place output _ has.0 refl negated, fits_negated n fit, still, room)
+
+    signed_runs : (number : ℕ) (sign : Sign) (c : List Instr) (depth : ℕ) (well : Bool) (v : Evaluation) → RunsAs c depth well v → RunsAs (c ++ sign_code sign) depth well (λ e. effect.enter number e >>= λ _. v e >>= λ w. give (signed sign w))
+    signed_runs number sign c depth well v runs place cells s has good agrees room still =
+        let s' : effect.State = record s { visited = s.visited ++ record { number = number; environment = env; store = s.store } ∷ [] } in
+        let still' : Still s' = record { store_is = still.store_is; output_is = still.output_is } in
+        let enough = agrees.enough in
+        let e : place + length c + length (sign_code sign) ≡ place + length (c ++ sign_code sign) = omega (arith, length-append c (sign_code sign)) in
+        let rest = has_back code place c (sign_code sign) has in
+        subst (λ p. Evaluates (at cells place output) cells p (effect.and_then (v env s') (λ w. give (signed sign w)))) e
+        (then_evaluates (at cells place output) cells cells (place + length c) (place + length c + length (sign_code sign)) (v env s') (λ w. give (signed sign w)) (runs place cells s' (has_front code place c (sign_code sign) has) good agrees room still') (λ n s2 fit still2 room2. sign_runs sign (place + length c) cells n s2 rest (omega arith) room2 fit still2))
+
+    -- a result that is checked
+    result_runs : (check apply : Instr) (overflow place : ℕ) (cells : List Cell) (a b c : ℤ) (s : effect.State) (holds : Attempt Bool) (attempt : Attempt frames.Frames) (good : Bool) → slice_get code place ≡ Some check → slice_get code (place + 1) ≡ Some apply → obeyed plain_sites check (at ((cells ++ Number a ∷ []) ++ Number b ∷ []) (place + 1) output) ≡ checked plain_sites overflow (at ((cells ++ Number a ∷ []) ++ Number b ∷ []) (place + 1) output) holds → obeyed plain_sites apply (at ((cells ++ Number a ∷ []) ++ Number b ∷ []) (place + 1 + 1) output) ≡ and_then attempt (with_frames (at ((cells ++ Number a ∷ []) ++ Number b ∷ []) (place + 1 + 1) output)) → holds ≡ Ok good → frames.is_integer c ≡ good → (Fits c → attempt ≡ Ok (framed limit size (cells ++ Number c ∷ []))) → overflow < length tree.sites.items → length cells < limit → Still s → Evaluates (at ((cells ++ Number a ∷ []) ++ Number b ∷ []) place output) cells (place + 2) (effect.and_then (require good overflow s) (λ _. give (value.Number c)))
+    result_runs check apply overflow place cells a b c s holds attempt true has has' rule rule' e f does h room still =
+        let two = (cells ++ Number a ∷ []) ++ Number b ∷ [] in
+        let fit : Fits c = record { is = f } in
+        let l = passes check two place overflow output holds has rule e in
+        let m = acts apply two (cells ++ Number c ∷ []) (place + 1) output attempt has' rule' (does fit) in
+        let p : place + 1 + 1 ≡ place + 2 = omega arith in
+        (subst (λ q. Comes plain_sites code (at two place output) (at (cells ++ Number c ∷ []) q output)) p (comes_on plain_sites code _ _ _ l m), fit, still, room)
+    result_runs check apply overflow place cells a b c s holds attempt false has has' rule rule' e f does h room still =
+        (refuses check ((cells ++ Number a ∷ []) ++ Number b ∷ []) place overflow output holds h has rule e, still)
+
+    operator_runs : (op : Sign) (overflow place : ℕ) (cells : List Cell) (a b : ℤ) (s : effect.State) → HasAt code place (operation_code op overflow) → overflow < length tree.sites.items → 4 ≤ length cells → length cells < limit → Fits a → Fits b → Still s → Evaluates (at ((cells ++ Number a ∷ []) ++ Number b ∷ []) place output) cells (place + length (operation_code op overflow)) (effect.and_then (require (effect.is_integer (combined op (value.Number a) (value.Number b))) overflow s) (λ _. give (combined op (value.Number a) (value.Number b))))
+    operator_runs Plus overflow place cells a b s has h linked room f g still =
+        let c = a +ℤ b in
+        subst (λ t. Evaluates (at ((cells ++ Number a ∷ []) ++ Number b ∷ []) place output) cells (place + 2) (effect.and_then (require t overflow s) (λ _. give (value.Number c)))) (sym (same_test c))
+        (result_runs (instr.CheckSum overflow) instr.Add overflow place cells a b c s _ _ (frames.is_integer c) has.0 has.1.0 refl refl (sums limit size cells linked a b) refl (λ fit. on_two_is limit size cells linked a b _ room ∙ ap (λ v. Ok (framed limit size (cells ++ Number v ∷ []))) (sum_is a b f g fit)) h room still)
+    operator_runs Minus overflow place cells a b s has h linked room f g still =
+        let c = a -ℤ b in
+        subst (λ t. Evaluates (at ((cells ++ Number a ∷ []) ++ Number b ∷ []) place output) cells (place + 2) (effect.and_then (require t overflow s) (λ _. give (value.Number c)))) (sym (same_test c))
+        (result_runs (instr.CheckDifference overflow) instr.Subtract overflow place cells a b c s _ _ (frames.is_integer c) has.0 has.1.0 refl refl (differs limit size cells linked a b) refl (λ fit. on_two_is limit size cells linked a b _ room ∙ ap (λ v. Ok (framed limit size (cells ++ Number v ∷ []))) (difference_is a b f g fit)) h room still)
+
+    -- an operator and its right operand
+    link_runs : (number overflow : ℕ) (op : Sign) (c : List Instr) (depth : ℕ) (well : Bool) (v : Evaluation) → RunsAs c depth well v → CombinesAs (c ++ operation_code op overflow) (depth + 1) (nat_lt overflow (length tree.sites.items) && well) (meaning.link_step (record { number = number; operator = op; overflow = overflow; operand = v }))
+    link_runs number overflow op c depth well v runs place cells a s has good agrees room fit still =
+        let s' : effect.State = record s { visited = s.visited ++ record { number = number; environment = env; store = s.store } ∷ [] } in
+        let still' : Still s' = record { store_is = still.store_is; output_is = still.output_is } in
+        let parts = and_parts _ _ good in
+        let site_within = ltb-true overflow (length tree.sites.items) parts.0 in
+        let enough = agrees.enough in
+        let one = length_one cells (Number a) in
+        let e : place + length c + length (operation_code op overflow) ≡ place + length (c ++ operation_code op overflow) = omega (arith, length-append c (operation_code op overflow)) in
+        let rest = has_back code place c (operation_code op overflow) has in
+        let next : Value → Action Value = λ right. require (effect.is_integer (combined op (value.Number a) right)) overflow >>= λ _. give (combined op (value.Number a) right) in
+        subst (λ p. Evaluates (at (cells ++ Number a ∷ []) place output) cells p (effect.and_then (v env s') next)) e
+        (then_evaluates (at (cells ++ Number a ∷ []) place output) (cells ++ Number a ∷ []) cells (place + length c) (place + length c + length (operation_code op overflow)) (v env s') next (runs place (cells ++ Number a ∷ []) s' (has_front code place c (operation_code op overflow) has) parts.1 (agrees_above variables store cells (Number a) agrees) (omega arith) still') (λ n s2 fit2 still2 room2. operator_runs op overflow (place + length c) cells a n s2 rest site_within (omega arith) (omega arith) fit fit2 still2))
+
+    -- what is shown of an expression, and of an operator and its right operand
+    abbrev pub ExprRuns : Expr → Type 0
+    ExprRuns e = RunsAs (expr_code e) (expr_depth e) (is_well_formed_expr variables (length tree.sites.items) e) (value_of e)
+
+    abbrev combination_of : Link → Combination
+    combination_of = fold-Link Evaluation Combination value_step meaning.link_step
+
+    abbrev LinkRuns : Link → Type 0
+    LinkRuns l = CombinesAs (link_code l) (link_depth l) (is_well_formed_link variables (length tree.sites.items) l) (combination_of l)
+
+    -- the operators of a sum, from left to right
+    links_run : (links : List ((l : Link) × LinkRuns l)) (depth place : ℕ) (cells : List Cell) (a : ℤ) (s : effect.State) → HasAt code place (joined (map link_code (map (λ l. l.0) links))) → all_hold (map (is_well_formed_link variables (length tree.sites.items)) (map (λ l. l.0) links)) ≡ true → Agrees variables store cells → length cells + fold max depth (map link_depth (map (λ l. l.0) links)) ≤ limit → length cells < limit → Fits a → Still s → Evaluates (at (cells ++ Number a ∷ []) place output) cells (place + length (joined (map link_code (map (λ l. l.0) links)))) (in_turn (map combination_of (map (λ l. l.0) links)) env (value.Number a) s)
+    links_run [] depth place cells a s has good agrees deep room fit still =
+        let e : place ≡ place + 0 = omega arith in
+        (subst (λ p. Comes plain_sites code (at (cells ++ Number a ∷ []) place output) (at (cells ++ Number a ∷ []) p output)) e (comes_nowhere plain_sites code (at (cells ++ Number a ∷ []) place output)), fit, still, room)
+    links_run (l ∷ links) depth place cells a s has good agrees deep room fit still =
+        let c = link_code l.0 in
+        let rest = joined (map link_code (map (λ k. k.0) links)) in
+        let d = start_within (max depth (link_depth l.0)) (map link_depth (map (λ k. k.0) links)) in
+        let e : place + length c + length rest ≡ place + length (c ++ rest) = omega (arith, length-append c rest) in
+        subst (λ p. Evaluates (at (cells ++ Number a ∷ []) place output) cells p (effect.and_then (combination_of l.0 env (value.Number a) s) (λ w. in_turn (map combination_of (map (λ k. k.0) links)) env w))) e
+        (then_evaluates _ cells cells (place + length c) (place + length c + length rest) (combination_of l.0 env (value.Number a) s) (λ w. in_turn (map combination_of (map (λ k. k.0) links)) env w) (l.1 place cells a s (has_front code place c rest has) (and_parts _ _ good).0 agrees (omega arith) fit still) (λ n s2 fit2 still2 room2. links_run links (max depth (link_depth l.0)) (place + length c) cells n s2 (has_back code place c rest has) (and_parts _ _ good).1 agrees deep room fit2 still2))
+
+    sum_runs : (first : (e : Expr) × ExprRuns e) (links : List ((l : Link) × LinkRuns l)) → RunsAs (expr_code first.0 ++ joined (map link_code (map (λ l. l.0) links))) (fold max (expr_depth first.0) (map link_depth (map (λ l. l.0) links))) (is_well_formed_expr variables (length tree.sites.items) first.0 && all_hold (map (is_well_formed_link variables (length tree.sites.items)) (map (λ l. l.0) links))) (λ e. value_of first.0 e >>= λ v. in_turn (map combination_of (map (λ l. l.0) links)) e v)
+    sum_runs first links place cells s has good agrees deep still =
+        let c = expr_code first.0 in
+        let rest = joined (map link_code (map (λ k. k.0) links)) in
+        let d = start_within (expr_depth first.0) (map link_depth (map (λ k. k.0) links)) in
+        let e : place + length c + length rest ≡ place + length (c ++ rest) = omega (arith, length-append c rest) in
+        subst (λ p. Evaluates (at cells place output) cells p (effect.and_then (value_of first.0 env s) (λ w. in_turn (map combination_of (map (λ k. k.0) links)) env w))) e
+        (then_evaluates _ cells cells (place + length c) (place + length c + length rest) (value_of first.0 env s) (λ w. in_turn (map combination_of (map (λ k. k.0) links)) env w) (first.1 place cells s (has_front code place c rest has) (and_parts _ _ good).0 agrees (omega arith) still) (λ n s2 fit2 still2 room2. links_run links (expr_depth first.0) (place + length c) cells n s2 (has_back code place c rest has) (and_parts _ _ good).1 agrees deep room2 fit2 still2))
+
+    same_runs : (c c' : List Instr) (d d' : ℕ) (w w' : Bool) (v v' : Evaluation) → c ≡ c' → d ≡ d' → w ≡ w' → v ≡ v' → RunsAs c' d' w' v' → RunsAs c d w v
+    same_runs c c' d d' w w' v v' p q r t runs =
+        subst (λ x. RunsAs x d w v) (sym p) (subst (λ x. RunsAs c' x w v) (sym q) (subst (λ x. RunsAs c' d' x v) (sym r) (subst (λ x. RunsAs c' d' w' x) (sym t) runs)))
+
+    same_combines : (c c' : List Instr) (d d' : ℕ) (w w' : Bool) (v v' : Combination) → c ≡ c' → d ≡ d' → w ≡ w' → v ≡ v' → CombinesAs c' d' w' v' → CombinesAs c d w v
+    same_combines c c' d d' w w' v v' p q r t runs =
+        subst (λ x. CombinesAs x d w v) (sym p) (subst (λ x. CombinesAs c' x w v) (sym q) (subst (λ x. CombinesAs c' d' x v) (sym r) (subst (λ x. CombinesAs c' d' w' x) (sym t) runs)))
+
+    abbrev is_step : Expr-F Bool Bool → Bool
+    is_step = expr_is_well_formed variables (length tree.sites.items)
+
+    abbrev is_link_step : Link-F Bool Bool → Bool
+    is_link_step = link_is_well_formed variables (length tree.sites.items)
+
+    rolled_expr : (x : Expr-F Expr Link) → RunsAs (expr_step (map-Expr Expr Link (List Instr) (List Instr) expr_code link_code x)) (expr_depth_step (map-Expr Expr Link ℕ ℕ expr_depth link_depth x)) (is_step (map-Expr Expr Link Bool Bool (fold-Expr Bool Bool is_step is_link_step) (fold-Link Bool Bool is_step is_link_step) x)) (value_step (map-Expr Expr Link Evaluation Combination value_of combination_of x)) → ExprRuns (roll-Expr x)
+    rolled_expr x =
+        same_runs _ _ _ _ _ _ _ _ (fold-roll-Expr (List Instr) (List Instr) expr_step link_step x) (fold-roll-Expr ℕ ℕ expr_depth_step link_depth_step x) (fold-roll-Expr Bool Bool is_step is_link_step x) (fold-roll-Expr Evaluation Combination value_step meaning.link_step x)
+
+    rolled_link : (x : Link-F Expr Link) → CombinesAs (link_step (map-Link Expr Link (List Instr) (List Instr) expr_code link_code x)) (link_depth_step (map-Link Expr Link ℕ ℕ expr_depth link_depth x)) (is_link_step (map-Link Expr Link Bool Bool (fold-Expr Bool Bool is_step is_link_step) (fold-Link Bool Bool is_step is_link_step) x)) (meaning.link_step (map-Link Expr Link Evaluation Combination value_of combination_of x)) → LinkRuns (roll-Link x)
+    rolled_link x =
+        same_combines _ _ _ _ _ _ _ _ (fold-roll-Link (List Instr) (List Instr) expr_step link_step x) (fold-roll-Link ℕ ℕ expr_depth_step link_depth_step x) (fold-roll-Link Bool Bool is_step is_link_step x) (fold-roll-Link Evaluation Combination value_step meaning.link_step x)
+
+    expr_layer : (y : Expr-F ((e : Expr) × ExprRuns e) ((l : Link) × LinkRuns l)) → ExprRuns (roll-Expr (map-Expr ((e : Expr) × ExprRuns e) ((l : Link) × LinkRuns l) Expr Link (λ e. e.0) (λ l. l.0) y))
+    expr_layer (Constant number n) = rolled_expr (Constant number n) (constant_runs number n)
+    expr_layer (Variable access defined) = rolled_expr (Variable access defined) (variable_runs access defined)
+    expr_layer (Signed number sign operand) =
+        rolled_expr (Signed number sign (record { ptr = operand.ptr; alloc = operand.alloc; value = operand.value.0 })) (signed_runs number sign (expr_code operand.value.0) (expr_depth operand.value.0) (is_well_formed_expr variables (length tree.sites.items) operand.value.0) (value_of operand.value.0) operand.value.1)
+    expr_layer (Sum first rest) =
+        rolled_expr (map-Expr ((e : Expr) × ExprRuns e) ((l : Link) × LinkRuns l) Expr Link (λ e. e.0) (λ l. l.0) (Sum first rest)) (sum_runs first.value rest.items)
+
+    link_layer : (y : Link-F ((e : Expr) × ExprRuns e) ((l : Link) × LinkRuns l)) → LinkRuns (roll-Link (map-Link ((e : Expr) × ExprRuns e) ((l : Link) × LinkRuns l) Expr Link (λ e. e.0) (λ l. l.0) y))
+    link_layer y =
+        rolled_link (map-Link ((e : Expr) × ExprRuns e) ((l : Link) × LinkRuns l) Expr Link (λ e. e.0) (λ l. l.0) y) (link_runs y.number y.overflow y.operator (expr_code y.operand.0) (expr_depth y.operand.0) (is_well_formed_expr variables (length tree.sites.items) y.operand.0) (value_of y.operand.0) y.operand.1)
+
+    -- the code of an expression leaves its value on top, or stops as the expression does
+    pub expr_runs : (e : Expr) → ExprRuns e
+    expr_runs =
+        ind-Expr ExprRuns LinkRuns (λ x y is. subst (λ z. ExprRuns (roll-Expr z)) is (expr_layer y)) (λ x y is. subst (λ z. LinkRuns (roll-Link z)) is (link_layer y))

@@ -1,0 +1,307 @@
+-- The code of a well formed tree follows its program.
+use Rattle.std.proofs.Common.{◌≡◌, ℕ, zero, suc, ◌+◌, ◌<◌, ◌≤◌, ◌⊎◌, List, [], ◌∷◌, ◌++◌, length, replicate, Option, Some, None, refl, sym, ap, ◌∙◌, subst, inl, inr, ⊎_elim, arith, length-append, Bool, true, false}
+use Rattle.std.specs.Prelude.{slice_get, nat_lt, if◌then◌else◌, unwrap_or}
+use Rattle.std.proofs.lemmas.Bool.{cases_lt, lt-ltb, le-ltb, le-leb, lt-leb}
+use Rattle.pcode_assembler.specs.declared.code.Code.{Code}
+use Rattle.pcode_assembler.specs.declared.code.Site.{Site as Plain}
+use Rattle.pcode_assembler.specs.declared.instr.Instr.{Instr}
+use Rattle.pcode_assembler.specs.declared.instr.Instr.TheVariants as instr
+use Rattle.typed_tree.specs.declared.tree.Tree.{Tree}
+use Rattle.typed_tree.specs.declared.tree.Block.{Block}
+use Rattle.meaning.specs.declared.outcome.Ending.{Ending}
+use Rattle.meaning.specs.declared.outcome.Ending.TheVariants as ending
+use Rattle.meaning.specs.Effect as effect
+use Rattle.meaning.specs.Effect.{Reply, Gives, place_of}
+use Rattle.meaning.specs.Meaning as meant
+use Rattle.meaning.specs.Meaning.{Meaning, meaning, ended, program_environment}
+use Rattle.stack_machine.specs.declared.stop.Stop.{Stop}
+use Rattle.stack_machine.specs.declared.stop.Stop.TheVariants as stop
+use Rattle.stack_machine.specs.declared.cell.Cell.{Cell}
+use Rattle.stack_machine.specs.declared.cell.Cell.TheVariants.{Undefined}
+use Rattle.stack_machine.specs.Frames.{first_frames}
+use Rattle.stack_machine.specs.Machine as machines
+use Rattle.stack_machine.specs.Machine.{State}
+use Rattle.stack_machine.specs.Run as runs
+use Rattle.stack_machine.specs.Run.{Outcome, machine, steps}
+use Rattle.code_generator.specs.Code.{operand, stmt_code, stmt_depth, body_code, program_code}
+use Rattle.code_generator.specs.Follows.{BeginsWith, StopsAs, DoesAll, DoesAsMuch, IsExplained, Follows}
+use Rattle.code_generator.specs.Need.{body_need, program_need}
+use Rattle.code_generator.specs.Tables.{site_table}
+use Rattle.typed_tree.specs.WellFormed.{is_well_formed_body, IsWellFormed}
+use Rattle.code_generator.proofs.Reach.{HasAt, has_front, has_back, has_all, Comes, IsOver, comes_by, comes_nowhere, stops_on, stops_by, longer, one_end, grows, begins_itself}
+use Rattle.code_generator.proofs.Depths.{Within, stmt_within}
+use Rattle.code_generator.proofs.Exprs.{Agrees, here, operand_is}
+use Rattle.code_generator.proofs.Stmts as stmts
+use Rattle.code_generator.proofs.Stmts.{stmt_runs}
+
+-- the instructions of a block's statement, and its depth
+abbrev body_instructions : Option Block → List Instr
+body_instructions None = []
+body_instructions (Some block) = stmt_code block.body
+
+abbrev body_depth : Option Block → ℕ
+body_depth None = 0
+body_depth (Some block) = stmt_depth block.body
+
+body_within : (o : Option Block) → Within (body_depth o) (body_instructions o) (body_need o)
+body_within None = record { code_is = omega arith; need_is = omega arith }
+body_within (Some block) = stmt_within block.body
+
+body_code_is : (variables : ℕ) (o : Option Block) → body_code variables o ≡ instr.Enter variables (operand (body_depth o)) ∷ body_instructions o
+body_code_is variables None = refl
+body_code_is variables (Some block) = refl
+
+-- the variables of the program as a run begins
+undefined_at : (n i : ℕ) → i < n → slice_get (replicate n Undefined) i ≡ Some Undefined
+undefined_at zero i h = absurd (omega arith)
+undefined_at (suc n) zero h = refl
+undefined_at (suc n) (suc i) h = undefined_at n i (omega arith)
+
+length_undefined : (n : ℕ) → length (replicate n Undefined) ≡ n
+length_undefined zero = refl
+length_undefined (suc n) = ap suc (length_undefined n)
+
+abbrev entered_cells : ℕ → List Cell
+entered_cells n = (first_frames 0).cells ++ replicate n Undefined
+
+length_entered : (n : ℕ) → length (entered_cells n) ≡ 4 + n
+length_entered n = let e = length_undefined n in omega (arith, length-append (first_frames 0).cells (replicate n Undefined))
+
+agrees_first : (n : ℕ) → Agrees n [] (entered_cells n)
+agrees_first n = record {
+  enough = let e = length_entered n in omega arith;
+  each = λ root h.
+      let e : root + 4 ≡ suc (suc (suc (suc root))) = omega arith in
+      ap (slice_get (entered_cells n)) e ∙ undefined_at n root h;
+  fit = λ root h. tt;
+}
+
+visible_in : (tree : Tree) (root : ℕ) → place_of (program_environment tree) root ≡ here root
+visible_in tree root = by (nat_lt root (length tree.variables.items))
+  where
+    by : (b : Bool) → unwrap_or (if b then Some (here root) else None) (here root) ≡ here root
+    by true = refl
+    by false = refl
+
+-- a stop that is an end of the program
+abbrev IsEnd : Stop → Type 0
+IsEnd stop.Finished = Unit {0}
+IsEnd (stop.Error site) = Unit {0}
+IsEnd (stop.Input point fault) = Unit {0}
+IsEnd _ = ⊥
+
+stops_end : (tree : Tree) (e : Ending) (s : Stop) → StopsAs tree e s → IsEnd s
+stops_end tree ending.Finished s h = subst IsEnd (sym h) tt
+stops_end tree (ending.Error id) s h = subst IsEnd (sym h.2) tt
+stops_end tree (ending.Input id fault) s h = subst IsEnd (sym h.2) tt
+stops_end tree ending.More s h = absurd h
+
+end_over : (s : Stop) → IsEnd s → IsOver s
+end_over stop.Finished h = tt
+end_over (stop.Error site) h = tt
+end_over (stop.Input point fault) h = tt
+end_over stop.More h = absurd h
+end_over stop.StoreFull h = tt
+end_over (stop.Fault fault) h = tt
+end_over stop.ReadFailed h = tt
+end_over stop.WriteFailed h = tt
+
+as_much : (tree : Tree) (output : List ℕ) (e : Ending) (run : Outcome) → DoesAll tree (record { output = output; ending = e }) run → DoesAsMuch tree (record { output = output; ending = e }) run
+as_much tree output ending.Finished run h = h
+as_much tree output (ending.Error id) run h = h
+as_much tree output (ending.Input id fault) run h = h
+as_much tree output ending.More run h = absurd h.1
+
+nothing_before : (xs ys : List ℕ) → [] ≡ xs ++ ys → xs ≡ []
+nothing_before [] ys e = refl
+nothing_before (x ∷ xs) ys e = cc
+
+-- what is known of a run and of the end that a longer one comes to
+record Leads (run last : Outcome) : Type 0 where
+  over : IsOver run.stop → run ≡ last
+  begins : BeginsWith last.output run.output
+
+module _ (tree : Tree) (cells : ℕ) (means : ℕ → Meaning) where
+  done_there : (run last : Outcome) → Leads run last → DoesAll tree (means 0) last → IsOver run.stop → DoesAll tree (means 0) run
+  done_there run last l d over = subst (DoesAll tree (means 0)) (sym (l.over over)) d
+
+  not_there : (run last : Outcome) (s : Stop) → Leads run last → DoesAll tree (means 0) last → run.stop ≡ s → IsOver s → (IsEnd s → ⊥) → ⊥
+  not_there run last s l d e over other =
+      let d' = done_there run last l d (subst IsOver (sym e) over) in
+      other (subst IsEnd e (stops_end tree (means 0).ending run.stop d'.1))
+
+  -- a run where the program's frame fits
+  explained_done : (run last : Outcome) (s : Stop) → run.stop ≡ s → Leads run last → DoesAll tree (means 0) last → IsExplained tree cells means run s
+  explained_done run last stop.Finished e l d = (0, done_there run last l d (subst IsOver (sym e) tt))
+  explained_done run last (stop.Error site) e l d = (0, done_there run last l d (subst IsOver (sym e) tt))
+  explained_done run last (stop.Input point fault) e l d = (0, done_there run last l d (subst IsOver (sym e) tt))
+  explained_done run last stop.More e l d = (0, subst (λ o. BeginsWith o run.output) d.0 l.begins)
+  explained_done run last stop.StoreFull e l d = absurd (not_there run last stop.StoreFull l d e tt (λ x. x))
+  explained_done run last (stop.Fault fault) e l d = not_there run last (stop.Fault fault) l d e tt (λ x. x)
+  explained_done run last stop.ReadFailed e l d = not_there run last stop.ReadFailed l d e tt (λ x. x)
+  explained_done run last stop.WriteFailed e l d = not_there run last stop.WriteFailed l d e tt (λ x. x)
+
+  abbrev IsFull : Stop → Type 0
+  IsFull stop.StoreFull = Unit {0}
+  IsFull _ = ⊥
+
+  full_there : (run last : Outcome) (s : Stop) → Leads run last → last ≡ record { output = []; stop = stop.StoreFull } → run.stop ≡ s → IsOver s → IsFull s
+  full_there run last s l f e over =
+      let same = l.over (subst IsOver (sym e) over) ∙ f in
+      subst IsFull (sym (ap (λ o. o.stop) same) ∙ e) tt
+
+  -- a run where it doesn't
+  explained_full : (run last : Outcome) (s : Stop) → run.stop ≡ s → Leads run last → last ≡ record { output = []; stop = stop.StoreFull } → cells < program_need tree → IsExplained tree cells means run s
+  explained_full run last stop.Finished e l f few = absurd (full_there run last stop.Finished l f e tt)
+  explained_full run last (stop.Error site) e l f few = absurd (full_there run last (stop.Error site) l f e tt)
+  explained_full run last (stop.Input point fault) e l f few = absurd (full_there run last (stop.Input point fault) l f e tt)
+  explained_full run last stop.More e l f few =
+      let none = nothing_before run.output l.begins.0 (sym (ap (λ o. o.output) f) ∙ l.begins.1) in
+      (0, ((means 0).output, ap (λ o. o ++ (means 0).output) (sym none)))
+  explained_full run last stop.StoreFull e l f few =
+      let same = l.over (subst IsOver (sym e) tt) ∙ f in (ap (λ o. o.output) same, few)
+  explained_full run last (stop.Fault fault) e l f few = full_there run last (stop.Fault fault) l f e tt
+  explained_full run last stop.ReadFailed e l f few = full_there run last stop.ReadFailed l f e tt
+  explained_full run last stop.WriteFailed e l f few = full_there run last stop.WriteFailed l f e tt
+
+leads_to : (sites : List Plain) (code : List Instr) (b j : ℕ) (m : State) → IsOver (steps sites code j m).stop → Leads (steps sites code b m) (steps sites code j m)
+leads_to sites code b j m over = record {
+  over = λ over'. one_end sites code b j m over' over;
+  begins = ⊎_elim
+      (λ lt. grows sites code b j (omega arith) m)
+      (λ le. subst (λ r. BeginsWith (steps sites code j m).output r.output) (longer sites code j b le m over) (begins_itself (steps sites code j m).output))
+      (cases_lt b j);
+}
+
+module _ (tree : Tree) (well : IsWellFormed tree) (short : length (program_code tree) ≤ 4294967295) where
+  abbrev sites : List Plain
+  sites = site_table tree.sites.items
+
+  abbrev count : ℕ
+  count = length tree.variables.items
+
+  abbrev first : Option Block
+  first = slice_get tree.blocks.items 0
+
+  abbrev body : List Instr
+  body = body_instructions first
+
+  abbrev depth : ℕ
+  depth = body_depth first
+
+  -- the code, with its operands as they are
+  abbrev whole : List Instr
+  whole = instr.Enter count depth ∷ (body ++ instr.Stop ∷ [])
+
+  few : count ≤ 4294967291
+  few = well.few_variables
+
+  shallow : depth ≤ 4294967295
+  shallow =
+      let w = (body_within first).code_is in
+      let e = ap length (body_code_is (operand count) first) in
+      omega (arith, length-append (body_code (operand count) first) (instr.Stop ∷ []))
+
+  whole_is : program_code tree ≡ whole
+  whole_is =
+      let fits = few in
+      ap (λ c. c ++ (instr.Stop ∷ [])) (body_code_is (operand count) first)
+      ∙ ap (λ n. instr.Enter n (operand depth) ∷ (body ++ instr.Stop ∷ [])) (operand_is count (omega arith))
+      ∙ ap (λ n. instr.Enter count n ∷ (body ++ instr.Stop ∷ [])) (operand_is depth shallow)
+
+  has_body : HasAt whole 1 (body ++ instr.Stop ∷ [])
+  has_body = has_all (body ++ instr.Stop ∷ []) (instr.Enter count depth ∷ [])
+
+  module _ (input : List ℕ) (cells : ℕ) where
+    abbrev start : State
+    start = runs.first_state input cells
+
+    -- the state behind the entry
+    abbrev inside : State
+    inside = stmts.on tree whole count (4 + count + depth) cells input (program_environment tree) few (visible_in tree) (entered_cells count) 1 []
+
+    enters : 4 + count + depth ≤ cells → Comes sites whole start inside
+    enters h =
+        comes_by sites whole (instr.Enter count depth) start inside refl (ap (λ b. machines.with_frame (record start { place = 1 }) (if b then Some (record (first_frames cells) { cells = entered_cells count; limit = 4 + count + depth }) else None)) (le-leb (4 + count + depth) cells h))
+
+    refuses : cells < 4 + count + depth → steps sites whole 1 start ≡ record { output = []; stop = stop.StoreFull }
+    refuses h =
+        ap (λ b. runs.outcome_of (machines.with_frame (record start { place = 1 }) (if b then Some (record (first_frames cells) { cells = entered_cells count; limit = 4 + count + depth }) else None)) [] (steps sites whole 0)) (lt-leb (4 + count + depth) cells h)
+
+    body_runs : (o : Option Block) (place : ℕ) (s : effect.State) → HasAt whole place (body_instructions o) → is_well_formed_body count (length tree.sites.items) o ≡ true → Agrees count s.store (entered_cells count) → 4 + count + body_depth o ≤ 4 + count + depth → stmts.Executes tree whole count (4 + count + depth) cells input (program_environment tree) few (visible_in tree) (stmts.on tree whole count (4 + count + depth) cells input (program_environment tree) few (visible_in tree) (entered_cells count) place s.output) (place + length (body_instructions o)) (meant.run_of o (program_environment tree) s)
+    body_runs None place s has good agrees deep =
+        let e : place ≡ place + 0 = omega arith in
+        (entered_cells count, length_entered count, agrees, subst (λ p. Comes sites whole (stmts.on tree whole count (4 + count + depth) cells input (program_environment tree) few (visible_in tree) (entered_cells count) place s.output) (stmts.on tree whole count (4 + count + depth) cells input (program_environment tree) few (visible_in tree) (entered_cells count) p s.output)) e (comes_nowhere sites whole _))
+    body_runs (Some block) place s has good agrees deep =
+        let full = length_entered count in
+        stmt_runs tree whole count (4 + count + depth) cells input (program_environment tree) few (visible_in tree) block.body place (entered_cells count) s has good agrees full (omega arith)
+
+    -- the end of the body is the end of the run
+    finishes : (m : State) (place : ℕ) (r : Reply (Unit {0})) → slice_get whole place ≡ Some instr.Stop → Comes sites whole start m → stmts.Executes tree whole count (4 + count + depth) cells input (program_environment tree) few (visible_in tree) m place r → (j : ℕ) × DoesAll tree (ended r) (steps sites whole j start)
+    finishes m place (Gives done s) has l e =
+        let t = stops_by sites whole instr.Stop (stmts.on tree whole count (4 + count + depth) cells input (program_environment tree) few (visible_in tree) e.0 place s.output) stop.Finished has refl in
+        let u = stops_on sites whole start m _ l (stops_on sites whole m _ _ e.3 t) in
+        (u.budget, (ap (λ o. o.output) u.so, ap (λ o. o.stop) u.so))
+    finishes m place (effect.Stops end s) has l e =
+        let u = stops_on sites whole start m _ l e.stops in
+        (u.budget, (ap (λ o. o.output) u.so, subst (StopsAs tree end) (sym (ap (λ o. o.stop) u.so)) e.so))
+
+    done : (turns : ℕ) → 4 + count + depth ≤ cells → (j : ℕ) × DoesAll tree (meaning tree input turns) (steps sites whole j start)
+    done turns h =
+        finishes inside (1 + length body) (meant.run tree input turns) (has_back whole 1 body (instr.Stop ∷ []) has_body).0 (enters h) (body_runs first 1 (meant.first_state input turns) (has_front whole 1 body (instr.Stop ∷ []) has_body) well.body (agrees_first count) (omega arith))
+
+    needed : cells < 4 + count + depth → cells < program_need tree
+    needed h = let w = (body_within first).need_is in omega arith
+
+    explained : (budget : ℕ) → 4 ≤ cells → IsExplained tree cells (meaning tree input) (steps sites whole budget start) (steps sites whole budget start).stop
+    explained budget h =
+        ⊎_elim
+        (λ small.
+        let f = refuses small in
+        explained_full tree cells (meaning tree input) (steps sites whole budget start) (steps sites whole 1 start) (steps sites whole budget start).stop refl (leads_to sites whole budget 1 start (subst (λ o. IsOver o.stop) (sym f) tt)) f (needed small))
+        (λ large.
+        let d = done 0 large in
+        explained_done tree cells (meaning tree input) (steps sites whole budget start) (steps sites whole d.0 start) (steps sites whole budget start).stop refl (leads_to sites whole budget d.0 start (end_over _ (stops_end tree (meaning tree input 0).ending (steps sites whole d.0 start).stop d.1.1))) d.1)
+        (cases_lt cells (4 + count + depth))
+
+    -- the run of so many instructions
+    abbrev run : ℕ → Outcome
+    run budget = runs.run_of sites whole input cells budget
+
+    run_small : (budget : ℕ) → cells < 4 → run budget ≡ record { output = []; stop = stop.StoreFull }
+    run_small budget h = ap (λ b. if b then record { output = []; stop = stop.StoreFull } else steps sites whole budget start) (lt-ltb cells 4 h)
+
+    run_large : (budget : ℕ) → 4 ≤ cells → run budget ≡ steps sites whole budget start
+    run_large budget h = ap (λ b. if b then record { output = []; stop = stop.StoreFull } else steps sites whole budget start) (le-ltb cells 4 h)
+
+    sound : (budget : ℕ) → IsExplained tree cells (meaning tree input) (run budget) (run budget).stop
+    sound budget =
+        ⊎_elim
+        (λ small. subst (λ r. IsExplained tree cells (meaning tree input) r r.stop) (sym (run_small budget small)) (refl, (let h : cells < 4 + count + depth = omega arith in needed h)))
+        (λ large. subst (λ r. IsExplained tree cells (meaning tree input) r r.stop) (sym (run_large budget large)) (explained budget large))
+        (cases_lt cells 4)
+
+    abbrev Completes : ℕ → Type 0
+    Completes turns = ((budget : ℕ) × DoesAsMuch tree (meaning tree input turns) (run budget)) ⊎ ((budget : ℕ) × ((run budget).stop ≡ stop.StoreFull))
+
+    complete_large : (turns : ℕ) → 4 ≤ cells → Completes turns
+    complete_large turns h =
+        ⊎_elim
+        (λ small. inr (1, ap (λ o. o.stop) (run_large 1 h ∙ refuses small)))
+        (λ large.
+        let d = done turns large in
+        inl (d.0, subst (DoesAsMuch tree (meaning tree input turns)) (sym (run_large d.0 h)) (as_much tree (meaning tree input turns).output (meaning tree input turns).ending (steps sites whole d.0 start) d.1)))
+        (cases_lt cells (4 + count + depth))
+
+    complete : (turns : ℕ) → Completes turns
+    complete turns = ⊎_elim (λ small. inr (0, ap (λ o. o.stop) (run_small 0 small))) (complete_large turns) (cases_lt cells 4)
+
+-- the code of a well formed tree follows its program
+pub follows : (code : Code) (tree : Tree) → code.instructions.items ≡ program_code tree → code.sites.items ≡ site_table tree.sites.items → length (program_code tree) ≤ 4294967295 → IsWellFormed tree → Follows code tree
+follows code tree is sites_are short well =
+    let same : (input : List ℕ) (cells budget : ℕ) → machine code input cells budget ≡ runs.run_of (site_table tree.sites.items) (whole tree well short) input cells budget =
+    λ input cells budget. ap (λ s. runs.run_of s code.instructions.items input cells budget) sites_are ∙ ap (λ i. runs.run_of (site_table tree.sites.items) i input cells budget) (is ∙ whole_is tree well short) in
+    record {
+      sound = λ input cells budget. subst (λ r. IsExplained tree cells (meaning tree input) r r.stop) (sym (same input cells budget)) (sound tree well short input cells budget);
+      complete = λ input cells turns. subst (λ (f : ℕ → Outcome). ((budget : ℕ) × DoesAsMuch tree (meaning tree input turns) (f budget)) ⊎ ((budget : ℕ) × ((f budget).stop ≡ stop.StoreFull))) (sym (λ i budget. same input cells budget i)) (complete tree well short input cells turns);
+    }

@@ -1,0 +1,71 @@
+use Rattle.std.proofs.Common.{◌≡◌, ◌++◌, ◌==◌, [], ◌∷◌, length, take, drop, inr, rules, sym, ◌∙◌, ap, subst}
+use Rattle.std.proofs.lemmas.Bool.{false≢true}
+use Rattle.lexer.specs.declared.token.Kind.{Kind}
+use Rattle.lexer.specs.Place.{start, place_after}
+use Rattle.lexer.specs.Piece.{offset_of}
+use Rattle.lexer.specs.Tokens.{Lexeme, Leaves, fault_of}
+use Rattle.lexer.proofs.Rows.{place_behind, kept_token, kept_separator, leaves_more, place_more, place_stops, one_list, one_fault, list_or_fault}
+use Rattle.lexer.proofs.scan.tokens.Goals as goal
+use Rattle.lexer.proofs.scan.tokens.Goals.{in-Token+in_ok-push, in_default}
+
+pub returns-in-Err-clause-one_list : goal.returns-in-Err-clause-one_list
+returns-in-Err-clause-one_list c = one_list c.args.text.now
+
+pub returns-in-Err-clause-one_fault : goal.returns-in-Err-clause-one_fault
+returns-in-Err-clause-one_fault c = one_fault c.args.text.now
+
+pub returns-in-Err-clause-list_or_fault : goal.returns-in-Err-clause-list_or_fault
+returns-in-Err-clause-list_or_fault c = list_or_fault c.args.text.now
+
+pub returns-in_err-push-clause-one_list : goal.returns-in_err-push-clause-one_list
+returns-in_err-push-clause-one_list c = one_list c.args.text.now
+
+pub returns-in_err-push-clause-one_fault : goal.returns-in_err-push-clause-one_fault
+returns-in_err-push-clause-one_fault c = one_fault c.args.text.now
+
+pub returns-in_err-push-clause-list_or_fault : goal.returns-in_err-push-clause-list_or_fault
+returns-in_err-push-clause-list_or_fault c = list_or_fault c.args.text.now
+
+pub returns-clause-one_list : goal.returns-clause-one_list
+returns-clause-one_list c = one_list c.args.text.now
+
+pub returns-clause-one_fault : goal.returns-clause-one_fault
+returns-clause-one_fault c = one_fault c.args.text.now
+
+pub returns-clause-list_or_fault : goal.returns-clause-list_or_fault
+returns-clause-list_or_fault c = list_or_fault c.args.text.now
+
+pub returns-in-Err-clause-fault : goal.returns-in-Err-clause-fault
+returns-in-Err-clause-fault c =
+    let text = c.args.text.now in
+    let rest = c.loop-rest.rest.now in
+    let why = c.in-Err.refusal in
+    let pieces = c.loop-rest.invariant.2 in
+    let place = ap (λ q. place_after q (take (offset_of why) rest)) c.loop-rest.invariant.5 ∙ place_stops text pieces rest (offset_of why) c.loop-rest.invariant.3 in
+    λ _. inr (
+      c.if-text-gt-MAX_TEXT.false,
+      (pieces, rest, c.loop-rest.invariant.3, (λ e. false≢true (c.loop-rest-test.ensures ∙ ap (λ r. length r == 0) e)), why, sym c.in-Err.ensures.exact, c.fault_of.ensures ∙ ap (fault_of why) place),
+    )
+
+pub loop-rest-preserved : goal.loop-rest-preserved
+loop-rest-preserved c =
+    let text = c.args.text.now in
+    let rest = c.loop-rest.rest.now in
+    let pieces = c.loop-rest.invariant.2 in
+    let leaves = c.loop-rest.invariant.3 in
+    let found = c.in-Ok.found in
+    let behind : c.split_at.result.1.now ≡ drop found.1 rest = search rules in
+    let front : c.split_at.result.0.now ≡ take found.1 rest = search rules in
+    let same : (w : Kind) → ◌≡◌ {A = Lexeme} (record { kind = w; text = c.split_at.result.0.now; place = c.loop-rest.place }) (record { kind = w; text = take found.1 rest; place = place_behind start text pieces }) =
+    λ w i. record { kind = w; text = front i; place = c.loop-rest.invariant.5 i } in (
+      search rules,
+      search rules,
+      pieces ++ found ∷ [],
+      subst (λ r. Leaves text (pieces ++ found ∷ []) r) (sym behind) (leaves_more text pieces rest found leaves (sym c.in-Ok.ensures.exact)),
+      elim c.match-piece.branch [
+        | in-Token+in_ok-push w ↦
+            rw w.tokens-is (kept_token c.loop-rest.tokens.items w.push.new.self.items w.in-Token.kind _ text pieces rest found leaves c.loop-rest.invariant.4 w.in_ok-push.ensures.items (same w.in-Token.kind) w.in-Token.is)
+        | in_default w ↦ rw w.tokens-is (kept_separator c.loop-rest.tokens.items text pieces rest found leaves c.loop-rest.invariant.4 w.in_default.is)
+      ],
+      c.after-place.ensures.place ∙ (λ i. place_after (c.loop-rest.invariant.5 i) (front i)) ∙ sym (place_more start text pieces rest found leaves),
+    )

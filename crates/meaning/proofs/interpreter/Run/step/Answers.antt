@@ -1,0 +1,23 @@
+use Rattle.meaning.proofs.Resuming.{does_as}
+use Rattle.meaning.proofs.interpreter.Run.step.Goals as goal
+
+pub returns-in-Statements-clause-does : goal.returns-in-Statements-clause-does
+returns-in-Statements-clause-does c = does_as _ c.args.self.now c.statements.new.self c.args.work _ c.statements.result c.in-Statements.is c.statements.ensures.does
+
+pub returns-in-Statement-clause-does : goal.returns-in-Statement-clause-does
+returns-in-Statement-clause-does c = does_as _ c.args.self.now c.statement.new.self c.args.work _ c.statement.result c.in-Statement.is c.statement.ensures.does
+
+pub returns-in-Writes-clause-does : goal.returns-in-Writes-clause-does
+returns-in-Writes-clause-does c = does_as _ c.args.self.now c.writes.new.self c.args.work _ c.writes.result c.in-Writes.is c.writes.ensures.does
+
+pub returns-in-Store-clause-does : goal.returns-in-Store-clause-does
+returns-in-Store-clause-does c = does_as _ c.args.self.now c.store.new.self c.args.work _ c.store.result c.in-Store.is c.store.ensures.does
+
+pub returns-in-Value-clause-does : goal.returns-in-Value-clause-does
+returns-in-Value-clause-does c = does_as _ c.args.self.now c.value.new.self c.args.work _ c.value.result c.in-Value.is c.value.ensures.does
+
+pub returns-in-Links-clause-does : goal.returns-in-Links-clause-does
+returns-in-Links-clause-does c = does_as _ c.args.self.now c.links.new.self c.args.work _ c.links.result c.in-Links.is c.links.ensures.does
+
+pub returns-in-Combine-clause-does : goal.returns-in-Combine-clause-does
+returns-in-Combine-clause-does c = does_as _ c.args.self.now c.combine.new.self c.args.work _ c.combine.result c.in-Combine.is c.combine.ensures.does

@@ -1,0 +1,33 @@
+-- What holds of the meaning of every program (ISO 7185:1990, 6.7.2.1, 6.8): a run with more turns goes on from where the
+-- shorter one was, and a sum is calculated from left to right. It says nothing of what the single steps are.
+use Rattle.std.specs.Prelude.{◌≡◌, ◌≢◌, ℕ, ◌+◌, List, ◌++◌}
+use Rattle.std.specs.declared.alloc.Global.{Global}
+use Rattle.std.specs.declared.boxed.Box.{Box}
+use Rattle.std.specs.declared.vec.Vec.{Vec}
+use Rattle.typed_tree.specs.declared.tree.Tree.{Tree}
+use Rattle.typed_tree.specs.declared.tree.Expr.{Expr}
+use Rattle.typed_tree.specs.declared.tree.Link.{Link}
+use Rattle.typed_tree.specs.declared.tree.Expr.TheVariants.{Sum}
+use Rattle.meaning.specs.declared.outcome.Ending.{Ending}
+use Rattle.meaning.specs.declared.outcome.Ending.TheVariants as ending
+use Rattle.meaning.specs.Store.{Environment}
+use Rattle.meaning.specs.Effect.{State, Stops}
+use Rattle.meaning.specs.Meaning.{meaning, value_of}
+
+-- with more turns the output only grows at its end
+abbrev pub TurnsExtendTheOutput : Type 0
+TurnsExtendTheOutput =
+    (tree : Tree) (input : List ℕ) (turns more : ℕ) →
+    (rest : List ℕ) × ((meaning tree input (turns + more)).output ≡ (meaning tree input turns).output ++ rest)
+
+-- a run that ended for another reason than its turns ends so with more turns too
+abbrev pub EndingsStay : Type 0
+EndingsStay =
+    (tree : Tree) (input : List ℕ) (turns more : ℕ) →
+    (meaning tree input turns).ending ≢ ending.More → meaning tree input (turns + more) ≡ meaning tree input turns
+
+-- where the beginning of a sum stops, the sum stops there, whatever stands to the right
+abbrev pub SumsGoLeftToRight : Type 0
+SumsGoLeftToRight =
+    (first : Box Expr Global) (rest longer : Vec Link Global) (more : List Link) (env : Environment) (s t : State) (end : Ending) →
+    longer.items ≡ rest.items ++ more → value_of (Sum first rest) env s ≡ Stops end t → value_of (Sum first longer) env s ≡ Stops end t

@@ -1,0 +1,123 @@
+-- What the work that an interpreter has still to do means: from its operands and the state, the topmost first.
+-- It says nothing of how many steps the work takes.
+use Rattle.std.specs.Prelude.{◌≡◌, ℕ, pos, List, [], ◌∷◌, Option, Some, None, Result, Ok, Err, IfOk, if◌then◌else◌, map, reverse}
+use Rattle.std.specs.BTreeMap.{BTreeMap, get}
+use Rattle.std.specs.declared.cmp.Ordering.{Ordering}
+use Rattle.std.specs.declared.alloc.AllocError.{AllocError}
+use Rattle.typed_tree.specs.declared.tree.Sign.{Sign}
+use Rattle.meaning.specs.declared.outcome.Ending.{Ending}
+use Rattle.meaning.specs.declared.store.Place.{Place as KeptPlace}
+use Rattle.meaning.specs.declared.store.Value.{Value}
+use Rattle.meaning.specs.declared.store.Value.TheVariants.{Number}
+use Rattle.meaning.specs.declared.work.Work.{Work}
+use Rattle.meaning.specs.declared.work.Work.TheVariants as work
+use Rattle.meaning.specs.declared.interpreter.Run.{Run}
+use Rattle.meaning.specs.Store.{Environment, Place, Store, stored}
+use Rattle.meaning.specs.Effect.{State, Reply, Stops, Action, ◌>>=◌, give, require, place_of, fetch, store, write, is_integer, integer_text}
+use Rattle.meaning.specs.Meaning.{Combination, ended, signed, combined, value_of, link_of, effect_of, all_of, each_written}
+
+-- what is done with the operands, the topmost first, and the state
+abbrev pub Resumption : Type 0
+Resumption = List Value → Action (Unit {0})
+
+-- the topmost operand; what is pending finds those that it needs
+abbrev pub top_of : List Value → Value
+top_of [] = Number (pos 0)
+top_of (v ∷ below) = v
+
+-- the operands below it
+abbrev pub below_top : List Value → List Value
+below_top [] = []
+below_top (v ∷ below) = below
+
+-- takes the topmost operand
+abbrev pub with_top : (Value → Resumption) → Resumption
+with_top next operands = next (top_of operands) (below_top operands)
+
+-- a value, if it is of type integer
+abbrev pub checked : Value → Option Value
+checked v = if is_integer v then Some v else None
+
+-- the sum or difference of the two topmost operands
+abbrev pub combining : Sign → ℕ → Resumption → Value → Value → Resumption
+combining operator overflow next right left below = do
+  _ ← require (is_integer (combined operator left right)) overflow
+  next (combined operator left right ∷ below)
+
+-- the use of a variable, tested at a site
+abbrev pub using_variable : ℕ → ℕ → Environment → Resumption → Resumption
+using_variable root defined env next operands = do
+  v ← fetch (place_of env root) defined
+  next (v ∷ operands)
+
+-- the operators of a sum, from left to right, whose value so far is the topmost operand
+abbrev pub linking : Environment → List Combination → Resumption → Resumption
+linking env [] next operands = next operands
+linking env (link ∷ links) next operands = with_top (λ v below. link env v >>= λ w. linking env links next (w ∷ below)) operands
+
+-- a piece of work, and then the rest
+abbrev pub resumed : Environment → Work → Resumption → Resumption
+resumed env (work.Statements statements) next operands = do
+  _ ← all_of (map effect_of statements.now) env
+  next operands
+resumed env (work.Statement statement) next operands = do
+  _ ← effect_of statement.now env
+  next operands
+resumed env (work.Writes values) next operands = do
+  _ ← each_written (map value_of values.now) env
+  _ ← write (10 ∷ [])
+  next operands
+resumed env work.Write next operands = with_top (λ v below. write (integer_text v 10) >>= λ _. next below) operands
+resumed env (work.Store root fits) next operands =
+    with_top (λ v below. require (is_integer v) fits >>= λ _. store (place_of env root) v >>= λ _. next below) operands
+resumed env (work.Value expression) next operands = do
+  v ← value_of expression.now env
+  next (v ∷ operands)
+resumed env (work.Signed sign) next operands = with_top (λ v below. next (signed sign v ∷ below)) operands
+resumed env (work.Links links) next operands = linking env (map link_of links.now) next operands
+resumed env (work.Combine operator overflow) next operands =
+    with_top (λ right rest. with_top (λ left below. combining operator overflow next right left below) rest) operands
+
+-- what is pending, the next first
+abbrev pub pending_of : Environment → List Work → Resumption
+pending_of env [] operands = give tt
+pending_of env (work ∷ rest) operands = resumed env work (pending_of env rest) operands
+
+-- a place that the interpreter keeps, without components
+abbrev pub place_seen : KeptPlace → Place
+place_seen p = record { activation = p.activation; variable = p.variable; steps = [] }
+
+-- the map holds for each variable what the store holds
+abbrev pub StoreAgrees : (KeptPlace → KeptPlace → Ordering) → BTreeMap KeptPlace Value → Store → Type 0
+StoreAgrees cmp kept store = (p : KeptPlace) → p.steps.items ≡ [] → get cmp kept p ≡ stored store (place_seen p)
+
+-- the interpreter has the store and the output of a state
+pub record Agrees (cmp : KeptPlace → KeptPlace → Ordering) (run : Run) (s : State) : Type 0 where
+  pub store : StoreAgrees cmp run.store s.store
+  pub output : run.output.items ≡ s.output
+
+-- what a run has still to do, from a state
+abbrev pub rest_of : Environment → Run → State → Reply (Unit {0})
+rest_of env run s = pending_of env (reverse run.pending.items) (reverse run.values.items) s
+
+-- a step answered: it goes on to what the reply goes on to, or the reply stops with this ending and this output
+abbrev pub Continues : (KeptPlace → KeptPlace → Ordering) → Environment → Reply (Unit {0}) → Result (Option Ending) AllocError → Run → Type 0
+Continues cmp env reply (Err e) run = Unit {0}
+Continues cmp env reply (Ok None) run = (s : State) × Agrees cmp run s × (reply ≡ rest_of env run s)
+Continues cmp env reply (Ok (Some ending)) run = (s : State) × (run.output.items ≡ s.output) × (reply ≡ Stops ending s)
+
+-- the variables of the program's block lie where the interpreter looks for them
+abbrev pub IsFlat : Environment → Type 0
+IsFlat env = (root : ℕ) → place_of env root ≡ record { activation = 0; variable = root; steps = [] }
+
+-- a step does a piece of work: in each state that the run agrees with
+abbrev pub Does : (KeptPlace → KeptPlace → Ordering) → (Environment → Resumption → Resumption) → Run → Result (Option Ending) AllocError → Run → Type 0
+Does cmp piece old result new =
+    (env : Environment) → IsFlat env → (s : State) → Agrees cmp old s →
+    Continues cmp env (piece env (pending_of env (reverse old.pending.items)) (reverse old.values.items) s) result new
+
+-- a run is done: what it wrote and how it ended are those of the work that was left
+abbrev pub Finishes : (KeptPlace → KeptPlace → Ordering) → Run → Result Ending AllocError → Run → Type 0
+Finishes cmp old result new =
+    (env : Environment) → IsFlat env → (s : State) → Agrees cmp old s →
+    IfOk result (λ ending. ended (rest_of env old s) ≡ record { output = new.output.items; ending = ending })

@@ -1,0 +1,17 @@
+//! What holds of the meaning of every program. Each law is the contract of a function that does nothing.
+ghost use Rattle.meaning.specs.Laws.{TurnsExtendTheOutput, EndingsStay, SumsGoLeftToRight};
+
+/// With more turns the output only grows at its end.
+pub fn turns_extend_the_output()
+    ensures { TurnsExtendTheOutput }
+{}
+
+/// A run that ended for another reason than its turns ends so with more turns too.
+pub fn endings_stay()
+    ensures { EndingsStay }
+{}
+
+/// Where the beginning of a sum stops, the sum stops there, whatever stands to the right.
+pub fn sums_go_left_to_right()
+    ensures { SumsGoLeftToRight }
+{}

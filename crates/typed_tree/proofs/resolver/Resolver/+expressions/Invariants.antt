@@ -1,0 +1,11 @@
+use Rattle.std.proofs.Common.{◌≡◌, ◌≤◌, length}
+use Rattle.typed_tree.specs.Formed.{AreFormedLinks}
+use Rattle.typed_tree.proofs.resolver.Resolver.+expressions.Given as goal
+
+-- the links so far are well formed
+abbrev pub invariant-links-loop-link : goal.invariant-links-loop-link
+invariant-links-loop-link l = record {
+  same : l.self.variables ≡ l.initial.self.variables;
+  grows : length l.initial.self.sites.items ≤ length l.self.sites.items;
+  formed : AreFormedLinks (length l.initial.self.variables.items) (length l.self.sites.items) l.typed.items
+}

@@ -1,0 +1,14 @@
+use Rattle.std.proofs.Common.{◌≡◌, ◌<◌, true, length, ◌∙◌, subst, arith}
+use Rattle.typed_tree.specs.WellFormed.{is_well_formed_expr}
+use Rattle.typed_tree.proofs.FormedLemmas.{assign-formed}
+use Rattle.typed_tree.proofs.resolver.Resolver.assignment.Goals as goal
+
+pub returns-clause-formed : goal.returns-clause-formed
+returns-clause-formed c = λ n h.
+    let found = c.find.ensures.same ∙ c.enter.ensures.same in
+    let target = c.in_ok-target.target in
+    let value = c.in_ok-value.value in
+    assign-formed (length c.args.self.now.variables.items) n c.in_ok-number.number target c.in_ok-fits.fits value
+    (subst (λ vs. target.root < length vs.items) found c.in_ok-target.ensures.known)
+    (omega (arith, c.in_ok-fits.ensures.known, c.expression.ensures.grows))
+    (subst (λ vs. is_well_formed_expr (length vs.items) n value ≡ true) (c.site.ensures.same ∙ c.access.ensures.same ∙ found) (c.in_ok-value.ensures.formed n h))

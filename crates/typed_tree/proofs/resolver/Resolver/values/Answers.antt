@@ -1,0 +1,17 @@
+use Rattle.std.proofs.Common.{◌≡◌, true, length, map, ◌∙◌, ap, subst, arith}
+use Rattle.typed_tree.specs.WellFormed.{all_hold, is_well_formed_expr}
+use Rattle.typed_tree.proofs.FormedLemmas.{all-push}
+use Rattle.typed_tree.proofs.resolver.Resolver.values.Goals as goal
+
+pub loop-actual-preserved : goal.loop-actual-preserved
+loop-actual-preserved c = record {
+  same = c.expression.ensures.same ∙ c.loop-actual.invariant.same;
+  grows = omega (arith, c.expression.ensures.grows, c.loop-actual.invariant.grows);
+  formed = λ n h.
+      let f = is_well_formed_expr (length c.args.self.now.variables.items) n in
+      let x = c.in_ok-expression.field-0 in
+      ap (λ l. all_hold (map f l)) c.in_ok-push.ensures.items
+      ∙ all-push f c.loop-actual.values.items x
+        (c.loop-actual.invariant.formed n (omega (arith, c.expression.ensures.grows)))
+        (subst (λ vs. is_well_formed_expr (length vs.items) n x ≡ true) c.loop-actual.invariant.same (c.in_ok-expression.ensures.formed n h))
+}

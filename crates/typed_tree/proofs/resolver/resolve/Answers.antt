@@ -1,0 +1,18 @@
+use Rattle.typed_tree.specs.declared.tree.Block.{Block}
+use Rattle.std.proofs.Common.{◌≡◌, List, ◌≤◌, ◌∷◌, [], ◌++◌, true, length, slice_get, sym, ◌∙◌, ap, subst, arith}
+use Rattle.typed_tree.specs.WellFormed.{is_well_formed_body, is_well_formed_stmt}
+use Rattle.typed_tree.proofs.resolver.resolve.Goals as goal
+
+pub returns-clause-well_formed : goal.returns-clause-well_formed
+returns-clause-well_formed c =
+    let vs = c.in_ok-variables.variables in
+    let sites = length c.compound.new.self.sites.items in
+    let body = c.in_ok-body.body in
+    let few : length vs.items ≤ 4294967291 = omega (arith, vs.ok.0, c.len.ensures, c.if-len-gt-MOST_VARIABLES.false) in
+    let formed = c.in_ok-body.ensures.formed sites (omega arith) in
+    record {
+      few_variables = subst (λ w. length w.items ≤ 4294967291) (sym c.compound.ensures.same) few;
+      body =
+          ap (λ l. is_well_formed_body (length c.compound.new.self.variables.items) sites (slice_get l 0)) (c.in_ok-push.ensures.items ∙ ap (λ (l : List Block). l ++ record { body = body; end = c.args.program.now.block.end } ∷ []) c.new-blocks.ensures.items)
+          ∙ subst (λ w. is_well_formed_stmt (length w.items) sites body ≡ true) (sym c.compound.ensures.same) formed;
+    }
