@@ -356,11 +356,7 @@ impl Resolver {
     }
 
     // The file may stand as the first parameter, and is no value.
-    fn writeln(
-        &mut self,
-        name: &syntax::Name,
-        actuals: &[syntax::Expr],
-    ) -> Result<Stmt, TypeFault>
+    fn writeln(&mut self, name: &syntax::Name, actuals: &[syntax::Expr]) -> Result<Stmt, TypeFault>
         ensures same { self.new.variables ≡ self.old.variables }
         ensures grows { length self.old.sites.items ≤ length self.new.sites.items }
         ensures formed { IfOk result (IsFormedStmt (length self.old.variables.items) (length self.new.sites.items)) }

@@ -1,5 +1,4 @@
-use Rattle.std.proofs.Common.{rules, ◌≡◌, true, length, map, Vec, sym, ◌∙◌, ap, subst, arith}
-use Rattle.typed_tree.specs.declared.tree.Variable.{Variable}
+use Rattle.std.proofs.Common.{◌≡◌, true, length, map, ◌∙◌, ap, subst, arith}
 use Rattle.typed_tree.specs.WellFormed.{all_hold, is_well_formed_expr, is_well_formed_link}
 use Rattle.typed_tree.proofs.FormedLemmas.{all-push, signed-formed, sum-formed, link-formed}
 use Rattle.typed_tree.proofs.resolver.Resolver.+expressions.Goals as goal
@@ -38,6 +37,6 @@ links-loop-link-preserved t c = record {
       let x = c.in_ok-link.field-0 in
       ap (λ l. all_hold (map f l)) c.in_ok-push.ensures.items
       ∙ all-push f c.loop-link.typed.items x
-        (c.loop-link.invariant.formed n (omega (arith, c.link.ensures.grows)))
-        (subst (λ vs. is_well_formed_link (length vs.items) n x ≡ true) c.loop-link.invariant.same (c.in_ok-link.ensures.formed n h))
+      (c.loop-link.invariant.formed n (omega (arith, c.link.ensures.grows)))
+      (subst (λ vs. is_well_formed_link (length vs.items) n x ≡ true) c.loop-link.invariant.same (c.in_ok-link.ensures.formed n h));
 }

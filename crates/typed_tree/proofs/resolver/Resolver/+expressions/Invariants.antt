@@ -7,5 +7,5 @@ abbrev pub invariant-links-loop-link : goal.invariant-links-loop-link
 invariant-links-loop-link l = record {
   same : l.self.variables ≡ l.initial.self.variables;
   grows : length l.initial.self.sites.items ≤ length l.self.sites.items;
-  formed : AreFormedLinks (length l.initial.self.variables.items) (length l.self.sites.items) l.typed.items
+  formed : AreFormedLinks (length l.initial.self.variables.items) (length l.self.sites.items) l.typed.items;
 }

@@ -18,6 +18,6 @@ statements-loop-statement-preserved t c = record {
       let x = c.in_ok-statement.field-0 in
       ap (λ l. all_hold (map f l)) c.in_ok-push.ensures.items
       ∙ all-push f c.loop-statement.typed.items x
-        (c.loop-statement.invariant.formed n (omega (arith, c.statement.ensures.grows)))
-        (subst (λ vs. is_well_formed_stmt (length vs.items) n x ≡ true) c.loop-statement.invariant.same (c.in_ok-statement.ensures.formed n h))
+      (c.loop-statement.invariant.formed n (omega (arith, c.statement.ensures.grows)))
+      (subst (λ vs. is_well_formed_stmt (length vs.items) n x ≡ true) c.loop-statement.invariant.same (c.in_ok-statement.ensures.formed n h));
 }

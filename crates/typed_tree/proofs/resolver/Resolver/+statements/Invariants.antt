@@ -7,5 +7,5 @@ abbrev pub invariant-statements-loop-statement : goal.invariant-statements-loop-
 invariant-statements-loop-statement l = record {
   same : l.self.variables ≡ l.initial.self.variables;
   grows : length l.initial.self.sites.items ≤ length l.self.sites.items;
-  formed : AreFormedStmts (length l.initial.self.variables.items) (length l.self.sites.items) l.typed.items
+  formed : AreFormedStmts (length l.initial.self.variables.items) (length l.self.sites.items) l.typed.items;
 }

@@ -12,6 +12,6 @@ loop-actual-preserved c = record {
       let x = c.in_ok-expression.field-0 in
       ap (λ l. all_hold (map f l)) c.in_ok-push.ensures.items
       ∙ all-push f c.loop-actual.values.items x
-        (c.loop-actual.invariant.formed n (omega (arith, c.expression.ensures.grows)))
-        (subst (λ vs. is_well_formed_expr (length vs.items) n x ≡ true) c.loop-actual.invariant.same (c.in_ok-expression.ensures.formed n h))
+      (c.loop-actual.invariant.formed n (omega (arith, c.expression.ensures.grows)))
+      (subst (λ vs. is_well_formed_expr (length vs.items) n x ≡ true) c.loop-actual.invariant.same (c.in_ok-expression.ensures.formed n h));
 }

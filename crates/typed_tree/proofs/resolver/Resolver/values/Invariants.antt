@@ -7,5 +7,5 @@ abbrev pub invariant-loop-actual : goal.invariant-loop-actual
 invariant-loop-actual l = record {
   same : l.self.variables ≡ l.initial.self.variables;
   grows : length l.initial.self.sites.items ≤ length l.self.sites.items;
-  formed : AreFormedExprs (length l.initial.self.variables.items) (length l.self.sites.items) l.values.items
+  formed : AreFormedExprs (length l.initial.self.variables.items) (length l.self.sites.items) l.values.items;
 }
