@@ -2,3 +2,4 @@ pub mod Faults
 pub mod Text
 pub mod Headline
 pub mod Whole
+pub mod Refusals

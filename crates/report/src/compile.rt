@@ -1,4 +1,4 @@
-ghost use Rattle.std.specs.Prelude.{◌≡◌, ◌≤◌, ◌<◌, ◌+◌, ◌-◌, ◌^◌, IfOk, MatchOption, codes};
+ghost use Rattle.std.specs.Prelude.{◌≡◌, ◌≤◌, ◌<◌, ◌+◌, ◌-◌, ◌^◌, ℕ, List, IfOk, IfErr};
 ghost use Rattle.certificate.specs.Text.{spelling};
 ghost use Rattle.cert_checker.specs.Entries.{entries};
 ghost use Rattle.cert_checker.specs.Promise.{Valid, StatesHold};
@@ -7,7 +7,9 @@ ghost use Rattle.code_generator.specs.Follows.{Follows};
 ghost use Rattle.code_generator.specs.Tables.{site_table};
 ghost use Rattle.typed_tree.specs.WellFormed.{IsWellFormed};
 ghost use Rattle.typed_tree.specs.Ids.{AreInOrder};
-ghost use Rattle.report.specs.Headline.{Headline};
+ghost use Rattle.parser.specs.declared.tree.Program.{Program};
+ghost use Rattle.report.specs.Headline.{Headline, IsWrittenAs};
+ghost use Rattle.report.specs.Refusals.{IsRefusal, text_of};
 ghost use Rattle.stack_machine.specs.Failures.{write_failures_of};
 ghost use Rattle.report.specs.Whole.{IsStripped, RunsStripped};
 
@@ -47,9 +49,12 @@ pub struct Compiled {
 /// # Errors
 /// The fault of the first layer that refuses: tokens, syntax, names and types, certificate, its rules, code.
 pub fn compile(alloc: Global, source: &[u8], certificate: Option<&[u8]>) -> Result<Compiled, Fault>
-    // The certificate is the one that the text spells.
-    ensures certificate { IfOk result (λ c. MatchOption certificate.entry
-        (codes "pcert 1\n" ≡ spelling c.certificate) (λ text. text.now ≡ spelling c.certificate)) }
+    // The source is written as a program, and the certificate is the one that the text spells.
+    ensures written { IfOk result (λ _. (program : Program) × IsWrittenAs source.now program) }
+    ensures certificate { IfOk result (λ c. text_of certificate.entry ≡ spelling c.certificate) }
+
+    // A source is refused for what the first layer that refuses it says, and for nothing else but memory.
+    ensures refused { IfErr result (IsRefusal source.now (text_of certificate.entry)) }
 
     // The list of open sites is the checker's, and each statement and expression was entered once.
     ensures checked { IfOk result (λ c. Valid c.tree c.certificate c.verdict.open_sites.items) }
@@ -103,6 +108,7 @@ pub fn go<R: Feed, W: Sink>(
     requires writer_counts { W.failures writer.old < 2 ^ 64 - 1 }
     ensures ran { IfOk result (λ r. RunsStripped r.0.open_sites.items r.1 cells budget (W.contents writer.old) (W.contents writer.new)) }
     ensures write_failed { IfOk result (λ r. W.failures writer.new ≡ W.failures writer.old + write_failures_of r.1) }
+    ensures refused { IfErr result (IsRefusal source.now (text_of certificate.entry)) }
 {
     let compiled = compile(alloc, source, certificate)?;
     let mut machine = Machine::new(alloc, cells)?;
@@ -113,6 +119,8 @@ pub fn go<R: Feed, W: Sink>(
 fn typed(alloc: Global, source: &[u8]) -> Result<Tree, Fault>
     ensures well_formed { IfOk result IsWellFormed }
     ensures in_order { IfOk result (λ tree. AreInOrder tree.sites.items) }
+    ensures written { IfOk result (λ _. (program : Program) × IsWrittenAs source.now program) }
+    ensures refused { (text : List ℕ) → IfErr result (IsRefusal source.now text) }
 {
     let tokens = tokens(alloc, source)?;
     let program = parse(alloc, &tokens)?;

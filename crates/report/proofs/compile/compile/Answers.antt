@@ -1,4 +1,7 @@
-use Rattle.std.proofs.Common.{◌∙◌, ap}
+use Rattle.std.proofs.Common.{◌∙◌, ap, Err}
+use Rattle.std.proofs.lemmas.Result.{err_from_is_err_and}
+use Rattle.report.specs.Refusals.{text_of}
+use Rattle.report.proofs.RefusalLemmas.{refused_by, generation-refusal}
 use Rattle.check_remover.specs.Strip.{strip}
 use Rattle.report.proofs.StrippedFollows.{stripped-follows}
 use Rattle.report.proofs.compile.compile.Goals as goal
@@ -20,3 +23,24 @@ returns-clause-headline c =
           })
           (c.in_ok-full.ensures.follows c.in_ok-tree.ensures.well_formed);
     }
+
+pub returns-in_err-tree-clause-refused : goal.returns-in_err-tree-clause-refused
+returns-in_err-tree-clause-refused c =
+    let source = c.args.source.now in
+    let text = text_of c.args.certificate in
+    let told = err_from_is_err_and c.from_residual.result c.from_residual.ensures.1 in
+    refused_by source text c.from_residual.result told.0 c.in_err-tree.field-0.0 told.1 told.2 (c.in_err-tree.ensures.refused text)
+
+pub returns-in_err-full-clause-refused : goal.returns-in_err-full-clause-refused
+returns-in_err-full-clause-refused c =
+    let source = c.args.source.now in
+    let text = text_of c.args.certificate in
+    let told = err_from_is_err_and c.from_residual-in_err-full.result c.from_residual-in_err-full.ensures.1 in
+    refused_by source text c.from_residual-in_err-full.result told.0 _ told.1 told.2
+    (generation-refusal source text c.in_ok-tree.tree c.in_err-full.field-0.0 (λ same. c.generate.ensures.too_large.0 (c.in_err-full.was ∙ ap Err same)))
+
+pub returns-clause-stripped : goal.returns-clause-stripped
+returns-clause-stripped c = record {
+  instructions = c.in_ok-stripped.ensures.instructions ∙ ap (λ sites. strip sites c.in_ok-full.full.instructions.items) (c.deref.ensures.value ∙ c.in_ok-open_sites.ensures) ∙ ap (strip _) c.in_ok-full.ensures.instructions;
+  sites = c.in_ok-stripped.ensures.sites ∙ c.in_ok-full.ensures.sites;
+}

@@ -1,0 +1,28 @@
+-- The fault of a layer, as the whole compiler tells it, is a refusal of the source.
+use Rattle.std.proofs.Common.{◌≡◌, ℕ, ◌<◌, List, Result, Err, IfErr, length, refl, sym, subst}
+use Rattle.parser.specs.declared.tree.Program.{Program}
+use Rattle.typed_tree.specs.declared.tree.Tree.{Tree}
+use Rattle.typed_tree.specs.declared.fault.TypeFault.{TypeFault}
+use Rattle.typed_tree.specs.declared.fault.TypeFault.TheVariants as typing
+use Rattle.code_generator.specs.declared.fault.GenFault.{GenFault}
+use Rattle.code_generator.specs.declared.fault.GenFault.TheVariants as generate
+use Rattle.code_generator.specs.Code.{program_code}
+use Rattle.report.specs.declared.fault.Fault.{Fault}
+use Rattle.report.specs.Faults.{typing_fault, generator_fault}
+use Rattle.report.specs.Headline.{IsWrittenAs}
+use Rattle.report.specs.Refusals.{IsRefusal}
+
+-- an answer that is this fault
+pub refused_by : {A : Type 0} (source text : List ℕ) (answer : Result A Fault) (y fault : Fault) → answer ≡ Err y → y ≡ fault → IsRefusal source text fault → IfErr answer (IsRefusal source text)
+refused_by source text answer y fault is same h =
+    subst (λ r. IfErr r (IsRefusal source text)) (sym is) (subst (IsRefusal source text) (sym same) h)
+
+-- names and types are refused of a source that is written as a program
+pub typing-refusal : (source text : List ℕ) (fault : TypeFault) → (program : Program) × IsWrittenAs source program → IsRefusal source text (typing_fault fault)
+typing-refusal source text typing.Memory h = tt
+typing-refusal source text fault h = h
+
+-- code is refused where there is too much of it
+pub generation-refusal : (source text : List ℕ) (tree : Tree) (fault : GenFault) → (fault ≡ generate.TooLarge → 1000000 < length (program_code tree)) → IsRefusal source text (generator_fault fault)
+generation-refusal source text tree generate.Memory h = tt
+generation-refusal source text tree generate.TooLarge h = (tree, h refl)
