@@ -2,6 +2,7 @@ pub mod Counted
 pub mod Does
 pub mod Failures
 pub mod Frames
+pub mod Laws
 pub mod Machine
 pub mod Output
 pub mod Run

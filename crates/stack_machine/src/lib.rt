@@ -4,6 +4,7 @@
 pub mod bytes;
 pub mod cell;
 mod input;
+pub mod laws;
 pub mod machine;
 mod output;
 pub mod stop;

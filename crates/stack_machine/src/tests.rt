@@ -1,6 +1,7 @@
 ghost use Rattle.std.specs.Prelude.{◌≤◌};
 
 use crate::bytes::{Counted, Feed};
+use crate::laws;
 use crate::machine::Machine;
 use crate::stop::{MachineFault, Stop};
 use pcode_assembler::code::{Code, Site};
@@ -191,5 +192,12 @@ fn counts_the_failures_of_a_reader(rt: HostRuntime) -> Result<(), Fail> {
     assert_eq!(rt; reader.read(&mut piece)?, 0);
     assert_eq!(rt; reader.failures(), 0);
     assert_eq!(rt; reader.inner().len(), 0);
+    Ok(())
+}
+
+#[test]
+fn laws_are_called(_rt: HostRuntime) -> Result<(), Fail> {
+    laws::runs_compose();
+    laws::output_only_grows();
     Ok(())
 }

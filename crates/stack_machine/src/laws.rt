@@ -1,0 +1,12 @@
+//! What holds of every run. Each law is the contract of a function that does nothing.
+ghost use Rattle.stack_machine.specs.Laws.{RunsCompose, OutputOnlyGrows};
+
+/// So many instructions, and then more from the state that they reach, are a run of both numbers together.
+pub fn runs_compose()
+    ensures { RunsCompose }
+{}
+
+/// With a greater budget the output only grows at its end.
+pub fn output_only_grows()
+    ensures { OutputOnlyGrows }
+{}
