@@ -1,4 +1,6 @@
 pub mod Equations
+pub mod Exact
+pub mod ExactLists
 pub mod Lists
 pub mod Programs
 pub mod Reading

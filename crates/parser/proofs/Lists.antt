@@ -11,11 +11,11 @@ pub and_true : (a b : Bool) → a ≡ true → b ≡ true → a && b ≡ true
 and_true true b h k = k
 and_true false b h k = h
 
-and_left : (a b : Bool) → a && b ≡ true → a ≡ true
+pub and_left : (a b : Bool) → a && b ≡ true → a ≡ true
 and_left true b h = refl
 and_left false b h = h
 
-and_right : (a b : Bool) → a && b ≡ true → b ≡ true
+pub and_right : (a b : Bool) → a && b ≡ true → b ≡ true
 and_right true b h = h
 and_right false b h = cc
 

@@ -1,4 +1,4 @@
-ghost use Rattle.std.specs.Prelude.{◌≡◌, ◌<◌, ◌≤◌, [], ◌∷◌, IfSome, IfOk, ◌↔◌, IsTrue, OnSome, OnOk, IfErr, IfNone};
+ghost use Rattle.std.specs.Prelude.{◌≡◌, ◌<◌, ◌≤◌, [], ◌∷◌, IfSome, IfOk, ℕ, ◌↔◌, IsTrue, OnSome, OnOk, IfErr, IfNone};
 
 use crate::fault::ParseFault;
 use crate::tree::{Name, Sign};
@@ -16,6 +16,7 @@ pub struct Cursor<'t, 'a> {
 impl<'t, 'a> Cursor<'t, 'a> {
     ghost use Rattle.parser.specs.Spelling.{of_kind_at, identifier, sign};
     ghost use Rattle.parser.specs.Cursor.{left, IsOfRules, Took};
+    ghost use Rattle.parser.specs.Reading.{next_kind, EndsSum};
 
     pub fn new(tokens: &'t [Token<'a>]) -> Self
         ensures { result.rest.now ≡ tokens.now }
@@ -28,7 +29,7 @@ impl<'t, 'a> Cursor<'t, 'a> {
 
     /// The kind of the next token.
     pub fn peek(&self) -> Option<Kind>
-        ensures { IfNone result (self.now.rest.now ≡ []) }
+        ensures { result ≡ next_kind self.now.rest.now }
     {
         Some(self.rest.first()?.kind)
     }
@@ -52,6 +53,7 @@ impl<'t, 'a> Cursor<'t, 'a> {
     pub fn take(&mut self, kind: Kind) -> Option<Place>
         ensures taken { OnSome result (left self.new < left self.old) }
         ensures kept { IfNone result (self.new ≡ self.old) }
+        ensures missed { IfNone result (¬ (next_kind self.old.rest.now ≡ Some kind)) }
         ensures spelled { IfSome result
             (λ place. Took self.old self.new (of_kind_at kind place ∷ [])) }
     {
@@ -68,6 +70,7 @@ impl<'t, 'a> Cursor<'t, 'a> {
     pub fn take_word(&mut self, word: Word) -> Option<Place>
         ensures taken { OnSome result (left self.new < left self.old) }
         ensures kept { IfNone result (self.new ≡ self.old) }
+        ensures missed { IfNone result (¬ (next_kind self.old.rest.now ≡ Some (Kind.Word word))) }
         ensures spelled { IfSome result
             (λ place. Took self.old self.new (of_kind_at (Kind.Word word) place ∷ [])) }
     {
@@ -77,6 +80,7 @@ impl<'t, 'a> Cursor<'t, 'a> {
     pub fn take_symbol(&mut self, symbol: Symbol) -> Option<Place>
         ensures taken { OnSome result (left self.new < left self.old) }
         ensures kept { IfNone result (self.new ≡ self.old) }
+        ensures missed { IfNone result (¬ (next_kind self.old.rest.now ≡ Some (Kind.Symbol symbol))) }
         ensures spelled { IfSome result
             (λ place. Took self.old self.new (of_kind_at (Kind.Symbol symbol) place ∷ [])) }
     {
@@ -86,6 +90,7 @@ impl<'t, 'a> Cursor<'t, 'a> {
     pub fn expect_word(&mut self, word: Word) -> Result<Place, ParseFault>
         ensures taken { OnOk result (left self.new < left self.old) }
         ensures kept { IfErr result (λ fault. (self.new ≡ self.old) × IsOfRules fault) }
+        ensures missed { IfErr result (λ _. ¬ (next_kind self.old.rest.now ≡ Some (Kind.Word word))) }
         ensures spelled { IfOk result
             (λ place. Took self.old self.new (of_kind_at (Kind.Word word) place ∷ [])) }
     {
@@ -95,6 +100,7 @@ impl<'t, 'a> Cursor<'t, 'a> {
     pub fn expect_symbol(&mut self, symbol: Symbol) -> Result<Place, ParseFault>
         ensures taken { OnOk result (left self.new < left self.old) }
         ensures kept { IfErr result (λ fault. (self.new ≡ self.old) × IsOfRules fault) }
+        ensures missed { IfErr result (λ _. ¬ (next_kind self.old.rest.now ≡ Some (Kind.Symbol symbol))) }
         ensures spelled { IfOk result
             (λ place. Took self.old self.new (of_kind_at (Kind.Symbol symbol) place ∷ [])) }
     {
@@ -105,6 +111,7 @@ impl<'t, 'a> Cursor<'t, 'a> {
     pub fn take_name(&mut self) -> Option<Name<'a>>
         ensures taken { OnSome result (left self.new < left self.old) }
         ensures kept { IfNone result (self.new ≡ self.old) }
+        ensures missed { IfNone result (¬ (next_kind self.old.rest.now ≡ Some Kind.Identifier)) }
         ensures spelled { IfSome result (λ name. Took self.old self.new (identifier name ∷ [])) }
     {
         match self.rest {
@@ -129,6 +136,7 @@ impl<'t, 'a> Cursor<'t, 'a> {
     pub fn expect_name(&mut self) -> Result<Name<'a>, ParseFault>
         ensures taken { OnOk result (left self.new < left self.old) }
         ensures kept { IfErr result (λ fault. (self.new ≡ self.old) × IsOfRules fault) }
+        ensures missed { IfErr result (λ _. ¬ (next_kind self.old.rest.now ≡ Some Kind.Identifier)) }
         ensures spelled { IfOk result (λ name. Took self.old self.new (identifier name ∷ [])) }
     {
         self.take_name().ok_or(self.no_program())
@@ -138,6 +146,7 @@ impl<'t, 'a> Cursor<'t, 'a> {
     pub fn take_number(&mut self) -> Option<(u32, Place)>
         ensures taken { OnSome result (left self.new < left self.old) }
         ensures kept { IfNone result (self.new ≡ self.old) }
+        ensures missed { IfNone result ((v : ℕ) → ¬ (next_kind self.old.rest.now ≡ Some (Kind.Number v))) }
         ensures spelled { IfSome result
             (λ number. Took self.old self.new (of_kind_at (Kind.Number number.0) number.1 ∷ [])) }
     {
@@ -157,6 +166,7 @@ impl<'t, 'a> Cursor<'t, 'a> {
     pub fn take_sign(&mut self) -> Option<(Sign, Place)>
         ensures taken { OnSome result (left self.new < left self.old) }
         ensures kept { IfNone result (self.new ≡ self.old) }
+        ensures missed { IfNone result (EndsSum self.old.rest.now) }
         ensures spelled { IfSome result
             (λ found. Took self.old self.new (sign found.0 found.1 ∷ [])) }
     {

@@ -1,5 +1,7 @@
-ghost use Rattle.std.specs.Prelude.{◌≤◌, IfOk, MatchResult};
+ghost use Rattle.std.specs.Prelude.{◌≡◌, ◌≤◌, IfOk, MatchResult};
 ghost use Rattle.parser.specs.Cursor.{left, IsOfRules};
+ghost use Rattle.parser.specs.declared.fault.ParseFault.TheVariants.{Memory};
+ghost use Rattle.parser.specs.Reading.{ReadsTerm, ReadsExpr};
 ghost use Rattle.parser.specs.Rules.{GivesExpr, IsChain};
 ghost use Rattle.parser.specs.WellFormed.{sum_level, signed_level, term_level};
 
@@ -20,6 +22,7 @@ pub fn expression<'a>(
 ) -> Result<Expr<'a>, ParseFault>
     ensures left { MatchResult result (λ _. left cursor.new ≤ left cursor.old) IsOfRules }
     ensures given { IfOk result (GivesExpr sum_level levels cursor.old cursor.new) }
+    ensures exact { ReadsExpr levels cursor.old cursor.new result }
 {
     let first = signed_term(alloc, cursor, levels)?;
     let mut rest = Vec::new(alloc);
@@ -43,6 +46,7 @@ fn signed_term<'a>(
 ) -> Result<Expr<'a>, ParseFault>
     ensures left { MatchResult result (λ _. left cursor.new ≤ left cursor.old) IsOfRules }
     ensures given { IfOk result (GivesExpr signed_level levels cursor.old cursor.new) }
+    ensures exact { ReadsTerm signed_level levels cursor.old cursor.new result }
 {
     match cursor.take_sign() {
         None => term(alloc, cursor, levels),
@@ -59,6 +63,7 @@ fn signed_term<'a>(
 fn term<'a>(alloc: Global, cursor: &mut Cursor<'_, 'a>, levels: u32) -> Result<Expr<'a>, ParseFault>
     ensures left { MatchResult result (λ _. left cursor.new ≤ left cursor.old) IsOfRules }
     ensures given { IfOk result (GivesExpr term_level levels cursor.old cursor.new) }
+    ensures exact { ReadsTerm term_level levels cursor.old cursor.new result }
 {
     if let Some((value, place)) = cursor.take_number() {
         return Ok(Expr::Number { value, place });
@@ -77,7 +82,7 @@ fn term<'a>(alloc: Global, cursor: &mut Cursor<'_, 'a>, levels: u32) -> Result<E
 
 /// A sum, or its first term where no operator stands behind it.
 fn chained<'a>(alloc: Global, first: Expr<'a>, rest: Vec<Link<'a>>) -> Result<Expr<'a>, ParseFault>
-    ensures { MatchResult result (IsChain first.entry rest.entry.items) IsOfRules }
+    ensures { MatchResult result (IsChain first.entry rest.entry.items) (λ fault. fault ≡ Memory) }
 {
     if rest.is_empty() {
         return Ok(first);

@@ -1,4 +1,4 @@
-ghost use Rattle.std.specs.Prelude.{◌≡◌, ◌+◌, MatchResult};
+ghost use Rattle.std.specs.Prelude.{◌≡◌, ◌+◌, IfErr, MatchResult};
 ghost use Rattle.parser.specs.Cursor.{IsOfRules};
 
 use crate::fault::ParseFault;
@@ -11,7 +11,8 @@ pub const MAX_NESTING: u32 = 128;
 
 /// The levels that are left inside the next one, which begins at `place`, or P2.
 pub fn inside(levels: u32, place: Place) -> Result<u32, ParseFault>
-    ensures { MatchResult result (λ left. left + 1 ≡ levels) IsOfRules }
+    ensures left { MatchResult result (λ left. left + 1 ≡ levels) IsOfRules }
+    ensures spent { IfErr result (λ _. levels ≡ 0) }
 {
     levels.checked_sub(1).ok_or(ParseFault::TooDeep(place))
 }

@@ -1,5 +1,6 @@
 ghost use Rattle.std.specs.Prelude.{◌≤◌, IfOk, MatchResult};
 ghost use Rattle.parser.specs.Cursor.{left, IsOfRules};
+ghost use Rattle.parser.specs.Reading.{ReadsActual};
 ghost use Rattle.parser.specs.Rules.{GivesActual, GivesActuals, GivesActualList, GivesSimple, GivesStmt, GivesStatements, GivesCompound};
 
 use crate::cursor::Cursor;
@@ -140,6 +141,7 @@ fn actual<'a>(
 ) -> Result<Expr<'a>, ParseFault>
     ensures left { MatchResult result (λ _. left cursor.new ≤ left cursor.old) IsOfRules }
     ensures given { IfOk result (GivesActual levels cursor.old cursor.new) }
+    ensures exact { ReadsActual levels cursor.old cursor.new result }
 {
     let levels = inside(levels, cursor.place())?;
     expression(alloc, cursor, levels)

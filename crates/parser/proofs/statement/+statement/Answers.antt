@@ -13,7 +13,7 @@ compound-returns-clause-given t c =
 pub statement-returns-in_ok-statements-in-Some-Word-Begin-clause-given : goal.statement-returns-in_ok-statements-in-Some-Word-Begin-clause-given
 statement-returns-in_ok-statements-in-Some-Word-Begin-clause-given t c =
     let found = c.in_ok-statements-in-Some-Word-Begin in
-    compound_stands c.args.levels c.in_ok-levels.levels c.args.cursor.now _ found.field-0-1 found.statements c.in_ok-levels.ensures found.ensures.given
+    compound_stands c.args.levels c.in_ok-levels.levels c.args.cursor.now _ found.field-0-1 found.statements c.in_ok-levels.ensures.left found.ensures.given
 
 pub statements-loop-alloc-preserved : goal.statements-loop-alloc-preserved
 statements-loop-alloc-preserved t c =
