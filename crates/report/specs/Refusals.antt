@@ -1,5 +1,6 @@
 -- Why a source is refused: the fault of the first layer that refuses, for nothing else but memory.
--- It does not say which of several broken rules of names and types is told.
+-- It does not say which rule of names and types is broken, nor that one is, nor that the tree with too much code is the
+-- source's: no contract ties a tree to the typing of its source yet.
 use Rattle.std.specs.Prelude.{◌≡◌, ℕ, ◌<◌, List, Option, Some, None, map, length, codes}
 use denote.Ref.{Bor}
 use Rattle.lexer.specs.declared.token.Token.{Token}
