@@ -1,9 +1,11 @@
 -- What the whole compiler gives: the answers of its layers, one over the other, and a run of the code without the checks
--- of the sites that aren't open. It does not say which source a tree comes from.
+-- of the sites that aren't open. It does not say that a tree is the typed tree of its source.
 use Rattle.std.specs.Prelude.{◌≡◌, ℕ, List, Option}
 use Rattle.typed_tree.specs.declared.tree.Tree.{Tree}
 use Rattle.typed_tree.specs.declared.site.Site.{Site}
+use Rattle.parser.specs.declared.tree.Program.{Program}
 use Rattle.certificate.specs.declared.Certificate.{Certificate}
+use Rattle.certificate.specs.Text.{spelling}
 use Rattle.cert_checker.specs.Promise.{Valid}
 use Rattle.pcode_assembler.specs.declared.code.Code.{Code}
 use Rattle.check_remover.specs.Strip.{strip}
@@ -12,19 +14,23 @@ use Rattle.code_generator.specs.Tables.{site_table}
 use Rattle.stack_machine.specs.declared.stop.Stop.{Stop}
 use Rattle.stack_machine.specs.Does.{Tells}
 use Rattle.stack_machine.specs.Run.{machine}
-use Rattle.report.specs.Headline.{Headline}
+use Rattle.report.specs.Headline.{Headline, IsWrittenAs}
 
 -- the code of a tree, without the checks of the sites that aren't open
 pub record IsStripped (tree : Tree) (open_sites : List Site) (code : Code) : Type 0 where
   pub instructions : code.instructions.items ≡ strip (site_table open_sites) (program_code tree)
   pub sites : code.sites.items ≡ site_table tree.sites.items
 
--- A tree was checked with these open sites, for which the headline holds, and its code without the other checks was run: the stop is that of the run,
--- and the writer's known bytes grew by its output.
-pub record RunsStripped (open_sites : List Site) (stop : Stop) (cells budget : ℕ) (before after : Option (List ℕ)) : Type 0 where
+-- A source is written as a program. A tree was checked by the certificate of a text, with these open sites, for which
+-- the headline holds, and its code without the other checks was run: the stop is that of the run, and the writer's known
+-- bytes grew by its output.
+pub record RunsStripped (source text : List ℕ) (open_sites : List Site) (stop : Stop) (cells budget : ℕ) (before after : Option (List ℕ)) : Type 0 where
+  pub program : Program
+  pub written : IsWrittenAs source program
   pub tree : Tree
   pub certificate : Certificate
   pub code : Code
+  pub spelled : text ≡ spelling certificate
   pub valid : Valid tree certificate open_sites
   pub stripped : IsStripped tree open_sites code
   pub headline : Headline tree open_sites code

@@ -106,7 +106,8 @@ pub fn go<R: Feed, W: Sink>(
     requires cells { (1 ≤ cells) × (cells ≤ 16777216) }
     requires reader_counts { R.failures reader.old < 2 ^ 64 - 1 }
     requires writer_counts { W.failures writer.old < 2 ^ 64 - 1 }
-    ensures ran { IfOk result (λ r. RunsStripped r.0.open_sites.items r.1 cells budget (W.contents writer.old) (W.contents writer.new)) }
+    ensures ran { IfOk result (λ r. RunsStripped source.now (text_of certificate.entry)
+        r.0.open_sites.items r.1 cells budget (W.contents writer.old) (W.contents writer.new)) }
     ensures write_failed { IfOk result (λ r. W.failures writer.new ≡ W.failures writer.old + write_failures_of r.1) }
     ensures refused { IfErr result (IsRefusal source.now (text_of certificate.entry)) }
 {
