@@ -1,7 +1,7 @@
 -- Where a byte of a text stands: its line and its column in bytes, both counted from 1. A line ends with
 -- byte 10 (ISO 7185:1990, 6.1.8, leaves the form of a line's end open).
 -- This says nothing of which bytes a text may have.
-use Rattle.std.specs.Prelude.{ℕ, ◌+◌, List, if◌then◌else◌, ◌==◌, fold}
+use Rattle.std.specs.Prelude.{ℕ, ◌+◌, List, ◌++◌, if◌then◌else◌, ◌==◌, fold, decimal, codes}
 use Rattle.lexer.specs.declared.place.Place.{Place}
 
 -- the place of a text's first byte
@@ -19,3 +19,7 @@ place_after = fold past
 -- the place just past the bytes that a text begins with
 abbrev pub place_of : List ℕ → Place
 place_of = place_after start
+
+-- a place as it is printed, `LINE:COLUMN`
+abbrev pub place_text : Place → List ℕ
+place_text p = decimal p.line ++ codes ":" ++ decimal p.column

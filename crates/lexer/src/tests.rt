@@ -20,6 +20,14 @@ fn has_tokens(alloc: Global, text: &[u8], wanted: &[(Kind, &[u8], u32)]) -> Resu
     Ok(same)
 }
 
+#[test]
+fn prints_a_place(rt: HostRuntime) -> Result<(), Fail> {
+    let place = at(3, 14);
+    let text = format!(in rt.alloc(); "{place}")?;
+    assert_eq!(rt; text.as_str(), "3:14");
+    Ok(())
+}
+
 /// The next of a row of numbers that look random.
 fn next_random(seed: u64) -> u64 {
     seed.wrapping_mul(6364136223846793005)

@@ -23,10 +23,10 @@ use Rattle.parser.specs.WellFormed.{Form, expr_form, link_form, fits, sum_level,
 use Rattle.parser.specs.WellFormed as form
 use Rattle.parser.specs.Nesting.{expr_levels, link_levels, deepest}
 use Rattle.parser.specs.Nesting as nest
-use Rattle.parser.specs.Rules.{IsChain}
+use Rattle.parser.specs.Rules.{BeginsExpr, IsChain}
 use Rattle.parser.proofs.Lists.{and_left, and_right}
 use Rattle.parser.proofs.Equations.{spelling-Link, form-Link, levels-Link}
-use Rattle.parser.specs.Reading.{next_kind, EndsSum, ReadTo, BeginsWith, ReadsTerm, ReadsExpr}
+use Rattle.parser.specs.Reading.{next_kind, EndsSum, Anything, ReadTo, ReadsEach}
 
 -- a row of spellings parts where they meet
 pub parted : (s t : Spelling) (a c : List Token) → Reads a (s ++ t) c → (b : List Token) × Reads a s b × Reads b t c
@@ -66,7 +66,7 @@ form_of d = fold-roll-Expr Form Form form.expr_step (λ link. link.operand) d
 pub levels_of : (d : expr.Expr-F Expr Link) → expr_levels (roll-Expr d) ≡ nest.expr_step (map-Expr Expr Link ℕ ℕ expr_levels link_levels d)
 levels_of d = fold-roll-Expr ℕ ℕ nest.expr_step (λ link. link.operand) d
 
-term_of : (levels : ℕ) (a c : List Token) (d : expr.Expr-F Expr Link) → BeginsWith term_level levels a c (roll-Expr d) → IsTerm levels a c
+term_of : (levels : ℕ) (a c : List Token) (d : expr.Expr-F Expr Link) → BeginsExpr term_level levels a c (roll-Expr d) → IsTerm levels a c
 term_of levels a c (expr.Number v p) h = number v p (subst (λ s. Reads a s c) (spelling_of (expr.Number v p)) h.spelled)
 term_of levels a c (expr.Name n) h = name n (subst (λ s. Reads a s c) (spelling_of (expr.Name n)) h.spelled)
 term_of levels a c (expr.Parenthesized p b) h =
@@ -76,8 +76,8 @@ term_of levels a c (expr.Signed s p b) h = let no : false ≡ true = subst (λ f
 term_of levels a c (expr.Sum b v) h = let no : false ≡ true = subst (λ f. fits term_level f ≡ true) (form_of (expr.Sum b v)) h.formed in cc
 
 -- each term is one of them
-pub term_parts : (levels : ℕ) (a c : List Token) (e : Expr) → BeginsWith term_level levels a c e → IsTerm levels a c
-term_parts levels a c e h = term_of levels a c (out-Expr e) (subst (λ x. BeginsWith term_level levels a c x) (sym (roll-out-Expr e)) h)
+pub term_parts : (levels : ℕ) (a c : List Token) (e : Expr) → BeginsExpr term_level levels a c e → IsTerm levels a c
+term_parts levels a c e h = term_of levels a c (out-Expr e) (subst (λ x. BeginsExpr term_level levels a c x) (sym (roll-out-Expr e)) h)
 
 -- a number where a term stands
 pub number_read : (levels v : ℕ) (p : Place) (a b c : List Token) → Reads a (of_kind_at (kind.Number v) p ∷ []) b → IsTerm levels a c → b ≡ c
@@ -126,22 +126,22 @@ close_ends a h = no_sign (kind.Symbol symbol.CloseParenthesis) a h (λ e. cc) (�
 
 -- what the rule of expressions answers there
 pub inner_answer : (levels inner : ℕ) (b c : Cursor) (others : List Token) (answer : Result Expr ParseFault) → inner + 1 ≡ levels
-    → (o : Opened levels b.rest.now others) → ReadsExpr inner b c answer → ReadTo o.middle c answer
+    → (o : Opened levels b.rest.now others) → ReadsEach (BeginsExpr sum_level inner) EndsSum b c answer → ReadTo o.middle c answer
 inner_answer levels inner b c others answer less o reads =
     reads o.inner o.middle (record { spelled = o.spelled; formed = o.formed; nests = let n = o.nests in omega arith }) (close_ends o.middle (begins _ [] o.middle others o.closed))
 
 -- a term behind a sign, or alone
 pub data IsSigned (levels : ℕ) (tokens others : List Token) : Type 0 where
-  alone : (e : Expr) → BeginsWith term_level levels tokens others e → IsSigned levels tokens others
+  alone : (e : Expr) → BeginsExpr term_level levels tokens others e → IsSigned levels tokens others
   signed : (s : Sign) (p : Place) (e : Expr) → Reads tokens (sign s p ∷ expr_spelling e) others → fits term_level (expr_form e) ≡ true → expr_levels e ≤ levels → IsSigned levels tokens others
 
 formed_as : (level : ℕ) (d : expr.Expr-F Expr Link) → fits level (form.expr_step (map-Expr Expr Link Form Form expr_form link_form d)) ≡ true → fits level (expr_form (roll-Expr d)) ≡ true
 formed_as level d h = subst (λ f. fits level f ≡ true) (sym (form_of d)) h
 
-known : (level levels : ℕ) (a c : List Token) (d : expr.Expr-F Expr Link) → BeginsWith level levels a c (roll-Expr d) → fits level (form.expr_step (map-Expr Expr Link Form Form expr_form link_form d)) ≡ true
+known : (level levels : ℕ) (a c : List Token) (d : expr.Expr-F Expr Link) → BeginsExpr level levels a c (roll-Expr d) → fits level (form.expr_step (map-Expr Expr Link Form Form expr_form link_form d)) ≡ true
 known level levels a c d h = subst (λ f. fits level f ≡ true) (form_of d) h.formed
 
-signed_of : (levels : ℕ) (a c : List Token) (d : expr.Expr-F Expr Link) → BeginsWith signed_level levels a c (roll-Expr d) → IsSigned levels a c
+signed_of : (levels : ℕ) (a c : List Token) (d : expr.Expr-F Expr Link) → BeginsExpr signed_level levels a c (roll-Expr d) → IsSigned levels a c
 signed_of levels a c (expr.Number v p) h = alone (roll-Expr (expr.Number v p)) (record { spelled = h.spelled; formed = formed_as term_level (expr.Number v p) refl; nests = h.nests })
 signed_of levels a c (expr.Name n) h = alone (roll-Expr (expr.Name n)) (record { spelled = h.spelled; formed = formed_as term_level (expr.Name n) refl; nests = h.nests })
 signed_of levels a c (expr.Parenthesized p b) h =
@@ -150,8 +150,8 @@ signed_of levels a c (expr.Signed s p b) h =
     signed s p b.value (subst (λ x. Reads a x c) (spelling_of (expr.Signed s p b)) h.spelled) (known signed_level levels a c (expr.Signed s p b) h) (subst (λ n. n ≤ levels) (levels_of (expr.Signed s p b)) h.nests)
 signed_of levels a c (expr.Sum b v) h = let no : false ≡ true = known signed_level levels a c (expr.Sum b v) h in cc
 
-pub signed_parts : (levels : ℕ) (a c : List Token) (e : Expr) → BeginsWith signed_level levels a c e → IsSigned levels a c
-signed_parts levels a c e h = signed_of levels a c (out-Expr e) (subst (λ x. BeginsWith signed_level levels a c x) (sym (roll-out-Expr e)) h)
+pub signed_parts : (levels : ℕ) (a c : List Token) (e : Expr) → BeginsExpr signed_level levels a c e → IsSigned levels a c
+signed_parts levels a c e h = signed_of levels a c (out-Expr e) (subst (λ x. BeginsExpr signed_level levels a c x) (sym (roll-out-Expr e)) h)
 
 -- operators with their terms
 pub record Chain (levels : ℕ) (tokens others : List Token) : Type 0 where
@@ -164,16 +164,16 @@ pub record Chain (levels : ℕ) (tokens others : List Token) : Type 0 where
 pub record IsSum (levels : ℕ) (tokens others : List Token) : Type 0 where
   pub first : Expr
   pub middle : List Token
-  pub begun : BeginsWith signed_level levels tokens middle first
+  pub begun : BeginsExpr signed_level levels tokens middle first
   pub chain : Chain levels middle others
 
 no_links : (levels : ℕ) (a : List Token) → Chain levels a a
 no_links levels a = record { links = []; spelled = refl; formed = refl; nests = omega arith }
 
-lone : (levels : ℕ) (a c : List Token) (e : Expr) → BeginsWith signed_level levels a c e → IsSum levels a c
+lone : (levels : ℕ) (a c : List Token) (e : Expr) → BeginsExpr signed_level levels a c e → IsSum levels a c
 lone levels a c e h = record { first = e; middle = c; begun = h; chain = no_links levels c }
 
-sum_of : (levels : ℕ) (a c : List Token) (d : expr.Expr-F Expr Link) → BeginsWith sum_level levels a c (roll-Expr d) → IsSum levels a c
+sum_of : (levels : ℕ) (a c : List Token) (d : expr.Expr-F Expr Link) → BeginsExpr sum_level levels a c (roll-Expr d) → IsSum levels a c
 sum_of levels a c (expr.Number v p) h = lone levels a c (roll-Expr (expr.Number v p)) (record { spelled = h.spelled; formed = formed_as signed_level (expr.Number v p) refl; nests = h.nests })
 sum_of levels a c (expr.Name n) h = lone levels a c (roll-Expr (expr.Name n)) (record { spelled = h.spelled; formed = formed_as signed_level (expr.Name n) refl; nests = h.nests })
 sum_of levels a c (expr.Parenthesized p b) h =
@@ -192,8 +192,8 @@ sum_of levels a c (expr.Sum b v) h =
       chain = record { links = v.items; spelled = r.2; formed = and_right (has_items (map link_form v.items)) (list_all (fits term_level) (map link_form v.items)) rest_formed; nests = omega arith };
     }
 
-pub sum_parts : (levels : ℕ) (a c : List Token) (e : Expr) → BeginsWith sum_level levels a c e → IsSum levels a c
-sum_parts levels a c e h = sum_of levels a c (out-Expr e) (subst (λ x. BeginsWith sum_level levels a c x) (sym (roll-out-Expr e)) h)
+pub sum_parts : (levels : ℕ) (a c : List Token) (e : Expr) → BeginsExpr sum_level levels a c e → IsSum levels a c
+sum_parts levels a c e h = sum_of levels a c (out-Expr e) (subst (λ x. BeginsExpr sum_level levels a c x) (sym (roll-out-Expr e)) h)
 
 pub start_below : (n a : ℕ) (xs : List ℕ) → fold max a xs ≤ n → a ≤ n
 start_below n a [] h = h
@@ -207,7 +207,7 @@ other_start n a b (x ∷ xs) h k = let m = start_below n (max b x) xs k in other
 pub record GoesOn (levels : ℕ) (tokens others : List Token) : Type 0 where
   pub operand : Expr
   pub middle : List Token
-  pub begun : BeginsWith term_level levels tokens middle operand
+  pub begun : BeginsExpr term_level levels tokens middle operand
   pub chain : Chain levels middle others
 
 link_spelled : (l : Link) → link_spelling l ≡ sign (out-Link l).operator (out-Link l).place ∷ expr_spelling (out-Link l).operand
@@ -251,19 +251,19 @@ chain_ends levels a c ends h = ends_with a c h.links ends h.spelled
 
 -- what is left of each expression that may stand there
 abbrev pub ChainLeft : ℕ → List Token → List Token → Type 0
-ChainLeft levels start now = (e : Expr) (others : List Token) → BeginsWith sum_level levels start others e → EndsSum others → Chain levels now others
+ChainLeft levels start now = (e : Expr) (others : List Token) → BeginsExpr sum_level levels start others e → EndsSum others → Chain levels now others
 
 -- behind the first term
-pub chain_begins : (levels : ℕ) (a b : Cursor) (first : Expr) → ReadsTerm signed_level levels a b (Ok first) → ChainLeft levels a.rest.now b.rest.now
+pub chain_begins : (levels : ℕ) (a b : Cursor) (first : Expr) → ReadsEach (BeginsExpr signed_level levels) Anything a b (Ok first) → ChainLeft levels a.rest.now b.rest.now
 chain_begins levels a b first reads e others h ends =
-    let p = sum_parts levels a.rest.now others e h in subst (λ x. Chain levels x others) (sym (reads p.first p.middle p.begun)) p.chain
+    let p = sum_parts levels a.rest.now others e h in subst (λ x. Chain levels x others) (sym (reads p.first p.middle p.begun tt)) p.chain
 
 -- behind one more
 pub chain_left : (levels : ℕ) (s : Sign) (p : Place) (start : List Token) (a b c : Cursor) (operand : Expr) → Reads a.rest.now (sign s p ∷ []) b.rest.now
-    → ReadsTerm term_level levels b c (Ok operand) → ChainLeft levels start a.rest.now → ChainLeft levels start c.rest.now
+    → ReadsEach (BeginsExpr term_level levels) Anything b c (Ok operand) → ChainLeft levels start a.rest.now → ChainLeft levels start c.rest.now
 chain_left levels s p start a b c operand k reads chain e others h ends =
     let g = goes_on levels s p a.rest.now b.rest.now others k ends (chain e others h ends) in
-    subst (λ x. Chain levels x others) (sym (reads g.operand g.middle g.begun)) g.chain
+    subst (λ x. Chain levels x others) (sym (reads g.operand g.middle g.begun tt)) g.chain
 
 -- the answer of a chain read to its end
 pub read_whole : (others : List Token) (new : Cursor) (first : Expr) (rest : List Link) (answer : Result Expr ParseFault) → new.rest.now ≡ others

@@ -1,66 +1,87 @@
--- The rules of statements read each spelling of their form.
-use Rattle.std.proofs.Common.{◌≡◌, ℕ, ◌+◌, ◌≤◌, true, map, Some, max, List, [], ◌∷◌, ◌++◌, Result, subst, sym, ap, ◌∙◌, arith}
-use Rattle.std.proofs.lemmas.List.{append-nil}
-use Rattle.lexer.specs.declared.token.Token.{Token}
-use Rattle.lexer.specs.declared.token.Symbol.{Symbol}
-use Rattle.lexer.specs.declared.token.Symbol.TheVariants as symbol
-use Rattle.lexer.specs.declared.token.Kind.TheVariants as kind
+-- The rules of lists read each spelling of their form, part by part: the parts are actuals or statements.
+use Rattle.std.proofs.Common.{◌≡◌, ℕ, ◌<◌, ◌≤◌, Bool, true, max, List, [], ◌∷◌, map, length, Some, ap, arith}
 use Rattle.std.specs.List.{list_all}
-use Rattle.parser.specs.declared.fault.ParseFault.{ParseFault}
-use Rattle.parser.specs.declared.cursor.Cursor.{Cursor}
-use Rattle.parser.specs.declared.tree.Expr.{Expr}
-use Rattle.parser.specs.Spelling.{Spelling, Reads, expr_spelling, mark, separated}
-use Rattle.parser.specs.Nesting.{expr_levels, deepest}
-use Rattle.parser.specs.WellFormed.{is_expression}
+use Rattle.lexer.specs.declared.place.Place.{Place}
+use Rattle.lexer.specs.declared.token.Kind.TheVariants as kind
+use Rattle.lexer.specs.declared.token.Symbol.{Symbol}
+use Rattle.lexer.specs.declared.token.Token.{Token}
+use Rattle.parser.specs.Spelling.{Spelling, Reads, mark, of_kind_at, separated}
+use Rattle.parser.specs.Nesting.{deepest}
+use Rattle.parser.specs.Reading.{next_kind}
 use Rattle.parser.proofs.Lists.{and_left, and_right}
-use Rattle.parser.proofs.Exact.{parted, begins, no_sign, start_below, other_start}
-use Rattle.parser.specs.Reading.{next_kind, EndsSum, BeginsActual, ReadsExpr, ReadsActual}
+use Rattle.parser.proofs.Exact.{parted, begins, start_below, other_start}
+use Rattle.parser.proofs.Led.{led, list_begins, led_next, led_some, led_ends}
 
--- no level is left for an actual
-pub no_level : (levels : ℕ) (a c : List Token) (e : Expr) → levels ≡ 0 → BeginsActual levels a c e → ⊥
-no_level levels a c e none h = let n = h.nests in absurd (omega arith)
+-- what the parts of a list are: the symbol between them, their spelling, whether they are well formed, and their levels
+pub record Parts (A : Type 0) : Type 0 where
+  pub symbol : Symbol
+  pub spelling : A → Spelling
+  pub well : A → Bool
+  pub levels : A → ℕ
 
--- an actual is an expression one level below
-pub actual_read : (levels inner : ℕ) (a b : Cursor) (answer : Result Expr ParseFault) → inner + 1 ≡ levels → ReadsExpr inner a b answer → ReadsActual levels a b answer
-actual_read levels inner a b answer less reads e others h ends =
-    reads e others (record { spelled = h.spelled; formed = h.formed; nests = let n = h.nests in omega arith }) ends
+-- parts, each behind a symbol
+pub record PartsLeft (A : Type 0) (of : Parts A) (levels : ℕ) (tokens others : List Token) : Type 0 where
+  pub parts : List A
+  pub spelled : Reads tokens (led of.symbol (map of.spelling parts)) others
+  pub formed : list_all of.well parts ≡ true
+  pub nests : deepest (map of.levels parts) ≤ levels
 
--- spellings with a symbol before each
-pub led : Symbol → List Spelling → Spelling
-led m [] = []
-led m (one ∷ others) = mark m ∷ one ++ led m others
-
--- a list is its first part and the others, each behind a symbol
-pub separated_led : (m : Symbol) (one : Spelling) (others : List Spelling) → separated m (one ∷ others) ≡ one ++ led m others
-unfolding led
-separated_led m one [] = sym (append-nil one)
-separated_led m one (two ∷ others) = ap (λ s. one ++ mark m ∷ s) (separated_led m two others)
-
--- actuals, each behind a comma
-pub record ActualsLeft (levels : ℕ) (tokens others : List Token) (actuals : List Expr) : Type 0 where
-  pub spelled : Reads tokens (led symbol.Comma (map expr_spelling actuals)) others
-  pub formed : list_all is_expression actuals ≡ true
-  pub nests : deepest (map (λ e. 1 + expr_levels e) actuals) ≤ levels
-
--- an actual, and the others behind it
-pub record ActualThenOthers (levels : ℕ) (tokens others : List Token) (first : Expr) (rest : List Expr) : Type 0 where
+-- a part, and the others behind it
+pub record PartThenOthers (A : Type 0) (of : Parts A) (levels : ℕ) (tokens others : List Token) : Type 0 where
+  pub first : A
   pub middle : List Token
-  pub begun : BeginsActual levels tokens middle first
-  pub left : ActualsLeft levels middle others rest
+  pub spelled : Reads tokens (of.spelling first) middle
+  pub formed : of.well first ≡ true
+  pub nests : of.levels first ≤ levels
+  pub left : PartsLeft A of levels middle others
 
-pub actuals_begin : (levels : ℕ) (a c : List Token) (e : Expr) (es : List Expr) → Reads a (separated symbol.Comma (map expr_spelling (e ∷ es))) c
-    → list_all is_expression (e ∷ es) ≡ true → deepest (map (λ x. 1 + expr_levels x) (e ∷ es)) ≤ levels → ActualThenOthers levels a c e es
-actuals_begin levels a c e es h f n =
-    let r = parted (expr_spelling e) (led symbol.Comma (map expr_spelling es)) a c (subst (λ s. Reads a s c) (separated_led symbol.Comma (expr_spelling e) (map expr_spelling es)) h) in
-    let m = start_below levels (max 0 (1 + expr_levels e)) (map (λ x. 1 + expr_levels x) es) n in
+part_then_others : (A : Type 0) (of : Parts A) (levels : ℕ) (a b c : List Token) (x : A) (xs : List A) → Reads a (of.spelling x) b → Reads b (led of.symbol (map of.spelling xs)) c
+    → list_all of.well (x ∷ xs) ≡ true → deepest (map of.levels (x ∷ xs)) ≤ levels → PartThenOthers A of levels a c
+part_then_others A of levels a b c x xs s t f n =
+    let m = start_below levels (max 0 (of.levels x)) (map of.levels xs) n in
     record {
-      middle = r.0;
-      begun = record { spelled = r.1; formed = and_left (is_expression e) (list_all is_expression es) f; nests = omega arith };
-      left = record { spelled = r.2; formed = and_right (is_expression e) (list_all is_expression es) f; nests = other_start levels 0 (max 0 (1 + expr_levels e)) (map (λ x. 1 + expr_levels x) es) (omega arith) n };
+      first = x;
+      middle = b;
+      spelled = s;
+      formed = and_left (of.well x) (list_all of.well xs) f;
+      nests = omega arith;
+      left = record { parts = xs; spelled = t; formed = and_right (of.well x) (list_all of.well xs) f; nests = other_start levels 0 (max 0 (of.levels x)) (map of.levels xs) (omega arith) n };
     }
 
--- before a comma or the closing parenthesis no sum goes on
-pub actual_ends : (levels : ℕ) (a c : List Token) (es : List Expr) → ActualsLeft levels a c es → next_kind c ≡ Some (kind.Symbol symbol.CloseParenthesis) → EndsSum a
+-- a list that has parts begins with one
+pub parts_begin : (A : Type 0) (of : Parts A) (levels : ℕ) (a c : List Token) (parts : List A) → 0 < length (map of.spelling parts) → Reads a (separated of.symbol (map of.spelling parts)) c
+    → list_all of.well parts ≡ true → deepest (map of.levels parts) ≤ levels → PartThenOthers A of levels a c
+parts_begin A of levels a c [] some h f n = absurd (omega arith)
+parts_begin A of levels a c (x ∷ xs) some h f n =
+    let r = list_begins of.symbol (of.spelling x) (map of.spelling xs) a c h in
+    part_then_others A of levels a r.0 c x xs r.1 r.2 f n
+
+goes_on_with : (A : Type 0) (of : Parts A) (levels : ℕ) (p : Place) (a b c : List Token) (parts : List A) → Reads a (of_kind_at (kind.Symbol of.symbol) p ∷ []) b → ¬ (next_kind c ≡ Some (kind.Symbol of.symbol))
+    → Reads a (led of.symbol (map of.spelling parts)) c → list_all of.well parts ≡ true → deepest (map of.levels parts) ≤ levels → PartThenOthers A of levels b c
+goes_on_with A of levels p a b c [] k ends h f n = absurd (led_some of.symbol p a b c k ends h)
+goes_on_with A of levels p a b c (x ∷ xs) k ends h f n =
+    let r = parted (of.spelling x) (led of.symbol (map of.spelling xs)) b c (led_next of.symbol p (of.spelling x) (map of.spelling xs) a b c k h) in
+    part_then_others A of levels b r.0 c x xs r.1 r.2 f n
+
+-- behind the symbol the list goes on
+pub parts_go_on : (A : Type 0) (of : Parts A) (levels : ℕ) (p : Place) (a b c : List Token) → Reads a (of_kind_at (kind.Symbol of.symbol) p ∷ []) b → ¬ (next_kind c ≡ Some (kind.Symbol of.symbol))
+    → PartsLeft A of levels a c → PartThenOthers A of levels b c
+parts_go_on A of levels p a b c k ends h = goes_on_with A of levels p a b c h.parts k ends h.spelled h.formed h.nests
+
+-- where the symbol doesn't come the list ends
+pub parts_end : (A : Type 0) (of : Parts A) (levels : ℕ) (a c : List Token) → ¬ (next_kind a ≡ Some (kind.Symbol of.symbol)) → PartsLeft A of levels a c → a ≡ c
+parts_end A of levels a c missed h = led_ends of.symbol (map of.spelling h.parts) a c missed h.spelled
+
+-- what comes behind a part: the symbol, or what stands behind the list
+pub data ComesBehind (m : Symbol) (a c : List Token) : Type 0 where
+  one_more : next_kind a ≡ Some (kind.Symbol m) → ComesBehind m a c
+  no_more : next_kind a ≡ next_kind c → ComesBehind m a c
+
+comes_with : (A : Type 0) (of : Parts A) (a c : List Token) (parts : List A) → Reads a (led of.symbol (map of.spelling parts)) c → ComesBehind of.symbol a c
 unfolding led
-actual_ends levels a c [] h e = no_sign (kind.Symbol symbol.CloseParenthesis) a (ap next_kind h.spelled ∙ e) (λ x. cc) (λ x. cc)
-actual_ends levels a c (x ∷ xs) h e = no_sign (kind.Symbol symbol.Comma) a (begins (mark symbol.Comma) _ a c h.spelled) (λ y. cc) (λ y. cc)
+comes_with A of a c [] h = no_more (ap next_kind h)
+comes_with A of a c (x ∷ xs) h = one_more (begins (mark of.symbol) _ a c h)
+
+-- one of these two comes behind each part
+pub comes_behind : (A : Type 0) (of : Parts A) (levels : ℕ) (a c : List Token) → PartsLeft A of levels a c → ComesBehind of.symbol a c
+comes_behind A of levels a c h = comes_with A of a c h.parts h.spelled

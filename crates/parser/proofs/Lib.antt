@@ -1,6 +1,9 @@
 pub mod Equations
 pub mod Exact
 pub mod ExactLists
+pub mod ExactPrograms
+pub mod ExactStatements
+pub mod Led
 pub mod Lists
 pub mod Programs
 pub mod Reading

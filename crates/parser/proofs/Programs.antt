@@ -17,7 +17,7 @@ use Rattle.parser.specs.declared.tree.Block.{Block}
 use Rattle.parser.specs.Cursor.{Took}
 use Rattle.parser.specs.Spelling.{of_kind_at, mark, word_symbol, identifier, identifiers, stmt_spelling, separated, joined, in_parentheses, group_spelling, variables_spelling, block_spelling}
 use Rattle.parser.specs.WellFormed.{is_group, is_statement, has_items}
-use Rattle.parser.specs.Rules.{GivesList, GivesGroup, GivesGroups, GivesVariables, GivesCompound, GivesBlock, GivesProgram}
+use Rattle.parser.specs.Rules.{Read, BeginsList, BeginsGroup, BeginsGroups, BeginsVariables, BeginsCompound, BeginsBlock, BeginsProgram}
 use Rattle.parser.proofs.Lists.{map_push, all_push, and_true}
 use Rattle.parser.proofs.Reading.{both, without_place, joined_push}
 use Rattle.parser.proofs.Statements.{list_goes_on, some_grown, length_map}
@@ -27,14 +27,14 @@ has xs h = lt-ltb 0 (length xs) h
 
 -- one more name
 pub names_go_on : (a b c d : Cursor) (names grown : List Name) (p : Place) (n : Name)
-    → GivesList symbol.Comma a b (identifiers names) → Took b c (of_kind_at (kind.Symbol symbol.Comma) p ∷ []) → Took c d (identifier n ∷ []) → grown ≡ names ++ n ∷ [] → GivesList symbol.Comma a d (identifiers grown)
+    → Read (BeginsList symbol.Comma) a b (identifiers names) → Took b c (of_kind_at (kind.Symbol symbol.Comma) p ∷ []) → Took c d (identifier n ∷ []) → grown ≡ names ++ n ∷ [] → Read (BeginsList symbol.Comma) a d (identifiers grown)
 names_go_on a b c d names grown p n list comma taken is =
     list_goes_on symbol.Comma a b c d (identifiers names) (identifiers grown) p (identifier n ∷ []) list comma taken (ap identifiers is ∙ map_push (λ name. identifier name ∷ []) names n)
 
 -- variables declared together
 pub group_stands : (a b c d e : Cursor) (p q : Place) (names : Vec Name Global) (n : Name)
-    → GivesList symbol.Comma a b (identifiers names.items) → Took b c (of_kind_at (kind.Symbol symbol.Colon) p ∷ []) → Took c d (identifier n ∷ []) → Took d e (of_kind_at (kind.Symbol symbol.Semicolon) q ∷ [])
-    → GivesGroup a e (record { names = names; denoter = denoter.Name n })
+    → Read (BeginsList symbol.Comma) a b (identifiers names.items) → Took b c (of_kind_at (kind.Symbol symbol.Colon) p ∷ []) → Took c d (identifier n ∷ []) → Took d e (of_kind_at (kind.Symbol symbol.Semicolon) q ∷ [])
+    → Read BeginsGroup a e (record { names = names; denoter = denoter.Name n })
 group_stands a b c d e p q names n list colon type semicolon = record {
   spelled = both (separated symbol.Comma (identifiers names.items) ++ mark symbol.Colon ∷ identifier n ∷ []) (mark symbol.Semicolon ∷ []) a.rest.now d.rest.now e.rest.now
       (both (separated symbol.Comma (identifiers names.items)) (mark symbol.Colon ∷ identifier n ∷ []) a.rest.now b.rest.now d.rest.now list.spelled
@@ -44,7 +44,7 @@ group_stands a b c d e p q names n list colon type semicolon = record {
 }
 
 -- one more group
-pub groups_go_on : (a b c : Cursor) (groups grown : List VariableGroup) (g : VariableGroup) → GivesGroups a b groups → GivesGroup b c g → grown ≡ groups ++ g ∷ [] → GivesGroups a c grown
+pub groups_go_on : (a b c : Cursor) (groups grown : List VariableGroup) (g : VariableGroup) → Read BeginsGroups a b groups → Read BeginsGroup b c g → grown ≡ groups ++ g ∷ [] → Read BeginsGroups a c grown
 groups_go_on a b c groups grown g list given is = record {
   some = subst (λ x. 0 < length x) (sym is) (some_grown groups g);
   spelled = subst (λ x. Took a c x) (sym (ap (λ x. joined (map group_spelling x)) is ∙ ap joined (map_push group_spelling groups g) ∙ joined_push (map group_spelling groups) (group_spelling g)))
@@ -54,7 +54,7 @@ groups_go_on a b c groups grown g list given is = record {
 
 -- a block
 pub block_stands : (levels inner : ℕ) (a b c : Cursor) (variables : Vec VariableGroup Global) (statements : Vec Stmt Global) (end : Place)
-    → inner + 1 ≡ levels → GivesVariables a b variables.items → GivesCompound inner b c statements.items end → GivesBlock levels a c (record { variables = variables; statements = statements; end = end })
+    → inner + 1 ≡ levels → Read BeginsVariables a b variables.items → Read (BeginsCompound inner) b c (statements.items, end) → Read (BeginsBlock levels) a c (record { variables = variables; statements = statements; end = end })
 block_stands levels inner a b c variables statements end less declared given = record {
   spelled = subst (λ x. Took a c x) (sym (append_assoc (variables_spelling variables.items) (word_symbol word.Begin ∷ separated symbol.Semicolon (map stmt_spelling statements.items)) (of_kind_at (kind.Word word.End) end ∷ [])))
       (both (variables_spelling variables.items) (word_symbol word.Begin ∷ separated symbol.Semicolon (map stmt_spelling statements.items) ++ of_kind_at (kind.Word word.End) end ∷ []) a.rest.now b.rest.now c.rest.now declared.spelled given.spelled);
@@ -66,7 +66,7 @@ block_stands levels inner a b c variables statements end less declared given = r
 -- a program
 pub program_stands : (levels : ℕ) (a b c d e f g : Cursor) (p q r : Place) (name : Name) (parameters : Vec Name Global) (block : Block)
     → Took a b (of_kind_at (kind.Word word.Program) p ∷ []) → Took b c (identifier name ∷ []) → Took c d (in_parentheses (identifiers parameters.items)) → Took d e (of_kind_at (kind.Symbol symbol.Semicolon) q ∷ [])
-    → GivesBlock levels e f block → Took f g (of_kind_at (kind.Symbol symbol.Period) r ∷ []) → GivesProgram levels a g (record { name = name; parameters = parameters; block = block })
+    → Read (BeginsBlock levels) e f block → Took f g (of_kind_at (kind.Symbol symbol.Period) r ∷ []) → Read (BeginsProgram levels) a g (record { name = name; parameters = parameters; block = block })
 program_stands levels a b c d e f g p q r name parameters block opened named listed semicolon given period = record {
   spelled = both ((word_symbol word.Program ∷ identifier name ∷ in_parentheses (identifiers parameters.items)) ++ mark symbol.Semicolon ∷ block_spelling block) (mark symbol.Period ∷ []) a.rest.now f.rest.now g.rest.now
       (both (word_symbol word.Program ∷ identifier name ∷ in_parentheses (identifiers parameters.items)) (mark symbol.Semicolon ∷ block_spelling block) a.rest.now d.rest.now f.rest.now

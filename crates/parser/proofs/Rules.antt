@@ -16,15 +16,15 @@ use Rattle.parser.specs.Cursor.{Took}
 use Rattle.parser.specs.Spelling.{expr_spelling, link_spelling, joined, of_kind_at, mark, sign}
 use Rattle.parser.specs.WellFormed.{expr_form, link_form, fits, sum_level, signed_level, term_level}
 use Rattle.parser.specs.Nesting.{expr_levels, link_levels, deepest}
-use Rattle.parser.specs.Rules.{GivesExpr}
+use Rattle.parser.specs.Rules.{Read, BeginsExpr}
 use Rattle.parser.proofs.Equations.{spelling-Parenthesized, form-Parenthesized, levels-Parenthesized, spelling-Link, form-Link, levels-Link}
 use Rattle.parser.proofs.Lists.{map_push, all_push, deepest_push}
 use Rattle.parser.proofs.Reading.{both, without_place, joined_push}
 
 -- an expression in parentheses
 pub gives-Parenthesized : (levels inner_levels : ℕ) (a b c d : Cursor) (p q : Place) (box : Box Expr Global) (inner : Expr)
-    → inner_levels + 1 ≡ levels → Took a b (of_kind_at (kind.Symbol symbol.OpenParenthesis) p ∷ []) → GivesExpr sum_level inner_levels b c inner
-    → Took c d (of_kind_at (kind.Symbol symbol.CloseParenthesis) q ∷ []) → box.value ≡ inner → GivesExpr term_level levels a d (tree.Parenthesized p box)
+    → inner_levels + 1 ≡ levels → Took a b (of_kind_at (kind.Symbol symbol.OpenParenthesis) p ∷ []) → Read (BeginsExpr sum_level inner_levels) b c inner
+    → Took c d (of_kind_at (kind.Symbol symbol.CloseParenthesis) q ∷ []) → box.value ≡ inner → Read (BeginsExpr term_level levels) a d (tree.Parenthesized p box)
 gives-Parenthesized levels inner_levels a b c d p q box inner less opened given closed e = record {
   spelled = subst (λ s. Took a d s) (sym (spelling-Parenthesized p box)) (subst (λ x. Took a d (of_kind_at (kind.Symbol symbol.OpenParenthesis) p ∷ expr_spelling x ++ mark symbol.CloseParenthesis ∷ [])) (sym e)
       (both (of_kind_at (kind.Symbol symbol.OpenParenthesis) p ∷ []) (expr_spelling inner ++ mark symbol.CloseParenthesis ∷ []) a.rest.now b.rest.now d.rest.now opened
@@ -43,7 +43,7 @@ pub record IsChainSoFar (levels : ℕ) (old new : Cursor) (first : Expr) (rest :
 
 -- one more operator with its term
 pub chain_goes_on : (levels : ℕ) (a b c d : Cursor) (first : Expr) (rest grown : List Link) (s : Sign) (p : Place) (operand : Expr)
-    → IsChainSoFar levels a b first rest → Took b c (sign s p ∷ []) → GivesExpr term_level levels c d operand
+    → IsChainSoFar levels a b first rest → Took b c (sign s p ∷ []) → Read (BeginsExpr term_level levels) c d operand
     → grown ≡ rest ++ roll-Link (record { operator = s; place = p; operand = operand }) ∷ [] → IsChainSoFar levels a d first grown
 chain_goes_on levels a b c d first rest grown s p operand so_far signed given e =
     let link : Link = roll-Link (record { operator = s; place = p; operand = operand }) in

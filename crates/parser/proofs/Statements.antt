@@ -18,7 +18,7 @@ use Rattle.parser.specs.Cursor.{Took}
 use Rattle.parser.specs.Spelling.{Spelling, expr_spelling, stmt_spelling, of_kind_at, mark, word_symbol, separated, in_parentheses}
 use Rattle.parser.specs.WellFormed.{is_expression, is_statement, has_items}
 use Rattle.parser.specs.Nesting.{expr_levels, stmt_levels, deepest}
-use Rattle.parser.specs.Rules.{GivesList, GivesActual, GivesActualList, GivesActuals, GivesStmt, GivesStatements, GivesCompound}
+use Rattle.parser.specs.Rules.{Read, BeginsList, BeginsActual, BeginsActualList, BeginsActuals, BeginsStmt, BeginsStatements, BeginsCompound}
 use Rattle.parser.proofs.Equations.{spelling-Compound, form-Compound, levels-Compound}
 use Rattle.parser.proofs.Lists.{map_push, all_push, deepest_push, all_mapped, and_true}
 use Rattle.parser.proofs.Reading.{both, without_place, without_last_place, separated_more, in_parentheses_some}
@@ -51,7 +51,7 @@ has (x ∷ xs) h = lt-ltb 0 (length (map is_statement (x ∷ xs))) (omega arith)
 
 -- one more part
 pub list_goes_on : (m : Symbol) (a b c d : Cursor) (parts grown : List Spelling) (p : Place) (last : Spelling)
-    → GivesList m a b parts → Took b c (of_kind_at (kind.Symbol m) p ∷ []) → Took c d last → grown ≡ parts ++ last ∷ [] → GivesList m a d grown
+    → Read (BeginsList m) a b parts → Took b c (of_kind_at (kind.Symbol m) p ∷ []) → Took c d last → grown ≡ parts ++ last ∷ [] → Read (BeginsList m) a d grown
 list_goes_on m a b c d parts grown p last given comma taken e = record {
   some = subst (λ x. 0 < length x) (sym e) (some_grown parts last);
   spelled = subst (λ x. Took a d (separated m x)) (sym e) (subst (λ x. Took a d x) (sym (separated_more m parts last given.some))
@@ -61,7 +61,7 @@ list_goes_on m a b c d parts grown p last given comma taken e = record {
 
 -- one more actual
 pub actuals_go_on : (levels : ℕ) (a b c d : Cursor) (actuals grown : List Expr) (p : Place) (e : Expr)
-    → GivesActualList levels a b actuals → Took b c (of_kind_at (kind.Symbol symbol.Comma) p ∷ []) → GivesActual levels c d e → grown ≡ actuals ++ e ∷ [] → GivesActualList levels a d grown
+    → Read (BeginsActualList levels) a b actuals → Took b c (of_kind_at (kind.Symbol symbol.Comma) p ∷ []) → Read (BeginsActual levels) c d e → grown ≡ actuals ++ e ∷ [] → Read (BeginsActualList levels) a d grown
 actuals_go_on levels a b c d actuals grown p e list comma given is =
     let level : Expr → ℕ = λ x. 1 + expr_levels x in
     record {
@@ -72,7 +72,7 @@ actuals_go_on levels a b c d actuals grown p e list comma given is =
 
 -- a list in its parentheses
 pub in_their_parentheses : (a b c d : Cursor) (p q : Place) (parts : List Spelling)
-    → Took a b (of_kind_at (kind.Symbol symbol.OpenParenthesis) p ∷ []) → GivesList symbol.Comma b c parts → Took c d (of_kind_at (kind.Symbol symbol.CloseParenthesis) q ∷ []) → Took a d (in_parentheses parts)
+    → Took a b (of_kind_at (kind.Symbol symbol.OpenParenthesis) p ∷ []) → Read (BeginsList symbol.Comma) b c parts → Took c d (of_kind_at (kind.Symbol symbol.CloseParenthesis) q ∷ []) → Took a d (in_parentheses parts)
 in_their_parentheses a b c d p q parts opened list closed =
     subst (λ x. Took a d x) (sym (in_parentheses_some parts list.some))
     (both (mark symbol.OpenParenthesis ∷ []) (separated symbol.Comma parts ++ mark symbol.CloseParenthesis ∷ []) a.rest.now b.rest.now d.rest.now (without_place (kind.Symbol symbol.OpenParenthesis) p [] a.rest.now b.rest.now opened)
@@ -80,7 +80,7 @@ in_their_parentheses a b c d p q parts opened list closed =
 
 -- actuals in their parentheses
 pub actuals_closed : (levels : ℕ) (a b c d : Cursor) (p q : Place) (actuals : List Expr)
-    → Took a b (of_kind_at (kind.Symbol symbol.OpenParenthesis) p ∷ []) → GivesActualList levels b c actuals → Took c d (of_kind_at (kind.Symbol symbol.CloseParenthesis) q ∷ []) → GivesActuals levels a d actuals
+    → Took a b (of_kind_at (kind.Symbol symbol.OpenParenthesis) p ∷ []) → Read (BeginsActualList levels) b c actuals → Took c d (of_kind_at (kind.Symbol symbol.CloseParenthesis) q ∷ []) → Read (BeginsActuals levels) a d actuals
 actuals_closed levels a b c d p q actuals opened list closed = record {
   spelled = in_their_parentheses a b c d p q (map expr_spelling actuals) opened list.list closed;
   formed = list.formed;
@@ -89,7 +89,7 @@ actuals_closed levels a b c d p q actuals opened list closed = record {
 
 -- one more statement
 pub statements_go_on : (levels : ℕ) (a b c d : Cursor) (statements grown : List Stmt) (p : Place) (s : Stmt)
-    → GivesStatements levels a b statements → Took b c (of_kind_at (kind.Symbol symbol.Semicolon) p ∷ []) → GivesStmt levels c d s → grown ≡ statements ++ s ∷ [] → GivesStatements levels a d grown
+    → Read (BeginsStatements levels) a b statements → Took b c (of_kind_at (kind.Symbol symbol.Semicolon) p ∷ []) → Read (BeginsStmt levels) c d s → grown ≡ statements ++ s ∷ [] → Read (BeginsStatements levels) a d grown
 statements_go_on levels a b c d statements grown p s list semicolon given is = record {
   list = list_goes_on symbol.Semicolon a b c d (map stmt_spelling statements) (map stmt_spelling grown) p (stmt_spelling s) list.list semicolon given.spelled (ap (map stmt_spelling) is ∙ map_push stmt_spelling statements s);
   formed = subst (λ x. list_all is_statement x ≡ true) (sym is) (all_push is_statement statements s list.formed given.formed);
@@ -98,7 +98,7 @@ statements_go_on levels a b c d statements grown p s list semicolon given is = r
 
 -- statements between their word symbols
 pub compound_closed : (levels : ℕ) (a b c d : Cursor) (p end : Place) (statements : List Stmt)
-    → Took a b (of_kind_at (kind.Word word.Begin) p ∷ []) → GivesStatements levels b c statements → Took c d (of_kind_at (kind.Word word.End) end ∷ []) → GivesCompound levels a d statements end
+    → Took a b (of_kind_at (kind.Word word.Begin) p ∷ []) → Read (BeginsStatements levels) b c statements → Took c d (of_kind_at (kind.Word word.End) end ∷ []) → Read (BeginsCompound levels) a d (statements, end)
 compound_closed levels a b c d p end statements opened list closed = record {
   spelled = both (word_symbol word.Begin ∷ []) (separated symbol.Semicolon (map stmt_spelling statements) ++ of_kind_at (kind.Word word.End) end ∷ []) a.rest.now b.rest.now d.rest.now (without_place (kind.Word word.Begin) p [] a.rest.now b.rest.now opened)
       (both (separated symbol.Semicolon (map stmt_spelling statements)) (of_kind_at (kind.Word word.End) end ∷ []) b.rest.now c.rest.now d.rest.now list.list.spelled closed);
@@ -108,7 +108,7 @@ compound_closed levels a b c d p end statements opened list closed = record {
 }
 
 -- a compound statement as a statement
-pub compound_stands : (levels inner : ℕ) (a b : Cursor) (end : Place) (v : Vec Stmt Global) → inner + 1 ≡ levels → GivesCompound inner a b v.items end → GivesStmt levels a b (statement.Compound v)
+pub compound_stands : (levels inner : ℕ) (a b : Cursor) (end : Place) (v : Vec Stmt Global) → inner + 1 ≡ levels → Read (BeginsCompound inner) a b (v.items, end) → Read (BeginsStmt levels) a b (statement.Compound v)
 compound_stands levels inner a b end v less given = record {
   spelled = subst (λ s. Took a b s) (sym (spelling-Compound v)) (without_last_place (kind.Word word.End) end (word_symbol word.Begin ∷ separated symbol.Semicolon (map stmt_spelling v.items)) a.rest.now b.rest.now given.spelled);
   formed = form-Compound v ∙ and_true (has_items (map is_statement v.items)) (list_all (λ b. b) (map is_statement v.items)) (has v.items given.some) (all_mapped is_statement v.items ∙ given.formed);

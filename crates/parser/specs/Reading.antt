@@ -1,52 +1,61 @@
 -- What a rule answers where the tokens that are left begin with a spelling of its form: it reads this spelling and no
--- more, or memory runs out.
+-- more, or memory runs out. What stands behind the form may not go on with it.
 -- This doesn't say what a rule answers to other tokens.
-use Rattle.std.specs.Prelude.{◌≡◌, ℕ, ◌+◌, ◌≤◌, true, List, [], ◌∷◌, Option, Some, None, Result, MatchResult}
+use Rattle.std.specs.Prelude.{◌≡◌, List, [], ◌∷◌, Option, Some, None, Result, MatchResult}
 use Rattle.lexer.specs.declared.place.Place.{Place}
 use Rattle.lexer.specs.declared.token.Kind.{Kind}
+use Rattle.lexer.specs.declared.token.Kind.TheVariants as kind
+use Rattle.lexer.specs.declared.token.Symbol.TheVariants as symbol
 use Rattle.lexer.specs.declared.token.Token.{Token}
+use Rattle.lexer.specs.declared.token.Word.TheVariants as word
 use Rattle.parser.specs.declared.fault.ParseFault.{ParseFault}
 use Rattle.parser.specs.declared.fault.ParseFault.TheVariants.{Memory}
 use Rattle.parser.specs.declared.cursor.Cursor.{Cursor}
 use Rattle.parser.specs.declared.tree.Sign.{Sign}
-use Rattle.parser.specs.declared.tree.Expr.{Expr}
-use Rattle.parser.specs.Spelling.{Reads, expr_spelling, sign}
-use Rattle.parser.specs.WellFormed.{expr_form, fits, sum_level, is_expression}
-use Rattle.parser.specs.Nesting.{expr_levels}
+use Rattle.parser.specs.Spelling.{sign}
 
 -- the kind of the first token
 abbrev pub next_kind : List Token → Option Kind
 next_kind [] = None
 next_kind (token ∷ others) = Some token.kind
 
--- no sign comes next, with which a sum would go on
-abbrev pub EndsSum : List Token → Type 0
-EndsSum others = (s : Sign) (place : Place) → ¬ (next_kind others ≡ Some (sign s place).kind)
-
 -- the rule read up to these tokens, or memory ran out
 abbrev pub ReadTo : {A : Type 0} → List Token → Cursor → Result A ParseFault → Type 0
 ReadTo others new answer = MatchResult answer (λ _. new.rest.now ≡ others) (λ fault. fault ≡ Memory)
 
--- the tokens begin with an expression of at least this level, and then these are left
-pub record BeginsWith (level levels : ℕ) (tokens others : List Token) (e : Expr) : Type 0 where
-  pub spelled : Reads tokens (expr_spelling e) others
-  pub formed : fits level (expr_form e) ≡ true
-  pub nests : expr_levels e ≤ levels
+-- whatever the tokens begin with, where what is left can stand behind it: the rule reads it and no more
+abbrev pub ReadsEach : {A B : Type 0} → (List Token → List Token → A → Type 0) → (List Token → Type 0) → Cursor → Cursor → Result B ParseFault → Type 0
+ReadsEach {A} Begins Ends old new answer = (found : A) (others : List Token) → Begins old.rest.now others found → Ends others → ReadTo others new answer
 
--- a term, or a sign with a term, is read wherever one stands
-abbrev pub ReadsTerm : ℕ → ℕ → Cursor → Cursor → Result Expr ParseFault → Type 0
-ReadsTerm level levels old new answer = (e : Expr) (others : List Token) → BeginsWith level levels old.rest.now others e → ReadTo others new answer
+-- anything may stand behind
+abbrev pub Anything : List Token → Type 0
+Anything others = Unit {0}
 
--- an expression is read wherever one stands and no sign follows
-abbrev pub ReadsExpr : ℕ → Cursor → Cursor → Result Expr ParseFault → Type 0
-ReadsExpr levels old new answer = (e : Expr) (others : List Token) → BeginsWith sum_level levels old.rest.now others e → EndsSum others → ReadTo others new answer
+-- no sign comes next, with which a sum would go on
+abbrev pub EndsSum : List Token → Type 0
+EndsSum others = (s : Sign) (place : Place) → ¬ (next_kind others ≡ Some (sign s place).kind)
 
--- the tokens begin with an actual, which is a level of its own, and then these are left
-pub record BeginsActual (levels : ℕ) (tokens others : List Token) (e : Expr) : Type 0 where
-  pub spelled : Reads tokens (expr_spelling e) others
-  pub formed : is_expression e ≡ true
-  pub nests : 1 + expr_levels e ≤ levels
+-- no token of this kind comes next
+abbrev pub NoNext : Kind → List Token → Type 0
+NoNext k others = ¬ (next_kind others ≡ Some k)
 
--- an actual is read wherever one stands and no sign follows
-abbrev pub ReadsActual : ℕ → Cursor → Cursor → Result Expr ParseFault → Type 0
-ReadsActual levels old new answer = (e : Expr) (others : List Token) → BeginsActual levels old.rest.now others e → EndsSum others → ReadTo others new answer
+-- a token of this kind comes next
+abbrev pub Next : Kind → List Token → Type 0
+Next k others = next_kind others ≡ Some k
+
+-- the closing parenthesis of a list comes next
+abbrev pub Closes : List Token → Type 0
+Closes = Next (kind.Symbol symbol.CloseParenthesis)
+
+-- the `end` of a compound statement comes next
+abbrev pub EndsStatements : List Token → Type 0
+EndsStatements = Next (kind.Word word.End)
+
+-- the compound statement of a block comes next
+abbrev pub BeginsStatementPart : List Token → Type 0
+BeginsStatementPart = Next (kind.Word word.Begin)
+
+-- what comes next behind a statement: a semicolon or the `end` of the compound statement
+pub data EndsStmt (others : List Token) : Type 0 where
+  semicolon : Next (kind.Symbol symbol.Semicolon) others → EndsStmt others
+  end : Next (kind.Word word.End) others → EndsStmt others

@@ -42,6 +42,11 @@ first_left_out tokens = option_map (λ token. token.place) (find (λ token. is_l
 abbrev pub HasNoTree : List Token → Type 0
 HasNoTree tokens = (tree : Program) → ¬ IsTreeOf tree tokens
 
+-- memory ran out, or there is no tree
+abbrev pub IsRefused : List Token → ParseFault → Type 0
+IsRefused tokens Memory = Unit {0}
+IsRefused tokens fault = HasNoTree tokens
+
 -- The fault is one of these tokens: a form left out before all others, at its first token.
 abbrev pub IsFaultOf : ParseFault → List Token → Type 0
 IsFaultOf Memory tokens = Unit {0}

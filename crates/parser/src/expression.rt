@@ -1,8 +1,8 @@
 ghost use Rattle.std.specs.Prelude.{◌≡◌, ◌≤◌, IfOk, MatchResult};
 ghost use Rattle.parser.specs.Cursor.{left, IsOfRules};
 ghost use Rattle.parser.specs.declared.fault.ParseFault.TheVariants.{Memory};
-ghost use Rattle.parser.specs.Reading.{ReadsTerm, ReadsExpr};
-ghost use Rattle.parser.specs.Rules.{GivesExpr, IsChain};
+ghost use Rattle.parser.specs.Reading.{ReadsEach, EndsSum, Anything};
+ghost use Rattle.parser.specs.Rules.{Read, BeginsExpr, IsChain};
 ghost use Rattle.parser.specs.WellFormed.{sum_level, signed_level, term_level};
 
 use crate::cursor::Cursor;
@@ -21,8 +21,8 @@ pub fn expression<'a>(
     levels: u32,
 ) -> Result<Expr<'a>, ParseFault>
     ensures left { MatchResult result (λ _. left cursor.new ≤ left cursor.old) IsOfRules }
-    ensures given { IfOk result (GivesExpr sum_level levels cursor.old cursor.new) }
-    ensures exact { ReadsExpr levels cursor.old cursor.new result }
+    ensures given { IfOk result (Read (BeginsExpr sum_level levels) cursor.old cursor.new) }
+    ensures exact { ReadsEach (BeginsExpr sum_level levels) EndsSum cursor.old cursor.new result }
 {
     let first = signed_term(alloc, cursor, levels)?;
     let mut rest = Vec::new(alloc);
@@ -45,8 +45,8 @@ fn signed_term<'a>(
     levels: u32,
 ) -> Result<Expr<'a>, ParseFault>
     ensures left { MatchResult result (λ _. left cursor.new ≤ left cursor.old) IsOfRules }
-    ensures given { IfOk result (GivesExpr signed_level levels cursor.old cursor.new) }
-    ensures exact { ReadsTerm signed_level levels cursor.old cursor.new result }
+    ensures given { IfOk result (Read (BeginsExpr signed_level levels) cursor.old cursor.new) }
+    ensures exact { ReadsEach (BeginsExpr signed_level levels) Anything cursor.old cursor.new result }
 {
     match cursor.take_sign() {
         None => term(alloc, cursor, levels),
@@ -62,8 +62,8 @@ fn signed_term<'a>(
 #[cycle(expression)]
 fn term<'a>(alloc: Global, cursor: &mut Cursor<'_, 'a>, levels: u32) -> Result<Expr<'a>, ParseFault>
     ensures left { MatchResult result (λ _. left cursor.new ≤ left cursor.old) IsOfRules }
-    ensures given { IfOk result (GivesExpr term_level levels cursor.old cursor.new) }
-    ensures exact { ReadsTerm term_level levels cursor.old cursor.new result }
+    ensures given { IfOk result (Read (BeginsExpr term_level levels) cursor.old cursor.new) }
+    ensures exact { ReadsEach (BeginsExpr term_level levels) Anything cursor.old cursor.new result }
 {
     if let Some((value, place)) = cursor.take_number() {
         return Ok(Expr::Number { value, place });

@@ -1,8 +1,8 @@
 ghost use Rattle.std.specs.Prelude.{◌≡◌, ◌<◌, ◌≤◌, IfOk, IfErr, MatchOption, MatchResult};
 ghost use Rattle.parser.specs.Cursor.{left, IsOfRules, Took};
-ghost use Rattle.parser.specs.Rules.{GivesList, GivesGroup, GivesGroups, GivesVariables, GivesBlock, GivesProgram};
-ghost use Rattle.parser.specs.Spelling.{identifiers, in_parentheses};
-ghost use Rattle.parser.specs.Syntax.{first_left_out, is_left_out, IsTreeOf};
+ghost use Rattle.parser.specs.Rules.{Read, BeginsList, BeginsNames, BeginsParameters, BeginsGroup, BeginsGroups, BeginsVariables, BeginsBlock, BeginsProgram};
+ghost use Rattle.parser.specs.Reading.{ReadsEach, NoNext, BeginsStatementPart, Anything};
+ghost use Rattle.parser.specs.Syntax.{first_left_out, is_left_out, IsTreeOf, IsRefused, Answers};
 
 use crate::cursor::Cursor;
 use crate::fault::ParseFault;
@@ -20,7 +20,7 @@ use std::alloc::Global;
 pub fn parse<'a>(alloc: Global, tokens: &[Token<'a>]) -> Result<Program<'a>, ParseFault>
     ensures left_out { MatchOption (first_left_out tokens.now) (IfErr result IsOfRules)
         (λ place. result ≡ Err (ParseFault.LeftOut place)) }
-    ensures tree { IfOk result (λ tree. IsTreeOf tree tokens.now) }
+    ensures exact { Answers result tokens.now }
 {
     match first_left_out(tokens) {
         Some(place) => Err(ParseFault::LeftOut(place)),
@@ -53,7 +53,7 @@ fn is_left_out(kind: Kind) -> bool
 /// A program and nothing behind it.
 fn whole<'a>(alloc: Global, cursor: &mut Cursor<'_, 'a>) -> Result<Program<'a>, ParseFault>
     ensures fault { IfErr result IsOfRules }
-    ensures tree { IfOk result (λ tree. IsTreeOf tree cursor.old.rest.now) }
+    ensures exact { MatchResult result (λ tree. IsTreeOf tree cursor.old.rest.now) (IsRefused cursor.old.rest.now) }
 {
     let program = program(alloc, cursor)?;
     match cursor.peek() {
@@ -65,7 +65,8 @@ fn whole<'a>(alloc: Global, cursor: &mut Cursor<'_, 'a>) -> Result<Program<'a>, 
 // program = "program" name parameters ";" block "."
 fn program<'a>(alloc: Global, cursor: &mut Cursor<'_, 'a>) -> Result<Program<'a>, ParseFault>
     ensures left { MatchResult result (λ _. left cursor.new ≤ left cursor.old) IsOfRules }
-    ensures given { IfOk result (GivesProgram MAX_NESTING cursor.old cursor.new) }
+    ensures given { IfOk result (Read (BeginsProgram MAX_NESTING) cursor.old cursor.new) }
+    ensures exact { ReadsEach (BeginsProgram MAX_NESTING) Anything cursor.old cursor.new result }
 {
     cursor.expect_word(Word::Program)?;
     let name = cursor.expect_name()?;
@@ -83,8 +84,9 @@ fn program<'a>(alloc: Global, cursor: &mut Cursor<'_, 'a>) -> Result<Program<'a>
 // parameters = ["(" names ")"]
 fn parameters<'a>(alloc: Global, cursor: &mut Cursor<'_, 'a>) -> Result<Vec<Name<'a>>, ParseFault>
     ensures left { MatchResult result (λ _. left cursor.new ≤ left cursor.old) IsOfRules }
-    ensures given { IfOk result
-        (λ found. Took cursor.old cursor.new (in_parentheses (identifiers found.items))) }
+    ensures given { IfOk result (λ found. Read BeginsParameters cursor.old cursor.new found.items) }
+    ensures exact { ReadsEach BeginsParameters (NoNext (Kind.Symbol Symbol.OpenParenthesis))
+        cursor.old cursor.new result }
 {
     if cursor.take_symbol(Symbol::OpenParenthesis).is_none() {
         return Ok(Vec::new(alloc));
@@ -98,7 +100,8 @@ fn parameters<'a>(alloc: Global, cursor: &mut Cursor<'_, 'a>) -> Result<Vec<Name
 fn names<'a>(alloc: Global, cursor: &mut Cursor<'_, 'a>) -> Result<Vec<Name<'a>>, ParseFault>
     ensures left { MatchResult result (λ _. left cursor.new < left cursor.old) IsOfRules }
     ensures given { IfOk result
-        (λ found. GivesList Symbol.Comma cursor.old cursor.new (identifiers found.items)) }
+        (λ found. Read BeginsNames cursor.old cursor.new found.items) }
+    ensures exact { ReadsEach BeginsNames (NoNext (Kind.Symbol Symbol.Comma)) cursor.old cursor.new result }
 {
     let mut names = Vec::new(alloc);
     names.push(cursor.expect_name()?)?;
@@ -116,7 +119,8 @@ fn block<'a>(
     levels: u32,
 ) -> Result<Block<'a>, ParseFault>
     ensures left { MatchResult result (λ _. left cursor.new ≤ left cursor.old) IsOfRules }
-    ensures given { IfOk result (GivesBlock levels cursor.old cursor.new) }
+    ensures given { IfOk result (Read (BeginsBlock levels) cursor.old cursor.new) }
+    ensures exact { ReadsEach (BeginsBlock levels) Anything cursor.old cursor.new result }
 {
     let variables = variables(alloc, cursor)?;
     let levels = inside(levels, cursor.place())?;
@@ -134,7 +138,8 @@ fn variables<'a>(
     cursor: &mut Cursor<'_, 'a>,
 ) -> Result<Vec<VariableGroup<'a>>, ParseFault>
     ensures left { MatchResult result (λ _. left cursor.new ≤ left cursor.old) IsOfRules }
-    ensures given { IfOk result (λ found. GivesVariables cursor.old cursor.new found.items) }
+    ensures given { IfOk result (λ found. Read BeginsVariables cursor.old cursor.new found.items) }
+    ensures exact { ReadsEach BeginsVariables BeginsStatementPart cursor.old cursor.new result }
 {
     if cursor.take_word(Word::Var).is_none() {
         return Ok(Vec::new(alloc));
@@ -148,7 +153,8 @@ fn groups<'a>(
     cursor: &mut Cursor<'_, 'a>,
 ) -> Result<Vec<VariableGroup<'a>>, ParseFault>
     ensures left { MatchResult result (λ _. left cursor.new ≤ left cursor.old) IsOfRules }
-    ensures given { IfOk result (λ found. GivesGroups cursor.old cursor.new found.items) }
+    ensures given { IfOk result (λ found. Read BeginsGroups cursor.old cursor.new found.items) }
+    ensures exact { ReadsEach BeginsGroups (NoNext Kind.Identifier) cursor.old cursor.new result }
 {
     let mut groups = Vec::new(alloc);
     groups.push(group(alloc, cursor)?)?;
@@ -161,7 +167,8 @@ fn groups<'a>(
 // group = names ":" name ";"
 fn group<'a>(alloc: Global, cursor: &mut Cursor<'_, 'a>) -> Result<VariableGroup<'a>, ParseFault>
     ensures left { MatchResult result (λ _. left cursor.new < left cursor.old) IsOfRules }
-    ensures given { IfOk result (GivesGroup cursor.old cursor.new) }
+    ensures given { IfOk result (Read BeginsGroup cursor.old cursor.new) }
+    ensures exact { ReadsEach BeginsGroup Anything cursor.old cursor.new result }
 {
     let names = names(alloc, cursor)?;
     cursor.expect_symbol(Symbol::Colon)?;

@@ -1,7 +1,7 @@
-ghost use Rattle.std.specs.Prelude.{◌≤◌, IfOk, MatchResult};
+ghost use Rattle.std.specs.Prelude.{◌≡◌, ◌+◌, ◌≤◌, IfOk, MatchResult, Some};
 ghost use Rattle.parser.specs.Cursor.{left, IsOfRules};
-ghost use Rattle.parser.specs.Reading.{ReadsActual};
-ghost use Rattle.parser.specs.Rules.{GivesActual, GivesActuals, GivesActualList, GivesSimple, GivesStmt, GivesStatements, GivesCompound};
+ghost use Rattle.parser.specs.Reading.{next_kind, ReadsEach, EndsSum, EndsStmt, EndsStatements, Closes, NoNext, Anything};
+ghost use Rattle.parser.specs.Rules.{Read, BeginsActual, BeginsActuals, BeginsActualList, BeginsStmt, BeginsStatements, BeginsCompound};
 
 use crate::cursor::Cursor;
 use crate::expression::expression;
@@ -23,7 +23,8 @@ pub fn compound<'a>(
 ) -> Result<(Vec<Stmt<'a>>, Place), ParseFault>
     ensures left { MatchResult result (λ _. left cursor.new ≤ left cursor.old) IsOfRules }
     ensures given { IfOk result
-        (λ found. GivesCompound levels cursor.old cursor.new found.0.items found.1) }
+        (λ found. Read (BeginsCompound levels) cursor.old cursor.new (found.0.items, found.1)) }
+    ensures exact { ReadsEach (BeginsCompound levels) Anything cursor.old cursor.new result }
 {
     cursor.expect_word(Word::Begin)?;
     let statements = statements(alloc, cursor, levels)?;
@@ -40,7 +41,8 @@ fn statements<'a>(
 ) -> Result<Vec<Stmt<'a>>, ParseFault>
     ensures left { MatchResult result (λ _. left cursor.new ≤ left cursor.old) IsOfRules }
     ensures given { IfOk result
-        (λ found. GivesStatements levels cursor.old cursor.new found.items) }
+        (λ found. Read (BeginsStatements levels) cursor.old cursor.new found.items) }
+    ensures exact { ReadsEach (BeginsStatements levels) EndsStatements cursor.old cursor.new result }
 {
     let mut statements = Vec::new(alloc);
     statements.push(statement(alloc, cursor, levels)?)?;
@@ -59,7 +61,8 @@ fn statement<'a>(
     levels: u32,
 ) -> Result<Stmt<'a>, ParseFault>
     ensures left { MatchResult result (λ _. left cursor.new ≤ left cursor.old) IsOfRules }
-    ensures given { IfOk result (GivesStmt levels cursor.old cursor.new) }
+    ensures given { IfOk result (Read (BeginsStmt levels) cursor.old cursor.new) }
+    ensures exact { ReadsEach (BeginsStmt levels) EndsStmt cursor.old cursor.new result }
 {
     let levels = inside(levels, cursor.place())?;
     match cursor.peek() {
@@ -81,7 +84,9 @@ fn simple<'a>(
     levels: u32,
 ) -> Result<Stmt<'a>, ParseFault>
     ensures left { MatchResult result (λ _. left cursor.new ≤ left cursor.old) IsOfRules }
-    ensures given { IfOk result (GivesSimple levels cursor.old cursor.new) }
+    ensures given { IfOk result (Read (BeginsStmt (levels + 1)) cursor.old cursor.new) }
+    ensures exact { next_kind cursor.old.rest.now ≡ Some Kind.Identifier →
+        ReadsEach (BeginsStmt (levels + 1)) EndsStmt cursor.old cursor.new result }
 {
     let name = cursor.expect_name()?;
     match cursor.take_symbol(Symbol::Becomes) {
@@ -105,7 +110,9 @@ fn actuals<'a>(
     levels: u32,
 ) -> Result<Vec<Expr<'a>>, ParseFault>
     ensures left { MatchResult result (λ _. left cursor.new ≤ left cursor.old) IsOfRules }
-    ensures given { IfOk result (λ found. GivesActuals levels cursor.old cursor.new found.items) }
+    ensures given { IfOk result (λ found. Read (BeginsActuals levels) cursor.old cursor.new found.items) }
+    ensures exact { ReadsEach (BeginsActuals levels) (NoNext (Kind.Symbol Symbol.OpenParenthesis))
+        cursor.old cursor.new result }
 {
     if cursor.take_symbol(Symbol::OpenParenthesis).is_none() {
         return Ok(Vec::new(alloc));
@@ -123,7 +130,8 @@ fn actual_list<'a>(
 ) -> Result<Vec<Expr<'a>>, ParseFault>
     ensures left { MatchResult result (λ _. left cursor.new ≤ left cursor.old) IsOfRules }
     ensures given { IfOk result
-        (λ found. GivesActualList levels cursor.old cursor.new found.items) }
+        (λ found. Read (BeginsActualList levels) cursor.old cursor.new found.items) }
+    ensures exact { ReadsEach (BeginsActualList levels) Closes cursor.old cursor.new result }
 {
     let mut actuals = Vec::new(alloc);
     actuals.push(actual(alloc, cursor, levels)?)?;
@@ -140,8 +148,8 @@ fn actual<'a>(
     levels: u32,
 ) -> Result<Expr<'a>, ParseFault>
     ensures left { MatchResult result (λ _. left cursor.new ≤ left cursor.old) IsOfRules }
-    ensures given { IfOk result (GivesActual levels cursor.old cursor.new) }
-    ensures exact { ReadsActual levels cursor.old cursor.new result }
+    ensures given { IfOk result (Read (BeginsActual levels) cursor.old cursor.new) }
+    ensures exact { ReadsEach (BeginsActual levels) EndsSum cursor.old cursor.new result }
 {
     let levels = inside(levels, cursor.place())?;
     expression(alloc, cursor, levels)

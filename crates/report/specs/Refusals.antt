@@ -5,10 +5,8 @@ use Rattle.std.specs.Prelude.{◌≡◌, ℕ, ◌<◌, List, Option, Some, None,
 use denote.Ref.{Bor}
 use Rattle.lexer.specs.declared.token.Token.{Token}
 use Rattle.lexer.specs.Tokens.{IsTokenList, IsFirstFault, lexeme_of}
-use Rattle.parser.specs.declared.fault.ParseFault.{ParseFault}
-use Rattle.parser.specs.declared.fault.ParseFault.TheVariants as parse
 use Rattle.parser.specs.declared.tree.Program.{Program}
-use Rattle.parser.specs.Syntax.{first_left_out}
+use Rattle.parser.specs.Syntax.{IsFaultOf}
 use Rattle.typed_tree.specs.declared.tree.Tree.{Tree}
 use Rattle.certificate.specs.Text.{first_fault}
 use Rattle.code_generator.specs.Code.{program_code}
@@ -21,18 +19,11 @@ abbrev pub text_of : Option (Bor (List ℕ)) → List ℕ
 text_of None = codes "pcert 1\n"
 text_of (Some text) = text.now
 
--- a fault of syntax: a form that is left out is told exactly where the list holds one
-abbrev pub IsSyntaxFault : ParseFault → List Token → Type 0
-IsSyntaxFault parse.Memory tokens = Unit {0}
-IsSyntaxFault (parse.LeftOut place) tokens = first_left_out tokens ≡ Some place
-IsSyntaxFault (parse.NoProgram place) tokens = first_left_out tokens ≡ None
-IsSyntaxFault (parse.TooDeep place) tokens = first_left_out tokens ≡ None
-
 -- why a source with a certificate is refused
 abbrev pub IsRefusal : List ℕ → List ℕ → Fault → Type 0
 IsRefusal source text Memory = Unit {0}
 IsRefusal source text (Lex fault) = IsFirstFault source fault
-IsRefusal source text (Parse fault) = (tokens : List Token) × IsTokenList source (map lexeme_of tokens) × IsSyntaxFault fault tokens
+IsRefusal source text (Parse fault) = (tokens : List Token) × IsTokenList source (map lexeme_of tokens) × IsFaultOf fault tokens
 IsRefusal source text (Typing fault) = (program : Program) × IsWrittenAs source program
 IsRefusal source text (Certificate fault) = first_fault text ≡ Some fault
 IsRefusal source text (Check fault) = ⊥

@@ -1,10 +1,13 @@
 use Rattle.std.proofs.Common.{◌≤◌}
 use Rattle.parser.specs.Cursor.{left}
-use Rattle.parser.specs.Rules.{GivesGroups}
+use Rattle.parser.specs.Rules.{Read, BeginsGroups}
+use Rattle.parser.proofs.ExactPrograms.{EachGroupsLeft}
 use Rattle.parser.proofs.program.groups.Given as goal
 
 abbrev pub invariant-loop-groups : goal.invariant-loop-groups
-invariant-loop-groups l = (left l.cursor ≤ left l.fn.cursor) × GivesGroups l.fn.cursor l.cursor l.groups.items
+invariant-loop-groups l =
+    (left l.cursor ≤ left l.fn.cursor) × Read BeginsGroups l.fn.cursor l.cursor l.groups.items
+    × EachGroupsLeft l.fn.cursor.rest.now l.cursor.rest.now
 
 abbrev pub decreases-loop-groups : goal.decreases-loop-groups
 decreases-loop-groups l = left l.cursor

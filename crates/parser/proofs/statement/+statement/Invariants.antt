@@ -1,6 +1,7 @@
 use Rattle.std.proofs.Common.{◌+◌, ◌*◌, ◌≤◌}
 use Rattle.parser.specs.Cursor.{left}
-use Rattle.parser.specs.Rules.{GivesStatements}
+use Rattle.parser.specs.Rules.{Read, BeginsStatements}
+use Rattle.parser.proofs.ExactStatements.{StatementsLeft}
 use Rattle.parser.proofs.statement.+statement.Given as goal
 
 abbrev pub decreases-compound : goal.decreases-compound
@@ -14,7 +15,8 @@ decreases-statement l = 3 * l.levels
 
 abbrev pub invariant-statements-loop-alloc : goal.invariant-statements-loop-alloc
 invariant-statements-loop-alloc l =
-    (left l.cursor ≤ left l.fn.cursor) × GivesStatements l.levels l.fn.cursor l.cursor l.statements.items
+    (left l.cursor ≤ left l.fn.cursor) × Read (BeginsStatements l.levels) l.fn.cursor l.cursor l.statements.items
+    × StatementsLeft l.levels l.fn.cursor.rest.now l.cursor.rest.now
 
 abbrev pub decreases-statements-loop-alloc : goal.decreases-statements-loop-alloc
 decreases-statements-loop-alloc l = left l.cursor

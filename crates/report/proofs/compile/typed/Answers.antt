@@ -7,7 +7,7 @@ use Rattle.report.proofs.compile.typed.Goals as goal
 pub returns-clause-written : goal.returns-clause-written
 returns-clause-written c =
     let program = c.in_ok-program.program in
-    (program, (c.in_ok-tokens.tokens.items, c.in_ok-tokens.ensures.list, subst (IsTreeOf program) c.deref.ensures.value c.in_ok-program.ensures.tree))
+    (program, (c.in_ok-tokens.tokens.items, c.in_ok-tokens.ensures.list, subst (IsTreeOf program) c.deref.ensures.value c.in_ok-program.ensures.exact))
 
 pub returns-in_err-tree-clause-refused : goal.returns-in_err-tree-clause-refused
 returns-in_err-tree-clause-refused c = λ text.
@@ -15,4 +15,4 @@ returns-in_err-tree-clause-refused c = λ text.
     let program = c.in_ok-program.program in
     let told = err_from_is_err_and c.from_residual-in_err-tree.result c.from_residual-in_err-tree.ensures.1 in
     refused_by source text c.from_residual-in_err-tree.result told.0 _ told.1 told.2
-    (typing-refusal source text c.in_err-tree.field-0.0 (program, (c.in_ok-tokens.tokens.items, c.in_ok-tokens.ensures.list, subst (IsTreeOf program) c.deref.ensures.value c.in_ok-program.ensures.tree)))
+    (typing-refusal source text c.in_err-tree.field-0.0 (program, (c.in_ok-tokens.tokens.items, c.in_ok-tokens.ensures.list, subst (IsTreeOf program) c.deref.ensures.value c.in_ok-program.ensures.exact)))

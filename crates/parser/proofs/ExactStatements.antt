@@ -1,0 +1,212 @@
+-- The rules of statements read each spelling of their form: by the first token, form by form.
+use Rattle.std.proofs.Common.{◌≡◌, ℕ, ◌+◌, ◌<◌, ◌≤◌, true, false, Bool, List, [], ◌∷◌, ◌++◌, map, length, Option, Some, None, is_some, IfNone, Result, Ok, refl, subst, sym, ap, ◌∙◌, arith}
+use Rattle.std.specs.List.{list_all}
+use Rattle.lexer.specs.declared.place.Place.{Place}
+use Rattle.lexer.specs.declared.token.Kind.{Kind}
+use Rattle.lexer.specs.declared.token.Kind.TheVariants as kind
+use Rattle.lexer.specs.declared.token.Symbol.TheVariants as symbol
+use Rattle.lexer.specs.declared.token.Token.{Token}
+use Rattle.lexer.specs.declared.token.Word.TheVariants as word
+use Rattle.parser.specs.declared.fault.ParseFault.{ParseFault}
+use Rattle.parser.specs.declared.cursor.Cursor.{Cursor}
+use Rattle.parser.specs.declared.tree.Expr.{Expr}
+use Rattle.parser.specs.declared.tree.Stmt.{Stmt}
+use Rattle.parser.specs.declared.tree.Stmt.TheOpen as stmt
+use Rattle.parser.specs.declared.tree.Stmt.TheViews.{out-Stmt, roll-out-Stmt}
+use Rattle.parser.specs.declared.tree.Stmt.TheFolds.{map-Stmt, fold-roll-Stmt}
+use Rattle.parser.specs.Spelling.{Lexeme, Spelling, Reads, expr_spelling, stmt_spelling, of_kind, of_kind_at, mark, word_symbol, identifier, separated, in_parentheses}
+use Rattle.parser.specs.Spelling as spell
+use Rattle.parser.specs.WellFormed.{sum_level, is_expression, is_statement, has_items}
+use Rattle.parser.specs.WellFormed as form
+use Rattle.parser.specs.Nesting.{expr_levels, stmt_levels, deepest}
+use Rattle.parser.specs.Nesting as nest
+use Rattle.parser.specs.Reading.{next_kind, EndsSum, EndsStmt, EndsStatements, semicolon, end, Closes, NoNext, ReadTo, ReadsEach}
+use Rattle.parser.specs.Rules.{BeginsActual, BeginsActualList, BeginsActuals, BeginsStmt, BeginsStatements, BeginsCompound}
+use Rattle.parser.proofs.Lists.{and_left, and_right, all_mapped}
+use Rattle.parser.proofs.Exact.{parted, begins, same_first, no_sign}
+use Rattle.parser.proofs.ExactLists.{Parts, PartsLeft, PartThenOthers, ComesBehind, one_more, no_more, parts_begin, parts_go_on, comes_behind}
+
+-- no token was taken where the call answered none
+pub not_taken : (a b : Cursor) (k : Kind) (o : Option Place) → is_some o ≡ false → IfNone o (b ≡ a) → IfNone o (¬ (next_kind a.rest.now ≡ Some k)) → (b ≡ a) × ¬ (next_kind a.rest.now ≡ Some k)
+not_taken a b k None none kept missed = (kept, missed)
+not_taken a b k (Some place) none kept missed = cc
+
+-- ---- actuals
+
+-- the parts of a list of actuals
+abbrev pub actual_list_parts : Parts Expr
+actual_list_parts = record { symbol = symbol.Comma; spelling = expr_spelling; well = is_expression; levels = λ e. 1 + expr_levels e }
+
+-- what is left of each list of actuals that may stand there
+abbrev pub ActualsListLeft : ℕ → List Token → List Token → Type 0
+ActualsListLeft levels start now = (actuals : List Expr) (others : List Token) → BeginsActualList levels start others actuals → Closes others → PartsLeft Expr actual_list_parts levels now others
+
+-- a list of actuals begins with one
+pub actuals_begin : (levels : ℕ) (a c : List Token) (actuals : List Expr) → BeginsActualList levels a c actuals → PartThenOthers Expr actual_list_parts levels a c
+actuals_begin levels a c actuals h = parts_begin Expr actual_list_parts levels a c actuals h.list.some h.list.spelled h.formed h.nests
+
+no_comma : (c : List Token) → Closes c → ¬ (next_kind c ≡ Some (kind.Symbol symbol.Comma))
+no_comma c closes e = let no : Some (kind.Symbol symbol.CloseParenthesis) ≡ Some (kind.Symbol symbol.Comma) = sym closes ∙ e in cc
+
+-- behind a comma stands one more actual
+pub one_more_actual : (levels : ℕ) (p : Place) (a b c : List Token) → Reads a (of_kind_at (kind.Symbol symbol.Comma) p ∷ []) b → Closes c → PartsLeft Expr actual_list_parts levels a c → PartThenOthers Expr actual_list_parts levels b c
+one_more_actual levels p a b c k closes h = parts_go_on Expr actual_list_parts levels p a b c k (no_comma c closes) h
+
+-- before a comma or the closing parenthesis no sum goes on
+actual_ends : (a c : List Token) → ComesBehind symbol.Comma a c → Closes c → EndsSum a
+actual_ends a c (one_more e) closes = no_sign (kind.Symbol symbol.Comma) a e (λ x. cc) (λ x. cc)
+actual_ends a c (no_more e) closes = no_sign (kind.Symbol symbol.CloseParenthesis) a (e ∙ closes) (λ x. cc) (λ x. cc)
+
+-- what the rule of actuals answers there
+pub actual_answer : (levels : ℕ) (a b : Cursor) (others : List Token) (answer : Result Expr ParseFault) → (p : PartThenOthers Expr actual_list_parts levels a.rest.now others) → Closes others
+    → ReadsEach (BeginsActual levels) EndsSum a b answer → ReadTo p.middle b answer
+actual_answer levels a b others answer p closes reads =
+    reads p.first p.middle (record { spelled = p.spelled; formed = p.formed; nests = p.nests }) (actual_ends p.middle others (comes_behind Expr actual_list_parts levels p.middle others p.left) closes)
+
+-- behind the first actual
+pub actual_list_begins : (levels : ℕ) (a b : Cursor) (e : Expr) → ReadsEach (BeginsActual levels) EndsSum a b (Ok e) → ActualsListLeft levels a.rest.now b.rest.now
+actual_list_begins levels a b e reads actuals others h closes =
+    let p = actuals_begin levels a.rest.now others actuals h in
+    subst (λ x. PartsLeft Expr actual_list_parts levels x others) (sym (actual_answer levels a b others (Ok e) p closes reads)) p.left
+
+-- behind one more
+pub actual_list_left : (levels : ℕ) (p : Place) (start : List Token) (a b c : Cursor) (e : Expr) → Reads a.rest.now (of_kind_at (kind.Symbol symbol.Comma) p ∷ []) b.rest.now
+    → ReadsEach (BeginsActual levels) EndsSum b c (Ok e) → ActualsListLeft levels start a.rest.now → ActualsListLeft levels start c.rest.now
+actual_list_left levels p start a b c e k reads left actuals others h closes =
+    let q = one_more_actual levels p a.rest.now b.rest.now others k closes (left actuals others h closes) in
+    subst (λ x. PartsLeft Expr actual_list_parts levels x others) (sym (actual_answer levels b c others (Ok e) q closes reads)) q.left
+
+-- what stands behind the opening parenthesis of actuals
+pub record OpenedActuals (levels : ℕ) (a c : List Token) (actuals : List Expr) : Type 0 where
+  pub middle : List Token
+  pub list : BeginsActualList levels a middle actuals
+  pub closed : Reads middle (mark symbol.CloseParenthesis ∷ []) c
+  pub closes : Closes middle
+
+-- in them stands a list, and a closing parenthesis behind it
+pub opened_actuals : (levels : ℕ) (p : Place) (a b c : List Token) (actuals : List Expr) → Reads a (of_kind_at (kind.Symbol symbol.OpenParenthesis) p ∷ []) b → NoNext (kind.Symbol symbol.OpenParenthesis) c
+    → BeginsActuals levels a c actuals → OpenedActuals levels b c actuals
+opened_actuals levels p a b c [] k ends h = absurd (ends (ap next_kind (sym h.spelled) ∙ begins (of_kind_at (kind.Symbol symbol.OpenParenthesis) p) [] a b k))
+opened_actuals levels p a b c (e ∷ es) k ends h =
+    let r = parted (separated symbol.Comma (map expr_spelling (e ∷ es))) (mark symbol.CloseParenthesis ∷ []) b c
+    (same_first (of_kind_at (kind.Symbol symbol.OpenParenthesis) p) (mark symbol.OpenParenthesis) _ a b c k h.spelled).1 in
+    record {
+      middle = r.0;
+      list = record { list = record { some = omega arith; spelled = r.1 }; formed = h.formed; nests = h.nests };
+      closed = r.2;
+      closes = begins (mark symbol.CloseParenthesis) [] r.0 c r.2;
+    }
+
+-- ---- compound statements
+
+-- a token whose place is asked for
+with_place : (k : Kind) (a c : List Token) → Reads a (of_kind k ∷ []) c → (p : Place) × Reads a (of_kind_at k p ∷ []) c
+with_place k a c h = (h.0.place, (h.0, h.1, h.2, record { kind = h.3.kind; text = tt; place = refl }, h.4))
+
+with_last_place : (k : Kind) (s : Spelling) (a c : List Token) → Reads a (s ++ of_kind k ∷ []) c → (p : Place) × Reads a (s ++ of_kind_at k p ∷ []) c
+with_last_place k [] a c h = with_place k a c h
+with_last_place k (l ∷ s) a c h = let r = with_last_place k s h.1 c h.4 in (r.0, (h.0, h.1, h.2, h.3, r.1))
+
+-- the statements of a compound statement, and its `end`
+pub record Compounded (levels : ℕ) (a c : List Token) : Type 0 where
+  pub found : List Stmt × Place
+  pub begun : BeginsCompound levels a c found
+
+some_of : (statements : List Stmt) → has_items (map is_statement statements) ≡ true → 0 < length statements
+some_of [] h = cc
+some_of (s ∷ ss) h = omega arith
+
+no_begin : (c : List Token) → EndsStmt c → ¬ (next_kind c ≡ Some (kind.Word word.Begin))
+no_begin c (semicolon h) e = let no : Some (kind.Symbol symbol.Semicolon) ≡ Some (kind.Word word.Begin) = sym h ∙ e in cc
+no_begin c (end h) e = let no : Some (kind.Word word.End) ≡ Some (kind.Word word.Begin) = sym h ∙ e in cc
+
+compounded_of : (levels inner : ℕ) (a c : List Token) (d : stmt.Stmt-F Stmt) → inner + 1 ≡ levels → next_kind a ≡ Some (kind.Word word.Begin) → EndsStmt c
+    → Reads a (spell.stmt_step (map-Stmt Stmt Spelling stmt_spelling d)) c → form.stmt_step (map-Stmt Stmt Bool is_statement d) ≡ true → nest.stmt_step (map-Stmt Stmt ℕ stmt_levels d) ≤ levels → Compounded inner a c
+compounded_of levels inner a c stmt.Empty less e ends s f n = absurd (no_begin c ends (ap next_kind (sym s) ∙ e))
+compounded_of levels inner a c (stmt.Assign m p v) less e ends s f n =
+    let no : Some kind.Identifier ≡ Some (kind.Word word.Begin) = sym (begins (identifier m) (of_kind_at (kind.Symbol symbol.Becomes) p ∷ expr_spelling v) a c s) ∙ e in cc
+compounded_of levels inner a c (stmt.Call m v) less e ends s f n =
+    let no : Some kind.Identifier ≡ Some (kind.Word word.Begin) = sym (begins (identifier m) (in_parentheses (map expr_spelling v.items)) a c s) ∙ e in cc
+compounded_of levels inner a c (stmt.Compound v) less e ends s f n =
+    let r = with_last_place (kind.Word word.End) (word_symbol word.Begin ∷ separated symbol.Semicolon (map stmt_spelling v.items)) a c s in
+    let some = and_left (has_items (map is_statement v.items)) (list_all (λ b. b) (map is_statement v.items)) f in
+    let all = and_right (has_items (map is_statement v.items)) (list_all (λ b. b) (map is_statement v.items)) f in
+    record { found = (v.items, r.0); begun = record { spelled = r.1; some = some_of v.items some; formed = sym (all_mapped is_statement v.items) ∙ all; nests = omega arith } }
+
+-- at `begin` stands a compound statement
+pub compounded : (levels inner : ℕ) (a c : List Token) (s : Stmt) → inner + 1 ≡ levels → next_kind a ≡ Some (kind.Word word.Begin) → EndsStmt c → BeginsStmt levels a c s → Compounded inner a c
+compounded levels inner a c s less e ends h =
+    let d = out-Stmt s in
+    let o = sym (roll-out-Stmt s) in
+    compounded_of levels inner a c d less e ends (subst (λ x. Reads a x c) (ap stmt_spelling o ∙ fold-roll-Stmt Spelling spell.stmt_step d) h.spelled)
+    (sym (ap is_statement o ∙ fold-roll-Stmt Bool form.stmt_step d) ∙ h.formed) (subst (λ n. n ≤ levels) (ap stmt_levels o ∙ fold-roll-Stmt ℕ nest.stmt_step d) h.nests)
+
+-- what stands behind the `begin` of a compound statement
+pub record OpenedCompound (levels : ℕ) (a c : List Token) (statements : List Stmt) : Type 0 where
+  pub last : Place
+  pub middle : List Token
+  pub list : BeginsStatements levels a middle statements
+  pub closed : Reads middle (of_kind_at (kind.Word word.End) last ∷ []) c
+  pub ends : EndsStatements middle
+
+length_spelled : (statements : List Stmt) → 0 < length statements → 0 < length (map stmt_spelling statements)
+length_spelled [] h = absurd (omega arith)
+length_spelled (s ∷ ss) h = omega arith
+
+-- in it stands a list of statements, and `end` behind it
+pub opened_compound : (levels : ℕ) (p : Place) (a b c : List Token) (found : List Stmt × Place) → Reads a (of_kind_at (kind.Word word.Begin) p ∷ []) b → BeginsCompound levels a c found → OpenedCompound levels b c found.0
+opened_compound levels p a b c found k h =
+    let r = parted (separated symbol.Semicolon (map stmt_spelling found.0)) (of_kind_at (kind.Word word.End) found.1 ∷ []) b c
+    (same_first (of_kind_at (kind.Word word.Begin) p) (word_symbol word.Begin) _ a b c k h.spelled).1 in
+    record {
+      last = found.1;
+      middle = r.0;
+      list = record { list = record { some = length_spelled found.0 h.some; spelled = r.1 }; formed = h.formed; nests = h.nests };
+      closed = r.2;
+      ends = begins (of_kind_at (kind.Word word.End) found.1) [] r.0 c r.2;
+    }
+
+-- ---- lists of statements
+
+-- the parts of a list of statements
+abbrev pub statement_list_parts : Parts Stmt
+statement_list_parts = record { symbol = symbol.Semicolon; spelling = stmt_spelling; well = is_statement; levels = stmt_levels }
+
+-- what is left of each list of statements that may stand there
+abbrev pub StatementsLeft : ℕ → List Token → List Token → Type 0
+StatementsLeft levels start now = (statements : List Stmt) (others : List Token) → BeginsStatements levels start others statements → EndsStatements others → PartsLeft Stmt statement_list_parts levels now others
+
+-- a list of statements begins with one
+pub statements_begin : (levels : ℕ) (a c : List Token) (statements : List Stmt) → BeginsStatements levels a c statements → PartThenOthers Stmt statement_list_parts levels a c
+statements_begin levels a c statements h = parts_begin Stmt statement_list_parts levels a c statements h.list.some h.list.spelled h.formed h.nests
+
+no_semicolon : (c : List Token) → EndsStatements c → ¬ (next_kind c ≡ Some (kind.Symbol symbol.Semicolon))
+no_semicolon c ends e = let no : Some (kind.Word word.End) ≡ Some (kind.Symbol symbol.Semicolon) = sym ends ∙ e in cc
+
+-- behind a semicolon stands one more statement
+pub one_more_statement : (levels : ℕ) (p : Place) (a b c : List Token) → Reads a (of_kind_at (kind.Symbol symbol.Semicolon) p ∷ []) b → EndsStatements c → PartsLeft Stmt statement_list_parts levels a c
+    → PartThenOthers Stmt statement_list_parts levels b c
+one_more_statement levels p a b c k ends h = parts_go_on Stmt statement_list_parts levels p a b c k (no_semicolon c ends) h
+
+stmt_ends : (a c : List Token) → ComesBehind symbol.Semicolon a c → EndsStatements c → EndsStmt a
+stmt_ends a c (one_more e) ends = semicolon e
+stmt_ends a c (no_more e) ends = end (e ∙ ends)
+
+-- what the rule of statements answers there
+pub statement_answer : (levels : ℕ) (a b : Cursor) (others : List Token) (answer : Result Stmt ParseFault) → (p : PartThenOthers Stmt statement_list_parts levels a.rest.now others) → EndsStatements others
+    → ReadsEach (BeginsStmt levels) EndsStmt a b answer → ReadTo p.middle b answer
+statement_answer levels a b others answer p ends reads =
+    reads p.first p.middle (record { spelled = p.spelled; formed = p.formed; nests = p.nests }) (stmt_ends p.middle others (comes_behind Stmt statement_list_parts levels p.middle others p.left) ends)
+
+-- behind the first statement
+pub statement_list_begins : (levels : ℕ) (a b : Cursor) (s : Stmt) → ReadsEach (BeginsStmt levels) EndsStmt a b (Ok s) → StatementsLeft levels a.rest.now b.rest.now
+statement_list_begins levels a b s reads statements others h ends =
+    let p = statements_begin levels a.rest.now others statements h in
+    subst (λ x. PartsLeft Stmt statement_list_parts levels x others) (sym (statement_answer levels a b others (Ok s) p ends reads)) p.left
+
+-- behind one more
+pub statement_list_left : (levels : ℕ) (p : Place) (start : List Token) (a b c : Cursor) (s : Stmt) → Reads a.rest.now (of_kind_at (kind.Symbol symbol.Semicolon) p ∷ []) b.rest.now
+    → ReadsEach (BeginsStmt levels) EndsStmt b c (Ok s) → StatementsLeft levels start a.rest.now → StatementsLeft levels start c.rest.now
+statement_list_left levels p start a b c s k reads left statements others h ends =
+    let q = one_more_statement levels p a.rest.now b.rest.now others k ends (left statements others h ends) in
+    subst (λ x. PartsLeft Stmt statement_list_parts levels x others) (sym (statement_answer levels b c others (Ok s) q ends reads)) q.left
