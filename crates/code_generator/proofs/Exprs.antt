@@ -20,7 +20,7 @@ use Rattle.meaning.specs.declared.outcome.Ending.TheVariants as ending
 use Rattle.meaning.specs.declared.store.Value.{Value}
 use Rattle.meaning.specs.declared.store.Value.TheVariants as value
 use Rattle.meaning.specs.Store as meant
-use Rattle.meaning.specs.Store.{Environment, Place, stored}
+use Rattle.meaning.specs.Store.{Environment, stored}
 use Rattle.meaning.specs.Effect as effect
 use Rattle.meaning.specs.Effect.{Reply, Gives, Action, ◌>>=◌, place_of, fetched, require, give}
 use Rattle.meaning.specs.Meaning.{Evaluation, Combination, value_of, value_step, combined, signed, in_turn}
@@ -37,6 +37,8 @@ use Rattle.code_generator.specs.Follows.{StopsAs}
 use Rattle.code_generator.specs.Tables.{site_table, in_plain_numbers}
 use Rattle.typed_tree.specs.WellFormed.{all_hold, expr_is_well_formed, link_is_well_formed, is_well_formed_expr, is_well_formed_link}
 use Rattle.code_generator.proofs.Reach.{HasAt, has_front, has_back, Comes, Stops, comes_on, comes_nowhere, comes_by, stops_on, stops_by}
+use Rattle.code_generator.proofs.Alike.{cell_of, HasFit, Alike, cell_within, alike_above}
+use Rattle.code_generator.proofs.ProgramWorld.{program_world, program_linked, program_lies, ShowsProgram}
 use Rattle.code_generator.proofs.Acts.{Fits, framed, length_one, pushes, loads, defines, negates, sums, differs, on_two_is, negated_is, sum_is, difference_is, fits_negated}
 
 -- an element of a table, and of the table that was made from it
@@ -62,41 +64,8 @@ same_test n = both (int_le (neg_ℤ (pos 2147483647)) n)
     both true = refl
     both false = refl
 
--- what a cell holds for a variable
-abbrev pub cell_of : Option Value → Cell
-cell_of None = Undefined
-cell_of (Some (value.Number n)) = Number n
-
--- a value of a variable is of its type
-abbrev pub HasFit : Option Value → Type 0
-HasFit None = Unit {0}
-HasFit (Some (value.Number n)) = Fits n
-
--- where a variable of the program lies
-abbrev pub here : ℕ → Place
-here root = record { activation = 0; variable = root; steps = [] }
-
--- the store of a program with so many variables, and the cells of its frame
-pub record Agrees (variables : ℕ) (store : meant.Store) (cells : List Cell) : Type 0 where
-  pub enough : 4 + variables ≤ length cells
-  pub each : (root : ℕ) → root < variables → slice_get cells (root + 4) ≡ Some (cell_of (stored store (here root)))
-  pub fit : (root : ℕ) → root < variables → HasFit (stored store (here root))
-
-slice_get-front : {A : Type 0} (xs ys : List A) (i : ℕ) (x : A) → slice_get xs i ≡ Some x → slice_get (xs ++ ys) i ≡ Some x
-slice_get-front [] ys i x e = cc
-slice_get-front (z ∷ xs) ys zero x e = e
-slice_get-front (z ∷ xs) ys (suc i) x e = slice_get-front xs ys i x e
-
-pub agrees_above : (variables : ℕ) (store : meant.Store) (cells : List Cell) (cell : Cell) → Agrees variables store cells → Agrees variables store (cells ++ cell ∷ [])
-agrees_above variables store cells cell a =
-    let enough = a.enough in record {
-      enough = omega (arith, length_one cells cell);
-      each = λ root h. slice_get-front cells (cell ∷ []) (root + 4) _ (a.each root h);
-      fit = a.fit;
-    }
-
 -- a run of some code of the program, in an environment, with what stays as it is while an expression is evaluated
-module _ (tree : Tree) (code : List Instr) (variables limit size : ℕ) (input : List ℕ) (env : Environment) (few : variables ≤ 4294967291) (visible : (root : ℕ) → place_of env root ≡ here root) where
+module _ (tree : Tree) (code : List Instr) (variables limit size : ℕ) (input : List ℕ) (env : Environment) (few : variables ≤ 4294967291) (shows : ShowsProgram variables env) where
   abbrev pub plain_sites : List Plain
   plain_sites = site_table tree.sites.items
 
@@ -157,16 +126,16 @@ module _ (tree : Tree) (code : List Instr) (variables limit size : ℕ) (input :
     -- the code c of an evaluation
     abbrev pub RunsAs : List Instr → ℕ → Bool → Evaluation → Type 0
     RunsAs c depth well evaluation =
-        (place : ℕ) (cells : List Cell) (s : effect.State) → HasAt code place c → well ≡ true → Agrees variables store cells → length cells + depth ≤ limit → Still s → Evaluates (at cells place output) cells (place + length c) (evaluation env s)
+        (place : ℕ) (cells : List Cell) (s : effect.State) → HasAt code place c → well ≡ true → Alike (program_world variables) store cells → length cells + depth ≤ limit → Still s → Evaluates (at cells place output) cells (place + length c) (evaluation env s)
 
     -- the code c of an operator and its right operand
     abbrev pub CombinesAs : List Instr → ℕ → Bool → Combination → Type 0
     CombinesAs c depth well combination =
-        (place : ℕ) (cells : List Cell) (a : ℤ) (s : effect.State) → HasAt code place c → well ≡ true → Agrees variables store cells → length cells + depth ≤ limit → Fits a → Still s → Evaluates (at (cells ++ Number a ∷ []) place output) cells (place + length c) (combination env (value.Number a) s)
+        (place : ℕ) (cells : List Cell) (a : ℤ) (s : effect.State) → HasAt code place c → well ≡ true → Alike (program_world variables) store cells → length cells + depth ≤ limit → Fits a → Still s → Evaluates (at (cells ++ Number a ∷ []) place output) cells (place + length c) (combination env (value.Number a) s)
 
     -- a constant
     constant_runs : (number : ℕ) (n : ℤ) → RunsAs (expr_step (Constant number n)) (expr_depth_step (Constant number n)) (expr_is_well_formed variables (length tree.sites.items) (Constant number n)) (value_step (Constant number n))
-    constant_runs number n place cells s has well agrees room still =
+    constant_runs number n place cells s has well alike room still =
         (acts (instr.LoadConstant n) cells _ place output _ has.0 refl (pushes limit size cells n (omega arith)), record { is = well }, record { store_is = still.store_is; output_is = still.output_is }, omega arith)
 
     -- a variable by what it holds
@@ -177,21 +146,24 @@ module _ (tree : Tree) (code : List Instr) (variables limit size : ℕ) (input :
         (passes (instr.CheckDefined defined 1) (cells ++ Number n ∷ []) place defined output _ has refl (defines limit size cells linked (Number n)), fit, still, room)
 
     variable_runs : (access : Access) (defined : ℕ) → RunsAs (variable_code access.root defined) 1 (nat_lt access.root variables && nat_lt defined (length tree.sites.items)) (value_step (Variable access defined))
-    variable_runs access defined place cells s has well agrees room still =
+    variable_runs access defined place cells s has well alike room still =
         let parts = and_parts _ _ well in
         let root_within = ltb-true access.root variables parts.0 in
         let site_within = ltb-true defined (length tree.sites.items) parts.1 in
-        let enough = agrees.enough in
+        let linked = program_linked variables store cells alike in
         let offset = operand_is (access.root + 4) (omega arith) in
         let s' : effect.State = record s { visited = s.visited ++ record { number = access.number; environment = env; store = s.store } ∷ [] } in
         let still' : Still s' = record { store_is = still.store_is; output_is = still.output_is } in
-        let held = ap (λ st. stored st (place_of env access.root)) still.store_is ∙ ap (stored store) (visible access.root) in
-        let cell = cell_of (stored store (here access.root)) in
-        let loaded = acts (instr.Load 0 (variable_offset access.root)) cells (cells ++ cell ∷ []) place output _ has.0 refl (ap (λ o. frames.load 0 o (framed limit size cells)) offset ∙ loads limit size cells (access.root + 4) cell (omega arith) (omega arith) (agrees.each access.root root_within)) in
-        let checked' = fetched_runs (place + 1) (access.root + 4) defined cells s' (stored store (here access.root)) has.1.0 site_within (omega arith) (omega arith) (agrees.fit access.root root_within) still' in
+        let p = place_of env access.root in
+        let lies = program_lies variables access.root env shows root_within in
+        let within = cell_within (program_world variables) store cells p (access.root + 4) alike lies in
+        let held = ap (λ st. stored st p) still.store_is in
+        let cell = cell_of (stored store p) in
+        let loaded = acts (instr.Load 0 (variable_offset access.root)) cells (cells ++ cell ∷ []) place output _ has.0 refl (ap (λ o. frames.load 0 o (framed limit size cells)) offset ∙ loads limit size cells (access.root + 4) cell (omega arith) within (alike.scalars p (access.root + 4) lies)) in
+        let checked' = fetched_runs (place + 1) (access.root + 4) defined cells s' (stored store p) has.1.0 site_within (omega arith) (omega arith) (alike.fits p (access.root + 4) lies) still' in
         let whole = evaluates_on _ _ cells (place + 1 + 1) _ loaded checked' in
         let e : place + 1 + 1 ≡ place + 2 = omega arith in
-        subst (λ o. Evaluates (at cells place output) cells (place + 2) (fetched o defined s')) (sym held) (subst (λ p. Evaluates (at cells place output) cells p (fetched (stored store (here access.root)) defined s')) e whole)
+        subst (λ o. Evaluates (at cells place output) cells (place + 2) (fetched o defined s')) (sym held) (subst (λ q. Evaluates (at cells place output) cells q (fetched (stored store p) defined s')) e whole)
 
     -- a sign
     sign_runs : (sign : Sign) (place : ℕ) (cells : List Cell) (n : ℤ) (s : effect.State) → HasAt code place (sign_code sign) → 4 ≤ length cells → length cells < limit → Fits n → Still s → Evaluates (at (cells ++ Number n ∷ []) place output) cells (place + length (sign_code sign)) (give (signed sign (value.Number n)) s)
@@ -203,14 +175,14 @@ module _ (tree : Tree) (code : List Instr) (variables limit size : ℕ) (input :
         (acts instr.Negate (cells ++ Number n ∷ []) (cells ++ Number (neg_ℤ n) ∷ []) place output _ has.0 refl negated, fits_negated n fit, still, room)
 
     signed_runs : (number : ℕ) (sign : Sign) (c : List Instr) (depth : ℕ) (well : Bool) (v : Evaluation) → RunsAs c depth well v → RunsAs (c ++ sign_code sign) depth well (λ e. effect.enter number e >>= λ _. v e >>= λ w. give (signed sign w))
-    signed_runs number sign c depth well v runs place cells s has good agrees room still =
+    signed_runs number sign c depth well v runs place cells s has good alike room still =
         let s' : effect.State = record s { visited = s.visited ++ record { number = number; environment = env; store = s.store } ∷ [] } in
         let still' : Still s' = record { store_is = still.store_is; output_is = still.output_is } in
-        let enough = agrees.enough in
+        let linked = program_linked variables store cells alike in
         let e : place + length c + length (sign_code sign) ≡ place + length (c ++ sign_code sign) = omega (arith, length-append c (sign_code sign)) in
         let rest = has_back code place c (sign_code sign) has in
         subst (λ p. Evaluates (at cells place output) cells p (effect.and_then (v env s') (λ w. give (signed sign w)))) e
-        (then_evaluates (at cells place output) cells cells (place + length c) (place + length c + length (sign_code sign)) (v env s') (λ w. give (signed sign w)) (runs place cells s' (has_front code place c (sign_code sign) has) good agrees room still') (λ n s2 fit still2 room2. sign_runs sign (place + length c) cells n s2 rest (omega arith) room2 fit still2))
+        (then_evaluates (at cells place output) cells cells (place + length c) (place + length c + length (sign_code sign)) (v env s') (λ w. give (signed sign w)) (runs place cells s' (has_front code place c (sign_code sign) has) good alike room still') (λ n s2 fit still2 room2. sign_runs sign (place + length c) cells n s2 rest (omega arith) room2 fit still2))
 
     -- a result that is checked
     result_runs : (check apply : Instr) (overflow place : ℕ) (cells : List Cell) (a b c : ℤ) (s : effect.State) (holds : Attempt Bool) (attempt : Attempt frames.Frames) (good : Bool) → slice_get code place ≡ Some check → slice_get code (place + 1) ≡ Some apply → obeyed plain_sites check (at ((cells ++ Number a ∷ []) ++ Number b ∷ []) (place + 1) output) ≡ checked plain_sites overflow (at ((cells ++ Number a ∷ []) ++ Number b ∷ []) (place + 1) output) holds → obeyed plain_sites apply (at ((cells ++ Number a ∷ []) ++ Number b ∷ []) (place + 1 + 1) output) ≡ and_then attempt (with_frames (at ((cells ++ Number a ∷ []) ++ Number b ∷ []) (place + 1 + 1) output)) → holds ≡ Ok good → frames.is_integer c ≡ good → (Fits c → attempt ≡ Ok (framed limit size (cells ++ Number c ∷ []))) → overflow < length tree.sites.items → length cells < limit → Still s → Evaluates (at ((cells ++ Number a ∷ []) ++ Number b ∷ []) place output) cells (place + 2) (effect.and_then (require good overflow s) (λ _. give (value.Number c)))
@@ -236,18 +208,18 @@ module _ (tree : Tree) (code : List Instr) (variables limit size : ℕ) (input :
 
     -- an operator and its right operand
     link_runs : (number overflow : ℕ) (op : Sign) (c : List Instr) (depth : ℕ) (well : Bool) (v : Evaluation) → RunsAs c depth well v → CombinesAs (c ++ operation_code op overflow) (depth + 1) (nat_lt overflow (length tree.sites.items) && well) (meaning.link_step (record { number = number; operator = op; overflow = overflow; operand = v }))
-    link_runs number overflow op c depth well v runs place cells a s has good agrees room fit still =
+    link_runs number overflow op c depth well v runs place cells a s has good alike room fit still =
         let s' : effect.State = record s { visited = s.visited ++ record { number = number; environment = env; store = s.store } ∷ [] } in
         let still' : Still s' = record { store_is = still.store_is; output_is = still.output_is } in
         let parts = and_parts _ _ good in
         let site_within = ltb-true overflow (length tree.sites.items) parts.0 in
-        let enough = agrees.enough in
+        let linked = program_linked variables store cells alike in
         let one = length_one cells (Number a) in
         let e : place + length c + length (operation_code op overflow) ≡ place + length (c ++ operation_code op overflow) = omega (arith, length-append c (operation_code op overflow)) in
         let rest = has_back code place c (operation_code op overflow) has in
         let next : Value → Action Value = λ right. require (effect.is_integer (combined op (value.Number a) right)) overflow >>= λ _. give (combined op (value.Number a) right) in
         subst (λ p. Evaluates (at (cells ++ Number a ∷ []) place output) cells p (effect.and_then (v env s') next)) e
-        (then_evaluates (at (cells ++ Number a ∷ []) place output) (cells ++ Number a ∷ []) cells (place + length c) (place + length c + length (operation_code op overflow)) (v env s') next (runs place (cells ++ Number a ∷ []) s' (has_front code place c (operation_code op overflow) has) parts.1 (agrees_above variables store cells (Number a) agrees) (omega arith) still') (λ n s2 fit2 still2 room2. operator_runs op overflow (place + length c) cells a n s2 rest site_within (omega arith) (omega arith) fit fit2 still2))
+        (then_evaluates (at (cells ++ Number a ∷ []) place output) (cells ++ Number a ∷ []) cells (place + length c) (place + length c + length (operation_code op overflow)) (v env s') next (runs place (cells ++ Number a ∷ []) s' (has_front code place c (operation_code op overflow) has) parts.1 (alike_above (program_world variables) store cells (Number a ∷ []) alike) (omega arith) still') (λ n s2 fit2 still2 room2. operator_runs op overflow (place + length c) cells a n s2 rest site_within (omega arith) (omega arith) fit fit2 still2))
 
     -- what is shown of an expression, and of an operator and its right operand
     abbrev pub ExprRuns : Expr → Type 0
@@ -260,26 +232,26 @@ module _ (tree : Tree) (code : List Instr) (variables limit size : ℕ) (input :
     LinkRuns l = CombinesAs (link_code l) (link_depth l) (is_well_formed_link variables (length tree.sites.items) l) (combination_of l)
 
     -- the operators of a sum, from left to right
-    links_run : (links : List ((l : Link) × LinkRuns l)) (depth place : ℕ) (cells : List Cell) (a : ℤ) (s : effect.State) → HasAt code place (joined (map link_code (map (λ l. l.0) links))) → all_hold (map (is_well_formed_link variables (length tree.sites.items)) (map (λ l. l.0) links)) ≡ true → Agrees variables store cells → length cells + fold max depth (map link_depth (map (λ l. l.0) links)) ≤ limit → length cells < limit → Fits a → Still s → Evaluates (at (cells ++ Number a ∷ []) place output) cells (place + length (joined (map link_code (map (λ l. l.0) links)))) (in_turn (map combination_of (map (λ l. l.0) links)) env (value.Number a) s)
-    links_run [] depth place cells a s has good agrees deep room fit still =
+    links_run : (links : List ((l : Link) × LinkRuns l)) (depth place : ℕ) (cells : List Cell) (a : ℤ) (s : effect.State) → HasAt code place (joined (map link_code (map (λ l. l.0) links))) → all_hold (map (is_well_formed_link variables (length tree.sites.items)) (map (λ l. l.0) links)) ≡ true → Alike (program_world variables) store cells → length cells + fold max depth (map link_depth (map (λ l. l.0) links)) ≤ limit → length cells < limit → Fits a → Still s → Evaluates (at (cells ++ Number a ∷ []) place output) cells (place + length (joined (map link_code (map (λ l. l.0) links)))) (in_turn (map combination_of (map (λ l. l.0) links)) env (value.Number a) s)
+    links_run [] depth place cells a s has good alike deep room fit still =
         let e : place ≡ place + 0 = omega arith in
         (subst (λ p. Comes plain_sites code (at (cells ++ Number a ∷ []) place output) (at (cells ++ Number a ∷ []) p output)) e (comes_nowhere plain_sites code (at (cells ++ Number a ∷ []) place output)), fit, still, room)
-    links_run (l ∷ links) depth place cells a s has good agrees deep room fit still =
+    links_run (l ∷ links) depth place cells a s has good alike deep room fit still =
         let c = link_code l.0 in
         let rest = joined (map link_code (map (λ k. k.0) links)) in
         let d = start_within (max depth (link_depth l.0)) (map link_depth (map (λ k. k.0) links)) in
         let e : place + length c + length rest ≡ place + length (c ++ rest) = omega (arith, length-append c rest) in
         subst (λ p. Evaluates (at (cells ++ Number a ∷ []) place output) cells p (effect.and_then (combination_of l.0 env (value.Number a) s) (λ w. in_turn (map combination_of (map (λ k. k.0) links)) env w))) e
-        (then_evaluates _ cells cells (place + length c) (place + length c + length rest) (combination_of l.0 env (value.Number a) s) (λ w. in_turn (map combination_of (map (λ k. k.0) links)) env w) (l.1 place cells a s (has_front code place c rest has) (and_parts _ _ good).0 agrees (omega arith) fit still) (λ n s2 fit2 still2 room2. links_run links (max depth (link_depth l.0)) (place + length c) cells n s2 (has_back code place c rest has) (and_parts _ _ good).1 agrees deep room fit2 still2))
+        (then_evaluates _ cells cells (place + length c) (place + length c + length rest) (combination_of l.0 env (value.Number a) s) (λ w. in_turn (map combination_of (map (λ k. k.0) links)) env w) (l.1 place cells a s (has_front code place c rest has) (and_parts _ _ good).0 alike (omega arith) fit still) (λ n s2 fit2 still2 room2. links_run links (max depth (link_depth l.0)) (place + length c) cells n s2 (has_back code place c rest has) (and_parts _ _ good).1 alike deep room fit2 still2))
 
     sum_runs : (first : (e : Expr) × ExprRuns e) (links : List ((l : Link) × LinkRuns l)) → RunsAs (expr_code first.0 ++ joined (map link_code (map (λ l. l.0) links))) (fold max (expr_depth first.0) (map link_depth (map (λ l. l.0) links))) (is_well_formed_expr variables (length tree.sites.items) first.0 && all_hold (map (is_well_formed_link variables (length tree.sites.items)) (map (λ l. l.0) links))) (λ e. value_of first.0 e >>= λ v. in_turn (map combination_of (map (λ l. l.0) links)) e v)
-    sum_runs first links place cells s has good agrees deep still =
+    sum_runs first links place cells s has good alike deep still =
         let c = expr_code first.0 in
         let rest = joined (map link_code (map (λ k. k.0) links)) in
         let d = start_within (expr_depth first.0) (map link_depth (map (λ k. k.0) links)) in
         let e : place + length c + length rest ≡ place + length (c ++ rest) = omega (arith, length-append c rest) in
         subst (λ p. Evaluates (at cells place output) cells p (effect.and_then (value_of first.0 env s) (λ w. in_turn (map combination_of (map (λ k. k.0) links)) env w))) e
-        (then_evaluates _ cells cells (place + length c) (place + length c + length rest) (value_of first.0 env s) (λ w. in_turn (map combination_of (map (λ k. k.0) links)) env w) (first.1 place cells s (has_front code place c rest has) (and_parts _ _ good).0 agrees (omega arith) still) (λ n s2 fit2 still2 room2. links_run links (expr_depth first.0) (place + length c) cells n s2 (has_back code place c rest has) (and_parts _ _ good).1 agrees deep room2 fit2 still2))
+        (then_evaluates _ cells cells (place + length c) (place + length c + length rest) (value_of first.0 env s) (λ w. in_turn (map combination_of (map (λ k. k.0) links)) env w) (first.1 place cells s (has_front code place c rest has) (and_parts _ _ good).0 alike (omega arith) still) (λ n s2 fit2 still2 room2. links_run links (expr_depth first.0) (place + length c) cells n s2 (has_back code place c rest has) (and_parts _ _ good).1 alike deep room2 fit2 still2))
 
     same_runs : (c c' : List Instr) (d d' : ℕ) (w w' : Bool) (v v' : Evaluation) → c ≡ c' → d ≡ d' → w ≡ w' → v ≡ v' → RunsAs c' d' w' v' → RunsAs c d w v
     same_runs c c' d d' w w' v v' p q r t runs =

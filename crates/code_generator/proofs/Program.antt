@@ -1,6 +1,6 @@
 -- The code of a well formed tree follows its program.
-use Rattle.std.proofs.Common.{◌≡◌, ℕ, zero, suc, ◌+◌, ◌<◌, ◌≤◌, ◌⊎◌, List, [], ◌∷◌, ◌++◌, length, replicate, Option, Some, None, refl, sym, ap, ◌∙◌, subst, inl, inr, ⊎_elim, arith, length-append, Bool, true, false}
-use Rattle.std.specs.Prelude.{slice_get, nat_lt, if◌then◌else◌, unwrap_or}
+use Rattle.std.proofs.Common.{◌≡◌, ℕ, ◌+◌, ◌<◌, ◌≤◌, ◌⊎◌, List, [], ◌∷◌, ◌++◌, length, Option, Some, None, refl, sym, ap, ◌∙◌, subst, inl, inr, ⊎_elim, arith, length-append, true}
+use Rattle.std.specs.Prelude.{slice_get, if◌then◌else◌}
 use Rattle.std.proofs.lemmas.Bool.{cases_lt, lt-ltb, le-ltb, le-leb, lt-leb}
 use Rattle.pcode_assembler.specs.declared.code.Code.{Code}
 use Rattle.pcode_assembler.specs.declared.code.Site.{Site as Plain}
@@ -16,8 +16,6 @@ use Rattle.meaning.specs.Meaning as meant
 use Rattle.meaning.specs.Meaning.{Meaning, meaning, ended, program_environment}
 use Rattle.stack_machine.specs.declared.stop.Stop.{Stop}
 use Rattle.stack_machine.specs.declared.stop.Stop.TheVariants as stop
-use Rattle.stack_machine.specs.declared.cell.Cell.{Cell}
-use Rattle.stack_machine.specs.declared.cell.Cell.TheVariants.{Undefined}
 use Rattle.stack_machine.specs.Frames.{first_frames}
 use Rattle.stack_machine.specs.Machine as machines
 use Rattle.stack_machine.specs.Machine.{State}
@@ -30,7 +28,9 @@ use Rattle.code_generator.specs.Tables.{site_table}
 use Rattle.typed_tree.specs.WellFormed.{is_well_formed_body, IsWellFormed}
 use Rattle.code_generator.proofs.Reach.{HasAt, has_front, has_back, has_all, Comes, IsOver, comes_by, comes_nowhere, stops_on, stops_by, longer, one_end, grows, begins_itself}
 use Rattle.code_generator.proofs.Depths.{Within, stmt_within}
-use Rattle.code_generator.proofs.Exprs.{Agrees, here, operand_is}
+use Rattle.code_generator.proofs.Alike.{Alike}
+use Rattle.code_generator.proofs.ProgramWorld.{program_world, entered_cells, length_entered, program_begins, ShowsProgram, shows_program}
+use Rattle.code_generator.proofs.Exprs.{operand_is}
 use Rattle.code_generator.proofs.Stmts as stmts
 use Rattle.code_generator.proofs.Stmts.{stmt_runs}
 
@@ -51,37 +51,10 @@ body_code_is : (variables : ℕ) (o : Option Block) → body_code variables o �
 body_code_is variables None = refl
 body_code_is variables (Some block) = refl
 
--- the variables of the program as a run begins
-undefined_at : (n i : ℕ) → i < n → slice_get (replicate n Undefined) i ≡ Some Undefined
-undefined_at zero i h = absurd (omega arith)
-undefined_at (suc n) zero h = refl
-undefined_at (suc n) (suc i) h = undefined_at n i (omega arith)
-
-length_undefined : (n : ℕ) → length (replicate n Undefined) ≡ n
-length_undefined zero = refl
-length_undefined (suc n) = ap suc (length_undefined n)
-
-abbrev entered_cells : ℕ → List Cell
-entered_cells n = (first_frames 0).cells ++ replicate n Undefined
-
-length_entered : (n : ℕ) → length (entered_cells n) ≡ 4 + n
-length_entered n = let e = length_undefined n in omega (arith, length-append (first_frames 0).cells (replicate n Undefined))
-
-agrees_first : (n : ℕ) → Agrees n [] (entered_cells n)
-agrees_first n = record {
-  enough = let e = length_entered n in omega arith;
-  each = λ root h.
-      let e : root + 4 ≡ suc (suc (suc (suc root))) = omega arith in
-      ap (slice_get (entered_cells n)) e ∙ undefined_at n root h;
-  fit = λ root h. tt;
-}
-
-visible_in : (tree : Tree) (root : ℕ) → place_of (program_environment tree) root ≡ here root
-visible_in tree root = by (nat_lt root (length tree.variables.items))
-  where
-    by : (b : Bool) → unwrap_or (if b then Some (here root) else None) (here root) ≡ here root
-    by true = refl
-    by false = refl
+-- the environment of the program's block has its variables
+shown_in : (tree : Tree) → ShowsProgram (length tree.variables.items) (program_environment tree)
+shown_in tree =
+    shows_program (length tree.variables.items) (program_environment tree) (λ root h. ap (λ b. if b then Some (record { activation = 0; variable = root; steps = [] }) else None) (lt-ltb root (length tree.variables.items) h))
 
 -- a stop that is an end of the program
 abbrev IsEnd : Stop → Type 0
@@ -218,7 +191,7 @@ module _ (tree : Tree) (well : IsWellFormed tree) (short : length (program_code 
 
     -- the state behind the entry
     abbrev inside : State
-    inside = stmts.on tree whole count (4 + count + depth) cells input (program_environment tree) few (visible_in tree) (entered_cells count) 1 []
+    inside = stmts.on tree whole count (4 + count + depth) cells input (program_environment tree) few (shown_in tree) (entered_cells count) 1 []
 
     enters : 4 + count + depth ≤ cells → Comes sites whole start inside
     enters h =
@@ -228,18 +201,18 @@ module _ (tree : Tree) (well : IsWellFormed tree) (short : length (program_code 
     refuses h =
         ap (λ b. runs.outcome_of (machines.with_frame (record start { place = 1 }) (if b then Some (record (first_frames cells) { cells = entered_cells count; limit = 4 + count + depth }) else None)) [] (steps sites whole 0)) (lt-leb (4 + count + depth) cells h)
 
-    body_runs : (o : Option Block) (place : ℕ) (s : effect.State) → HasAt whole place (body_instructions o) → is_well_formed_body count (length tree.sites.items) o ≡ true → Agrees count s.store (entered_cells count) → 4 + count + body_depth o ≤ 4 + count + depth → stmts.Executes tree whole count (4 + count + depth) cells input (program_environment tree) few (visible_in tree) (stmts.on tree whole count (4 + count + depth) cells input (program_environment tree) few (visible_in tree) (entered_cells count) place s.output) (place + length (body_instructions o)) (meant.run_of o (program_environment tree) s)
-    body_runs None place s has good agrees deep =
+    body_runs : (o : Option Block) (place : ℕ) (s : effect.State) → HasAt whole place (body_instructions o) → is_well_formed_body count (length tree.sites.items) o ≡ true → Alike (program_world count) s.store (entered_cells count) → 4 + count + body_depth o ≤ 4 + count + depth → stmts.Executes tree whole count (4 + count + depth) cells input (program_environment tree) few (shown_in tree) (stmts.on tree whole count (4 + count + depth) cells input (program_environment tree) few (shown_in tree) (entered_cells count) place s.output) (place + length (body_instructions o)) (meant.run_of o (program_environment tree) s)
+    body_runs None place s has good alike deep =
         let e : place ≡ place + 0 = omega arith in
-        (entered_cells count, length_entered count, agrees, subst (λ p. Comes sites whole (stmts.on tree whole count (4 + count + depth) cells input (program_environment tree) few (visible_in tree) (entered_cells count) place s.output) (stmts.on tree whole count (4 + count + depth) cells input (program_environment tree) few (visible_in tree) (entered_cells count) p s.output)) e (comes_nowhere sites whole _))
-    body_runs (Some block) place s has good agrees deep =
+        (entered_cells count, length_entered count, alike, subst (λ p. Comes sites whole (stmts.on tree whole count (4 + count + depth) cells input (program_environment tree) few (shown_in tree) (entered_cells count) place s.output) (stmts.on tree whole count (4 + count + depth) cells input (program_environment tree) few (shown_in tree) (entered_cells count) p s.output)) e (comes_nowhere sites whole _))
+    body_runs (Some block) place s has good alike deep =
         let full = length_entered count in
-        stmt_runs tree whole count (4 + count + depth) cells input (program_environment tree) few (visible_in tree) block.body place (entered_cells count) s has good agrees full (omega arith)
+        stmt_runs tree whole count (4 + count + depth) cells input (program_environment tree) few (shown_in tree) block.body place (entered_cells count) s has good alike full (omega arith)
 
     -- the end of the body is the end of the run
-    finishes : (m : State) (place : ℕ) (r : Reply (Unit {0})) → slice_get whole place ≡ Some instr.Stop → Comes sites whole start m → stmts.Executes tree whole count (4 + count + depth) cells input (program_environment tree) few (visible_in tree) m place r → (j : ℕ) × DoesAll tree (ended r) (steps sites whole j start)
+    finishes : (m : State) (place : ℕ) (r : Reply (Unit {0})) → slice_get whole place ≡ Some instr.Stop → Comes sites whole start m → stmts.Executes tree whole count (4 + count + depth) cells input (program_environment tree) few (shown_in tree) m place r → (j : ℕ) × DoesAll tree (ended r) (steps sites whole j start)
     finishes m place (Gives done s) has l e =
-        let t = stops_by sites whole instr.Stop (stmts.on tree whole count (4 + count + depth) cells input (program_environment tree) few (visible_in tree) e.0 place s.output) stop.Finished has refl in
+        let t = stops_by sites whole instr.Stop (stmts.on tree whole count (4 + count + depth) cells input (program_environment tree) few (shown_in tree) e.0 place s.output) stop.Finished has refl in
         let u = stops_on sites whole start m _ l (stops_on sites whole m _ _ e.3 t) in
         (u.budget, (ap (λ o. o.output) u.so, ap (λ o. o.stop) u.so))
     finishes m place (effect.Stops end s) has l e =
@@ -248,7 +221,7 @@ module _ (tree : Tree) (well : IsWellFormed tree) (short : length (program_code 
 
     done : (turns : ℕ) → 4 + count + depth ≤ cells → (j : ℕ) × DoesAll tree (meaning tree input turns) (steps sites whole j start)
     done turns h =
-        finishes inside (1 + length body) (meant.run tree input turns) (has_back whole 1 body (instr.Stop ∷ []) has_body).0 (enters h) (body_runs first 1 (meant.first_state input turns) (has_front whole 1 body (instr.Stop ∷ []) has_body) well.body (agrees_first count) (omega arith))
+        finishes inside (1 + length body) (meant.run tree input turns) (has_back whole 1 body (instr.Stop ∷ []) has_body).0 (enters h) (body_runs first 1 (meant.first_state input turns) (has_front whole 1 body (instr.Stop ∷ []) has_body) well.body (program_begins count) (omega arith))
 
     needed : cells < 4 + count + depth → cells < program_need tree
     needed h = let w = (body_within first).need_is in omega arith
