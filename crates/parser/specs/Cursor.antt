@@ -1,6 +1,7 @@
 -- The tokens that a parser has left to read, and the faults that its rules tell.
 -- This doesn't say what a rule reads.
-use Rattle.std.specs.Prelude.{ℕ, length}
+use Rattle.std.specs.Prelude.{ℕ, [], ◌∷◌, length}
+use Rattle.lexer.specs.declared.place.Place.{Place}
 use Rattle.parser.specs.Spelling.{Spelling, Reads}
 use Rattle.parser.specs.declared.cursor.Cursor.{Cursor}
 use Rattle.parser.specs.declared.fault.ParseFault.{ParseFault}
@@ -9,6 +10,10 @@ use Rattle.parser.specs.declared.fault.ParseFault.TheVariants.{LeftOut}
 -- how many tokens are left
 abbrev pub left : Cursor → ℕ
 left c = length c.rest.now
+
+-- where the next token stands, or the end
+abbrev pub place_of_next : Cursor → Place
+place_of_next c = elim c.rest.now as (λ _. Place) [ [] ↦ c.end | token ∷ others ↦ token.place ]
 
 -- a fault that a rule of the grammar tells: a form left out is told before any rule is tried
 abbrev pub IsOfRules : ParseFault → Type 0

@@ -15,7 +15,7 @@ pub struct Cursor<'t, 'a> {
 
 impl<'t, 'a> Cursor<'t, 'a> {
     ghost use Rattle.parser.specs.Spelling.{of_kind_at, identifier, sign};
-    ghost use Rattle.parser.specs.Cursor.{left, IsOfRules, Took};
+    ghost use Rattle.parser.specs.Cursor.{left, place_of_next, IsOfRules, Took};
     ghost use Rattle.parser.specs.Reading.{next_kind, EndsSum};
 
     pub fn new(tokens: &'t [Token<'a>]) -> Self
@@ -35,7 +35,9 @@ impl<'t, 'a> Cursor<'t, 'a> {
     }
 
     /// Where the next token stands, or the end.
-    pub fn place(&self) -> Place {
+    pub fn place(&self) -> Place
+        ensures { result ≡ place_of_next self.now }
+    {
         match self.rest {
             [] => self.end,
             [token, ..] => token.place,
@@ -44,7 +46,7 @@ impl<'t, 'a> Cursor<'t, 'a> {
 
     /// P1, at the next token.
     pub fn no_program(&self) -> ParseFault
-        ensures { IsOfRules result }
+        ensures { result ≡ ParseFault.NoProgram (place_of_next self.now) }
     {
         ParseFault::NoProgram(self.place())
     }

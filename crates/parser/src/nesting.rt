@@ -12,7 +12,7 @@ pub const MAX_NESTING: u32 = 128;
 /// The levels that are left inside the next one, which begins at `place`, or P2.
 pub fn inside(levels: u32, place: Place) -> Result<u32, ParseFault>
     ensures left { MatchResult result (λ left. left + 1 ≡ levels) IsOfRules }
-    ensures spent { IfErr result (λ _. levels ≡ 0) }
+    ensures spent { IfErr result (λ fault. (levels ≡ 0) × (fault ≡ ParseFault.TooDeep place)) }
 {
     levels.checked_sub(1).ok_or(ParseFault::TooDeep(place))
 }
