@@ -1,2 +1,4 @@
 mod SiteIds
 mod FormedLemmas
+mod Regions
+mod Declarations

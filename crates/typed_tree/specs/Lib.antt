@@ -3,6 +3,7 @@ pub mod Scopes
 pub mod Sites
 pub mod Ids
 pub mod Names
+pub mod Regions
 pub mod Entries
 pub mod Typing
 pub mod WellFormed

@@ -1,7 +1,11 @@
-ghost use Rattle.std.specs.Prelude.{◌≡◌, ◌≤◌, ◌<◌, [], ◌∷◌, IfOk, length, vec_len};
+ghost use Rattle.std.specs.Prelude.{◌≡◌, ◌≤◌, ◌<◌, [], ◌∷◌, Ok, IfOk, OnOk, All, codes, map, nat_lt, length, vec_len};
 ghost use Rattle.typed_tree.specs.Formed.{IsFormedExpr, IsFormedLink, AreFormedLinks, AreFormedExprs, IsFormedStmt, AreFormedStmts};
 ghost use Rattle.typed_tree.specs.WellFormed.{IsWellFormed};
 ghost use Rattle.typed_tree.specs.Ids.{AreInOrder};
+ghost use Rattle.typed_tree.specs.Names.{folded, defined_names};
+ghost use Rattle.typed_tree.specs.Scopes.{found};
+ghost use Rattle.typed_tree.specs.Regions.{Opens, OpensRequired, Defines, Passes, PassesGroup, PassesGroups, DenotesType};
+ghost use Rattle.typed_tree.specs.declared.denotation.Denotation.TheVariants as denotes;
 ghost use Rattle.typed_tree.specs.declared.types.TypeForm.TheVariants.{Integer};
 ghost use Rattle.typed_tree.specs.declared.resolver.TheConstants.{MOST_SITES, MOST_ENTRIES};
 
@@ -77,7 +81,9 @@ pub fn sites(tree: &Tree) -> &[Site]
 }
 
 // Small and capital letters are alike.
-fn folded(alloc: Global, name: &[u8]) -> Result<Vec<u8>, AllocError> {
+fn folded(alloc: Global, name: &[u8]) -> Result<Vec<u8>, AllocError>
+    ensures { IfOk result (λ key. key.items ≡ folded name.now) }
+{
     name.iter()
         .map(|letter| letter.to_ascii_lowercase())
         .collect(alloc)
@@ -88,14 +94,18 @@ fn declare(
     scopes: &mut Scopes,
     name: &syntax::Name,
     denotation: Denotation,
-) -> Result<(), TypeFault> {
+) -> Result<(), TypeFault>
+    ensures { OnOk result (Defines (folded name.now.text.now) denotation scopes.old.blocks.items scopes.new.blocks.items) }
+{
     let key = folded(alloc, name.text)?;
     scopes
         .declare(key, denotation)
         .map_err(|fault| placed(fault, name.place))
 }
 
-fn find(alloc: Global, scopes: &Scopes, name: &syntax::Name) -> Result<Denotation, TypeFault> {
+fn find(alloc: Global, scopes: &Scopes, name: &syntax::Name) -> Result<Denotation, TypeFault>
+    ensures { IfOk result (λ denotation. found scopes.now.blocks.items (folded name.now.text.now) ≡ Ok denotation) }
+{
     let key = folded(alloc, name.text)?;
     scopes
         .find(key.as_slice())
@@ -112,7 +122,9 @@ fn placed(fault: ScopeFault, place: Place) -> TypeFault {
 }
 
 // The required identifiers stand round the program.
-fn open_required(alloc: Global, scopes: &mut Scopes) -> Result<(), TypeFault> {
+fn open_required(alloc: Global, scopes: &mut Scopes) -> Result<(), TypeFault>
+    ensures { OnOk result (OpensRequired scopes.old.blocks.items scopes.new.blocks.items) }
+{
     let required: [(&[u8], Denotation); 3] = [
         (b"integer", Denotation::TypeName(TypeTable::INTEGER)),
         (
@@ -145,7 +157,9 @@ fn open_block(
     alloc: Global,
     scopes: &mut Scopes,
     program: &syntax::Program,
-) -> Result<(), TypeFault> {
+) -> Result<(), TypeFault>
+    ensures { OnOk result (Opens (map (λ name. folded name.text.now) (defined_names program.now)) scopes.old.blocks.items scopes.new.blocks.items) }
+{
     let mut names = Vec::new(alloc);
     for name in &program.parameters {
         names.push(folded(alloc, name.text)?)?;
@@ -164,7 +178,11 @@ fn declare_parameters(
     alloc: Global,
     scopes: &mut Scopes,
     parameters: &[syntax::Name],
-) -> Result<bool, TypeFault> {
+) -> Result<bool, TypeFault>
+    ensures only_output { OnOk result (All (λ name. folded name.text.now ≡ codes "output") parameters.now) }
+    ensures passed { OnOk result (Passes (map (λ name. (name.text.now, denotes.Output)) parameters.now) scopes.old.blocks.items scopes.new.blocks.items) }
+    ensures has_output { IfOk result (λ has_output. has_output ≡ nat_lt 0 (length parameters.now)) }
+{
     for name in parameters {
         if folded(alloc, name.text)?.as_slice() != b"output".as_slice() {
             return Err(TypeFault::NotProgramParameter(name.place));
@@ -178,7 +196,9 @@ fn declare_variables(
     alloc: Global,
     scopes: &mut Scopes,
     groups: &[syntax::VariableGroup],
-) -> Result<Vec<Variable>, TypeFault> {
+) -> Result<Vec<Variable>, TypeFault>
+    ensures { IfOk result (λ variables. PassesGroups groups.now scopes.old.blocks.items [] scopes.new.blocks.items variables.items) }
+{
     let mut variables = Vec::new(alloc);
     for group in groups {
         declare_group(alloc, scopes, group, &mut variables)?;
@@ -192,7 +212,9 @@ fn declare_group(
     scopes: &mut Scopes,
     group: &syntax::VariableGroup,
     variables: &mut Vec<Variable>,
-) -> Result<(), TypeFault> {
+) -> Result<(), TypeFault>
+    ensures { OnOk result (PassesGroup group.now scopes.old.blocks.items variables.old.items scopes.new.blocks.items variables.new.items) }
+{
     let mut root = variables.len();
     for name in &group.names {
         let number = u32::try_from(root).map_err(|_| TypeFault::TooMany(name.place))?;
@@ -210,7 +232,9 @@ fn denoted_type(
     alloc: Global,
     scopes: &Scopes,
     denoter: &syntax::TypeDenoter,
-) -> Result<TypeId, TypeFault> {
+) -> Result<TypeId, TypeFault>
+    ensures { IfOk result (DenotesType scopes.now.blocks.items denoter.now) }
+{
     let syntax::TypeDenoter::Name(name) = denoter;
     match find(alloc, scopes, name)? {
         Denotation::TypeName(type_id) => Ok(type_id),

@@ -1,7 +1,8 @@
-ghost use Rattle.std.specs.Prelude.{◌≡◌, ◌-◌, [], nat_eq, take, vec_len};
+ghost use Rattle.std.specs.Prelude.{◌≡◌, ◌-◌, [], OnOk, map, nat_eq, take, vec_len};
 ghost use Rattle.std.specs.Cmp.Lexicographic.{pointwise};
 ghost use Rattle.std.specs.HashMap.{get_by};
 ghost use Rattle.typed_tree.specs.Scopes.{decided};
+ghost use Rattle.typed_tree.specs.Regions.{Opens, Defines};
 
 use crate::denotation::{Denotation, ScopeFault};
 use indexmap::IndexMap;
@@ -29,7 +30,9 @@ impl Scopes {
     }
 
     /// Begins a region, with all names that its block will define.
-    pub fn open(&mut self, alloc: Global, names: &[Vec<u8>]) -> Result<(), AllocError> {
+    pub fn open(&mut self, alloc: Global, names: &[Vec<u8>]) -> Result<(), AllocError>
+        ensures { OnOk result (Opens (map (λ name. name.items) names.now) self.old.blocks.items self.new.blocks.items) }
+    {
         let mut region = IndexMap::new(alloc);
         for name in names {
             region.insert(name.clone()?, None)?;
@@ -46,7 +49,9 @@ impl Scopes {
     }
 
     /// Passes the definition of a name of the innermost region.
-    pub fn declare(&mut self, name: Vec<u8>, denotation: Denotation) -> Result<(), ScopeFault> {
+    pub fn declare(&mut self, name: Vec<u8>, denotation: Denotation) -> Result<(), ScopeFault>
+        ensures { OnOk result (Defines name.items denotation self.old.blocks.items self.new.blocks.items) }
+    {
         let Some(region) = self.blocks.last_mut() else {
             return Err(ScopeFault::NotDeclared);
         };

@@ -1,6 +1,8 @@
 use Rattle.typed_tree.specs.declared.tree.Block.{Block}
 use Rattle.std.proofs.Common.{◌≡◌, List, ◌≤◌, ◌∷◌, [], ◌++◌, true, length, slice_get, sym, ◌∙◌, ap, subst, arith}
 use Rattle.typed_tree.specs.WellFormed.{is_well_formed_body, is_well_formed_stmt}
+use Rattle.typed_tree.proofs.Declarations.{AreDeclared, are_declared}
+use Rattle.typed_tree.proofs.resolver.resolve.Goals.{In_ok-variables}
 use Rattle.typed_tree.proofs.resolver.resolve.Goals as goal
 
 pub returns-clause-well_formed : goal.returns-clause-well_formed
@@ -16,3 +18,10 @@ returns-clause-well_formed c =
           ap (λ l. is_well_formed_body (length c.compound.new.self.variables.items) sites (slice_get l 0)) (c.in_ok-push.ensures.items ∙ ap (λ (l : List Block). l ++ record { body = body; end = c.args.program.now.block.end } ∷ []) c.new-blocks.ensures.items)
           ∙ subst (λ w. is_well_formed_stmt (length w.items) sites body ≡ true) (sym c.compound.ensures.same) formed;
     }
+
+-- what the declarations leave, for the statements
+declarations : (c : In_ok-variables) → AreDeclared c.args.program.now c.in_ok-has_output.has_output c.in_ok-variables.variables.items c.declare_variables.new.scopes.blocks.items
+declarations c =
+    are_declared c.args.program.now c.in_ok-has_output.has_output c.in_ok-variables.variables.items c.deref.result.now c.deref-2.result.now _ _ _ _ _
+    c.new-scopes.ensures c.deref.ensures.value c.deref-2.ensures.value c.in_ok-open_required.ensures c.in_ok-open_block.ensures
+    c.in_ok-has_output.ensures.only_output c.in_ok-has_output.ensures.passed c.in_ok-has_output.ensures.has_output c.in_ok-variables.ensures

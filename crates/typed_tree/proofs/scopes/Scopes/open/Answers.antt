@@ -1,0 +1,10 @@
+use Rattle.std.proofs.lemmas.List.Elements.{same_from_all_zip}
+use Rattle.typed_tree.proofs.Regions.{knows_more}
+use Rattle.typed_tree.proofs.scopes.Scopes.open.Goals as goal
+
+-- one name more is known
+pub loop-name-preserved : goal.loop-name-preserved
+loop-name-preserved c = λ name.
+    let key = c.in_ok-clone.field-0 in
+    knows_more c.args.names.now c.loop-name.name-index c.name-item.result key c.loop-name.region c.insert.new.self name c.loop-name-test.true c.name-item.is
+    (same_from_all_zip _ c.name-item.result.items key.items c.in_ok-clone.ensures.cases.0 (λ x y h. h)) c.in_ok-insert.ensures.entries (c.loop-name.invariant name)
