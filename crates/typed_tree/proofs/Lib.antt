@@ -2,3 +2,8 @@ mod SiteIds
 mod FormedLemmas
 mod Regions
 mod Declarations
+mod TypingEquations
+mod ResolvedPieces
+mod ResolvedExpressions
+mod ResolvedStatements
+mod ResolvedProgram

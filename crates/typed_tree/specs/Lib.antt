@@ -8,3 +8,4 @@ pub mod Entries
 pub mod Typing
 pub mod WellFormed
 pub mod Formed
+pub mod Resolved

@@ -43,6 +43,7 @@ use Rattle.typed_tree.specs.declared.tree.Stmt.TheOpen.Stmt-F.{Empty, Assign, Wr
 use Rattle.typed_tree.specs.declared.tree.Stmt.TheViews.{out-Stmt}
 use Rattle.typed_tree.specs.Ids.{AreInOrder}
 use Rattle.typed_tree.specs.Entries.{joined, entries_of, sites_of}
+use Rattle.typed_tree.specs.WellFormed.{IsWellFormed}
 use Rattle.typed_tree.specs.Names.{folded, looked_up, or_outer, required, integer, definitions, defined_names, variable_names, denoted, AreDistinct}
 
 -- what names denote in the statements
@@ -237,6 +238,9 @@ pub record IsTyped (program : Program) (tree : Tree) : Type 0 where
   pub ids : AreInOrder tree.sites.items
   pub few_sites : length tree.sites.items ≤ 1000000
   pub points : tree.points.items ≡ []
+  -- the constants are integers, and there are no more variables than a text has room for
+  pub well_formed : IsWellFormed tree
+  pub few_variables : length (variable_names program) ≤ 1000000
 
 -- a program has a typed tree
 abbrev pub HasTyping : Program → Type 0

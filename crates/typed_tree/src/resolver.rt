@@ -1,11 +1,13 @@
-ghost use Rattle.std.specs.Prelude.{◌≡◌, ◌≤◌, ◌<◌, [], ◌∷◌, Ok, IfOk, OnOk, All, codes, map, nat_lt, length, vec_len};
+ghost use Rattle.std.specs.Prelude.{◌≡◌, ◌≤◌, ◌<◌, false, true, [], ◌∷◌, Ok, IfOk, OnOk, IsTrue, All, codes, map, nat_lt, pos, length, vec_len};
 ghost use Rattle.typed_tree.specs.Formed.{IsFormedExpr, IsFormedLink, AreFormedLinks, AreFormedExprs, IsFormedStmt, AreFormedStmts};
 ghost use Rattle.typed_tree.specs.WellFormed.{IsWellFormed};
 ghost use Rattle.typed_tree.specs.Ids.{AreInOrder};
 ghost use Rattle.typed_tree.specs.Names.{folded, defined_names};
 ghost use Rattle.typed_tree.specs.Scopes.{found};
 ghost use Rattle.typed_tree.specs.Regions.{Opens, OpensRequired, Defines, Passes, PassesGroup, PassesGroups, DenotesType};
+ghost use Rattle.typed_tree.specs.Typing.{IsTyped, same_sign, writes_nothing};
 ghost use Rattle.typed_tree.specs.declared.denotation.Denotation.TheVariants as denotes;
+ghost use Rattle.typed_tree.specs.declared.site.SiteKind.TheVariants.{Overflow};
 ghost use Rattle.typed_tree.specs.declared.types.TypeForm.TheVariants.{Integer};
 ghost use Rattle.typed_tree.specs.declared.resolver.TheConstants.{MOST_SITES, MOST_ENTRIES};
 
@@ -39,6 +41,9 @@ pub fn resolve(alloc: Global, program: &syntax::Program) -> Result<Tree, TypeFau
 
     // Each variable and each site that the tree names is in its table.
     ensures well_formed { IfOk result IsWellFormed }
+
+    // It is the typed tree of the program, which breaks no rule of names and types.
+    ensures typed { IfOk result (IsTyped program.now) }
 {
     let types = TypeTable::required(alloc)?;
     let mut scopes = Scopes::new(alloc);
@@ -260,11 +265,14 @@ struct Resolver {
 }
 
 impl Resolver {
+    ghost use Rattle.typed_tree.specs.Resolved.{Adds, AddsNothing, TellsValues, TellsFile, MakesConstant, MakesNamed, MakesExpression, MakesExpressions, MakesLink, MakesLinks, MakesAssignment, MakesCall, MakesWriteln, MakesStatement, MakesStatements, MakesCompound, AreSilent};
+
     // The number of the statement or expression that is entered.
     fn enter(&mut self) -> Result<u32, TypeFault>
         ensures same { self.new.variables ≡ self.old.variables }
         ensures grows { length self.old.sites.items ≤ length self.new.sites.items }
         ensures sites { self.new.sites ≡ self.old.sites }
+        ensures typed { IfOk result (λ number. Adds self.old self.new (number ∷ []) [] []) }
     {
         if self.entries >= MOST_ENTRIES {
             return Err(TypeFault::TooMany(self.latest));
@@ -279,6 +287,7 @@ impl Resolver {
         ensures same { self.new.variables ≡ self.old.variables }
         ensures grows { length self.old.sites.items ≤ length self.new.sites.items }
         ensures known { IfOk result (λ id. id < length self.new.sites.items) }
+        ensures typed { IfOk result (λ id. Adds self.old self.new [] ((kind, id) ∷ []) ((kind, place) ∷ [])) }
     {
         self.latest = place;
         if self.sites.len() >= MOST_SITES {
@@ -293,6 +302,8 @@ impl Resolver {
         ensures same { self.new.variables ≡ self.old.variables }
         ensures grows { length self.old.sites.items ≤ length self.new.sites.items }
         ensures sites { self.new.sites ≡ self.old.sites }
+        ensures adds { AddsNothing self.old self.new }
+        ensures found { IfOk result (λ denotation. found self.old.scopes.blocks.items (folded name.now.text.now) ≡ Ok denotation) }
     {
         self.latest = name.place;
         find(self.alloc, &self.scopes, name)
@@ -303,6 +314,8 @@ impl Resolver {
         ensures same { self.new.variables ≡ self.old.variables }
         ensures grows { length self.old.sites.items ≤ length self.new.sites.items }
         ensures formed { IfOk result (λ typed. AreFormedStmts (length self.old.variables.items) (length self.new.sites.items) typed.items) }
+        ensures typed { IfOk result (λ typed. MakesStatements self.old self.new statements.now typed.items) }
+        ensures silent { IfOk result (λ _. self.old.has_output ≡ false → AreSilent statements.now) }
     {
         let mut typed = Vec::new(self.alloc);
         for statement in statements {
@@ -316,6 +329,8 @@ impl Resolver {
         ensures same { self.new.variables ≡ self.old.variables }
         ensures grows { length self.old.sites.items ≤ length self.new.sites.items }
         ensures formed { IfOk result (IsFormedStmt (length self.old.variables.items) (length self.new.sites.items)) }
+        ensures typed { IfOk result (MakesCompound self.old self.new statements.now) }
+        ensures silent { IfOk result (λ _. self.old.has_output ≡ false → AreSilent statements.now) }
     {
         let number = self.enter()?;
         let statements = self.statements(statements)?;
@@ -327,6 +342,8 @@ impl Resolver {
         ensures same { self.new.variables ≡ self.old.variables }
         ensures grows { length self.old.sites.items ≤ length self.new.sites.items }
         ensures formed { IfOk result (IsFormedStmt (length self.old.variables.items) (length self.new.sites.items)) }
+        ensures typed { IfOk result (MakesStatement self.old self.new statement.now) }
+        ensures silent { IfOk result (λ _. self.old.has_output ≡ false → IsTrue (writes_nothing statement.now)) }
     {
         match statement {
             syntax::Stmt::Empty => Ok(Stmt::Empty {
@@ -352,6 +369,7 @@ impl Resolver {
         ensures same { self.new.variables ≡ self.old.variables }
         ensures grows { length self.old.sites.items ≤ length self.new.sites.items }
         ensures formed { IfOk result (IsFormedStmt (length self.old.variables.items) (length self.new.sites.items)) }
+        ensures typed { IfOk result (MakesAssignment self.old self.new name.now becomes value.now) }
     {
         let number = self.enter()?;
         let Denotation::Variable(root) = self.find(name)? else {
@@ -372,6 +390,8 @@ impl Resolver {
         ensures same { self.new.variables ≡ self.old.variables }
         ensures grows { length self.old.sites.items ≤ length self.new.sites.items }
         ensures formed { IfOk result (IsFormedStmt (length self.old.variables.items) (length self.new.sites.items)) }
+        ensures typed { IfOk result (MakesCall self.old self.new name.now actuals.now) }
+        ensures has_output { IfOk result (λ _. self.old.has_output ≡ true) }
     {
         match self.find(name)? {
             Denotation::Procedure(RequiredProcedure::Writeln) => self.writeln(name, actuals),
@@ -384,6 +404,8 @@ impl Resolver {
         ensures same { self.new.variables ≡ self.old.variables }
         ensures grows { length self.old.sites.items ≤ length self.new.sites.items }
         ensures formed { IfOk result (IsFormedStmt (length self.old.variables.items) (length self.new.sites.items)) }
+        ensures typed { IfOk result (MakesWriteln self.old self.new actuals.now) }
+        ensures has_output { IfOk result (λ _. self.old.has_output ≡ true) }
     {
         if !self.has_output {
             return Err(TypeFault::NotProgramParameter(name.place));
@@ -398,6 +420,7 @@ impl Resolver {
         ensures same { self.new.variables ≡ self.old.variables }
         ensures grows { length self.old.sites.items ≤ length self.new.sites.items }
         ensures formed { IfOk result (λ typed. AreFormedExprs (length self.old.variables.items) (length self.new.sites.items) typed.items) }
+        ensures typed { IfOk result (λ typed. MakesExpressions self.old self.new written.now typed.items) }
     {
         let mut values = Vec::new(self.alloc);
         for actual in written {
@@ -414,6 +437,8 @@ impl Resolver {
         ensures same { self.new.variables ≡ self.old.variables }
         ensures grows { length self.old.sites.items ≤ length self.new.sites.items }
         ensures sites { self.new.sites ≡ self.old.sites }
+        ensures adds { AddsNothing self.old self.new }
+        ensures typed { IfOk result (λ written. TellsValues self.old actuals.now written.now) }
     {
         let Some((first, rest)) = actuals.split_first() else {
             return Ok(actuals);
@@ -428,6 +453,8 @@ impl Resolver {
         ensures same { self.new.variables ≡ self.old.variables }
         ensures grows { length self.old.sites.items ≤ length self.new.sites.items }
         ensures sites { self.new.sites ≡ self.old.sites }
+        ensures adds { AddsNothing self.old self.new }
+        ensures typed { IfOk result (TellsFile self.old actual.now) }
     {
         match actual {
             syntax::Expr::Name(name) => Ok(self.find(name)? == Denotation::Output),
@@ -440,6 +467,7 @@ impl Resolver {
         ensures same { self.new.variables ≡ self.old.variables }
         ensures grows { length self.old.sites.items ≤ length self.new.sites.items }
         ensures formed { IfOk result (IsFormedExpr (length self.old.variables.items) (length self.new.sites.items)) }
+        ensures typed { IfOk result (MakesExpression self.old self.new expression.now) }
     {
         match expression {
             syntax::Expr::Number { value, place } => self.number(*value, *place),
@@ -474,6 +502,7 @@ impl Resolver {
         ensures same { self.new.variables ≡ self.old.variables }
         ensures grows { length self.old.sites.items ≤ length self.new.sites.items }
         ensures formed { IfOk result (λ typed. AreFormedLinks (length self.old.variables.items) (length self.new.sites.items) typed.items) }
+        ensures typed { IfOk result (λ typed. MakesLinks self.old self.new rest.now typed.items) }
     {
         let mut typed = Vec::new(self.alloc);
         for link in rest {
@@ -487,6 +516,7 @@ impl Resolver {
         ensures same { self.new.variables ≡ self.old.variables }
         ensures grows { length self.old.sites.items ≤ length self.new.sites.items }
         ensures formed { IfOk result (IsFormedLink (length self.old.variables.items) (length self.new.sites.items)) }
+        ensures typed { IfOk result (MakesLink self.old self.new link.now) }
     {
         let (number, overflow) = self.operator(link.place)?;
         Ok(Link {
@@ -502,6 +532,7 @@ impl Resolver {
         ensures same { self.new.variables ≡ self.old.variables }
         ensures grows { length self.old.sites.items ≤ length self.new.sites.items }
         ensures known { IfOk result (λ r. r.1 < length self.new.sites.items) }
+        ensures typed { IfOk result (λ r. Adds self.old self.new (r.0 ∷ []) ((Overflow, r.1) ∷ []) ((Overflow, place) ∷ [])) }
     {
         let overflow = self.site(SiteKind::Overflow, place)?;
         Ok((self.enter()?, overflow))
@@ -511,6 +542,7 @@ impl Resolver {
         ensures same { self.new.variables ≡ self.old.variables }
         ensures grows { length self.old.sites.items ≤ length self.new.sites.items }
         ensures formed { IfOk result (IsFormedExpr (length self.old.variables.items) (length self.new.sites.items)) }
+        ensures typed { IfOk result (MakesConstant self.old self.new (pos value)) }
     {
         self.latest = place;
         let value = i32::try_from(value).map_err(|_| TypeFault::Mismatch(place))?;
@@ -522,6 +554,7 @@ impl Resolver {
         ensures same { self.new.variables ≡ self.old.variables }
         ensures grows { length self.old.sites.items ≤ length self.new.sites.items }
         ensures formed { IfOk result (IsFormedExpr (length self.old.variables.items) (length self.new.sites.items)) }
+        ensures typed { IfOk result (MakesConstant self.old self.new value) }
     {
         if value < -MAXINT {
             return Err(TypeFault::Mismatch(place));
@@ -538,6 +571,7 @@ impl Resolver {
         ensures grows { length self.old.sites.items ≤ length self.new.sites.items }
         ensures sites { self.new.sites ≡ self.old.sites }
         ensures known { IfOk result (λ access. access.root < length self.old.variables.items) }
+        ensures typed { IfOk result (λ access. (access.root ≡ root) × Adds self.old self.new (access.number ∷ []) [] []) }
     {
         if self.variables.get(root as usize).is_none() {
             return Err(TypeFault::NotDeclared(place));
@@ -553,6 +587,7 @@ impl Resolver {
         ensures same { self.new.variables ≡ self.old.variables }
         ensures grows { length self.old.sites.items ≤ length self.new.sites.items }
         ensures formed { IfOk result (IsFormedExpr (length self.old.variables.items) (length self.new.sites.items)) }
+        ensures typed { IfOk result (MakesNamed self.old self.new name.now) }
     {
         match self.find(name)? {
             Denotation::Constant { value, .. } => self.constant(value, name.place),
@@ -567,7 +602,9 @@ impl Resolver {
     }
 }
 
-fn typed_sign(sign: syntax::Sign) -> Sign {
+fn typed_sign(sign: syntax::Sign) -> Sign
+    ensures { IsTrue (same_sign sign result) }
+{
     match sign {
         syntax::Sign::Plus => Sign::Plus,
         syntax::Sign::Minus => Sign::Minus,

@@ -1,7 +1,11 @@
 use Rattle.typed_tree.specs.declared.tree.Block.{Block}
-use Rattle.std.proofs.Common.{◌≡◌, List, ◌≤◌, ◌∷◌, [], ◌++◌, true, length, slice_get, sym, ◌∙◌, ap, subst, arith}
+use Rattle.std.proofs.Common.{refl, ◌≡◌, List, ◌≤◌, ◌∷◌, [], ◌++◌, true, length, slice_get, sym, ◌∙◌, ap, subst, arith}
 use Rattle.typed_tree.specs.WellFormed.{is_well_formed_body, is_well_formed_stmt}
-use Rattle.typed_tree.proofs.Declarations.{AreDeclared, are_declared}
+use Rattle.std.proofs.lemmas.List.{length-map}
+use Rattle.typed_tree.specs.Names.{variable_names}
+use Rattle.typed_tree.specs.Typing.{declared}
+use Rattle.typed_tree.proofs.Declarations.{AreDeclared, are_declared, denotes_found, output_parameter}
+use Rattle.typed_tree.proofs.ResolvedProgram.{typed_program}
 use Rattle.typed_tree.proofs.resolver.resolve.Goals.{In_ok-variables}
 use Rattle.typed_tree.proofs.resolver.resolve.Goals as goal
 
@@ -25,3 +29,26 @@ declarations c =
     are_declared c.args.program.now c.in_ok-has_output.has_output c.in_ok-variables.variables.items c.deref.result.now c.deref-2.result.now _ _ _ _ _
     c.new-scopes.ensures c.deref.ensures.value c.deref-2.ensures.value c.in_ok-open_required.ensures c.in_ok-open_block.ensures
     c.in_ok-has_output.ensures.only_output c.in_ok-has_output.ensures.passed c.in_ok-has_output.ensures.has_output c.in_ok-variables.ensures
+
+pub returns-clause-typed : goal.returns-clause-typed
+returns-clause-typed c =
+    let program = c.args.program.now in
+    let body = c.in_ok-body.body in
+    let vs = c.in_ok-variables.variables in
+    let d = declarations (goal.at.returns-clause-typed c).In_ok-variables in
+    let few : length vs.items ≤ 1000000 = omega (arith, vs.ok.0, c.len.ensures, c.if-len-gt-MOST_VARIABLES.false) in
+    typed_program program _ _ c.compound.new.self body c.deref-3.result.now
+    (record {
+      parameters = d.parameters;
+      distinct = d.distinct;
+      types = d.types;
+      output = output_parameter program _ vs.items _ d;
+      variables = d.variables_are;
+      knows = denotes_found program _ vs.items _ d;
+      no_entry = refl;
+      no_site = c.new.ensures.items;
+      few = omega (arith, ap length d.variables_are, length-map (variable_names program) declared);
+    })
+    c.in_ok-body.ensures.typed c.in_ok-body.ensures.silent c.deref-3.ensures.value
+    (c.in_ok-push.ensures.items ∙ ap (λ (l : List Block). l ++ record { body = body; end = program.block.end } ∷ []) c.new-blocks.ensures.items)
+    refl refl c.new-2.ensures.items c.in_ok-types.ensures (returns-clause-well_formed c)

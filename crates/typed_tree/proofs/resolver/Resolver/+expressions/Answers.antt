@@ -1,5 +1,8 @@
-use Rattle.std.proofs.Common.{◌≡◌, true, length, map, ◌∙◌, ap, subst, arith}
+use Rattle.std.proofs.Common.{◌≡◌, [], ◌∷◌, true, length, map, ◌∙◌, refl, sym, ap, subst, arith}
 use Rattle.typed_tree.specs.WellFormed.{all_hold, is_well_formed_expr, is_well_formed_link}
+use Rattle.typed_tree.specs.Resolved.{types_link, stands_in_link, entries_of_link, sites_of_link, MakesExpression, MakesLinks}
+use Rattle.typed_tree.proofs.ResolvedPieces.{if_ok, adds_nothing, adds_then, row_next, row_ends}
+use Rattle.typed_tree.proofs.ResolvedExpressions.{number_made, name_made, parenthesized_made, signed_made, sum_made, link_made}
 use Rattle.typed_tree.proofs.FormedLemmas.{all-push, signed-formed, sum-formed, link-formed}
 use Rattle.typed_tree.proofs.resolver.Resolver.+expressions.Goals as goal
 
@@ -39,4 +42,54 @@ links-loop-link-preserved t c = record {
       ∙ all-push f c.loop-link.typed.items x
       (c.loop-link.invariant.formed n (omega (arith, c.link.ensures.grows)))
       (subst (λ vs. is_well_formed_link (length vs.items) n x ≡ true) c.loop-link.invariant.same (c.in_ok-link.ensures.formed n h));
+  typed =
+      row_next types_link entries_of_link sites_of_link stands_in_link c.args.self.now c.loop-link.self c.link.new.self c.args.rest.now c.loop-link.link-index c.link-item.result c.loop-link.typed.items _ c.in_ok-link.field-0
+      c.loop-link-test.true c.link-item.is c.in_ok-push.ensures.items c.loop-link.invariant.typed c.in_ok-link.ensures.typed;
 }
+
+pub links-returns-clause-typed : goal.links-returns-clause-typed
+links-returns-clause-typed t c =
+    row_ends types_link entries_of_link sites_of_link stands_in_link c.args.self.now c.loop-link.self c.args.rest.now c.loop-link.link-index c.loop-link.typed.items c.loop-link-test.false c.loop-link.invariant.typed
+
+pub expression-returns-in-Number-clause-typed : goal.expression-returns-in-Number-clause-typed
+expression-returns-in-Number-clause-typed t c =
+    if_ok c.number.result _ _ (λ e h. number_made c.args.self.now c.number.new.self c.args.expression.now e c.in-Number.value c.in-Number.place c.in-Number.is h) c.number.ensures.typed
+
+pub expression-returns-in-Name-clause-typed : goal.expression-returns-in-Name-clause-typed
+expression-returns-in-Name-clause-typed t c =
+    if_ok c.named.result _ _ (λ e h. name_made c.args.self.now c.named.new.self c.args.expression.now e c.in-Name.name c.in-Name.is h) c.named.ensures.typed
+
+pub expression-returns-in-Parenthesized-clause-typed : goal.expression-returns-in-Parenthesized-clause-typed
+expression-returns-in-Parenthesized-clause-typed t c =
+    let a = c.args.self.now in
+    if_ok c.expression.result _ _ (λ e h. parenthesized_made a c.expression.new.self c.args.expression.now e _ c.in-Parenthesized.open c.in-Parenthesized.inner c.deref.result.now c.in-Parenthesized.is c.deref.ensures (adds_nothing a _ refl refl refl refl refl) h) c.expression.ensures.typed
+
+pub expression-returns-in_ok-new-in-Signed-clause-typed : goal.expression-returns-in_ok-new-in-Signed-clause-typed
+expression-returns-in_ok-new-in-Signed-clause-typed t c =
+    let a = c.args.self.now in
+    let b = c.enter.new.self in
+    let written = c.in-Signed.term in
+    let number = c.in_ok-number-in-Signed.number in
+    let operand = c.in_ok-new-in-Signed.field-0 in
+    let made = subst (λ w. MakesExpression b c.expression-in-Signed.new.self w c.in_ok-operand-in-Signed.operand) c.deref-in-Signed.ensures c.in_ok-operand-in-Signed.ensures.typed in
+    signed_made a b c.expression-in-Signed.new.self c.args.expression.now c.in-Signed.sign c.in-Signed.place written number c.typed_sign.result operand c.in-Signed.is c.typed_sign.ensures
+    (adds_then a _ b [] (number ∷ []) [] [] [] [] (adds_nothing a _ refl refl refl refl refl) c.in_ok-number-in-Signed.ensures.typed)
+    (subst (λ x. MakesExpression b c.expression-in-Signed.new.self written.value x) (sym c.in_ok-new-in-Signed.ensures.ok) made)
+
+pub expression-returns-in_ok-new-in-Sum-clause-typed : goal.expression-returns-in_ok-new-in-Sum-clause-typed
+expression-returns-in_ok-new-in-Sum-clause-typed t c =
+    let a = c.args.self.now in
+    let b = c.expression-in-Sum.new.self in
+    let first = c.in-Sum.first in
+    let rest = c.in_ok-rest-in-Sum.rest in
+    let made = subst (λ w. MakesExpression a b w c.in_ok-first-in-Sum.first) c.deref-in-Sum.ensures c.in_ok-first-in-Sum.ensures.typed in
+    sum_made a b c.links.new.self c.args.expression.now first c.in-Sum.rest c.in_ok-new-in-Sum.field-0 rest c.in-Sum.is
+    (subst (λ x. MakesExpression a b first.value x) (sym c.in_ok-new-in-Sum.ensures.ok) made)
+    (subst (λ w. MakesLinks b c.links.new.self w rest.items) c.deref-in-Sum-2.ensures.value c.in_ok-rest-in-Sum.ensures.typed)
+
+pub link-returns-clause-typed : goal.link-returns-clause-typed
+link-returns-clause-typed t c =
+    let e = c.in_ok-expression.field-0 in
+    link_made c.args.self.now c.operator.new.self c.expression.new.self c.args.link.now
+    (record { number = c.in_ok-number.number; operator = c.typed_sign.result; overflow = c.in_ok-number.overflow; operand = e })
+    c.typed_sign.ensures c.in_ok-number.ensures.typed c.in_ok-expression.ensures.typed

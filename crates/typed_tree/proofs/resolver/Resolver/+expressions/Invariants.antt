@@ -1,11 +1,13 @@
-use Rattle.std.proofs.Common.{◌≡◌, ◌≤◌, length}
+use Rattle.std.proofs.Common.{◌≡◌, ◌≤◌, length, take}
 use Rattle.typed_tree.specs.Formed.{AreFormedLinks}
+use Rattle.typed_tree.specs.Resolved.{MakesLinks}
 use Rattle.typed_tree.proofs.resolver.Resolver.+expressions.Given as goal
 
--- the links so far are well formed
+-- the links so far are well formed, and typed
 abbrev pub invariant-links-loop-link : goal.invariant-links-loop-link
 invariant-links-loop-link l = record {
   same : l.self.variables ≡ l.initial.self.variables;
   grows : length l.initial.self.sites.items ≤ length l.self.sites.items;
   formed : AreFormedLinks (length l.initial.self.variables.items) (length l.self.sites.items) l.typed.items;
+  typed : MakesLinks l.initial.self l.self (take l.link-index l.rest) l.typed.items;
 }

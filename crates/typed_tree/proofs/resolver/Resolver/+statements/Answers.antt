@@ -1,5 +1,10 @@
 use Rattle.std.proofs.Common.{◌≡◌, true, length, map, ◌∙◌, ap, subst, arith}
 use Rattle.typed_tree.specs.WellFormed.{all_hold, is_well_formed_stmt}
+use Rattle.typed_tree.specs.Entries.{entries_of_statement, sites_of_statement}
+use Rattle.typed_tree.specs.Typing.{types_statement, stands_in_statement}
+use Rattle.typed_tree.specs.Resolved.{MakesCall, MakesCompound, AreSilent}
+use Rattle.typed_tree.proofs.ResolvedPieces.{if_ok, row_next, row_ends, output_kept}
+use Rattle.typed_tree.proofs.ResolvedStatements.{assign_made, call_statement_made, compound_statement_made, compound_made, compound_silent, silent_next, silent_whole}
 use Rattle.typed_tree.proofs.FormedLemmas.{all-push, compound-formed}
 use Rattle.typed_tree.proofs.resolver.Resolver.+statements.Goals as goal
 
@@ -20,4 +25,42 @@ statements-loop-statement-preserved t c = record {
       ∙ all-push f c.loop-statement.typed.items x
       (c.loop-statement.invariant.formed n (omega (arith, c.statement.ensures.grows)))
       (subst (λ vs. is_well_formed_stmt (length vs.items) n x ≡ true) c.loop-statement.invariant.same (c.in_ok-statement.ensures.formed n h));
+  typed =
+      row_next types_statement entries_of_statement sites_of_statement stands_in_statement c.args.self.now c.loop-statement.self c.statement.new.self c.args.statements.now c.loop-statement.statement-index c.statement-item.result c.loop-statement.typed.items _ c.in_ok-statement.field-0
+      c.loop-statement-test.true c.statement-item.is c.in_ok-push.ensures.items c.loop-statement.invariant.typed c.in_ok-statement.ensures.typed;
+  silent = λ none.
+      silent_next c.args.statements.now c.loop-statement.statement-index c.statement-item.result c.loop-statement-test.true c.statement-item.is (c.loop-statement.invariant.silent none)
+      (c.in_ok-statement.ensures.silent (output_kept c.args.self.now c.loop-statement.self _ _ _ _ c.loop-statement.invariant.typed ∙ none));
 }
+
+pub statements-returns-clause-typed : goal.statements-returns-clause-typed
+statements-returns-clause-typed t c =
+    row_ends types_statement entries_of_statement sites_of_statement stands_in_statement c.args.self.now c.loop-statement.self c.args.statements.now c.loop-statement.statement-index c.loop-statement.typed.items c.loop-statement-test.false c.loop-statement.invariant.typed
+
+pub statements-returns-clause-silent : goal.statements-returns-clause-silent
+statements-returns-clause-silent t c = λ none.
+    silent_whole c.args.statements.now c.loop-statement.statement-index c.loop-statement-test.false (c.loop-statement.invariant.silent none)
+
+pub compound-returns-clause-typed : goal.compound-returns-clause-typed
+compound-returns-clause-typed t c =
+    compound_made c.args.self.now c.enter.new.self c.statements.new.self c.args.statements.now c.in_ok-number.number c.in_ok-statements.statements c.in_ok-number.ensures.typed c.in_ok-statements.ensures.typed
+
+pub statement-returns-in-Assign-clause-typed : goal.statement-returns-in-Assign-clause-typed
+statement-returns-in-Assign-clause-typed t c =
+    if_ok c.assignment.result _ _ (λ s h. assign_made c.args.self.now c.assignment.new.self c.args.statement.now s c.in-Assign.name c.in-Assign.becomes c.in-Assign.value c.in-Assign.is h) c.assignment.ensures.typed
+
+pub statement-returns-in-Call-clause-typed : goal.statement-returns-in-Call-clause-typed
+statement-returns-in-Call-clause-typed t c =
+    let a = c.args.self.now in
+    let b = c.call.new.self in
+    if_ok c.call.result _ _ (λ s h. call_statement_made a b c.args.statement.now s c.in-Call.name c.in-Call.actuals c.in-Call.is (subst (λ l. MakesCall a b c.in-Call.name l s) c.deref.ensures.value h)) c.call.ensures.typed
+
+pub statement-returns-in-Compound-clause-typed : goal.statement-returns-in-Compound-clause-typed
+statement-returns-in-Compound-clause-typed t c =
+    let a = c.args.self.now in
+    let b = c.compound.new.self in
+    if_ok c.compound.result _ _ (λ s h. compound_statement_made a b c.args.statement.now s c.in-Compound.statements c.in-Compound.is (subst (λ l. MakesCompound a b l s) c.deref-in-Compound.ensures.value h)) c.compound.ensures.typed
+
+pub statement-returns-in-Compound-clause-silent : goal.statement-returns-in-Compound-clause-silent
+statement-returns-in-Compound-clause-silent t c =
+    if_ok c.compound.result _ _ (λ s h none. compound_silent c.args.statement.now c.in-Compound.statements c.in-Compound.is (subst AreSilent c.deref-in-Compound.ensures.value (h none))) c.compound.ensures.silent

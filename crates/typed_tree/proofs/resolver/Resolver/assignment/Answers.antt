@@ -1,5 +1,6 @@
-use Rattle.std.proofs.Common.{◌≡◌, ◌<◌, true, length, ◌∙◌, subst, arith}
+use Rattle.std.proofs.Common.{◌≡◌, ◌<◌, Ok, true, length, ◌∙◌, ap, subst, arith}
 use Rattle.typed_tree.specs.WellFormed.{is_well_formed_expr}
+use Rattle.typed_tree.proofs.ResolvedStatements.{assignment_made}
 use Rattle.typed_tree.proofs.FormedLemmas.{assign-formed}
 use Rattle.typed_tree.proofs.resolver.Resolver.assignment.Goals as goal
 
@@ -12,3 +13,11 @@ returns-clause-formed c = λ n h.
     (subst (λ vs. target.root < length vs.items) found c.in_ok-target.ensures.known)
     (omega (arith, c.in_ok-fits.ensures.known, c.expression.ensures.grows))
     (subst (λ vs. is_well_formed_expr (length vs.items) n value ≡ true) (c.site.ensures.same ∙ c.access.ensures.same ∙ found) (c.in_ok-value.ensures.formed n h))
+
+pub returns-clause-typed : goal.returns-clause-typed
+returns-clause-typed c =
+    let target = c.in_ok-target in
+    let found = c.in_ok-root.ensures.found ∙ ap Ok c.in-Variable.is in
+    assignment_made c.args.self.now c.enter.new.self c.find.new.self c.access.new.self c.site.new.self c.expression.new.self
+    c.args.name.now c.args.becomes c.args.value.now c.in-Variable.root c.in_ok-number.number target.target c.in_ok-fits.fits c.in_ok-value.value
+    c.in_ok-number.ensures.typed c.find.ensures.adds found target.ensures.typed.0 target.ensures.typed.1 c.in_ok-fits.ensures.typed c.in_ok-value.ensures.typed
