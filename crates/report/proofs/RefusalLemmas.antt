@@ -9,7 +9,7 @@ use Rattle.code_generator.specs.declared.fault.GenFault.TheVariants as generate
 use Rattle.code_generator.specs.Code.{program_code}
 use Rattle.report.specs.declared.fault.Fault.{Fault}
 use Rattle.report.specs.Faults.{typing_fault, generator_fault}
-use Rattle.report.specs.Headline.{IsWrittenAs}
+use Rattle.report.specs.Headline.{IsWrittenAs, IsTypedTreeOf}
 use Rattle.report.specs.Refusals.{IsRefusal}
 
 -- an answer that is this fault
@@ -23,6 +23,6 @@ typing-refusal source text typing.Memory h = tt
 typing-refusal source text fault h = h
 
 -- code is refused where there is too much of it
-pub generation-refusal : (source text : List ℕ) (tree : Tree) (fault : GenFault) → (fault ≡ generate.TooLarge → 1000000 < length (program_code tree)) → IsRefusal source text (generator_fault fault)
-generation-refusal source text tree generate.Memory h = tt
-generation-refusal source text tree generate.TooLarge h = (tree, h refl)
+pub generation-refusal : (source text : List ℕ) (tree : Tree) (fault : GenFault) → IsTypedTreeOf tree source → (fault ≡ generate.TooLarge → 1000000 < length (program_code tree)) → IsRefusal source text (generator_fault fault)
+generation-refusal source text tree generate.Memory typed h = tt
+generation-refusal source text tree generate.TooLarge typed h = (tree, typed, h refl)

@@ -22,6 +22,6 @@ pub record Headline (tree : Tree) (open_sites : List Site) (stripped : Code) : T
 abbrev pub IsWrittenAs : List ℕ → Program → Type 0
 IsWrittenAs source program = (tokens : List Token) × IsTokenList source (map lexeme_of tokens) × IsTreeOf program tokens
 
--- the typed tree of a source text; that a compiled tree is one is promised by no contract yet
+-- the typed tree of a source text
 abbrev pub IsTypedTreeOf : Tree → List ℕ → Type 0
 IsTypedTreeOf tree source = (program : Program) × IsWrittenAs source program × IsTyped program tree

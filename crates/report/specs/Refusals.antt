@@ -1,6 +1,5 @@
 -- Why a source is refused: the fault of the first layer that refuses, for nothing else but memory.
--- It does not say which rule of names and types is broken, nor that one is, nor that the tree with too much code is the
--- source's: no contract ties a tree to the typing of its source yet.
+-- It does not say which rule of names and types is broken, nor that one is.
 use Rattle.std.specs.Prelude.{◌≡◌, ℕ, ◌<◌, List, Option, Some, None, map, length, codes}
 use denote.Ref.{Bor}
 use Rattle.lexer.specs.declared.token.Token.{Token}
@@ -12,7 +11,7 @@ use Rattle.certificate.specs.Text.{first_fault}
 use Rattle.code_generator.specs.Code.{program_code}
 use Rattle.report.specs.declared.fault.Fault.{Fault}
 use Rattle.report.specs.declared.fault.Fault.TheVariants.{Memory, Lex, Parse, Typing, Certificate, Check, Generate}
-use Rattle.report.specs.Headline.{IsWrittenAs}
+use Rattle.report.specs.Headline.{IsWrittenAs, IsTypedTreeOf}
 
 -- the text of a certificate: that which is given, or the one that says nothing
 abbrev pub text_of : Option (Bor (List ℕ)) → List ℕ
@@ -27,4 +26,4 @@ IsRefusal source text (Parse fault) = (tokens : List Token) × IsTokenList sourc
 IsRefusal source text (Typing fault) = (program : Program) × IsWrittenAs source program
 IsRefusal source text (Certificate fault) = first_fault text ≡ Some fault
 IsRefusal source text (Check fault) = ⊥
-IsRefusal source text (Generate fault) = (tree : Tree) × (1000000 < length (program_code tree))
+IsRefusal source text (Generate fault) = (tree : Tree) × IsTypedTreeOf tree source × (1000000 < length (program_code tree))

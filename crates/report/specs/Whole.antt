@@ -1,9 +1,8 @@
 -- What the whole compiler gives: the answers of its layers, one over the other, and a run of the code without the checks
--- of the sites that aren't open. It does not say that a tree is the typed tree of its source.
+-- of the sites that aren't open. It does not say that a run ends, nor what a writer that fails does not take.
 use Rattle.std.specs.Prelude.{◌≡◌, ℕ, List, Option}
 use Rattle.typed_tree.specs.declared.tree.Tree.{Tree}
 use Rattle.typed_tree.specs.declared.site.Site.{Site}
-use Rattle.parser.specs.declared.tree.Program.{Program}
 use Rattle.certificate.specs.declared.Certificate.{Certificate}
 use Rattle.certificate.specs.Text.{spelling}
 use Rattle.cert_checker.specs.Promise.{Valid}
@@ -14,20 +13,19 @@ use Rattle.code_generator.specs.Tables.{site_table}
 use Rattle.stack_machine.specs.declared.stop.Stop.{Stop}
 use Rattle.stack_machine.specs.Does.{Tells}
 use Rattle.stack_machine.specs.Run.{machine}
-use Rattle.report.specs.Headline.{Headline, IsWrittenAs}
+use Rattle.report.specs.Headline.{Headline, IsTypedTreeOf}
 
 -- the code of a tree, without the checks of the sites that aren't open
 pub record IsStripped (tree : Tree) (open_sites : List Site) (code : Code) : Type 0 where
   pub instructions : code.instructions.items ≡ strip (site_table open_sites) (program_code tree)
   pub sites : code.sites.items ≡ site_table tree.sites.items
 
--- A source is written as a program. A tree was checked by the certificate of a text, with these open sites, for which
--- the headline holds, and its code without the other checks was run: the stop is that of the run, and the writer's known
--- bytes grew by its output.
+-- The typed tree of a source was checked by the certificate of a text, with these open sites, for which the headline
+-- holds, and its code without the other checks was run: the stop is that of the run, and the writer's known bytes grew
+-- by its output, or by a beginning of it where the writer failed.
 pub record RunsStripped (source text : List ℕ) (open_sites : List Site) (stop : Stop) (cells budget : ℕ) (before after : Option (List ℕ)) : Type 0 where
-  pub program : Program
-  pub written : IsWrittenAs source program
   pub tree : Tree
+  pub typed : IsTypedTreeOf tree source
   pub certificate : Certificate
   pub code : Code
   pub spelled : text ≡ spelling certificate

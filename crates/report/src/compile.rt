@@ -7,8 +7,7 @@ ghost use Rattle.code_generator.specs.Follows.{Follows};
 ghost use Rattle.code_generator.specs.Tables.{site_table};
 ghost use Rattle.typed_tree.specs.WellFormed.{IsWellFormed};
 ghost use Rattle.typed_tree.specs.Ids.{AreInOrder};
-ghost use Rattle.parser.specs.declared.tree.Program.{Program};
-ghost use Rattle.report.specs.Headline.{Headline, IsWrittenAs};
+ghost use Rattle.report.specs.Headline.{Headline, IsTypedTreeOf};
 ghost use Rattle.report.specs.Refusals.{IsRefusal, text_of};
 ghost use Rattle.stack_machine.specs.Failures.{write_failures_of};
 ghost use Rattle.report.specs.Whole.{IsStripped, RunsStripped};
@@ -49,8 +48,8 @@ pub struct Compiled {
 /// # Errors
 /// The fault of the first layer that refuses: tokens, syntax, names and types, certificate, its rules, code.
 pub fn compile(alloc: Global, source: &[u8], certificate: Option<&[u8]>) -> Result<Compiled, Fault>
-    // The source is written as a program, and the certificate is the one that the text spells.
-    ensures written { IfOk result (λ _. (program : Program) × IsWrittenAs source.now program) }
+    // The tree is the typed tree of the source, and the certificate is the one that the text spells.
+    ensures typed { IfOk result (λ c. IsTypedTreeOf c.tree source.now) }
     ensures certificate { IfOk result (λ c. text_of certificate.entry ≡ spelling c.certificate) }
 
     // A source is refused for what the first layer that refuses it says, and for nothing else but memory.
@@ -120,7 +119,7 @@ pub fn go<R: Feed, W: Sink>(
 fn typed(alloc: Global, source: &[u8]) -> Result<Tree, Fault>
     ensures well_formed { IfOk result IsWellFormed }
     ensures in_order { IfOk result (λ tree. AreInOrder tree.sites.items) }
-    ensures written { IfOk result (λ _. (program : Program) × IsWrittenAs source.now program) }
+    ensures typed { IfOk result (λ tree. IsTypedTreeOf tree source.now) }
     ensures refused { (text : List ℕ) → IfErr result (IsRefusal source.now text) }
 {
     let tokens = tokens(alloc, source)?;

@@ -6,4 +6,5 @@ pub mod Laws
 pub mod Machine
 pub mod Output
 pub mod Run
+pub mod Told
 pub mod View

@@ -1,8 +1,8 @@
-ghost use Rattle.std.specs.Prelude.{◌≡◌, ◌+◌, ◌^◌, ◌-◌, ◌<◌, [], ◌∷◌, replicate, IsOkUnless, OnOk, vec_len};
-ghost use Rattle.std.specs.Io.KnownBytes.{Appends};
+ghost use Rattle.std.specs.Prelude.{◌≡◌, ◌+◌, ◌^◌, ◌-◌, ◌<◌, [], ◌∷◌, replicate, IfOk, IsOkUnless, vec_len};
 ghost use Rattle.stack_machine.specs.declared.output.TheConstants.{PIECE};
 ghost use Rattle.stack_machine.specs.Failures.{failures_told};
 ghost use Rattle.stack_machine.specs.Machine.{blanks_of, integer_text};
+ghost use Rattle.stack_machine.specs.Told.{PassesOrLoses, all_told};
 
 use crate::bytes::Sink;
 use crate::stop::Stop;
@@ -22,10 +22,12 @@ pub struct Output {
 }
 
 impl Output {
-    ghost use Rattle.stack_machine.specs.Output.{held_by, told};
+    ghost use Rattle.stack_machine.specs.Output.{told};
 
     /// Holds nothing.
-    pub fn new(alloc: Global) -> Result<Output, AllocError> {
+    pub fn new(alloc: Global) -> Result<Output, AllocError>
+        ensures { IfOk result (λ output. output.held ≡ 0) }
+    {
         Ok(Output {
             bytes: vec![in alloc; 0; PIECE]?,
             held: 0,
@@ -44,8 +46,8 @@ impl Output {
         requires { W.failures writer.old < 2 ^ 64 - 1 }
         ensures only { IsOkUnless result Stop.WriteFailed }
         ensures failures { W.failures writer.new ≡ W.failures writer.old + failures_told result }
-        ensures bytes { OnOk result (Appends (told (W.contents writer.old) (held_by self.old))
-            (told (W.contents writer.new) (held_by self.new)) (byte ∷ [])) }
+        ensures bytes { PassesOrLoses result (told (W.contents writer.old) self.old)
+            (told (W.contents writer.new) self.new) (byte ∷ []) }
     {
         let held = self.held;
         self.bytes[held] = byte;
@@ -62,8 +64,8 @@ impl Output {
         requires { W.failures writer.old < 2 ^ 64 - 1 }
         ensures only { IsOkUnless result Stop.WriteFailed }
         ensures failures { W.failures writer.new ≡ W.failures writer.old + failures_told result }
-        ensures bytes { OnOk result (Appends (told (W.contents writer.old) (held_by self.old))
-            (told (W.contents writer.new) (held_by self.new)) bytes.now) }
+        ensures bytes { PassesOrLoses result (told (W.contents writer.old) self.old)
+            (told (W.contents writer.new) self.new) bytes.now }
     {
         for byte in bytes {
             self.put(*byte, writer)?;
@@ -76,8 +78,8 @@ impl Output {
         requires { W.failures writer.old < 2 ^ 64 - 1 }
         ensures only { IsOkUnless result Stop.WriteFailed }
         ensures failures { W.failures writer.new ≡ W.failures writer.old + failures_told result }
-        ensures bytes { OnOk result (Appends (told (W.contents writer.old) (held_by self.old))
-            (told (W.contents writer.new) (held_by self.new)) (replicate count 32)) }
+        ensures bytes { PassesOrLoses result (told (W.contents writer.old) self.old)
+            (told (W.contents writer.new) self.new) (replicate count 32) }
     {
         for _blank in 0..count {
             self.put(b' ', writer)?;
@@ -95,8 +97,8 @@ impl Output {
         requires { W.failures writer.old < 2 ^ 64 - 1 }
         ensures only { IsOkUnless result Stop.WriteFailed }
         ensures failures { W.failures writer.new ≡ W.failures writer.old + failures_told result }
-        ensures bytes { OnOk result (Appends (told (W.contents writer.old) (held_by self.old))
-            (told (W.contents writer.new) (held_by self.new)) (integer_text value width)) }
+        ensures bytes { PassesOrLoses result (told (W.contents writer.old) self.old)
+            (told (W.contents writer.new) self.new) (integer_text value width) }
     {
         let mut buffer = Buffer::new();
         let text = buffer.format(value).as_bytes();
@@ -110,8 +112,8 @@ impl Output {
         requires { W.failures writer.old < 2 ^ 64 - 1 }
         ensures only { IsOkUnless result Stop.WriteFailed }
         ensures failures { W.failures writer.new ≡ W.failures writer.old + failures_told result }
-        ensures bytes { OnOk result (Appends (told (W.contents writer.old) (held_by self.old))
-            (told (W.contents writer.new) (held_by self.new)) []) }
+        ensures bytes { PassesOrLoses result (told (W.contents writer.old) self.old)
+            (told (W.contents writer.new) self.new) [] }
         ensures nothing_held { self.new.held ≡ 0 }
     {
         let held = self.held;
@@ -125,7 +127,7 @@ fn write_all<W: Sink>(piece: &[u8], writer: &mut W) -> Result<(), Stop>
     requires { W.failures writer.old < 2 ^ 64 - 1 }
     ensures only { IsOkUnless result Stop.WriteFailed }
     ensures failures { W.failures writer.new ≡ W.failures writer.old + failures_told result }
-    ensures bytes { OnOk result (Appends (W.contents writer.old) (W.contents writer.new) piece.now) }
+    ensures bytes { PassesOrLoses result (all_told (W.contents writer.old)) (all_told (W.contents writer.new)) piece.now }
 {
     let mut rest = piece;
     while !rest.is_empty() {

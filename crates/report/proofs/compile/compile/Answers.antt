@@ -37,7 +37,7 @@ returns-in_err-full-clause-refused c =
     let text = text_of c.args.certificate in
     let told = err_from_is_err_and c.from_residual-in_err-full.result c.from_residual-in_err-full.ensures.1 in
     refused_by source text c.from_residual-in_err-full.result told.0 _ told.1 told.2
-    (generation-refusal source text c.in_ok-tree.tree c.in_err-full.field-0.0 (λ same. c.generate.ensures.too_large.0 (c.in_err-full.was ∙ ap Err same)))
+    (generation-refusal source text c.in_ok-tree.tree c.in_err-full.field-0.0 c.in_ok-tree.ensures.typed (λ same. c.generate.ensures.too_large.0 (c.in_err-full.was ∙ ap Err same)))
 
 pub returns-clause-stripped : goal.returns-clause-stripped
 returns-clause-stripped c = record {

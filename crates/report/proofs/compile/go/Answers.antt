@@ -6,14 +6,13 @@ use Rattle.stack_machine.specs.Does.{Tells}
 use Rattle.stack_machine.specs.Run.{machine}
 use Rattle.report.proofs.compile.go.Goals as goal
 
--- the program, the tree, the certificate and the code are those that were compiled
+-- the tree, the certificate and the code are those that were compiled
 pub returns-clause-ran : goal.returns-clause-ran
 returns-clause-ran g c =
     let compiled = c.in_ok-compiled.compiled in
     record {
-      program = c.in_ok-compiled.ensures.written.0;
-      written = c.in_ok-compiled.ensures.written.1;
       tree = compiled.tree;
+      typed = c.in_ok-compiled.ensures.typed;
       certificate = compiled.certificate;
       code = compiled.stripped;
       spelled = c.in_ok-compiled.ensures.certificate;

@@ -4,10 +4,10 @@ use Rattle.parser.specs.Syntax.{IsTreeOf}
 use Rattle.report.proofs.RefusalLemmas.{refused_by, typing-refusal}
 use Rattle.report.proofs.compile.typed.Goals as goal
 
-pub returns-clause-written : goal.returns-clause-written
-returns-clause-written c =
+pub returns-clause-typed : goal.returns-clause-typed
+returns-clause-typed c =
     let program = c.in_ok-program.program in
-    (program, (c.in_ok-tokens.tokens.items, c.in_ok-tokens.ensures.list, subst (IsTreeOf program) c.deref.ensures.value c.in_ok-program.ensures.exact))
+    (program, (c.in_ok-tokens.tokens.items, c.in_ok-tokens.ensures.list, subst (IsTreeOf program) c.deref.ensures.value c.in_ok-program.ensures.exact), c.in_ok-tree.ensures.typed)
 
 pub returns-in_err-tree-clause-refused : goal.returns-in_err-tree-clause-refused
 returns-in_err-tree-clause-refused c = λ text.
