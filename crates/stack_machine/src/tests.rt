@@ -138,6 +138,41 @@ fn writes_more_than_a_piece_in_parts(rt: HostRuntime) -> Result<(), Fail> {
     Ok(())
 }
 
+/// Takes each piece whole, and keeps the lengths.
+#[derive(Drop)]
+struct Lengths(Vec<usize>);
+
+impl io::Write for Lengths {
+    fn write(&mut self, piece: &[u8]) -> io::Result<usize> {
+        self.0.push(piece.len())?;
+        Ok(piece.len())
+    }
+
+    fn flush(&mut self) -> io::Result<()> {
+        Ok(())
+    }
+}
+
+#[test]
+fn writes_in_pieces_and_the_rest_at_the_stop(rt: HostRuntime) -> Result<(), Fail> {
+    let alloc = rt.alloc();
+    let code = [
+        ENTER,
+        number(7),
+        number(10000),
+        Instr::WriteInteger,
+        Instr::Stop,
+    ];
+    let code = code_of(alloc, &code)?;
+    let mut machine = Machine::new(alloc, 6)?;
+    let mut reader = Counted::new(io::empty());
+    let mut writer = Counted::new(Lengths(Vec::new(alloc)));
+    let stop = machine.run(&code, &mut reader, &mut writer, 100);
+    assert_eq!(rt; stop, Stop::Finished);
+    assert_eq!(rt; writer.inner().0.as_slice(), [4096, 4096, 1808].as_slice());
+    Ok(())
+}
+
 #[test]
 fn stops_where_the_writer_fails(rt: HostRuntime) -> Result<(), Fail> {
     let code = [
