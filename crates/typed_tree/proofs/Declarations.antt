@@ -36,15 +36,15 @@ turned a b = by (pointwise nat_eq a b) refl
     by false h = h ∙ sym (false_from_ne_true _ (λ t. true≢false (sym (same_self b) ∙ ap (λ (x : List ℕ). pointwise nat_eq x b) (same_text b a t) ∙ h)))
 
 -- the names that a region knows
-abbrev known : List (List ℕ) → List ℕ → Option (Option Denotation)
+abbrev pub known : List (List ℕ) → List ℕ → Option (Option Denotation)
 known names name = if list_any (pointwise nat_eq name) names then Some None else None
 
-abbrev told : Option Denotation → Option (Option Denotation) → Option (Option Denotation)
+abbrev pub told : Option Denotation → Option (Option Denotation) → Option (Option Denotation)
 told None other = other
 told (Some d) other = Some (Some d)
 
 -- two definitions of two names
-abbrev Apart : Definition → Definition → Type 0
+abbrev pub Apart : Definition → Definition → Type 0
 Apart a b = same_name a.0 b.0 ≡ false
 
 looked_up-same : (ds : List Definition) (a b : List ℕ) → folded a ≡ folded b → looked_up ds a ≡ looked_up ds b
@@ -53,7 +53,7 @@ looked_up-same (d ∷ ds) a b h =
     ap (λ (n : List ℕ). if pointwise nat_eq (folded d.0) n then Some d.1 else looked_up ds a) h
     ∙ ap (λ o. if same_name d.0 b then Some d.1 else o) (looked_up-same ds a b h)
 
-looked_up-append : (ds es : List Definition) (name : List ℕ) → looked_up (ds ++ es) name ≡ or_outer (looked_up ds name) (looked_up es name)
+pub looked_up-append : (ds es : List Definition) (name : List ℕ) → looked_up (ds ++ es) name ≡ or_outer (looked_up ds name) (looked_up es name)
 looked_up-append [] es name = refl
 looked_up-append (d ∷ ds) es name = by (same_name d.0 name) (looked_up-append ds es name)
   where
@@ -75,7 +75,7 @@ none_alike (d ∷ ds) name h k e within = by (same_name d.0 name) refl k within 
     by false t (suc k) within rest = rest (ap (λ b. if b then Some d.1 else looked_up ds name) (sym t) ∙ h) k (omega arith)
 
 -- a name is looked up where it is among the defined ones
-looked_up-known : (ds : List Definition) (name : List ℕ) → is_some (looked_up ds name) ≡ list_any (pointwise nat_eq (folded name)) (map (λ d. folded d.0) ds)
+pub looked_up-known : (ds : List Definition) (name : List ℕ) → is_some (looked_up ds name) ≡ list_any (pointwise nat_eq (folded name)) (map (λ d. folded d.0) ds)
 looked_up-known [] name = refl
 looked_up-known (d ∷ ds) name = by (same_name d.0 name) (pointwise nat_eq (folded name) (folded d.0)) (turned (folded d.0) (folded name)) (looked_up-known ds name)
   where
@@ -88,13 +88,13 @@ looked_up-known (d ∷ ds) name = by (same_name d.0 name) (pointwise nat_eq (fol
 
 module _ {S : Type 0} where
   -- the innermost region holds these definitions, and they are of different names
-  record Holds (names : List (List ℕ)) (outer : List (Region S)) (ds : List Definition) (regions : List (Region S)) : Type 0 where
-    region : Region S
-    last : regions ≡ outer ++ region ∷ []
-    says : (name : List ℕ) → said region (folded name) ≡ told (looked_up ds name) (known names (folded name))
-    distinct : AllPairs Apart ds
+  pub record Holds (names : List (List ℕ)) (outer : List (Region S)) (ds : List Definition) (regions : List (Region S)) : Type 0 where
+    pub region : Region S
+    pub last : regions ≡ outer ++ region ∷ []
+    pub says : (name : List ℕ) → said region (folded name) ≡ told (looked_up ds name) (known names (folded name))
+    pub distinct : AllPairs Apart ds
 
-  last_same : (xs ys : List (Region S)) (x y : Region S) → xs ++ x ∷ [] ≡ ys ++ y ∷ [] → (xs ≡ ys) × (x ≡ y)
+  pub last_same : (xs ys : List (Region S)) (x y : Region S) → xs ++ x ∷ [] ≡ ys ++ y ∷ [] → (xs ≡ ys) × (x ≡ y)
   last_same [] [] x y h = (refl, cc)
   last_same [] (z ∷ zs) x y h = absurd (omega (arith, ap length h, length-append zs (y ∷ [])))
   last_same (z ∷ zs) [] x y h = absurd (omega (arith, ap length h, length-append zs (x ∷ [])))
@@ -104,7 +104,7 @@ module _ {S : Type 0} where
       let r = last_same zs ws x y rest in (cc (first, r.0), r.1)
 
   -- a region that opens holds no definition
-  opens_holds : (names : List (List ℕ)) (old new : List (Region S)) → Opens names old new → Holds names old [] new
+  pub opens_holds : (names : List (List ℕ)) (old new : List (Region S)) → Opens names old new → Holds names old [] new
   opens_holds names old new h = record {
     region = h.region;
     last = h.last;
@@ -153,13 +153,13 @@ module _ {S : Type 0} where
             ∙ ap (λ c. told (or_outer (looked_up ds name) (if c then Some d.1 else None)) (known names (folded name))) (sym here)
 
     -- and more
-    passes_holds : (ds es : List Definition) (old new : List (Region S)) → Holds names outer ds old → Passes es old new → Holds names outer (ds ++ es) new
+    pub passes_holds : (ds es : List Definition) (old new : List (Region S)) → Holds names outer ds old → Passes es old new → Holds names outer (ds ++ es) new
     passes_holds ds [] old new h p = subst (λ l. Holds names outer l new) (sym (append-nil ds)) (subst (Holds names outer ds) (sym p) h)
     passes_holds ds (e ∷ es) old new h p =
         subst (λ l. Holds names outer l new) (append_assoc ds (e ∷ []) es) (passes_holds (ds ++ e ∷ []) es p.0 new (defines_holds ds e old p.0 h p.1) p.2)
 
 -- definitions that are of apart type
-abbrev Typeless : List Definition → Type 0
+abbrev pub Typeless : List Definition → Type 0
 Typeless ds = (name : List ℕ) (t : TypeId) → looked_up ds name ≡ Some (denotes.TypeName t) → ⊥
 
 typeless-none : Typeless []
@@ -179,10 +179,10 @@ typeless-append ds es a b name t h = by (looked_up ds name) (a name t) (sym (loo
     by None apart q = b name t q
     by (Some x) apart q = apart q
 
-abbrev outputs : List Name → List Definition
+abbrev pub outputs : List Name → List Definition
 outputs names = map (λ name. (name.text.now, denotes.Output)) names
 
-typeless-outputs : (names : List Name) → Typeless (outputs names)
+pub typeless-outputs : (names : List Name) → Typeless (outputs names)
 typeless-outputs [] = typeless-none
 typeless-outputs (x ∷ xs) = typeless-cons (x.text.now, denotes.Output) (outputs xs) (λ t h. cc) (typeless-outputs xs)
 
@@ -190,7 +190,7 @@ typeless-roots : (root : ℕ) (names : List Name) → Typeless (roots_from root 
 typeless-roots root [] = typeless-none
 typeless-roots root (x ∷ xs) = typeless-cons (x.text.now, denotes.Variable root) (roots_from (root + 1) xs) (λ t h. cc) (typeless-roots (root + 1) xs)
 
-roots-append : (root : ℕ) (xs ys : List Name) → roots_from root (xs ++ ys) ≡ roots_from root xs ++ roots_from (root + length xs) ys
+pub roots-append : (root : ℕ) (xs ys : List Name) → roots_from root (xs ++ ys) ≡ roots_from root xs ++ roots_from (root + length xs) ys
 roots-append root [] ys = ap (λ n. roots_from n ys) (omega arith)
 roots-append root (x ∷ xs) ys =
     ap (λ l. (x.text.now, denotes.Variable root) ∷ l) (roots-append (root + 1) xs ys ∙ ap (λ n. roots_from (root + 1) xs ++ roots_from n ys) (omega arith))
@@ -224,15 +224,15 @@ denoted_found None false None h = refl
 denoted_found None false (Some x) h = refl
 
 -- a denoter denotes integer, and its name is none of these
-abbrev IsIntegerBeside : List (List ℕ) → TypeDenoter → Type 0
+abbrev pub IsIntegerBeside : List (List ℕ) → TypeDenoter → Type 0
 IsIntegerBeside names (denoter.Name name) = (list_any (pointwise nat_eq (folded name.text.now)) names ≡ false) × (looked_up required name.text.now ≡ Some (denotes.TypeName integer))
 
-abbrev names_of : List VariableGroup → List Name
+abbrev pub names_of : List VariableGroup → List Name
 names_of groups = flat_map (λ group. group.names.items) groups
 
 module _ {S : Type 0} (names : List (List ℕ)) (round : Region S) (says_required : (name : List ℕ) → said round (folded name) ≡ told (looked_up required name) None) where
   -- the innermost region is asked first, and then that of the required identifiers
-  found_is : (ds : List Definition) (regions : List (Region S)) → Holds names (round ∷ []) ds regions → (name : List ℕ)
+  pub found_is : (ds : List Definition) (regions : List (Region S)) → Holds names (round ∷ []) ds regions → (name : List ℕ)
       → found regions (folded name) ≡ decided (told (looked_up ds name) (known names (folded name))) (decided (told (looked_up required name) None) (Err fault.NotDeclared))
   found_is ds regions h name =
       ap (λ l. found l (folded name)) h.last
@@ -248,12 +248,12 @@ module _ {S : Type 0} (names : List (List ℕ)) (round : Region S) (says_require
       ((r.0, r.1 ∙ ap (λ u. Some (denotes.TypeName u)) same), same)
 
   -- what groups leave
-  record GroupsHold (gs : List VariableGroup) (ds : List Definition) (vs : List DeclaredVariable) (new : List (Region S)) (ws : List DeclaredVariable) : Type 0 where
-    holds : Holds names (round ∷ []) (ds ++ roots_from (length vs) (names_of gs)) new
-    variables : ws ≡ vs ++ map declared (names_of gs)
-    types : All (λ group. IsIntegerBeside names group.denoter) gs
+  pub record GroupsHold (gs : List VariableGroup) (ds : List Definition) (vs : List DeclaredVariable) (new : List (Region S)) (ws : List DeclaredVariable) : Type 0 where
+    pub holds : Holds names (round ∷ []) (ds ++ roots_from (length vs) (names_of gs)) new
+    pub variables : ws ≡ vs ++ map declared (names_of gs)
+    pub types : All (λ group. IsIntegerBeside names group.denoter) gs
 
-  groups_hold : (gs : List VariableGroup) (ds : List Definition) (old new : List (Region S)) (vs ws : List DeclaredVariable)
+  pub groups_hold : (gs : List VariableGroup) (ds : List Definition) (old new : List (Region S)) (vs ws : List DeclaredVariable)
       → Holds names (round ∷ []) ds old → Typeless ds → PassesGroups gs old vs new ws → GroupsHold gs ds vs new ws
   groups_hold [] ds old new vs ws h apart p = record {
     holds = subst (λ l. Holds names (round ∷ []) l new) (sym (append-nil ds)) (subst (Holds names (round ∷ []) ds) (sym p.0) h);
@@ -290,7 +290,7 @@ module _ {A : Type 0} (f : List ℕ → A) where
   texts_of_roots root (x ∷ xs) = ap (λ l. f x.text.now ∷ l) (texts_of_roots (root + 1) xs)
 
   -- the definitions of a program are of its defined names, in their order
-  texts_of : (program : Program) → map (λ d. f d.0) (definitions program) ≡ map (λ name. f name.text.now) (defined_names program)
+  pub texts_of : (program : Program) → map (λ d. f d.0) (definitions program) ≡ map (λ name. f name.text.now) (defined_names program)
   texts_of program =
       let parameters = program.parameters.items in
       let variables = variable_names program in

@@ -7,3 +7,4 @@ mod ResolvedPieces
 mod ResolvedExpressions
 mod ResolvedStatements
 mod ResolvedProgram
+mod Refused

@@ -1,9 +1,10 @@
 -- What regions hold while a program's names are defined (ISO 7185:1990, 6.2.2): a region opens with the names that its
 -- block defines, and then the definitions are passed one after another. It says nothing of the statements.
-use Rattle.std.specs.Prelude.{◌≡◌, ℕ, ◌++◌, Bool, true, false, List, [], ◌∷◌, Option, Some, None, Ok, if◌then◌else◌, nat_eq, map, length, zip}
+use Rattle.std.specs.Prelude.{◌≡◌, ◌⊎◌, ℕ, ◌+◌, ◌<◌, ◌++◌, Bool, true, false, List, [], ◌∷◌, Option, Some, None, Ok, if◌then◌else◌, nat_eq, map, length, zip}
 use Rattle.std.specs.List.{range_with_len, list_any}
 use Rattle.std.specs.Cmp.Lexicographic.{pointwise}
 use Rattle.std.specs.HashMap.{get_by}
+use Rattle.lexer.specs.declared.place.Place.{Place}
 use Rattle.parser.specs.declared.tree.Name.{Name}
 use Rattle.parser.specs.declared.tree.VariableGroup.{VariableGroup}
 use Rattle.parser.specs.declared.tree.TypeDenoter.{TypeDenoter}
@@ -12,6 +13,10 @@ use Rattle.typed_tree.specs.declared.types.TypeId.{TypeId}
 use Rattle.typed_tree.specs.declared.tree.Variable.{Variable}
 use Rattle.typed_tree.specs.declared.denotation.Denotation.{Denotation}
 use Rattle.typed_tree.specs.declared.denotation.Denotation.TheVariants as denotes
+use Rattle.typed_tree.specs.declared.denotation.ScopeFault.{ScopeFault}
+use Rattle.typed_tree.specs.declared.denotation.ScopeFault.TheVariants as scope_fault
+use Rattle.typed_tree.specs.declared.fault.TypeFault.{TypeFault}
+use Rattle.typed_tree.specs.declared.fault.TypeFault.TheVariants as fault
 use Rattle.typed_tree.specs.Names.{Definition, folded, required}
 use Rattle.typed_tree.specs.Scopes.{Region, found}
 
@@ -29,6 +34,13 @@ roots_from root names = map (λ p. (p.0.text.now, denotes.Variable p.1)) (zip na
 abbrev pub said : {S : Type 0} → Region S → List ℕ → Option (Option Denotation)
 said region name = get_by (λ key. pointwise nat_eq name key.items) region
 
+-- the fault of a name, told with its place
+abbrev pub placed : ScopeFault → Place → TypeFault
+placed scope_fault.Memory place = fault.Memory
+placed scope_fault.DeclaredTwice place = fault.DeclaredTwice place
+placed scope_fault.UsedBeforeDeclared place = fault.UsedBeforeDeclared place
+placed scope_fault.NotDeclared place = fault.NotDeclared place
+
 -- a region opens: it knows these names, and none of them is defined yet
 pub record Opens {S : Type 0} (names : List (List ℕ)) (old new : List (Region S)) : Type 0 where
   pub region : Region S
@@ -45,7 +57,18 @@ pub record Defines {S : Type 0} (name : List ℕ) (denotation : Denotation) (old
   pub undefined : is_defined (said before name) ≡ false
   pub says : (other : List ℕ) → said after other ≡ (if pointwise nat_eq other name then Some (Some denotation) else said before other)
 
+-- the innermost region defines the name already
+pub record DefinesAlready {S : Type 0} (name : List ℕ) (regions : List (Region S)) : Type 0 where
+  pub outer : List (Region S)
+  pub region : Region S
+  pub last : regions ≡ outer ++ region ∷ []
+  pub defined : is_defined (said region name) ≡ true
+
 module _ {S : Type 0} where
+  -- a name can't be defined: the innermost region defines it already, or no region is open
+  abbrev pub CannotDefine : List ℕ → List (Region S) → Type 0
+  CannotDefine name regions = DefinesAlready name regions ⊎ (regions ≡ [])
+
   -- definitions are passed, one after another
   abbrev pub Passes : List Definition → List (Region S) → List (Region S) → Type 0
   Passes [] old new = new ≡ old
@@ -70,3 +93,40 @@ module _ {S : Type 0} where
   PassesGroups [] old variables new more = (new ≡ old) × (more ≡ variables)
   PassesGroups (g ∷ gs) old variables new more =
       (next : List (Region S)) × (some : List Variable) × PassesGroup g old variables next some × PassesGroups gs next some new more
+
+-- some of the definitions are passed, and the name of the next can't be defined
+pub record CannotPass {S : Type 0} (definitions : List Definition) (old : List (Region S)) : Type 0 where
+  pub before : List Definition
+  pub next : Definition
+  pub after : List Definition
+  pub order : definitions ≡ before ++ next ∷ after
+  pub reached : List (Region S)
+  pub passed : Passes before old reached
+  pub stuck : CannotDefine (folded next.0) reached
+
+module _ {S : Type 0} where
+  -- a denoter denotes no type
+  abbrev pub DenotesNoType : List (Region S) → TypeDenoter → Type 0
+  DenotesNoType regions denoter = (type_id : TypeId) → ¬ DenotesType regions denoter type_id
+
+  -- the names of a group are passed, and its denoter denotes no type
+  abbrev pub HasNoType : VariableGroup → List (Region S) → List Variable → Type 0
+  HasNoType group old variables =
+      (reached : List (Region S)) × Passes (roots_from (length variables) group.names.items) old reached × DenotesNoType reached group.denoter
+
+  -- a group can't be passed: a name can't be defined, the group has no type, or a root number is above 4294967295
+  abbrev pub CannotPassGroup : VariableGroup → List (Region S) → List Variable → Type 0
+  CannotPassGroup group old variables =
+      CannotPass (roots_from (length variables) group.names.items) old
+      ⊎ (HasNoType group old variables ⊎ (4294967296 < length variables + length group.names.items))
+
+-- some of the groups are passed, and the next can't be
+pub record CannotPassGroups {S : Type 0} (groups : List VariableGroup) (old : List (Region S)) (variables : List Variable) : Type 0 where
+  pub before : List VariableGroup
+  pub next : VariableGroup
+  pub after : List VariableGroup
+  pub order : groups ≡ before ++ next ∷ after
+  pub reached : List (Region S)
+  pub more : List Variable
+  pub passed : PassesGroups before old variables reached more
+  pub stuck : CannotPassGroup next reached more

@@ -1,12 +1,13 @@
-ghost use Rattle.std.specs.Prelude.{◌≡◌, ◌≤◌, ◌<◌, false, true, [], ◌∷◌, Ok, IfOk, OnOk, IsTrue, All, codes, map, nat_lt, pos, length, vec_len};
+ghost use Rattle.std.specs.Prelude.{◌≡◌, ◌⊎◌, ◌≤◌, ◌<◌, false, true, [], ◌∷◌, Ok, IfOk, IfErr, IsErr, IsOkUnless, OnOk, IsTrue, All, codes, map, nat_lt, pos, length, vec_len};
 ghost use Rattle.typed_tree.specs.Formed.{IsFormedExpr, IsFormedLink, AreFormedLinks, AreFormedExprs, IsFormedStmt, AreFormedStmts};
 ghost use Rattle.typed_tree.specs.WellFormed.{IsWellFormed};
 ghost use Rattle.typed_tree.specs.Ids.{AreInOrder};
 ghost use Rattle.typed_tree.specs.Names.{folded, defined_names};
 ghost use Rattle.typed_tree.specs.Scopes.{found};
-ghost use Rattle.typed_tree.specs.Regions.{Opens, OpensRequired, Defines, Passes, PassesGroup, PassesGroups, DenotesType};
+ghost use Rattle.typed_tree.specs.Regions.{placed, Opens, OpensRequired, Defines, Passes, PassesGroup, PassesGroups, DenotesType, CannotDefine, CannotPass, CannotPassGroup, CannotPassGroups, DenotesNoType};
 ghost use Rattle.typed_tree.specs.Typing.{IsTyped, same_sign, writes_nothing};
 ghost use Rattle.typed_tree.specs.declared.denotation.Denotation.TheVariants as denotes;
+ghost use Rattle.typed_tree.specs.declared.fault.TypeFault.TheVariants as fault;
 ghost use Rattle.typed_tree.specs.declared.site.SiteKind.TheVariants.{Overflow};
 ghost use Rattle.typed_tree.specs.declared.types.TypeForm.TheVariants.{Integer};
 ghost use Rattle.typed_tree.specs.declared.resolver.TheConstants.{MOST_SITES, MOST_ENTRIES};
@@ -100,16 +101,19 @@ fn declare(
     name: &syntax::Name,
     denotation: Denotation,
 ) -> Result<(), TypeFault>
-    ensures { OnOk result (Defines (folded name.now.text.now) denotation scopes.old.blocks.items scopes.new.blocks.items) }
+    ensures defined { OnOk result (Defines (folded name.now.text.now) denotation scopes.old.blocks.items scopes.new.blocks.items) }
+    ensures refused { IfErr result (λ refusal. (refusal ≡ fault.Memory) ⊎ CannotDefine (folded name.now.text.now) scopes.old.blocks.items) }
 {
     let key = folded(alloc, name.text)?;
+    let place = name.place;
     scopes
         .declare(key, denotation)
-        .map_err(|fault| placed(fault, name.place))
+        .map_err(move |fault| placed(fault, place))
 }
 
 fn find(alloc: Global, scopes: &Scopes, name: &syntax::Name) -> Result<Denotation, TypeFault>
-    ensures { IfOk result (λ denotation. found scopes.now.blocks.items (folded name.now.text.now) ≡ Ok denotation) }
+    ensures found { IfOk result (λ denotation. found scopes.now.blocks.items (folded name.now.text.now) ≡ Ok denotation) }
+    ensures refused { IfErr result (λ refusal. (refusal ≡ fault.Memory) ⊎ IsErr (found scopes.now.blocks.items (folded name.now.text.now))) }
 {
     let key = folded(alloc, name.text)?;
     scopes
@@ -117,7 +121,9 @@ fn find(alloc: Global, scopes: &Scopes, name: &syntax::Name) -> Result<Denotatio
         .map_err(|fault| placed(fault, name.place))
 }
 
-fn placed(fault: ScopeFault, place: Place) -> TypeFault {
+fn placed(fault: ScopeFault, place: Place) -> TypeFault
+    ensures { result ≡ placed fault place }
+{
     match fault {
         ScopeFault::Memory => TypeFault::Memory,
         ScopeFault::DeclaredTwice => TypeFault::DeclaredTwice(place),
@@ -128,7 +134,8 @@ fn placed(fault: ScopeFault, place: Place) -> TypeFault {
 
 // The required identifiers stand round the program.
 fn open_required(alloc: Global, scopes: &mut Scopes) -> Result<(), TypeFault>
-    ensures { OnOk result (OpensRequired scopes.old.blocks.items scopes.new.blocks.items) }
+    ensures opened { OnOk result (OpensRequired scopes.old.blocks.items scopes.new.blocks.items) }
+    ensures refused { IsOkUnless result fault.Memory }
 {
     let required: [(&[u8], Denotation); 3] = [
         (b"integer", Denotation::TypeName(TypeTable::INTEGER)),
@@ -163,7 +170,8 @@ fn open_block(
     scopes: &mut Scopes,
     program: &syntax::Program,
 ) -> Result<(), TypeFault>
-    ensures { OnOk result (Opens (map (λ name. folded name.text.now) (defined_names program.now)) scopes.old.blocks.items scopes.new.blocks.items) }
+    ensures opened { OnOk result (Opens (map (λ name. folded name.text.now) (defined_names program.now)) scopes.old.blocks.items scopes.new.blocks.items) }
+    ensures refused { IsOkUnless result fault.Memory }
 {
     let mut names = Vec::new(alloc);
     for name in &program.parameters {
@@ -187,6 +195,9 @@ fn declare_parameters(
     ensures only_output { OnOk result (All (λ name. folded name.text.now ≡ codes "output") parameters.now) }
     ensures passed { OnOk result (Passes (map (λ name. (name.text.now, denotes.Output)) parameters.now) scopes.old.blocks.items scopes.new.blocks.items) }
     ensures has_output { IfOk result (λ has_output. has_output ≡ nat_lt 0 (length parameters.now)) }
+    ensures refused { IfErr result (λ refusal. (refusal ≡ fault.Memory)
+        ⊎ ((¬ All (λ name. folded name.text.now ≡ codes "output") parameters.now)
+        ⊎ CannotPass (map (λ name. (name.text.now, denotes.Output)) parameters.now) scopes.old.blocks.items)) }
 {
     for name in parameters {
         if folded(alloc, name.text)?.as_slice() != b"output".as_slice() {
@@ -202,7 +213,8 @@ fn declare_variables(
     scopes: &mut Scopes,
     groups: &[syntax::VariableGroup],
 ) -> Result<Vec<Variable>, TypeFault>
-    ensures { IfOk result (λ variables. PassesGroups groups.now scopes.old.blocks.items [] scopes.new.blocks.items variables.items) }
+    ensures passed { IfOk result (λ variables. PassesGroups groups.now scopes.old.blocks.items [] scopes.new.blocks.items variables.items) }
+    ensures refused { IfErr result (λ refusal. (refusal ≡ fault.Memory) ⊎ CannotPassGroups groups.now scopes.old.blocks.items []) }
 {
     let mut variables = Vec::new(alloc);
     for group in groups {
@@ -218,7 +230,8 @@ fn declare_group(
     group: &syntax::VariableGroup,
     variables: &mut Vec<Variable>,
 ) -> Result<(), TypeFault>
-    ensures { OnOk result (PassesGroup group.now scopes.old.blocks.items variables.old.items scopes.new.blocks.items variables.new.items) }
+    ensures passed { OnOk result (PassesGroup group.now scopes.old.blocks.items variables.old.items scopes.new.blocks.items variables.new.items) }
+    ensures refused { IfErr result (λ refusal. (refusal ≡ fault.Memory) ⊎ CannotPassGroup group.now scopes.old.blocks.items variables.old.items) }
 {
     let mut root = variables.len();
     for name in &group.names {
@@ -238,7 +251,8 @@ fn denoted_type(
     scopes: &Scopes,
     denoter: &syntax::TypeDenoter,
 ) -> Result<TypeId, TypeFault>
-    ensures { IfOk result (DenotesType scopes.now.blocks.items denoter.now) }
+    ensures denoted { IfOk result (DenotesType scopes.now.blocks.items denoter.now) }
+    ensures refused { IfErr result (λ refusal. (refusal ≡ fault.Memory) ⊎ DenotesNoType scopes.now.blocks.items denoter.now) }
 {
     let syntax::TypeDenoter::Name(name) = denoter;
     match find(alloc, scopes, name)? {

@@ -1,8 +1,9 @@
-ghost use Rattle.std.specs.Prelude.{◌≡◌, ◌-◌, [], OnOk, map, nat_eq, take, vec_len};
+ghost use Rattle.std.specs.Prelude.{◌≡◌, ◌⊎◌, ◌-◌, [], OnOk, IfErr, map, nat_eq, take, vec_len};
 ghost use Rattle.std.specs.Cmp.Lexicographic.{pointwise};
 ghost use Rattle.std.specs.HashMap.{get_by};
 ghost use Rattle.typed_tree.specs.Scopes.{decided};
-ghost use Rattle.typed_tree.specs.Regions.{Opens, Defines};
+ghost use Rattle.typed_tree.specs.Regions.{Opens, Defines, CannotDefine};
+ghost use Rattle.typed_tree.specs.declared.denotation.ScopeFault.TheVariants as scope_fault;
 
 use crate::denotation::{Denotation, ScopeFault};
 use indexmap::IndexMap;
@@ -50,7 +51,8 @@ impl Scopes {
 
     /// Passes the definition of a name of the innermost region.
     pub fn declare(&mut self, name: Vec<u8>, denotation: Denotation) -> Result<(), ScopeFault>
-        ensures { OnOk result (Defines name.items denotation self.old.blocks.items self.new.blocks.items) }
+        ensures defined { OnOk result (Defines name.items denotation self.old.blocks.items self.new.blocks.items) }
+        ensures refused { IfErr result (λ fault. (fault ≡ scope_fault.Memory) ⊎ CannotDefine name.items self.old.blocks.items) }
     {
         let Some(region) = self.blocks.last_mut() else {
             return Err(ScopeFault::NotDeclared);

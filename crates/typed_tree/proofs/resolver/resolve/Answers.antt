@@ -1,12 +1,14 @@
 use Rattle.typed_tree.specs.declared.tree.Block.{Block}
-use Rattle.std.proofs.Common.{refl, ◌≡◌, List, ◌≤◌, ◌∷◌, [], ◌++◌, true, length, slice_get, sym, ◌∙◌, ap, subst, arith}
+use Rattle.std.proofs.Common.{refl, ◌≡◌, ◌⊎◌, inl, inr, ⊎_elim, List, ◌<◌, ◌≤◌, ◌∷◌, [], ◌++◌, true, length, slice_get, sym, ◌∙◌, ap, subst, arith}
 use Rattle.typed_tree.specs.WellFormed.{is_well_formed_body, is_well_formed_stmt}
 use Rattle.std.proofs.lemmas.List.{length-map}
 use Rattle.typed_tree.specs.Names.{variable_names}
 use Rattle.typed_tree.specs.Typing.{declared}
+use Rattle.typed_tree.specs.declared.fault.TypeFault.TheVariants.{Memory}
 use Rattle.typed_tree.proofs.Declarations.{AreDeclared, are_declared, denotes_found, output_parameter}
+use Rattle.typed_tree.proofs.Refused.{BreaksDeclarations, parameters_refused, variables_refused, many_refused}
 use Rattle.typed_tree.proofs.ResolvedProgram.{typed_program}
-use Rattle.typed_tree.proofs.resolver.resolve.Goals.{In_ok-variables}
+use Rattle.typed_tree.proofs.resolver.resolve.Goals.{In_ok-variables, In_err-has_output, In_err-variables}
 use Rattle.typed_tree.proofs.resolver.resolve.Goals as goal
 
 pub returns-clause-well_formed : goal.returns-clause-well_formed
@@ -27,8 +29,27 @@ returns-clause-well_formed c =
 declarations : (c : In_ok-variables) → AreDeclared c.args.program.now c.in_ok-has_output.has_output c.in_ok-variables.variables.items c.declare_variables.new.scopes.blocks.items
 declarations c =
     are_declared c.args.program.now c.in_ok-has_output.has_output c.in_ok-variables.variables.items c.deref.result.now c.deref-2.result.now _ _ _ _ _
-    c.new-scopes.ensures c.deref.ensures.value c.deref-2.ensures.value c.in_ok-open_required.ensures c.in_ok-open_block.ensures
-    c.in_ok-has_output.ensures.only_output c.in_ok-has_output.ensures.passed c.in_ok-has_output.ensures.has_output c.in_ok-variables.ensures
+    c.new-scopes.ensures c.deref.ensures.value c.deref-2.ensures.value c.in_ok-open_required.ensures.opened c.in_ok-open_block.ensures.opened
+    c.in_ok-has_output.ensures.only_output c.in_ok-has_output.ensures.passed c.in_ok-has_output.ensures.has_output c.in_ok-variables.ensures.passed
+
+-- where the parameters are refused
+refused_parameters : (c : In_err-has_output) → (c.in_err-has_output.field-0.0 ≡ Memory) ⊎ BreaksDeclarations c.args.program.now
+refused_parameters c =
+    ⊎_elim inl
+    (λ reason. inr (parameters_refused c.args.program.now _ _ _ c.new-scopes.ensures c.in_ok-open_required.ensures.opened c.in_ok-open_block.ensures.opened c.deref.result.now c.deref.ensures.value reason))
+    c.in_err-has_output.ensures.refused
+
+-- where the variables are refused
+refused_variables : (c : In_err-variables) → (c.in_err-variables.field-0.0 ≡ Memory) ⊎ BreaksDeclarations c.args.program.now
+refused_variables c =
+    ⊎_elim inl
+    (λ stuck. inr (variables_refused c.args.program.now _ _ _ c.new-scopes.ensures c.in_ok-open_required.ensures.opened c.in_ok-open_block.ensures.opened
+    c.deref.result.now c.deref-2.result.now _ c.deref.ensures.value c.deref-2.ensures.value c.in_ok-has_output.ensures.passed stuck))
+    c.in_err-variables.ensures.refused
+
+-- where the variables are too many
+refused_number : (c : In_ok-variables) → 1000000 < length c.in_ok-variables.variables.items → BreaksDeclarations c.args.program.now
+refused_number c many = many_refused c.args.program.now c.in_ok-has_output.has_output c.in_ok-variables.variables.items _ (declarations c) many
 
 pub returns-clause-typed : goal.returns-clause-typed
 returns-clause-typed c =

@@ -5,8 +5,8 @@ use Rattle.typed_tree.proofs.Regions.{key_eq, defines_last}
 use Rattle.typed_tree.proofs.scopes.Scopes.declare.Goals as goal
 
 -- the innermost region takes the definition
-pub returns : goal.returns
-returns c =
+pub returns-clause-defined : goal.returns-clause-defined
+returns-clause-defined c =
     let blocks = c.args.self.now.blocks in
     let region = c.in-Some.region.now in
     let new : is_some (option_flatten (get key_eq region c.args.name)) ≡ false =

@@ -1,0 +1,260 @@
+-- Where the declarations of a program are refused: a name that can't be defined, or a group that can't be passed, and
+-- the rule that the program breaks there.
+use Rattle.std.proofs.Common.{◌≡◌, ◌⊎◌, inl, inr, ⊎_elim, ℕ, ◌+◌, ◌<◌, Bool, true, false, List, [], ◌∷◌, ◌++◌, ◌≤◌, suc, if◌then◌else◌, Option, Some, None, is_some, Result, Ok, Err, MatchResult, IfErr, IsErrAnd, All, AllPairs, codes, nat_eq, map, take, drop, length, get_or, refl, sym, ap, subst, ◌∙◌, true≢false, append_assoc, length-append, arith}
+use Rattle.std.specs.List.{list_any}
+use Rattle.std.specs.Option.{option_map}
+use Rattle.std.specs.Cmp.Lexicographic.{pointwise}
+use Rattle.std.proofs.lemmas.List.{map-append, length-map, take-append-drop, drop_more, get_or_at, get_or_default}
+use Rattle.std.proofs.Math.ListN.{get_or-map}
+use Rattle.lexer.specs.declared.place.Place.{Place}
+use Rattle.parser.specs.declared.tree.Program.{Program}
+use Rattle.parser.specs.declared.tree.Name.{Name}
+use Rattle.parser.specs.declared.tree.VariableGroup.{VariableGroup}
+use Rattle.parser.specs.declared.tree.TypeDenoter.{TypeDenoter}
+use Rattle.parser.specs.declared.tree.TypeDenoter.TheVariants as denoter
+use Rattle.typed_tree.specs.declared.tree.Tree.{Tree}
+use Rattle.typed_tree.specs.declared.tree.Variable.{Variable as DeclaredVariable}
+use Rattle.typed_tree.specs.declared.denotation.Denotation.{Denotation}
+use Rattle.typed_tree.specs.declared.denotation.Denotation.TheVariants as denotes
+use Rattle.typed_tree.specs.declared.denotation.ScopeFault.{ScopeFault}
+use Rattle.typed_tree.specs.declared.denotation.ScopeFault.TheVariants as scope_fault
+use Rattle.typed_tree.specs.declared.fault.TypeFault.{TypeFault}
+use Rattle.typed_tree.specs.declared.fault.TypeFault.TheVariants as type_fault
+use Rattle.typed_tree.specs.Names.{Definition, folded, same_name, integer, required, looked_up, or_outer, definitions, defined_names, variable_names, AreDistinct}
+use Rattle.typed_tree.specs.Scopes.{Region, decided}
+use Rattle.typed_tree.specs.Regions.{said, is_defined, roots_from, placed, Opens, OpensRequired, Passes, PassesGroups, DenotesType, CannotDefine, CannotPass, CannotPassGroup, CannotPassGroups}
+use Rattle.typed_tree.specs.Typing.{type_denoted, declared, IsTyped}
+use Rattle.typed_tree.proofs.Declarations.{known, told, Apart, Holds, outputs, names_of, AreDeclared, looked_up-append, looked_up-known, last_same, opens_holds, passes_holds, typeless-outputs, roots-append, found_is, groups_hold, texts_of}
+
+-- a fault that is told with its place has the same reason
+pub refused_at : {A : Type 0} (r : Result A ScopeFault) (told : Result A TypeFault) (place : Place) (Reason : Type 0) (P : ScopeFault → TypeFault → Type 0)
+    → MatchResult r (λ x. told ≡ Ok x) (λ e. IsErrAnd told (P e))
+    → ((e : ScopeFault) (f : TypeFault) → P e f → f ≡ placed e place)
+    → IfErr r (λ e. (e ≡ scope_fault.Memory) ⊎ Reason) → IfErr told (λ f. (f ≡ type_fault.Memory) ⊎ Reason)
+refused_at (Ok x) (Ok y) place Reason P cases says h = h
+refused_at (Ok x) (Err f) place Reason P cases says h = absurd cc
+refused_at (Err e) (Ok y) place Reason P cases says h = absurd cases
+refused_at (Err e) (Err f) place Reason P cases says (inl memory) = inl (says e f cases ∙ ap (λ e. placed e place) memory)
+refused_at (Err e) (Err f) place Reason P cases says (inr reason) = inr reason
+
+-- a list, cut at one of its items
+cut_at : {A : Type 0} (xs : List A) (i : ℕ) (d : A) → i < length xs → xs ≡ take i xs ++ get_or xs i d ∷ drop (i + 1) xs
+cut_at xs i d within = sym (take-append-drop i xs) ∙ ap (λ l. take i xs ++ l) (drop_more xs i d within)
+
+module _ {S : Type 0} where
+  -- one of the items of a list can't be defined
+  pub stuck_at : {A : Type 0} (f : A → Definition) (xs : List A) (i : ℕ) (d : A) (old reached : List (Region S)) → i < length xs
+      → Passes (map f (take i xs)) old reached → CannotDefine (folded (f (get_or xs i d)).0) reached → CannotPass (map f xs) old
+  stuck_at f xs i d old reached within p h = record {
+    before = map f (take i xs);
+    next = f (get_or xs i d);
+    after = map f (drop (i + 1) xs);
+    order = ap (map f) (cut_at xs i d within) ∙ map-append f (take i xs) (get_or xs i d ∷ drop (i + 1) xs);
+    reached = reached;
+    passed = p;
+    stuck = h;
+  }
+
+  -- and one of the names of a group
+  pub stuck_at_root : (root : ℕ) (names : List Name) (i : ℕ) (d : Name) (old reached : List (Region S)) → i < length names
+      → Passes (roots_from root (take i names)) old reached → CannotDefine (folded (get_or names i d).text.now) reached → CannotPass (roots_from root names) old
+  stuck_at_root root names i d old reached within p h =
+      let x = get_or names i d in
+      let n = root + length (take i names) in
+      record {
+        before = roots_from root (take i names);
+        next = (x.text.now, denotes.Variable n);
+        after = roots_from (n + 1) (drop (i + 1) names);
+        order = ap (roots_from root) (cut_at names i d within) ∙ roots-append root (take i names) (x ∷ drop (i + 1) names);
+        reached = reached;
+        passed = p;
+        stuck = h;
+      }
+
+  -- one of the groups can't be passed
+  pub stuck_at_group : (gs : List VariableGroup) (i : ℕ) (g : VariableGroup) (old reached : List (Region S)) (vs ws : List DeclaredVariable)
+      → i < length gs → g ≡ get_or gs i g → PassesGroups (take i gs) old vs reached ws → CannotPassGroup g reached ws → CannotPassGroups gs old vs
+  stuck_at_group gs i g old reached vs ws within is p h = record {
+    before = take i gs;
+    next = g;
+    after = drop (i + 1) gs;
+    order = cut_at gs i g within ∙ ap (λ e. take i gs ++ e ∷ drop (i + 1) gs) (sym is);
+    reached = reached;
+    more = ws;
+    passed = p;
+    stuck = h;
+  }
+
+-- a definition after others of another name isn't looked up among those
+alone : (ds es : List Definition) (d : Definition) → AllPairs Apart (ds ++ d ∷ es) → looked_up ds d.0 ≡ None
+alone [] es d apart = refl
+alone (x ∷ xs) es d apart =
+    let here : same_name x.0 d.0 ≡ false =
+    ap (λ (e : Definition). same_name x.0 e.0) (sym (get_or_at (x ∷ xs) d es x (length (x ∷ xs)) refl)) ∙ apart 0 (length (x ∷ xs)) x (omega arith) (omega (arith, length-append (x ∷ xs) (d ∷ es))) in
+    ap (λ b. if b then Some x.1 else looked_up xs d.0) here ∙ alone xs es d (λ i j e less within. apart (suc i) (suc j) e (omega arith) (omega arith))
+
+-- distinct names have definitions of different names
+apart_definitions : (ds : List Definition) (names : List Name) → map (λ d. d.0) ds ≡ map (λ name. name.text.now) names → AreDistinct names → AllPairs Apart ds
+apart_definitions ds [] same distinct = λ i j e less within. absurd (omega (arith, ap length same, length-map ds (λ d. d.0)))
+apart_definitions ds (x ∷ xs) same distinct = λ i j e less within.
+    let names = x ∷ xs in
+    let texts = map (λ name. name.text.now) names in
+    let long : length ds ≡ length texts = sym (length-map ds (λ d. d.0)) ∙ ap length same in
+    let wide : length texts ≡ length names = length-map names (λ name. name.text.now) in
+    let text : (k : ℕ) → k < length texts → (get_or ds k e).0 ≡ (get_or names k x).text.now =
+    λ k less. sym (get_or-map (λ d. d.0) ds k e) ∙ ap (λ l. get_or l k e.0) same ∙ get_or_default texts k e.0 x.text.now less ∙ get_or-map (λ name. name.text.now) names k x in
+    ap (λ (t : List ℕ). same_name t (get_or ds j e).0) (text i (omega arith)) ∙ ap (same_name (get_or names i x).text.now) (text j (omega arith)) ∙ distinct i j x less (omega arith)
+
+names_of-append : (xs ys : List VariableGroup) (g : VariableGroup) → names_of (xs ++ g ∷ ys) ≡ names_of xs ++ (g.names.items ++ names_of ys)
+names_of-append [] ys g = refl
+names_of-append (x ∷ xs) ys g =
+    ap (λ l. x.names.items ++ l) (names_of-append xs ys g) ∙ sym (append_assoc x.names.items (names_of xs) (g.names.items ++ names_of ys))
+
+-- the declarations of a program break a rule
+abbrev pub BreaksDeclarations : Program → Type 0
+BreaksDeclarations program =
+    (¬ All (λ name. folded name.text.now ≡ codes "output") program.parameters.items)
+    ⊎ ((¬ AreDistinct (defined_names program))
+    ⊎ ((¬ All (λ group. type_denoted program group.denoter ≡ Some (denotes.TypeName integer)) program.block.variables.items)
+    ⊎ (1000000 < length (variable_names program))))
+
+-- such a program has no typed tree
+pub has_no_typing : (program : Program) (tree : Tree) → BreaksDeclarations program → length (variable_names program) ≤ 1000000 → ¬ IsTyped program tree
+has_no_typing program tree (inl parameters) few typed = parameters typed.parameters
+has_no_typing program tree (inr (inl names)) few typed = names typed.distinct
+has_no_typing program tree (inr (inr (inl types))) few typed = types typed.types
+has_no_typing program tree (inr (inr (inr many))) few typed = absurd (omega (arith, many, few))
+
+module _ {S : Type 0} where
+  -- a name can't be defined where it is among the definitions passed
+  looked_up_already : (names : List (List ℕ)) (outer : List (Region S)) (ds : List Definition) (regions : List (Region S)) (name : List ℕ)
+      → Holds names outer ds regions → CannotDefine (folded name) regions → is_some (looked_up ds name) ≡ true
+  looked_up_already names outer ds regions name h (inl already) =
+      let same = last_same outer already.outer h.region already.region (sym h.last ∙ already.last) in
+      let says : said already.region (folded name) ≡ told (looked_up ds name) (known names (folded name)) = ap (λ r. said r (folded name)) (sym same.1) ∙ h.says name in
+      by (looked_up ds name) (list_any (pointwise nat_eq (folded name)) names) (ap is_defined (sym says) ∙ already.defined)
+    where
+      by : (o : Option Denotation) (b : Bool) → is_defined (told o (if b then Some None else None)) ≡ true → is_some o ≡ true
+      by (Some d) b t = refl
+      by None true t = absurd (true≢false (sym t))
+      by None false t = absurd (true≢false (sym t))
+  looked_up_already names outer ds regions name h (inr none) = absurd (omega (arith, ap length (sym h.last ∙ none), length-append outer (h.region ∷ [])))
+
+  -- where the definitions of a program can't be passed, a name is defined twice
+  defined_twice : (program : Program) (names : List (List ℕ)) (outer : List (Region S)) (ds es rest : List Definition) (regions : List (Region S))
+      → Holds names outer ds regions → definitions program ≡ ds ++ (es ++ rest) → CannotPass es regions → ¬ AreDistinct (defined_names program)
+  defined_twice program names outer ds es rest regions h order c distinct =
+      let before = ds ++ c.before in
+      let held = passes_holds names outer ds c.before regions c.reached h c.passed in
+      let split : definitions program ≡ before ++ c.next ∷ (c.after ++ rest) =
+      order ∙ ap (λ l. ds ++ (l ++ rest)) c.order ∙ ap (λ l. ds ++ l) (append_assoc c.before (c.next ∷ c.after) rest) ∙ sym (append_assoc ds c.before (c.next ∷ (c.after ++ rest))) in
+      let none : looked_up before c.next.0 ≡ None =
+      alone before (c.after ++ rest) c.next (subst (AllPairs Apart) split (apart_definitions (definitions program) (defined_names program) (texts_of (λ t. t) program) distinct)) in
+      true≢false (sym (looked_up_already names outer before c.reached c.next.0 held c.stuck) ∙ ap is_some none)
+
+  module _ (program : Program) (round : Region S) (says_required : (name : List ℕ) → said round (folded name) ≡ told (looked_up required name) None) where
+    abbrev names_in : List (List ℕ)
+    names_in = map (λ name. folded name.text.now) (defined_names program)
+
+    -- a type that the program denotes is found wherever a part of its definitions was passed
+    type_is_found : (ds rest : List Definition) (regions : List (Region S)) → Holds names_in (round ∷ []) ds regions → definitions program ≡ ds ++ rest
+        → (d : TypeDenoter) → type_denoted program d ≡ Some (denotes.TypeName integer) → DenotesType regions d integer
+    type_is_found ds rest regions h order (denoter.Name name) is =
+        let n = name.text.now in
+        let r = outer_type (looked_up (definitions program) n) (looked_up required n) is in
+        let none : looked_up ds n ≡ None = first (looked_up ds n) (looked_up rest n) (sym (looked_up-append ds rest n) ∙ ap (λ l. looked_up l n) (sym order) ∙ r.0) in
+        let unknown : list_any (pointwise nat_eq (folded n)) names_in ≡ false =
+        sym (looked_up-known (definitions program) n ∙ ap (list_any (pointwise nat_eq (folded n))) (texts_of folded program)) ∙ ap is_some r.0 in
+        found_is names_in round says_required ds regions h n ∙ found_type (looked_up ds n) (list_any (pointwise nat_eq (folded n)) names_in) (looked_up required n) none unknown r.1
+      where
+        outer_type : (o q : Option Denotation) → or_outer (option_map (λ d. denotes.Output) o) q ≡ Some (denotes.TypeName integer) → (o ≡ None) × (q ≡ Some (denotes.TypeName integer))
+        outer_type None q t = (refl, t)
+        outer_type (Some x) q t = absurd cc
+
+        first : (o q : Option Denotation) → or_outer o q ≡ None → o ≡ None
+        first None q t = refl
+        first (Some x) q t = absurd cc
+
+        found_type : (o : Option Denotation) (b : Bool) (q : Option Denotation) → o ≡ None → b ≡ false → q ≡ Some (denotes.TypeName integer)
+            → decided (told o (if b then Some None else None)) (decided (told q None) (Err scope_fault.NotDeclared)) ≡ Ok (denotes.TypeName integer)
+        found_type None false (Some x) t u v = cc
+        found_type None false None t u v = absurd cc
+        found_type None true q t u v = absurd (true≢false u)
+        found_type (Some x) b q t u v = absurd cc
+
+    -- where the groups of a program can't be passed, a name is defined twice, a group has no type, or there are too many variables
+    groups_break : (old : List (Region S)) → Holds names_in (round ∷ []) (outputs program.parameters.items) old
+        → CannotPassGroups program.block.variables.items old [] → BreaksDeclarations program
+    groups_break old h c =
+        let front = outputs program.parameters.items in
+        let passed = names_of c.before in
+        let group = c.next.names.items in
+        let later = names_of c.after in
+        let g = groups_hold names_in round says_required c.before front old c.reached [] c.more h (typeless-outputs program.parameters.items) c.passed in
+        let long : length c.more ≡ length passed = ap length g.variables ∙ length-map passed declared in
+        let all : variable_names program ≡ passed ++ (group ++ later) = ap names_of c.order ∙ names_of-append c.before c.after c.next in
+        let many : length (variable_names program) ≡ length passed + (length group + length later) =
+        ap length all ∙ length-append passed (group ++ later) ∙ ap (λ n. length passed + n) (length-append group later) in
+        let ds = front ++ roots_from 0 passed in
+        let es = roots_from (length c.more) group in
+        let rest = roots_from (length c.more + length group) later in
+        let next : 0 + length passed ≡ length c.more = omega (arith, long) in
+        let order : definitions program ≡ ds ++ (es ++ rest) =
+        ap (λ l. front ++ roots_from 0 l) all
+        ∙ ap (λ l. front ++ l) (roots-append 0 passed (group ++ later))
+        ∙ sym (append_assoc front (roots_from 0 passed) (roots_from (0 + length passed) (group ++ later)))
+        ∙ ap (λ n. ds ++ roots_from n (group ++ later)) next
+        ∙ ap (λ l. ds ++ l) (roots-append (length c.more) group later) in
+        let within : length c.before < length program.block.variables.items = omega (arith, ap length c.order, length-append c.before (c.next ∷ c.after)) in
+        let there : get_or program.block.variables.items (length c.before) c.next ≡ c.next =
+        ap (λ l. get_or l (length c.before) c.next) c.order ∙ get_or_at c.before c.next c.after c.next (length c.before) refl in
+        ⊎_elim
+        (λ stuck. inr (inl (defined_twice program names_in (round ∷ []) ds es rest c.reached g.holds order stuck)))
+        (⊎_elim
+        (λ stuck. inr (inr (inl (λ types.
+        stuck.2 integer
+        (type_is_found (ds ++ es) rest stuck.0 (passes_holds names_in (round ∷ []) ds es c.reached stuck.0 g.holds stuck.1) (order ∙ sym (append_assoc ds es rest)) c.next.denoter
+        (ap (λ (x : VariableGroup). type_denoted program x.denoter) (sym there) ∙ types (length c.before) c.next within))))))
+        (λ stuck. inr (inr (inr (omega (arith, stuck, many, long))))))
+        c.stuck
+
+  -- what the regions of a program hold when they were opened
+  record Opened (program : Program) (regions : List (Region S)) : Type 0 where
+    round : Region S
+    says : (name : List ℕ) → said round (folded name) ≡ told (looked_up required name) None
+    holds : Holds (map (λ name. folded name.text.now) (defined_names program)) (round ∷ []) [] regions
+
+  opened : (program : Program) (none required_round regions : List (Region S)) → none ≡ [] → OpensRequired none required_round
+      → Opens (map (λ name. folded name.text.now) (defined_names program)) required_round regions → Opened program regions
+  opened program none r1 r2 start a b =
+      let names = map (λ name. folded name.text.now) (defined_names program) in
+      let outer : Holds [] none required r1 = passes_holds [] none [] required a.0 r1 (opens_holds [] none a.0 a.1) a.2 in
+      let only : r1 ≡ outer.region ∷ [] = outer.last ∙ ap (λ l. l ++ outer.region ∷ []) start in
+      record { round = outer.region; says = outer.says; holds = subst (λ l. Holds names l [] r2) only (opens_holds names r1 r2 b) }
+
+  module _ (program : Program) (none required_round opened_round : List (Region S)) (start : none ≡ []) (opens_required : OpensRequired none required_round)
+      (opens : Opens (map (λ name. folded name.text.now) (defined_names program)) required_round opened_round) where
+    -- the parameters are refused where one is another name than output, or one of two
+    pub parameters_refused : (parameters : List Name) → parameters ≡ program.parameters.items
+        → (¬ All (λ name. folded name.text.now ≡ codes "output") parameters) ⊎ CannotPass (outputs parameters) opened_round → BreaksDeclarations program
+    parameters_refused parameters same (inl other) = inl (subst (λ l. ¬ All (λ name. folded name.text.now ≡ codes "output") l) same other)
+    parameters_refused parameters same (inr stuck) =
+        let o = opened program none required_round opened_round start opens_required opens in
+        inr (inl (defined_twice program (map (λ name. folded name.text.now) (defined_names program)) (o.round ∷ []) [] (outputs program.parameters.items) (roots_from 0 (variable_names program)) opened_round
+        o.holds refl (subst (λ l. CannotPass (outputs l) opened_round) same stuck)))
+
+    -- the variables are refused where a name is defined twice, a type isn't integer, or there are too many
+    pub variables_refused : (parameters : List Name) (groups : List VariableGroup) (with_parameters : List (Region S)) → parameters ≡ program.parameters.items → groups ≡ program.block.variables.items
+        → Passes (outputs parameters) opened_round with_parameters → CannotPassGroups groups with_parameters [] → BreaksDeclarations program
+    variables_refused parameters groups r3 same same_groups passed stuck =
+        let o = opened program none required_round opened_round start opens_required opens in
+        let names = map (λ name. folded name.text.now) (defined_names program) in
+        groups_break program o.round o.says r3
+        (passes_holds names (o.round ∷ []) [] (outputs program.parameters.items) opened_round r3 o.holds (subst (λ l. Passes (outputs l) opened_round r3) same passed))
+        (subst (λ l. CannotPassGroups l r3 []) same_groups stuck)
+
+  -- the variables are too many
+  pub many_refused : (program : Program) (has_output : Bool) (variables : List DeclaredVariable) (regions : List (Region S))
+      → AreDeclared program has_output variables regions → 1000000 < length variables → BreaksDeclarations program
+  many_refused program has_output variables regions declares many =
+      inr (inr (inr (omega (arith, many, ap length declares.variables_are, length-map (variable_names program) declared))))
