@@ -8,3 +8,8 @@ mod ResolvedExpressions
 mod ResolvedStatements
 mod ResolvedProgram
 mod Refused
+mod Measures
+mod Refusals
+mod RefusedExpressions
+mod RefusedStatements
+mod RefusedProgram

@@ -1,5 +1,5 @@
 -- What the readings of written and typed trees compute to, form by form.
-use Rattle.std.proofs.Common.{◌≡◌, ℕ, pos, Bool, ◌&&◌, List, [], ◌∷◌, ◌++◌, map, sym, ap, ◌∙◌}
+use Rattle.std.proofs.Common.{◌≡◌, ℕ, pos, Bool, false, ◌&&◌, List, [], ◌∷◌, ◌++◌, map, sym, ap, ◌∙◌}
 use Rattle.std.specs.List.{flat_map, list_all}
 use Rattle.std.proofs.Common.{Box, Vec}
 use Rattle.std.specs.declared.alloc.Global.{Global}
@@ -86,6 +86,9 @@ sites-Compound n v =
 
 pub silent-Compound : (v : Vec SyntaxStmt Global) → writes_nothing (syntax_stmt.Compound v) ≡ list_all (λ b. b) (map writes_nothing v.items)
 silent-Compound v = ap writes_nothing (sym (syntax_stmt.rolls-Compound v)) ∙ fold-roll-SyntaxStmt Bool silent_step (syntax_stmt_layer.Compound v)
+
+pub silent-Call : (name : Name) (v : Vec SyntaxExpr Global) → writes_nothing (syntax_stmt.Call name v) ≡ false
+silent-Call name v = ap writes_nothing (sym (syntax_stmt.rolls-Call name v)) ∙ fold-roll-SyntaxStmt Bool silent_step (syntax_stmt_layer.Call name v)
 
 module _ (names : Denotes) where
   types_rolled : (w : SyntaxExpr) (d : syntax_layer.Expr-F SyntaxExpr SyntaxLink) → roll-SyntaxExpr d ≡ w → (e : Expr) → types_expression names w e ≡ expression_step names (map-SyntaxExpr SyntaxExpr SyntaxLink (Expr → Bool) (Link → Bool) (types_expression names) (types_link names) d) e

@@ -9,3 +9,4 @@ pub mod Typing
 pub mod WellFormed
 pub mod Formed
 pub mod Resolved
+pub mod Refusing

@@ -7,7 +7,7 @@ ghost use Rattle.typed_tree.specs.Scopes.{found};
 ghost use Rattle.typed_tree.specs.Regions.{placed, Opens, OpensRequired, Defines, Passes, PassesGroup, PassesGroups, DenotesType, CannotDefine, CannotPass, CannotPassGroup, CannotPassGroups, DenotesNoType};
 ghost use Rattle.typed_tree.specs.Typing.{IsTyped, same_sign, writes_nothing};
 ghost use Rattle.typed_tree.specs.declared.denotation.Denotation.TheVariants as denotes;
-ghost use Rattle.typed_tree.specs.declared.fault.TypeFault.TheVariants as fault;
+ghost use Rattle.typed_tree.specs.declared.fault.TypeFault.TheVariants.{Memory};
 ghost use Rattle.typed_tree.specs.declared.site.SiteKind.TheVariants.{Overflow};
 ghost use Rattle.typed_tree.specs.declared.types.TypeForm.TheVariants.{Integer};
 ghost use Rattle.typed_tree.specs.declared.resolver.TheConstants.{MOST_SITES, MOST_ENTRIES};
@@ -102,7 +102,7 @@ fn declare(
     denotation: Denotation,
 ) -> Result<(), TypeFault>
     ensures defined { OnOk result (Defines (folded name.now.text.now) denotation scopes.old.blocks.items scopes.new.blocks.items) }
-    ensures refused { IfErr result (λ refusal. (refusal ≡ fault.Memory) ⊎ CannotDefine (folded name.now.text.now) scopes.old.blocks.items) }
+    ensures refused { IfErr result (λ fault. (fault ≡ Memory) ⊎ CannotDefine (folded name.now.text.now) scopes.old.blocks.items) }
 {
     let key = folded(alloc, name.text)?;
     let place = name.place;
@@ -113,7 +113,7 @@ fn declare(
 
 fn find(alloc: Global, scopes: &Scopes, name: &syntax::Name) -> Result<Denotation, TypeFault>
     ensures found { IfOk result (λ denotation. found scopes.now.blocks.items (folded name.now.text.now) ≡ Ok denotation) }
-    ensures refused { IfErr result (λ refusal. (refusal ≡ fault.Memory) ⊎ IsErr (found scopes.now.blocks.items (folded name.now.text.now))) }
+    ensures refused { IfErr result (λ fault. (fault ≡ Memory) ⊎ IsErr (found scopes.now.blocks.items (folded name.now.text.now))) }
 {
     let key = folded(alloc, name.text)?;
     scopes
@@ -135,7 +135,7 @@ fn placed(fault: ScopeFault, place: Place) -> TypeFault
 // The required identifiers stand round the program.
 fn open_required(alloc: Global, scopes: &mut Scopes) -> Result<(), TypeFault>
     ensures opened { OnOk result (OpensRequired scopes.old.blocks.items scopes.new.blocks.items) }
-    ensures refused { IsOkUnless result fault.Memory }
+    ensures refused { IsOkUnless result Memory }
 {
     let required: [(&[u8], Denotation); 3] = [
         (b"integer", Denotation::TypeName(TypeTable::INTEGER)),
@@ -171,7 +171,7 @@ fn open_block(
     program: &syntax::Program,
 ) -> Result<(), TypeFault>
     ensures opened { OnOk result (Opens (map (λ name. folded name.text.now) (defined_names program.now)) scopes.old.blocks.items scopes.new.blocks.items) }
-    ensures refused { IsOkUnless result fault.Memory }
+    ensures refused { IsOkUnless result Memory }
 {
     let mut names = Vec::new(alloc);
     for name in &program.parameters {
@@ -195,7 +195,7 @@ fn declare_parameters(
     ensures only_output { OnOk result (All (λ name. folded name.text.now ≡ codes "output") parameters.now) }
     ensures passed { OnOk result (Passes (map (λ name. (name.text.now, denotes.Output)) parameters.now) scopes.old.blocks.items scopes.new.blocks.items) }
     ensures has_output { IfOk result (λ has_output. has_output ≡ nat_lt 0 (length parameters.now)) }
-    ensures refused { IfErr result (λ refusal. (refusal ≡ fault.Memory)
+    ensures refused { IfErr result (λ fault. (fault ≡ Memory)
         ⊎ ((¬ All (λ name. folded name.text.now ≡ codes "output") parameters.now)
         ⊎ CannotPass (map (λ name. (name.text.now, denotes.Output)) parameters.now) scopes.old.blocks.items)) }
 {
@@ -214,7 +214,7 @@ fn declare_variables(
     groups: &[syntax::VariableGroup],
 ) -> Result<Vec<Variable>, TypeFault>
     ensures passed { IfOk result (λ variables. PassesGroups groups.now scopes.old.blocks.items [] scopes.new.blocks.items variables.items) }
-    ensures refused { IfErr result (λ refusal. (refusal ≡ fault.Memory) ⊎ CannotPassGroups groups.now scopes.old.blocks.items []) }
+    ensures refused { IfErr result (λ fault. (fault ≡ Memory) ⊎ CannotPassGroups groups.now scopes.old.blocks.items []) }
 {
     let mut variables = Vec::new(alloc);
     for group in groups {
@@ -231,7 +231,7 @@ fn declare_group(
     variables: &mut Vec<Variable>,
 ) -> Result<(), TypeFault>
     ensures passed { OnOk result (PassesGroup group.now scopes.old.blocks.items variables.old.items scopes.new.blocks.items variables.new.items) }
-    ensures refused { IfErr result (λ refusal. (refusal ≡ fault.Memory) ⊎ CannotPassGroup group.now scopes.old.blocks.items variables.old.items) }
+    ensures refused { IfErr result (λ fault. (fault ≡ Memory) ⊎ CannotPassGroup group.now scopes.old.blocks.items variables.old.items) }
 {
     let mut root = variables.len();
     for name in &group.names {
@@ -252,7 +252,7 @@ fn denoted_type(
     denoter: &syntax::TypeDenoter,
 ) -> Result<TypeId, TypeFault>
     ensures denoted { IfOk result (DenotesType scopes.now.blocks.items denoter.now) }
-    ensures refused { IfErr result (λ refusal. (refusal ≡ fault.Memory) ⊎ DenotesNoType scopes.now.blocks.items denoter.now) }
+    ensures refused { IfErr result (λ fault. (fault ≡ Memory) ⊎ DenotesNoType scopes.now.blocks.items denoter.now) }
 {
     let syntax::TypeDenoter::Name(name) = denoter;
     match find(alloc, scopes, name)? {
@@ -280,6 +280,7 @@ struct Resolver {
 
 impl Resolver {
     ghost use Rattle.typed_tree.specs.Resolved.{Adds, AddsNothing, TellsValues, TellsFile, MakesConstant, MakesNamed, MakesExpression, MakesExpressions, MakesLink, MakesLinks, MakesAssignment, MakesCall, MakesWriteln, MakesStatement, MakesStatements, MakesCompound, AreSilent};
+    ghost use Rattle.typed_tree.specs.Refusing.{PassesMost, IsUnknown, IsNoActual, AreNoActuals, RefusesConstant, RefusesNamed, RefusesExpression, RefusesExpressions, RefusesLink, RefusesLinks, RefusesAssignment, RefusesCall, RefusesWriteln, RefusesStatement, RefusesStatements, RefusesCompound};
 
     // The number of the statement or expression that is entered.
     fn enter(&mut self) -> Result<u32, TypeFault>
@@ -287,6 +288,7 @@ impl Resolver {
         ensures grows { length self.old.sites.items ≤ length self.new.sites.items }
         ensures sites { self.new.sites ≡ self.old.sites }
         ensures typed { IfOk result (λ number. Adds self.old self.new (number ∷ []) [] []) }
+        ensures refused { IfErr result (λ _. MOST_ENTRIES ≤ self.old.entries) }
     {
         if self.entries >= MOST_ENTRIES {
             return Err(TypeFault::TooMany(self.latest));
@@ -302,6 +304,7 @@ impl Resolver {
         ensures grows { length self.old.sites.items ≤ length self.new.sites.items }
         ensures known { IfOk result (λ id. id < length self.new.sites.items) }
         ensures typed { IfOk result (λ id. Adds self.old self.new [] ((kind, id) ∷ []) ((kind, place) ∷ [])) }
+        ensures refused { IfErr result (λ fault. (fault ≡ Memory) ⊎ (MOST_SITES ≤ length self.old.sites.items)) }
     {
         self.latest = place;
         if self.sites.len() >= MOST_SITES {
@@ -318,6 +321,7 @@ impl Resolver {
         ensures sites { self.new.sites ≡ self.old.sites }
         ensures adds { AddsNothing self.old self.new }
         ensures found { IfOk result (λ denotation. found self.old.scopes.blocks.items (folded name.now.text.now) ≡ Ok denotation) }
+        ensures refused { IfErr result (λ fault. (fault ≡ Memory) ⊎ IsUnknown self.old name.now) }
     {
         self.latest = name.place;
         find(self.alloc, &self.scopes, name)
@@ -330,6 +334,7 @@ impl Resolver {
         ensures formed { IfOk result (λ typed. AreFormedStmts (length self.old.variables.items) (length self.new.sites.items) typed.items) }
         ensures typed { IfOk result (λ typed. MakesStatements self.old self.new statements.now typed.items) }
         ensures silent { IfOk result (λ _. self.old.has_output ≡ false → AreSilent statements.now) }
+        ensures refused { IfErr result (λ fault. (fault ≡ Memory) ⊎ RefusesStatements self.old statements.now) }
     {
         let mut typed = Vec::new(self.alloc);
         for statement in statements {
@@ -345,6 +350,7 @@ impl Resolver {
         ensures formed { IfOk result (IsFormedStmt (length self.old.variables.items) (length self.new.sites.items)) }
         ensures typed { IfOk result (MakesCompound self.old self.new statements.now) }
         ensures silent { IfOk result (λ _. self.old.has_output ≡ false → AreSilent statements.now) }
+        ensures refused { IfErr result (λ fault. (fault ≡ Memory) ⊎ RefusesCompound self.old statements.now) }
     {
         let number = self.enter()?;
         let statements = self.statements(statements)?;
@@ -358,6 +364,7 @@ impl Resolver {
         ensures formed { IfOk result (IsFormedStmt (length self.old.variables.items) (length self.new.sites.items)) }
         ensures typed { IfOk result (MakesStatement self.old self.new statement.now) }
         ensures silent { IfOk result (λ _. self.old.has_output ≡ false → IsTrue (writes_nothing statement.now)) }
+        ensures refused { IfErr result (λ fault. (fault ≡ Memory) ⊎ RefusesStatement self.old statement.now) }
     {
         match statement {
             syntax::Stmt::Empty => Ok(Stmt::Empty {
@@ -384,6 +391,7 @@ impl Resolver {
         ensures grows { length self.old.sites.items ≤ length self.new.sites.items }
         ensures formed { IfOk result (IsFormedStmt (length self.old.variables.items) (length self.new.sites.items)) }
         ensures typed { IfOk result (MakesAssignment self.old self.new name.now becomes value.now) }
+        ensures refused { IfErr result (λ fault. (fault ≡ Memory) ⊎ RefusesAssignment self.old name.now value.now) }
     {
         let number = self.enter()?;
         let Denotation::Variable(root) = self.find(name)? else {
@@ -406,6 +414,7 @@ impl Resolver {
         ensures formed { IfOk result (IsFormedStmt (length self.old.variables.items) (length self.new.sites.items)) }
         ensures typed { IfOk result (MakesCall self.old self.new name.now actuals.now) }
         ensures has_output { IfOk result (λ _. self.old.has_output ≡ true) }
+        ensures refused { IfErr result (λ fault. (fault ≡ Memory) ⊎ RefusesCall self.old name.now actuals.now) }
     {
         match self.find(name)? {
             Denotation::Procedure(RequiredProcedure::Writeln) => self.writeln(name, actuals),
@@ -420,6 +429,7 @@ impl Resolver {
         ensures formed { IfOk result (IsFormedStmt (length self.old.variables.items) (length self.new.sites.items)) }
         ensures typed { IfOk result (MakesWriteln self.old self.new actuals.now) }
         ensures has_output { IfOk result (λ _. self.old.has_output ≡ true) }
+        ensures refused { IfErr result (λ fault. (fault ≡ Memory) ⊎ RefusesWriteln self.old actuals.now) }
     {
         if !self.has_output {
             return Err(TypeFault::NotProgramParameter(name.place));
@@ -435,6 +445,7 @@ impl Resolver {
         ensures grows { length self.old.sites.items ≤ length self.new.sites.items }
         ensures formed { IfOk result (λ typed. AreFormedExprs (length self.old.variables.items) (length self.new.sites.items) typed.items) }
         ensures typed { IfOk result (λ typed. MakesExpressions self.old self.new written.now typed.items) }
+        ensures refused { IfErr result (λ fault. (fault ≡ Memory) ⊎ RefusesExpressions self.old written.now) }
     {
         let mut values = Vec::new(self.alloc);
         for actual in written {
@@ -453,6 +464,7 @@ impl Resolver {
         ensures sites { self.new.sites ≡ self.old.sites }
         ensures adds { AddsNothing self.old self.new }
         ensures typed { IfOk result (λ written. TellsValues self.old actuals.now written.now) }
+        ensures refused { IfErr result (λ fault. (fault ≡ Memory) ⊎ AreNoActuals self.old actuals.now) }
     {
         let Some((first, rest)) = actuals.split_first() else {
             return Ok(actuals);
@@ -469,6 +481,7 @@ impl Resolver {
         ensures sites { self.new.sites ≡ self.old.sites }
         ensures adds { AddsNothing self.old self.new }
         ensures typed { IfOk result (TellsFile self.old actual.now) }
+        ensures refused { IfErr result (λ fault. (fault ≡ Memory) ⊎ IsNoActual self.old actual.now) }
     {
         match actual {
             syntax::Expr::Name(name) => Ok(self.find(name)? == Denotation::Output),
@@ -482,6 +495,7 @@ impl Resolver {
         ensures grows { length self.old.sites.items ≤ length self.new.sites.items }
         ensures formed { IfOk result (IsFormedExpr (length self.old.variables.items) (length self.new.sites.items)) }
         ensures typed { IfOk result (MakesExpression self.old self.new expression.now) }
+        ensures refused { IfErr result (λ fault. (fault ≡ Memory) ⊎ RefusesExpression self.old expression.now) }
     {
         match expression {
             syntax::Expr::Number { value, place } => self.number(*value, *place),
@@ -517,6 +531,7 @@ impl Resolver {
         ensures grows { length self.old.sites.items ≤ length self.new.sites.items }
         ensures formed { IfOk result (λ typed. AreFormedLinks (length self.old.variables.items) (length self.new.sites.items) typed.items) }
         ensures typed { IfOk result (λ typed. MakesLinks self.old self.new rest.now typed.items) }
+        ensures refused { IfErr result (λ fault. (fault ≡ Memory) ⊎ RefusesLinks self.old rest.now) }
     {
         let mut typed = Vec::new(self.alloc);
         for link in rest {
@@ -531,6 +546,7 @@ impl Resolver {
         ensures grows { length self.old.sites.items ≤ length self.new.sites.items }
         ensures formed { IfOk result (IsFormedLink (length self.old.variables.items) (length self.new.sites.items)) }
         ensures typed { IfOk result (MakesLink self.old self.new link.now) }
+        ensures refused { IfErr result (λ fault. (fault ≡ Memory) ⊎ RefusesLink self.old link.now) }
     {
         let (number, overflow) = self.operator(link.place)?;
         Ok(Link {
@@ -547,6 +563,7 @@ impl Resolver {
         ensures grows { length self.old.sites.items ≤ length self.new.sites.items }
         ensures known { IfOk result (λ r. r.1 < length self.new.sites.items) }
         ensures typed { IfOk result (λ r. Adds self.old self.new (r.0 ∷ []) ((Overflow, r.1) ∷ []) ((Overflow, place) ∷ [])) }
+        ensures refused { IfErr result (λ fault. (fault ≡ Memory) ⊎ PassesMost self.old 1 1) }
     {
         let overflow = self.site(SiteKind::Overflow, place)?;
         Ok((self.enter()?, overflow))
@@ -557,6 +574,7 @@ impl Resolver {
         ensures grows { length self.old.sites.items ≤ length self.new.sites.items }
         ensures formed { IfOk result (IsFormedExpr (length self.old.variables.items) (length self.new.sites.items)) }
         ensures typed { IfOk result (MakesConstant self.old self.new (pos value)) }
+        ensures refused { IfErr result (λ fault. (fault ≡ Memory) ⊎ RefusesConstant self.old (pos value)) }
     {
         self.latest = place;
         let value = i32::try_from(value).map_err(|_| TypeFault::Mismatch(place))?;
@@ -569,6 +587,7 @@ impl Resolver {
         ensures grows { length self.old.sites.items ≤ length self.new.sites.items }
         ensures formed { IfOk result (IsFormedExpr (length self.old.variables.items) (length self.new.sites.items)) }
         ensures typed { IfOk result (MakesConstant self.old self.new value) }
+        ensures refused { IfErr result (λ fault. (fault ≡ Memory) ⊎ RefusesConstant self.old value) }
     {
         if value < -MAXINT {
             return Err(TypeFault::Mismatch(place));
@@ -586,6 +605,7 @@ impl Resolver {
         ensures sites { self.new.sites ≡ self.old.sites }
         ensures known { IfOk result (λ access. access.root < length self.old.variables.items) }
         ensures typed { IfOk result (λ access. (access.root ≡ root) × Adds self.old self.new (access.number ∷ []) [] []) }
+        ensures refused { IfErr result (λ _. (length self.old.variables.items ≤ root) ⊎ (MOST_ENTRIES ≤ self.old.entries)) }
     {
         if self.variables.get(root as usize).is_none() {
             return Err(TypeFault::NotDeclared(place));
@@ -602,6 +622,7 @@ impl Resolver {
         ensures grows { length self.old.sites.items ≤ length self.new.sites.items }
         ensures formed { IfOk result (IsFormedExpr (length self.old.variables.items) (length self.new.sites.items)) }
         ensures typed { IfOk result (MakesNamed self.old self.new name.now) }
+        ensures refused { IfErr result (λ fault. (fault ≡ Memory) ⊎ RefusesNamed self.old name.now) }
     {
         match self.find(name)? {
             Denotation::Constant { value, .. } => self.constant(value, name.place),

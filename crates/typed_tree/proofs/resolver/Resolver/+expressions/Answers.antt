@@ -1,8 +1,12 @@
 use Rattle.std.proofs.Common.{◌≡◌, [], ◌∷◌, true, length, map, ◌∙◌, refl, sym, ap, subst, arith}
 use Rattle.typed_tree.specs.WellFormed.{all_hold, is_well_formed_expr, is_well_formed_link}
 use Rattle.typed_tree.specs.Resolved.{types_link, stands_in_link, entries_of_link, sites_of_link, MakesExpression, MakesLinks}
+use Rattle.typed_tree.specs.Refusing.{RefusesLinks}
 use Rattle.typed_tree.proofs.ResolvedPieces.{if_ok, adds_nothing, adds_then, row_next, row_ends}
 use Rattle.typed_tree.proofs.ResolvedExpressions.{number_made, name_made, parenthesized_made, signed_made, sum_made, link_made}
+use Rattle.typed_tree.proofs.Measures.{link_measured}
+use Rattle.typed_tree.proofs.Refusals.{refused_so, refused_by, row_refused}
+use Rattle.typed_tree.proofs.RefusedExpressions.{number_refused, name_refused, parenthesized_refused, signed_refused, first_refused, rest_refused, link_refused}
 use Rattle.typed_tree.proofs.FormedLemmas.{all-push, signed-formed, sum-formed, link-formed}
 use Rattle.typed_tree.proofs.resolver.Resolver.+expressions.Goals as goal
 
@@ -93,3 +97,55 @@ link-returns-clause-typed t c =
     link_made c.args.self.now c.operator.new.self c.expression.new.self c.args.link.now
     (record { number = c.in_ok-number.number; operator = c.typed_sign.result; overflow = c.in_ok-number.overflow; operand = e })
     c.typed_sign.ensures c.in_ok-number.ensures.typed c.in_ok-expression.ensures.typed
+
+pub expression-returns-in-Number-clause-refused : goal.expression-returns-in-Number-clause-refused
+expression-returns-in-Number-clause-refused t c =
+    refused_so c.number.result _ _ (number_refused c.args.self.now c.args.expression.now c.in-Number.value c.in-Number.place c.in-Number.is) c.number.ensures.refused
+
+pub expression-returns-in-Name-clause-refused : goal.expression-returns-in-Name-clause-refused
+expression-returns-in-Name-clause-refused t c =
+    refused_so c.named.result _ _ (name_refused c.args.self.now c.args.expression.now c.in-Name.name c.in-Name.is) c.named.ensures.refused
+
+pub expression-returns-in-Parenthesized-clause-refused : goal.expression-returns-in-Parenthesized-clause-refused
+expression-returns-in-Parenthesized-clause-refused t c =
+    let a = c.args.self.now in
+    refused_so c.expression.result _ _ (λ h. parenthesized_refused a c.args.expression.now _ c.in-Parenthesized.open c.in-Parenthesized.inner c.deref.result.now c.in-Parenthesized.is c.deref.ensures (adds_nothing a _ refl refl refl refl refl) h) c.expression.ensures.refused
+
+pub expression-returns-in_err-operand-in-Signed-clause-refused : goal.expression-returns-in_err-operand-in-Signed-clause-refused
+expression-returns-in_err-operand-in-Signed-clause-refused t c =
+    let a = c.args.self.now in
+    let b = c.enter.new.self in
+    let number = c.in_ok-number-in-Signed.number in
+    let entered = adds_then a _ b [] (number ∷ []) [] [] [] [] (adds_nothing a _ refl refl refl refl refl) c.in_ok-number-in-Signed.ensures.typed in
+    refused_by c.from_residual-in_err-operand-in-Signed.result _ _ _ c.from_residual-in_err-operand-in-Signed.ensures.1
+    (signed_refused a c.args.expression.now b c.in-Signed.sign c.in-Signed.place c.in-Signed.term c.deref-in-Signed.result.now number c.in-Signed.is c.deref-in-Signed.ensures entered)
+    c.in_err-operand-in-Signed.ensures.refused
+
+pub expression-returns-in_err-first-in-Sum-clause-refused : goal.expression-returns-in_err-first-in-Sum-clause-refused
+expression-returns-in_err-first-in-Sum-clause-refused t c =
+    refused_by c.from_residual-in_err-first-in-Sum.result _ _ _ c.from_residual-in_err-first-in-Sum.ensures.1
+    (first_refused c.args.self.now c.args.expression.now c.in-Sum.first c.in-Sum.rest c.deref-in-Sum.result.now c.in-Sum.is c.deref-in-Sum.ensures)
+    c.in_err-first-in-Sum.ensures.refused
+
+pub expression-returns-in_err-rest-in-Sum-clause-refused : goal.expression-returns-in_err-rest-in-Sum-clause-refused
+expression-returns-in_err-rest-in-Sum-clause-refused t c =
+    let a = c.args.self.now in
+    let b = c.expression-in-Sum.new.self in
+    let first = c.in-Sum.first in
+    let made = subst (λ w. MakesExpression a b w c.in_ok-first-in-Sum.first) c.deref-in-Sum.ensures c.in_ok-first-in-Sum.ensures.typed in
+    refused_by c.from_residual-in_err-rest-in-Sum.result _ _ _ c.from_residual-in_err-rest-in-Sum.ensures.1
+    (λ h. rest_refused a c.args.expression.now b first c.in-Sum.rest c.in_ok-first-in-Sum.first c.in-Sum.is made (subst (λ w. RefusesLinks b w) c.deref-in-Sum-2.ensures.value h))
+    c.in_err-rest-in-Sum.ensures.refused
+
+pub link-returns-in_err-expression-clause-refused : goal.link-returns-in_err-expression-clause-refused
+link-returns-in_err-expression-clause-refused t c =
+    refused_by c.from_residual-in_err-expression.result _ _ _ c.from_residual-in_err-expression.ensures.1
+    (link_refused c.args.self.now c.operator.new.self c.args.link.now c.in_ok-number.number c.in_ok-number.overflow _ c.in_ok-number.ensures.typed)
+    c.in_err-expression.ensures.refused
+
+pub links-returns-in_err-link-clause-refused : goal.links-returns-in_err-link-clause-refused
+links-returns-in_err-link-clause-refused t c =
+    refused_by c.from_residual.result _ _ _ c.from_residual.ensures.1
+    (row_refused types_link is_well_formed_link entries_of_link sites_of_link stands_in_link link_measured c.args.self.now c.loop-link.self c.args.rest.now c.loop-link.link-index c.link-item.result c.loop-link.typed.items
+    c.loop-link-test.true c.link-item.is c.loop-link.invariant.typed)
+    c.in_err-link.ensures.refused

@@ -6,6 +6,9 @@ use Rattle.typed_tree.specs.Resolved.{MakesCall, MakesCompound, AreSilent}
 use Rattle.typed_tree.proofs.ResolvedPieces.{if_ok, row_next, row_ends, output_kept}
 use Rattle.typed_tree.proofs.ResolvedStatements.{assign_made, call_statement_made, compound_statement_made, compound_made, compound_silent, silent_next, silent_whole}
 use Rattle.typed_tree.proofs.FormedLemmas.{all-push, compound-formed}
+use Rattle.typed_tree.specs.Refusing.{RefusesCall, RefusesCompound}
+use Rattle.typed_tree.proofs.Refusals.{refused_so, refused_by}
+use Rattle.typed_tree.proofs.RefusedStatements.{compound_refused, assign_statement_refused, call_statement_refused, compound_statement_refused, statements_refused}
 use Rattle.typed_tree.proofs.resolver.Resolver.+statements.Goals as goal
 
 pub compound-returns-clause-formed : goal.compound-returns-clause-formed
@@ -64,3 +67,30 @@ statement-returns-in-Compound-clause-typed t c =
 pub statement-returns-in-Compound-clause-silent : goal.statement-returns-in-Compound-clause-silent
 statement-returns-in-Compound-clause-silent t c =
     if_ok c.compound.result _ _ (λ s h none. compound_silent c.args.statement.now c.in-Compound.statements c.in-Compound.is (subst AreSilent c.deref-in-Compound.ensures.value (h none))) c.compound.ensures.silent
+
+pub compound-returns-in_err-statements-clause-refused : goal.compound-returns-in_err-statements-clause-refused
+compound-returns-in_err-statements-clause-refused t c =
+    refused_by c.from_residual-in_err-statements.result _ _ _ c.from_residual-in_err-statements.ensures.1
+    (compound_refused c.args.self.now c.enter.new.self c.args.statements.now c.in_ok-number.number c.in_ok-number.ensures.typed)
+    c.in_err-statements.ensures.refused
+
+pub statement-returns-in-Assign-clause-refused : goal.statement-returns-in-Assign-clause-refused
+statement-returns-in-Assign-clause-refused t c =
+    refused_so c.assignment.result _ _ (assign_statement_refused c.args.self.now c.args.statement.now c.in-Assign.name c.in-Assign.becomes c.in-Assign.value c.in-Assign.is) c.assignment.ensures.refused
+
+pub statement-returns-in-Call-clause-refused : goal.statement-returns-in-Call-clause-refused
+statement-returns-in-Call-clause-refused t c =
+    let a = c.args.self.now in
+    refused_so c.call.result _ _ (λ h. call_statement_refused a c.args.statement.now c.in-Call.name c.in-Call.actuals c.in-Call.is (subst (RefusesCall a c.in-Call.name) c.deref.ensures.value h)) c.call.ensures.refused
+
+pub statement-returns-in-Compound-clause-refused : goal.statement-returns-in-Compound-clause-refused
+statement-returns-in-Compound-clause-refused t c =
+    let a = c.args.self.now in
+    refused_so c.compound.result _ _ (λ h. compound_statement_refused a c.args.statement.now c.in-Compound.statements c.in-Compound.is (subst (RefusesCompound a) c.deref-in-Compound.ensures.value h)) c.compound.ensures.refused
+
+pub statements-returns-in_err-statement-clause-refused : goal.statements-returns-in_err-statement-clause-refused
+statements-returns-in_err-statement-clause-refused t c =
+    refused_by c.from_residual.result _ _ _ c.from_residual.ensures.1
+    (statements_refused c.args.self.now c.loop-statement.self c.args.statements.now c.loop-statement.statement-index c.statement-item.result c.loop-statement.typed.items
+    c.loop-statement-test.true c.statement-item.is c.loop-statement.invariant.typed)
+    c.in_err-statement.ensures.refused

@@ -4,6 +4,8 @@ use Rattle.typed_tree.specs.Entries.{entries_of_expression, sites_of_expression}
 use Rattle.typed_tree.specs.Typing.{types_expression, stands_in_expression}
 use Rattle.typed_tree.proofs.ResolvedPieces.{row_next, row_ends}
 use Rattle.typed_tree.proofs.FormedLemmas.{all-push}
+use Rattle.typed_tree.proofs.Measures.{expression_measured}
+use Rattle.typed_tree.proofs.Refusals.{refused_by, row_refused}
 use Rattle.typed_tree.proofs.resolver.Resolver.values.Goals as goal
 
 pub loop-actual-preserved : goal.loop-actual-preserved
@@ -25,3 +27,10 @@ loop-actual-preserved c = record {
 pub returns-clause-typed : goal.returns-clause-typed
 returns-clause-typed c =
     row_ends types_expression entries_of_expression sites_of_expression stands_in_expression c.args.self.now c.loop-actual.self c.args.written.now c.loop-actual.actual-index c.loop-actual.values.items c.loop-actual-test.false c.loop-actual.invariant.typed
+
+pub returns-in_err-expression-clause-refused : goal.returns-in_err-expression-clause-refused
+returns-in_err-expression-clause-refused c =
+    refused_by c.from_residual.result _ _ _ c.from_residual.ensures.1
+    (row_refused types_expression is_well_formed_expr entries_of_expression sites_of_expression stands_in_expression expression_measured c.args.self.now c.loop-actual.self c.args.written.now c.loop-actual.actual-index c.actual-item.result c.loop-actual.values.items
+    c.loop-actual-test.true c.actual-item.is c.loop-actual.invariant.typed)
+    c.in_err-expression.ensures.refused

@@ -2,6 +2,8 @@ use Rattle.std.proofs.Common.{◌≡◌, true, length, map, ◌∙◌, subst}
 use Rattle.typed_tree.specs.WellFormed.{all_hold, is_well_formed_expr}
 use Rattle.typed_tree.proofs.ResolvedStatements.{writeln_made}
 use Rattle.typed_tree.proofs.FormedLemmas.{writeln-formed}
+use Rattle.typed_tree.proofs.Refusals.{refused_by}
+use Rattle.typed_tree.proofs.RefusedStatements.{actuals_refused, values_refused}
 use Rattle.typed_tree.proofs.resolver.Resolver.writeln.Goals as goal
 
 pub returns-clause-formed : goal.returns-clause-formed
@@ -14,3 +16,16 @@ pub returns-clause-typed : goal.returns-clause-typed
 returns-clause-typed c =
     writeln_made c.args.self.now c.enter.new.self c.written_values.new.self c.values.new.self c.args.actuals.now c.in_ok-written.written.now c.in_ok-number.number c.in_ok-values.values
     c.in_ok-number.ensures.typed c.written_values.ensures.adds c.in_ok-written.ensures.typed c.in_ok-values.ensures.typed
+
+pub returns-in_err-written-clause-refused : goal.returns-in_err-written-clause-refused
+returns-in_err-written-clause-refused c =
+    refused_by c.from_residual-in_err-written.result _ _ _ c.from_residual-in_err-written.ensures.1
+    (actuals_refused c.args.self.now c.enter.new.self c.args.actuals.now c.in_ok-number.number c.in_ok-number.ensures.typed)
+    c.in_err-written.ensures.refused
+
+pub returns-in_err-values-clause-refused : goal.returns-in_err-values-clause-refused
+returns-in_err-values-clause-refused c =
+    refused_by c.from_residual-in_err-values.result _ _ _ c.from_residual-in_err-values.ensures.1
+    (values_refused c.args.self.now c.enter.new.self c.written_values.new.self c.args.actuals.now c.in_ok-written.written.now c.in_ok-number.number
+    c.in_ok-number.ensures.typed c.written_values.ensures.adds c.in_ok-written.ensures.typed)
+    c.in_err-values.ensures.refused
