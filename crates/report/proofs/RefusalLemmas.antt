@@ -1,7 +1,8 @@
 -- The fault of a layer, as the whole compiler tells it, is a refusal of the source.
-use Rattle.std.proofs.Common.{◌≡◌, ℕ, ◌<◌, List, Result, Err, IfErr, length, refl, sym, subst}
+use Rattle.std.proofs.Common.{◌≡◌, ◌⊎◌, ⊎_elim, ℕ, ◌<◌, List, Result, Err, IfErr, length, refl, sym, subst}
 use Rattle.parser.specs.declared.tree.Program.{Program}
 use Rattle.typed_tree.specs.declared.tree.Tree.{Tree}
+use Rattle.typed_tree.specs.Typing.{HasTyping}
 use Rattle.typed_tree.specs.declared.fault.TypeFault.{TypeFault}
 use Rattle.typed_tree.specs.declared.fault.TypeFault.TheVariants as typing
 use Rattle.code_generator.specs.declared.fault.GenFault.{GenFault}
@@ -17,10 +18,10 @@ pub refused_by : {A : Type 0} (source text : List ℕ) (answer : Result A Fault)
 refused_by source text answer y fault is same h =
     subst (λ r. IfErr r (IsRefusal source text)) (sym is) (subst (IsRefusal source text) (sym same) h)
 
--- names and types are refused of a source that is written as a program
-pub typing-refusal : (source text : List ℕ) (fault : TypeFault) → (program : Program) × IsWrittenAs source program → IsRefusal source text (typing_fault fault)
-typing-refusal source text typing.Memory h = tt
-typing-refusal source text fault h = h
+-- names and types are refused of a source that is written as a program without a typing
+pub typing-refusal : (source text : List ℕ) (fault : TypeFault) (program : Program) → IsWrittenAs source program → (fault ≡ typing.Memory) ⊎ (¬ HasTyping program) → IsRefusal source text (typing_fault fault)
+typing-refusal source text typing.Memory program written h = tt
+typing-refusal source text fault program written h = (program, written, ⊎_elim (λ e. cc) (λ none. none) h)
 
 -- code is refused where there is too much of it
 pub generation-refusal : (source text : List ℕ) (tree : Tree) (fault : GenFault) → IsTypedTreeOf tree source → (fault ≡ generate.TooLarge → 1000000 < length (program_code tree)) → IsRefusal source text (generator_fault fault)

@@ -1,5 +1,5 @@
 -- Why a source is refused: the fault of the first layer that refuses, for nothing else but memory.
--- It does not say which rule of names and types is broken, nor that one is.
+-- It does not say which of several broken rules is told.
 use Rattle.std.specs.Prelude.{◌≡◌, ℕ, ◌<◌, List, Option, Some, None, map, length, codes}
 use denote.Ref.{Bor}
 use Rattle.lexer.specs.declared.token.Token.{Token}
@@ -7,6 +7,7 @@ use Rattle.lexer.specs.Tokens.{IsTokenList, IsFirstFault, lexeme_of}
 use Rattle.parser.specs.declared.tree.Program.{Program}
 use Rattle.parser.specs.Syntax.{IsFaultOf}
 use Rattle.typed_tree.specs.declared.tree.Tree.{Tree}
+use Rattle.typed_tree.specs.Typing.{HasTyping}
 use Rattle.certificate.specs.Text.{first_fault}
 use Rattle.code_generator.specs.Code.{program_code}
 use Rattle.report.specs.declared.fault.Fault.{Fault}
@@ -23,7 +24,7 @@ abbrev pub IsRefusal : List ℕ → List ℕ → Fault → Type 0
 IsRefusal source text Memory = Unit {0}
 IsRefusal source text (Lex fault) = IsFirstFault source fault
 IsRefusal source text (Parse fault) = (tokens : List Token) × IsTokenList source (map lexeme_of tokens) × IsFaultOf fault tokens
-IsRefusal source text (Typing fault) = (program : Program) × IsWrittenAs source program
+IsRefusal source text (Typing fault) = (program : Program) × IsWrittenAs source program × (¬ HasTyping program)
 IsRefusal source text (Certificate fault) = first_fault text ≡ Some fault
 IsRefusal source text (Check fault) = ⊥
 IsRefusal source text (Generate fault) = (tree : Tree) × IsTypedTreeOf tree source × (1000000 < length (program_code tree))

@@ -5,7 +5,7 @@ ghost use Rattle.typed_tree.specs.Ids.{AreInOrder};
 ghost use Rattle.typed_tree.specs.Names.{folded, defined_names};
 ghost use Rattle.typed_tree.specs.Scopes.{found};
 ghost use Rattle.typed_tree.specs.Regions.{placed, Opens, OpensRequired, Defines, Passes, PassesGroup, PassesGroups, DenotesType, CannotDefine, CannotPass, CannotPassGroup, CannotPassGroups, DenotesNoType};
-ghost use Rattle.typed_tree.specs.Typing.{IsTyped, same_sign, writes_nothing};
+ghost use Rattle.typed_tree.specs.Typing.{IsTyped, HasTyping, same_sign, writes_nothing};
 ghost use Rattle.typed_tree.specs.declared.denotation.Denotation.TheVariants as denotes;
 ghost use Rattle.typed_tree.specs.declared.fault.TypeFault.TheVariants.{Memory};
 ghost use Rattle.typed_tree.specs.declared.site.SiteKind.TheVariants.{Overflow};
@@ -45,6 +45,9 @@ pub fn resolve(alloc: Global, program: &syntax::Program) -> Result<Tree, TypeFau
 
     // It is the typed tree of the program, which breaks no rule of names and types.
     ensures typed { IfOk result (IsTyped program.now) }
+
+    // A program is refused only where it has none, or for want of memory.
+    ensures refused { IfErr result (λ fault. (fault ≡ Memory) ⊎ ¬ HasTyping program.now) }
 {
     let types = TypeTable::required(alloc)?;
     let mut scopes = Scopes::new(alloc);

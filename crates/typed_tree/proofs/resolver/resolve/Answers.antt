@@ -1,13 +1,15 @@
+use Rattle.parser.specs.declared.tree.Program.{Program}
 use Rattle.typed_tree.specs.declared.tree.Block.{Block}
-use Rattle.std.proofs.Common.{refl, ◌≡◌, ◌⊎◌, inl, inr, ⊎_elim, List, ◌<◌, ◌≤◌, ◌∷◌, [], ◌++◌, true, length, slice_get, sym, ◌∙◌, ap, subst, arith}
+use Rattle.std.proofs.Common.{rules, refl, ◌≡◌, ◌⊎◌, inl, inr, ⊎_elim, List, ◌<◌, ◌≤◌, ◌∷◌, [], ◌++◌, true, length, slice_get, sym, ◌∙◌, ap, subst, arith}
 use Rattle.typed_tree.specs.WellFormed.{is_well_formed_body, is_well_formed_stmt}
 use Rattle.std.proofs.lemmas.List.{length-map}
 use Rattle.typed_tree.specs.Names.{variable_names}
-use Rattle.typed_tree.specs.Typing.{declared}
+use Rattle.typed_tree.specs.Typing.{HasTyping, declared}
 use Rattle.typed_tree.specs.declared.fault.TypeFault.TheVariants.{Memory}
 use Rattle.typed_tree.proofs.Declarations.{AreDeclared, are_declared, denotes_found, output_parameter}
-use Rattle.typed_tree.proofs.Refused.{BreaksDeclarations, parameters_refused, variables_refused, many_refused}
+use Rattle.typed_tree.proofs.Refused.{BreaksDeclarations, has_no_typing, parameters_refused, variables_refused, many_refused}
 use Rattle.typed_tree.proofs.ResolvedProgram.{typed_program}
+use Rattle.typed_tree.proofs.RefusedProgram.{refused_program, knows_all_declared}
 use Rattle.typed_tree.proofs.resolver.resolve.Goals.{In_ok-variables, In_err-has_output, In_err-variables}
 use Rattle.typed_tree.proofs.resolver.resolve.Goals as goal
 
@@ -32,6 +34,9 @@ declarations c =
     c.new-scopes.ensures c.deref.ensures.value c.deref-2.ensures.value c.in_ok-open_required.ensures.opened c.in_ok-open_block.ensures.opened
     c.in_ok-has_output.ensures.only_output c.in_ok-has_output.ensures.passed c.in_ok-has_output.ensures.has_output c.in_ok-variables.ensures.passed
 
+without_typing : (program : Program) → BreaksDeclarations program → ¬ HasTyping program
+without_typing program reason typing = has_no_typing program typing.0 reason typing.1.few_variables typing.1
+
 -- where the parameters are refused
 refused_parameters : (c : In_err-has_output) → (c.in_err-has_output.field-0.0 ≡ Memory) ⊎ BreaksDeclarations c.args.program.now
 refused_parameters c =
@@ -50,6 +55,31 @@ refused_variables c =
 -- where the variables are too many
 refused_number : (c : In_ok-variables) → 1000000 < length c.in_ok-variables.variables.items → BreaksDeclarations c.args.program.now
 refused_number c many = many_refused c.args.program.now c.in_ok-has_output.has_output c.in_ok-variables.variables.items _ (declarations c) many
+
+pub returns-in_err-has_output-clause-refused : goal.returns-in_err-has_output-clause-refused
+returns-in_err-has_output-clause-refused c =
+    let h = ⊎_elim inl (λ reason. inr (without_typing c.args.program.now reason)) (refused_parameters (goal.at.returns-in_err-has_output-clause-refused c).In_err-has_output) in
+    search rules
+
+pub returns-in_err-variables-clause-refused : goal.returns-in_err-variables-clause-refused
+returns-in_err-variables-clause-refused c =
+    let h = ⊎_elim inl (λ reason. inr (without_typing c.args.program.now reason)) (refused_variables (goal.at.returns-in_err-variables-clause-refused c).In_err-variables) in
+    search rules
+
+pub returns-then-len-gt-MOST_VARIABLES-clause-refused : goal.returns-then-len-gt-MOST_VARIABLES-clause-refused
+returns-then-len-gt-MOST_VARIABLES-clause-refused c =
+    let many = refused_number (goal.at.returns-then-len-gt-MOST_VARIABLES-clause-refused c).In_ok-variables (omega (arith, c.in_ok-variables.variables.ok.0, c.len.ensures, c.if-len-gt-MOST_VARIABLES.true)) in
+    inr (without_typing c.args.program.now many)
+
+pub returns-in_err-body-clause-refused : goal.returns-in_err-body-clause-refused
+returns-in_err-body-clause-refused c =
+    let program = c.args.program.now in
+    let d = declarations (goal.at.returns-in_err-body-clause-refused c).In_ok-variables in
+    let h : (c.in_err-body.field-0.0 ≡ Memory) ⊎ (¬ HasTyping program) = ⊎_elim inl
+    (λ refuses. inr (λ typing. refused_program program _ c.deref-3.result.now
+    (record { output = d.output; knows_all = knows_all_declared program _ _ d; no_entry = refl; no_site = c.new.ensures.items }) c.deref-3.ensures.value refuses typing.0 typing.1))
+    c.in_err-body.ensures.refused in
+    search rules
 
 pub returns-clause-typed : goal.returns-clause-typed
 returns-clause-typed c =
