@@ -1,9 +1,12 @@
 ghost use Rattle.std.specs.Prelude.{◌≡◌, ◌↔◌, ℤ, pos, ◌+ℤ◌, ◌-ℤ◌, neg_ℤ, IsTrue};
-ghost use Rattle.domain.specs.Interval.{Interval as Range, IsEnd, HasMember, Includes, is_vacant, is_included, joined, common, sum, difference, negated, held, nearest_end};
+ghost use Rattle.domain.specs.Interval.{Interval as Range, IsEnd, HasMember, Includes, has_number, is_vacant, is_included, joined, common, sum, difference, negated, held, nearest_end};
 ghost use Rattle.domain.specs.Ranges.{included-has, joined-has_left, joined-has_right, common-has};
 
 use crate::Domain;
 use std::marker::Model;
+
+mod operators;
+mod truth_values;
 
 /// The greatest end of a range: sums of two ends fit 64 bits.
 const LIMIT: i64 = 4611686018427387903;
@@ -35,6 +38,9 @@ impl Interval {
         first: -2147483647,
         last: 2147483647,
     };
+
+    /// The ordinal numbers of the values of the required type Boolean (ISO 7185:1990, 6.4.2.2).
+    pub const TRUTH_VALUES: Interval = Interval { first: 0, last: 1 };
 
     /// The numbers from a first to a last one.
     pub fn between(first: i32, last: i32) -> Interval
@@ -68,6 +74,14 @@ impl Interval {
         ensures vacant { IsTrue result ↔ ((z : ℤ) → ¬ HasMember self.now z) }
     {
         self.last() < self.first()
+    }
+
+    /// Whether the number lies in the range.
+    pub fn has(&self, number: i64) -> bool
+        ensures answer { result ≡ has_number self.now number }
+        ensures member { IsTrue result ↔ HasMember self.now number }
+    {
+        self.first() <= number && number <= self.last()
     }
 
     /// The sums of a number of each range. An end that no interval has becomes the nearest that one has.

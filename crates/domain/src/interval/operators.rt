@@ -1,0 +1,301 @@
+ghost use Rattle.std.specs.Prelude.{◌≡◌, if◌then◌else◌, true, ℤ, pos, ◌*ℤ◌, ◌≤ℤ◌, int_div, int_le};
+ghost use Rattle.std.specs.Int.{int_rem_euclid};
+ghost use Rattle.std.specs.Ordering.{int_eq};
+ghost use Rattle.domain.specs.Order.{span};
+ghost use Rattle.domain.specs.Interval.{IsEnd, HasMember, held, nearest_end, between, hull, product, squared, magnitude, size, absolute, without_zero_end, at_least, quotient, remainder, is_true};
+
+use crate::Domain;
+use crate::interval::{Interval, LIMIT};
+
+impl Interval {
+    /// The products of a number of each range. An end that no interval has becomes the nearest that one has.
+    pub fn multiply(&self, other: &Interval) -> Interval
+        ensures ends { result ≡ held (product self.now other.now) }
+        ensures members { (x y : ℤ) → HasMember self.now x → HasMember other.now y
+            → IsEnd (x *ℤ y) → HasMember result (x *ℤ y) }
+    {
+        if self.is_empty() || other.is_empty() {
+            return Interval::EMPTY;
+        }
+        Interval::hull(
+            nearest_product(self.first(), other.first()),
+            nearest_product(self.first(), other.last()),
+            nearest_product(self.last(), other.first()),
+            nearest_product(self.last(), other.last()),
+        )
+    }
+
+    /// The squares of the range's numbers, as by the required function sqr (ISO 7185:1990, 6.6.6.2). An end that no
+    /// interval has becomes the nearest that one has.
+    pub fn square(&self) -> Interval
+        ensures ends { result ≡ held (squared self.now) }
+        ensures members { (x : ℤ) → HasMember self.now x → IsEnd (x *ℤ x) → HasMember result (x *ℤ x) }
+    {
+        if self.is_empty() {
+            return Interval::EMPTY;
+        }
+        if !self.has(0) {
+            return Interval::span(
+                nearest_product(self.first(), self.first()),
+                nearest_product(self.last(), self.last()),
+            );
+        }
+        let size = self.size();
+        Interval::span(0, nearest_product(size, size))
+    }
+
+    /// The absolute values of the range's numbers, as by the required function abs (ISO 7185:1990, 6.6.6.2).
+    pub fn absolute(&self) -> Interval
+        ensures ends { result ≡ absolute self.now }
+        ensures members { (x : ℤ) → HasMember self.now x → HasMember result (magnitude x) }
+    {
+        if self.is_empty() {
+            return Interval::EMPTY;
+        }
+        if self.has(0) {
+            return Interval {
+                first: 0,
+                last: self.size(),
+            };
+        }
+        Interval::span(magnitude(self.first()), magnitude(self.last()))
+    }
+
+    /// The numbers of the range without an end that is 0.
+    pub fn without_zero_end(&self) -> Interval
+        ensures ends { result ≡ without_zero_end self.now }
+        ensures members { (x : ℤ) → HasMember self.now x → is_true x ≡ true → HasMember result x }
+    {
+        Interval::between_ends(unless_zero(self.first(), 1), unless_zero(self.last(), -1))
+    }
+
+    /// The numbers of the range from a first one on.
+    pub fn at_least(&self, first: i32) -> Interval
+        ensures ends { result ≡ at_least first self.now }
+        ensures members { (x : ℤ) → HasMember self.now x → first ≤ℤ x → HasMember result x }
+    {
+        Interval::between_ends(i64::from(first).max(self.first()), self.last())
+    }
+
+    /// The quotients of a number of the range by a divisor that isn't 0, as by div (ISO 7185:1990, 6.7.2.2).
+    pub fn divide(&self, divisor: &Interval) -> Interval
+        ensures ends { result ≡ quotient self.now divisor.now }
+        ensures members { (x y : ℤ) → HasMember self.now x → HasMember divisor.now y
+            → is_true y ≡ true → HasMember result (int_div x y) }
+    {
+        if self.is_empty() || divisor.is_empty() {
+            return Interval::EMPTY;
+        }
+        if divisor.has(0) {
+            let size = self.size();
+            return Interval {
+                first: -size,
+                last: size,
+            };
+        }
+        Interval::hull(
+            quotient(self.first(), divisor.first()),
+            quotient(self.first(), divisor.last()),
+            quotient(self.last(), divisor.first()),
+            quotient(self.last(), divisor.last()),
+        )
+    }
+
+    /// The remainders of a number of the range by a divisor of at least 1, as by mod (ISO 7185:1990, 6.7.2.2).
+    pub fn remainder(&self, divisor: &Interval) -> Interval
+        ensures ends { result ≡ remainder self.now divisor.now }
+        ensures members { (x y : ℤ) → HasMember self.now x → HasMember divisor.now y
+            → int_le (pos 1) y ≡ true → HasMember result (int_rem_euclid x y) }
+    {
+        if self.is_empty() || divisor.is_empty() || divisor.last() < 1 {
+            return Interval::EMPTY;
+        }
+        let greatest = divisor.last() - 1;
+        if self.first() < 0 {
+            return Interval {
+                first: 0,
+                last: greatest,
+            };
+        }
+        Interval {
+            first: 0,
+            last: greatest.min(self.last()),
+        }
+    }
+
+    /// The least range that has four numbers.
+    fn hull(p: i64, q: i64, r: i64, s: i64) -> Interval
+        requires p_end { IsEnd p }
+        requires q_end { IsEnd q }
+        requires r_end { IsEnd r }
+        requires s_end { IsEnd s }
+        ensures { result ≡ hull p q r s }
+    {
+        Interval::span(p, q).join(&Interval::span(r, s))
+    }
+
+    /// The least range that has two numbers.
+    fn span(p: i64, q: i64) -> Interval
+        requires p_end { IsEnd p }
+        requires q_end { IsEnd q }
+        ensures { result ≡ span p q }
+    {
+        Interval {
+            first: p.min(q),
+            last: p.max(q),
+        }
+    }
+
+    /// The range from a first to a last number.
+    fn between_ends(first: i64, last: i64) -> Interval
+        requires first_end { IsEnd first }
+        requires last_end { IsEnd last }
+        ensures { result ≡ between first last }
+    {
+        if last < first {
+            return Interval::EMPTY;
+        }
+        Interval { first, last }
+    }
+
+    /// The greatest magnitude of a number of the range.
+    fn size(&self) -> i64
+        ensures value { result ≡ size self.now }
+        ensures bounds { IsEnd result }
+    {
+        magnitude(self.first()).max(magnitude(self.last()))
+    }
+}
+
+/// An end, or the number that stands in for it where it is 0.
+fn unless_zero(end: i64, other: i64) -> i64
+    requires end_end { IsEnd end }
+    requires other_end { IsEnd other }
+    ensures value { result ≡ (if int_eq end (pos 0) then other else end) }
+    ensures bounds { IsEnd result }
+{
+    if end == 0 { other } else { end }
+}
+
+/// The absolute value of an end.
+fn magnitude(number: i64) -> i64
+    requires { IsEnd number }
+    ensures value { result ≡ magnitude number }
+    ensures bounds { IsEnd result }
+{
+    number.max(-number)
+}
+
+/// The end that is nearest to a product.
+fn nearest_product(left: i64, right: i64) -> i64
+    ensures value { result ≡ nearest_end (left *ℤ right) }
+    ensures bounds { IsEnd result }
+{
+    left.saturating_mul(right).min(LIMIT).max(-LIMIT)
+}
+
+/// The quotient of two ends.
+fn quotient(dividend: i64, divisor: i64) -> i64
+    requires dividend_end { IsEnd dividend }
+    requires divisor_end { IsEnd divisor }
+    requires divisor_present { is_true divisor ≡ true }
+    ensures value { result ≡ int_div dividend divisor }
+    ensures bounds { IsEnd result }
+{
+    dividend / divisor
+}
+
+#[cfg(test)]
+mod tests {
+    use super::*;
+
+    #[test]
+    fn multiplies_and_squares(rt: HostRuntime) {
+        assert_eq!(rt;
+            Interval::between(-3, 2).multiply(&Interval::between(-5, 4)),
+            Interval::between(-12, 15)
+        );
+        assert_eq!(rt;
+            Interval::EMPTY.multiply(&Interval::INTEGER),
+            Interval::EMPTY
+        );
+        assert_eq!(rt; Interval::between(-3, 2).square(), Interval::between(0, 9));
+        assert_eq!(rt; Interval::between(2, 5).square(), Interval::between(4, 25));
+        assert_eq!(rt;
+            Interval::between(-5, -2).square(),
+            Interval::between(4, 25)
+        );
+        let huge = Interval::INTEGER.square().square();
+        assert!(rt; huge.first() == 0 && huge.last() == LIMIT);
+    }
+
+    #[test]
+    fn takes_absolute_values(rt: HostRuntime) {
+        assert_eq!(rt;
+            Interval::between(-3, 2).absolute(),
+            Interval::between(0, 3)
+        );
+        assert_eq!(rt;
+            Interval::between(-7, -4).absolute(),
+            Interval::between(4, 7)
+        );
+        assert_eq!(rt; Interval::EMPTY.absolute(), Interval::EMPTY);
+    }
+
+    #[test]
+    fn divides_toward_zero(rt: HostRuntime) {
+        assert_eq!(rt;
+            Interval::between(10, 10).divide(&Interval::between(1, 10)),
+            Interval::between(1, 10)
+        );
+        assert_eq!(rt;
+            Interval::between(100, 100).divide(&Interval::between(-5, 5)),
+            Interval::between(-100, 100)
+        );
+        assert_eq!(rt;
+            Interval::between(-7, 9).divide(&Interval::between(2, 4)),
+            Interval::between(-3, 4)
+        );
+        let none = Interval::between(0, 0).without_zero_end();
+        assert_eq!(rt; Interval::between(7, 9).divide(&none), Interval::EMPTY);
+    }
+
+    #[test]
+    fn leaves_remainders(rt: HostRuntime) {
+        assert_eq!(rt;
+            Interval::between(0, 5).remainder(&Interval::between(1, 100)),
+            Interval::between(0, 5)
+        );
+        assert_eq!(rt;
+            Interval::between(-5, 5).remainder(&Interval::between(1, 7)),
+            Interval::between(0, 6)
+        );
+        assert_eq!(rt;
+            Interval::between(0, 5).remainder(&Interval::between(-4, 0)),
+            Interval::EMPTY
+        );
+    }
+
+    #[test]
+    fn cuts_ends_off(rt: HostRuntime) {
+        assert_eq!(rt;
+            Interval::between(0, 10).without_zero_end(),
+            Interval::between(1, 10)
+        );
+        assert_eq!(rt;
+            Interval::between(-4, 0).without_zero_end(),
+            Interval::between(-4, -1)
+        );
+        assert_eq!(rt;
+            Interval::between(-1, 1).without_zero_end(),
+            Interval::between(-1, 1)
+        );
+        assert_eq!(rt; Interval::between(0, 0).without_zero_end(), Interval::EMPTY);
+        assert_eq!(rt;
+            Interval::between(-4, 9).at_least(1),
+            Interval::between(1, 9)
+        );
+        assert_eq!(rt; Interval::between(-4, 0).at_least(1), Interval::EMPTY);
+        assert!(rt; Interval::between(-4, 9).has(9) && !Interval::between(-4, 9).has(10));
+    }
+}
