@@ -1,6 +1,7 @@
 //! A machine for symbolic stack code: a row of cells in frames, and one rule an instruction.
 #![tactic(auto)]
 
+mod arithmetic;
 pub mod bytes;
 pub mod cell;
 mod input;

@@ -1,9 +1,10 @@
-ghost use Rattle.std.specs.Prelude.{◌≡◌, ◌+◌, ◌^◌, ◌-◌, ◌<◌, [], ◌∷◌, replicate, IfOk, IsOkUnless, vec_len};
+ghost use Rattle.std.specs.Prelude.{◌≡◌, ◌+◌, ◌^◌, ◌-◌, ◌<◌, [], ◌∷◌, ◌++◌, replicate, IfOk, IsOkUnless, vec_len};
 ghost use Rattle.stack_machine.specs.declared.output.TheConstants.{PIECE};
 ghost use Rattle.stack_machine.specs.Failures.{failures_told};
-ghost use Rattle.stack_machine.specs.Machine.{blanks_of, integer_text};
+ghost use Rattle.stack_machine.specs.Machine as words;
 ghost use Rattle.stack_machine.specs.Told.{PassesOrLoses, all_told};
 
+use crate::arithmetic::is_true;
 use crate::bytes::Sink;
 use crate::stop::Stop;
 use itoa::Buffer;
@@ -87,6 +88,23 @@ impl Output {
         Ok(())
     }
 
+    /// Takes so many blanks and then the text.
+    fn put_after_blanks<W: Sink>(
+        &mut self,
+        blanks: usize,
+        text: &[u8],
+        writer: &mut W,
+    ) -> Result<(), Stop>
+        requires { W.failures writer.old < 2 ^ 64 - 1 }
+        ensures only { IsOkUnless result Stop.WriteFailed }
+        ensures failures { W.failures writer.new ≡ W.failures writer.old + failures_told result }
+        ensures bytes { PassesOrLoses result (told (W.contents writer.old) self.old)
+            (told (W.contents writer.new) self.new) (replicate blanks 32 ++ text.now) }
+    {
+        self.put_blanks(blanks, writer)?;
+        self.put_all(text, writer)
+    }
+
     /// Takes a number to the right of as many places as the width says, and never cut.
     pub fn put_integer<W: Sink>(
         &mut self,
@@ -98,13 +116,41 @@ impl Output {
         ensures only { IsOkUnless result Stop.WriteFailed }
         ensures failures { W.failures writer.new ≡ W.failures writer.old + failures_told result }
         ensures bytes { PassesOrLoses result (told (W.contents writer.old) self.old)
-            (told (W.contents writer.new) self.new) (integer_text value width) }
+            (told (W.contents writer.new) self.new) (words.integer_text value width) }
     {
         let mut buffer = Buffer::new();
         let text = buffer.format(value).as_bytes();
-        let blanks = blanks_before(text.len(), width);
-        self.put_blanks(blanks, writer)?;
-        self.put_all(text, writer)
+        self.put_after_blanks(blanks_before(text.len(), width), text, writer)
+    }
+
+    /// Takes the string of a Boolean value, `true` for every number but 0 (ISO 7185:1990, 6.9.3.5).
+    pub fn put_boolean<W: Sink>(
+        &mut self,
+        value: i32,
+        width: i32,
+        writer: &mut W,
+    ) -> Result<(), Stop>
+        requires { W.failures writer.old < 2 ^ 64 - 1 }
+        ensures only { IsOkUnless result Stop.WriteFailed }
+        ensures failures { W.failures writer.new ≡ W.failures writer.old + failures_told result }
+        ensures bytes { PassesOrLoses result (told (W.contents writer.old) self.old)
+            (told (W.contents writer.new) self.new) (words.boolean_text value width) }
+    {
+        let text = if is_true(value) { "true" } else { "false" };
+        self.put_string(text.as_bytes(), width, writer)
+    }
+
+    /// Takes a string to the right of as many places as the width says, or its first characters where it is
+    /// longer (ISO 7185:1990, 6.9.3.6).
+    fn put_string<W: Sink>(&mut self, text: &[u8], width: i32, writer: &mut W) -> Result<(), Stop>
+        requires { W.failures writer.old < 2 ^ 64 - 1 }
+        ensures only { IsOkUnless result Stop.WriteFailed }
+        ensures failures { W.failures writer.new ≡ W.failures writer.old + failures_told result }
+        ensures bytes { PassesOrLoses result (told (W.contents writer.old) self.old)
+            (told (W.contents writer.new) self.new) (words.string_text text.now width) }
+    {
+        let shown = text.len().min(places_of(width));
+        self.put_after_blanks(blanks_before(text.len(), width), &text[..shown], writer)
     }
 
     /// What it holds goes out, if it holds anything.
@@ -141,10 +187,14 @@ fn write_all<W: Sink>(piece: &[u8], writer: &mut W) -> Result<(), Stop>
 
 /// How many blanks stand before a text of this length in so many places.
 fn blanks_before(length: usize, width: i32) -> usize
-    ensures { result ≡ blanks_of length width }
+    ensures { result ≡ words.blanks_of length width }
 {
-    match usize::try_from(width) {
-        Ok(places) => places.saturating_sub(length),
-        Err(_) => 0,
-    }
+    places_of(width).saturating_sub(length)
+}
+
+/// How many places a width has: none where it is below 1.
+fn places_of(width: i32) -> usize
+    ensures { result ≡ words.places_of width }
+{
+    usize::try_from(width).unwrap_or(0)
 }

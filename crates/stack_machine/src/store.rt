@@ -2,7 +2,9 @@ ghost use Rattle.std.specs.Prelude.{◌≡◌, ◌+◌, ◌-◌, ◌<◌, ◌≤
 ghost use Rattle.stack_machine.specs.declared.cell.Cell.TheVariants.{Undefined};
 ghost use Rattle.std.specs.List.{list_all};
 ghost use Rattle.stack_machine.specs.Frames as frames;
+ghost use Rattle.stack_machine.specs.Operators.{of_one, of_two};
 
+use crate::arithmetic::{Dyadic, Monadic, is_true, modulo, product, quotient};
 use crate::cell::Cell;
 use crate::stop::MachineFault;
 use pcode_assembler::instr::Instr;
@@ -96,9 +98,24 @@ impl Store {
             Instr::LoadConstant { value } => self.load_constant(value),
             Instr::Load { level, offset } => self.load(level, offset),
             Instr::Store { level, offset } => self.store(level, offset),
-            Instr::Add => self.add(),
-            Instr::Subtract => self.subtract(),
-            Instr::Negate => self.negate(),
+            Instr::Add => self.on_two(Dyadic::Add),
+            Instr::Subtract => self.on_two(Dyadic::Subtract),
+            Instr::Multiply => self.on_two(Dyadic::Multiply),
+            Instr::Divide => self.divide(),
+            Instr::Modulo => self.modulo(),
+            Instr::Negate => self.on_one(Monadic::Negate),
+            Instr::Absolute => self.on_one(Monadic::Absolute),
+            Instr::Square => self.on_one(Monadic::Square),
+            Instr::Odd => self.on_one(Monadic::Odd),
+            Instr::Complement => self.on_one(Monadic::Complement),
+            Instr::Both => self.on_two(Dyadic::Both),
+            Instr::Either => self.on_two(Dyadic::Either),
+            Instr::Equal => self.on_two(Dyadic::Equal),
+            Instr::NotEqual => self.on_two(Dyadic::NotEqual),
+            Instr::Less => self.on_two(Dyadic::Less),
+            Instr::LessOrEqual => self.on_two(Dyadic::LessOrEqual),
+            Instr::Greater => self.on_two(Dyadic::Greater),
+            Instr::GreaterOrEqual => self.on_two(Dyadic::GreaterOrEqual),
             _ => Err(MachineFault::OutOfBounds),
         }
     }
@@ -139,39 +156,53 @@ impl Store {
         Ok(())
     }
 
-    /// `adi`
-    fn add(&mut self) -> Result<(), MachineFault>
-        ensures value { Acts result (view self.new) (frames.add (view self.old)) }
-        ensures size { self.new.size ≡ self.old.size }
-    {
-        self.has(2)?;
-        self.has_room_after(2)?;
-        let (left, right) = self.top_two()?;
-        self.replace(2, Cell::Number(left.wrapping_add(right)));
-        Ok(())
-    }
-
-    /// `sbi`
-    fn subtract(&mut self) -> Result<(), MachineFault>
-        ensures value { Acts result (view self.new) (frames.subtract (view self.old)) }
-        ensures size { self.new.size ≡ self.old.size }
-    {
-        self.has(2)?;
-        self.has_room_after(2)?;
-        let (left, right) = self.top_two()?;
-        self.replace(2, Cell::Number(left.wrapping_sub(right)));
-        Ok(())
-    }
-
-    /// `ngi`
-    fn negate(&mut self) -> Result<(), MachineFault>
-        ensures value { Acts result (view self.new) (frames.negate (view self.old)) }
+    /// A number gives way to what the operator gives of it.
+    fn on_one(&mut self, operator: Monadic) -> Result<(), MachineFault>
+        ensures value { Acts result (view self.new) (frames.on_one (of_one operator) (view self.old)) }
         ensures size { self.new.size ≡ self.old.size }
     {
         self.has(1)?;
         self.has_room_after(1)?;
         let value = self.top()?;
-        self.replace(1, Cell::Number(value.wrapping_neg()));
+        self.replace(1, Cell::Number(operator.of(value)));
+        Ok(())
+    }
+
+    /// Two numbers give way to what the operator gives of them.
+    fn on_two(&mut self, operator: Dyadic) -> Result<(), MachineFault>
+        ensures value { Acts result (view self.new) (frames.on_two (of_two operator) (view self.old)) }
+        ensures size { self.new.size ≡ self.old.size }
+    {
+        self.has(2)?;
+        self.has_room_after(2)?;
+        let (left, right) = self.top_two()?;
+        self.replace(2, Cell::Number(operator.of(left, right)));
+        Ok(())
+    }
+
+    /// `dvi`
+    fn divide(&mut self) -> Result<(), MachineFault>
+        ensures value { Acts result (view self.new) (frames.divide (view self.old)) }
+        ensures size { self.new.size ≡ self.old.size }
+    {
+        self.has(2)?;
+        self.has_room_after(2)?;
+        let (left, right) = self.top_two()?;
+        let value = quotient(left, right)?;
+        self.replace(2, Cell::Number(value));
+        Ok(())
+    }
+
+    /// `mod`
+    fn modulo(&mut self) -> Result<(), MachineFault>
+        ensures value { Acts result (view self.new) (frames.modulo (view self.old)) }
+        ensures size { self.new.size ≡ self.old.size }
+    {
+        self.has(2)?;
+        self.has_room_after(2)?;
+        let (left, right) = self.top_two()?;
+        let value = modulo(left, right)?;
+        self.replace(2, Cell::Number(value));
         Ok(())
     }
 
@@ -194,6 +225,15 @@ impl Store {
         self.has(1)?;
         let value = self.top()?;
         Ok(low <= value && value <= high)
+    }
+
+    /// `ckz`: whether the number on top isn't zero.
+    pub fn is_not_zero(&self) -> Result<bool, MachineFault>
+        ensures { result ≡ frames.top_is_not_zero (view self.now) }
+    {
+        self.has(1)?;
+        let value = self.top()?;
+        Ok(is_true(value))
     }
 
     /// `ckd`: whether each of the topmost cells is defined.
@@ -222,6 +262,24 @@ impl Store {
         self.has(2)?;
         let (left, right) = self.top_two()?;
         Ok(fits(i64::from(left) - i64::from(right)))
+    }
+
+    /// `ckm`: whether the product of the topmost two numbers is an integer.
+    pub fn product_fits(&self) -> Result<bool, MachineFault>
+        ensures { result ≡ frames.product_is_integer (view self.now) }
+    {
+        self.has(2)?;
+        let (left, right) = self.top_two()?;
+        Ok(fits(product(left, right)))
+    }
+
+    /// `ckq`: whether the square of the number on top is an integer.
+    pub fn square_fits(&self) -> Result<bool, MachineFault>
+        ensures { result ≡ frames.square_is_integer (view self.now) }
+    {
+        self.has(1)?;
+        let value = self.top()?;
+        Ok(fits(product(value, value)))
     }
 
     /// A fault where one of the topmost cells, so many, is one of the frame's links.
