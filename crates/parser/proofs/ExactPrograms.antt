@@ -25,9 +25,8 @@ use Rattle.parser.specs.Rules.{BeginsNames, BeginsParameters, BeginsGroup, Begin
 use Rattle.parser.specs.Reading.{next_kind, Anything, NoNext, Next, BeginsStatementPart, ReadsEach}
 use Rattle.parser.specs.Syntax.{most, IsTreeOf, IsRefused}
 use Rattle.parser.proofs.Exact.{parted, begins, same_first}
-use Rattle.parser.proofs.Lists.{and_left, and_right}
+use Rattle.parser.proofs.Lists.{and_left, and_right, length_map}
 use Rattle.parser.proofs.Led.{led, list_begins, led_next, led_some, led_ends}
-use Rattle.parser.proofs.Statements.{length_map}
 
 -- what holds where no token was taken
 pub not_taken : {P : Type 0} (o : Option Place) (some : Bool) → some ≡ is_some o → some ≡ false → IfNone o P → P

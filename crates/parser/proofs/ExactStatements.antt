@@ -1,5 +1,5 @@
 -- The rules of statements read each spelling of their form: by the first token, form by form.
-use Rattle.std.proofs.Common.{◌≡◌, ℕ, ◌+◌, ◌<◌, ◌≤◌, true, false, Bool, List, [], ◌∷◌, ◌++◌, map, length, Option, Some, None, is_some, IfNone, Result, Ok, refl, subst, sym, ap, ◌∙◌, arith}
+use Rattle.std.proofs.Common.{◌≡◌, ℕ, ◌+◌, ◌<◌, ◌≤◌, true, Bool, List, [], ◌∷◌, ◌++◌, map, length, Some, Result, Ok, refl, subst, sym, ap, ◌∙◌, arith}
 use Rattle.std.specs.List.{list_all}
 use Rattle.lexer.specs.declared.place.Place.{Place}
 use Rattle.lexer.specs.declared.token.Kind.{Kind}
@@ -9,93 +9,27 @@ use Rattle.lexer.specs.declared.token.Token.{Token}
 use Rattle.lexer.specs.declared.token.Word.TheVariants as word
 use Rattle.parser.specs.declared.fault.ParseFault.{ParseFault}
 use Rattle.parser.specs.declared.cursor.Cursor.{Cursor}
-use Rattle.parser.specs.declared.tree.Expr.{Expr}
 use Rattle.parser.specs.declared.tree.Stmt.{Stmt}
 use Rattle.parser.specs.declared.tree.Stmt.TheOpen as stmt
 use Rattle.parser.specs.declared.tree.Stmt.TheViews.{out-Stmt, roll-out-Stmt}
 use Rattle.parser.specs.declared.tree.Stmt.TheFolds.{map-Stmt, fold-roll-Stmt}
-use Rattle.parser.specs.Spelling.{Lexeme, Spelling, Reads, expr_spelling, stmt_spelling, of_kind, of_kind_at, mark, word_symbol, identifier, separated, in_parentheses}
+use Rattle.parser.specs.Spelling.{Lexeme, Spelling, Reads, expr_spelling, actual_spelling, stmt_spelling, of_kind, of_kind_at, mark, word_symbol, identifier, separated, in_parentheses}
 use Rattle.parser.specs.Spelling as spell
-use Rattle.parser.specs.WellFormed.{sum_level, is_expression, is_statement, has_items}
+use Rattle.parser.specs.WellFormed.{relation_level, is_statement, has_items}
 use Rattle.parser.specs.WellFormed as form
-use Rattle.parser.specs.Nesting.{expr_levels, stmt_levels, deepest}
+use Rattle.parser.specs.Nesting.{stmt_levels, deepest}
 use Rattle.parser.specs.Nesting as nest
-use Rattle.parser.specs.Reading.{next_kind, EndsSum, EndsStmt, EndsStatements, semicolon, end, Closes, NoNext, ReadTo, ReadsEach}
-use Rattle.parser.specs.Rules.{BeginsActual, BeginsActualList, BeginsActuals, BeginsStmt, BeginsStatements, BeginsCompound}
+use Rattle.parser.specs.Reading.{next_kind, Ends, EndsStmt, EndsStatements, semicolon, end, ReadTo, ReadsEach}
+use Rattle.parser.specs.Rules.{BeginsStmt, BeginsStatements, BeginsCompound}
 use Rattle.parser.proofs.Lists.{and_left, and_right, all_mapped}
-use Rattle.parser.proofs.Exact.{parted, begins, same_first, no_sign}
+use Rattle.parser.proofs.Exact.{parted, begins, same_first}
+use Rattle.parser.proofs.ExactChains.{semicolon_ends, end_ends}
 use Rattle.parser.proofs.ExactLists.{Parts, PartsLeft, PartThenOthers, ComesBehind, one_more, no_more, parts_begin, parts_go_on, comes_behind}
 
--- no token was taken where the call answered none
-pub not_taken : (a b : Cursor) (k : Kind) (o : Option Place) → is_some o ≡ false → IfNone o (b ≡ a) → IfNone o (¬ (next_kind a.rest.now ≡ Some k)) → (b ≡ a) × ¬ (next_kind a.rest.now ≡ Some k)
-not_taken a b k None none kept missed = (kept, missed)
-not_taken a b k (Some place) none kept missed = cc
-
--- ---- actuals
-
--- the parts of a list of actuals
-abbrev pub actual_list_parts : Parts Expr
-actual_list_parts = record { symbol = symbol.Comma; spelling = expr_spelling; well = is_expression; levels = λ e. 1 + expr_levels e }
-
--- what is left of each list of actuals that may stand there
-abbrev pub ActualsListLeft : ℕ → List Token → List Token → Type 0
-ActualsListLeft levels start now = (actuals : List Expr) (others : List Token) → BeginsActualList levels start others actuals → Closes others → PartsLeft Expr actual_list_parts levels now others
-
--- a list of actuals begins with one
-pub actuals_begin : (levels : ℕ) (a c : List Token) (actuals : List Expr) → BeginsActualList levels a c actuals → PartThenOthers Expr actual_list_parts levels a c
-actuals_begin levels a c actuals h = parts_begin Expr actual_list_parts levels a c actuals h.list.some h.list.spelled h.formed h.nests
-
-no_comma : (c : List Token) → Closes c → ¬ (next_kind c ≡ Some (kind.Symbol symbol.Comma))
-no_comma c closes e = let no : Some (kind.Symbol symbol.CloseParenthesis) ≡ Some (kind.Symbol symbol.Comma) = sym closes ∙ e in cc
-
--- behind a comma stands one more actual
-pub one_more_actual : (levels : ℕ) (p : Place) (a b c : List Token) → Reads a (of_kind_at (kind.Symbol symbol.Comma) p ∷ []) b → Closes c → PartsLeft Expr actual_list_parts levels a c → PartThenOthers Expr actual_list_parts levels b c
-one_more_actual levels p a b c k closes h = parts_go_on Expr actual_list_parts levels p a b c k (no_comma c closes) h
-
--- before a comma or the closing parenthesis no sum goes on
-actual_ends : (a c : List Token) → ComesBehind symbol.Comma a c → Closes c → EndsSum a
-actual_ends a c (one_more e) closes = no_sign (kind.Symbol symbol.Comma) a e (λ x. cc) (λ x. cc)
-actual_ends a c (no_more e) closes = no_sign (kind.Symbol symbol.CloseParenthesis) a (e ∙ closes) (λ x. cc) (λ x. cc)
-
--- what the rule of actuals answers there
-pub actual_answer : (levels : ℕ) (a b : Cursor) (others : List Token) (answer : Result Expr ParseFault) → (p : PartThenOthers Expr actual_list_parts levels a.rest.now others) → Closes others
-    → ReadsEach (BeginsActual levels) EndsSum a b answer → ReadTo p.middle b answer
-actual_answer levels a b others answer p closes reads =
-    reads p.first p.middle (record { spelled = p.spelled; formed = p.formed; nests = p.nests }) (actual_ends p.middle others (comes_behind Expr actual_list_parts levels p.middle others p.left) closes)
-
--- behind the first actual
-pub actual_list_begins : (levels : ℕ) (a b : Cursor) (e : Expr) → ReadsEach (BeginsActual levels) EndsSum a b (Ok e) → ActualsListLeft levels a.rest.now b.rest.now
-actual_list_begins levels a b e reads actuals others h closes =
-    let p = actuals_begin levels a.rest.now others actuals h in
-    subst (λ x. PartsLeft Expr actual_list_parts levels x others) (sym (actual_answer levels a b others (Ok e) p closes reads)) p.left
-
--- behind one more
-pub actual_list_left : (levels : ℕ) (p : Place) (start : List Token) (a b c : Cursor) (e : Expr) → Reads a.rest.now (of_kind_at (kind.Symbol symbol.Comma) p ∷ []) b.rest.now
-    → ReadsEach (BeginsActual levels) EndsSum b c (Ok e) → ActualsListLeft levels start a.rest.now → ActualsListLeft levels start c.rest.now
-actual_list_left levels p start a b c e k reads left actuals others h closes =
-    let q = one_more_actual levels p a.rest.now b.rest.now others k closes (left actuals others h closes) in
-    subst (λ x. PartsLeft Expr actual_list_parts levels x others) (sym (actual_answer levels b c others (Ok e) q closes reads)) q.left
-
--- what stands behind the opening parenthesis of actuals
-pub record OpenedActuals (levels : ℕ) (a c : List Token) (actuals : List Expr) : Type 0 where
-  pub middle : List Token
-  pub list : BeginsActualList levels a middle actuals
-  pub closed : Reads middle (mark symbol.CloseParenthesis ∷ []) c
-  pub closes : Closes middle
-
--- in them stands a list, and a closing parenthesis behind it
-pub opened_actuals : (levels : ℕ) (p : Place) (a b c : List Token) (actuals : List Expr) → Reads a (of_kind_at (kind.Symbol symbol.OpenParenthesis) p ∷ []) b → NoNext (kind.Symbol symbol.OpenParenthesis) c
-    → BeginsActuals levels a c actuals → OpenedActuals levels b c actuals
-opened_actuals levels p a b c [] k ends h = absurd (ends (ap next_kind (sym h.spelled) ∙ begins (of_kind_at (kind.Symbol symbol.OpenParenthesis) p) [] a b k))
-opened_actuals levels p a b c (e ∷ es) k ends h =
-    let r = parted (separated symbol.Comma (map expr_spelling (e ∷ es))) (mark symbol.CloseParenthesis ∷ []) b c
-    (same_first (of_kind_at (kind.Symbol symbol.OpenParenthesis) p) (mark symbol.OpenParenthesis) _ a b c k h.spelled).1 in
-    record {
-      middle = r.0;
-      list = record { list = record { some = omega arith; spelled = r.1 }; formed = h.formed; nests = h.nests };
-      closed = r.2;
-      closes = begins (mark symbol.CloseParenthesis) [] r.0 c r.2;
-    }
+-- what ends a statement ends its expression
+pub ends_value : (c : List Token) → EndsStmt c → Ends relation_level c
+ends_value c (semicolon h) = semicolon_ends relation_level c h (omega arith)
+ends_value c (end h) = end_ends relation_level c h (omega arith)
 
 -- ---- compound statements
 
@@ -126,7 +60,7 @@ compounded_of levels inner a c stmt.Empty less e ends s f n = absurd (no_begin c
 compounded_of levels inner a c (stmt.Assign m p v) less e ends s f n =
     let no : Some kind.Identifier ≡ Some (kind.Word word.Begin) = sym (begins (identifier m) (of_kind_at (kind.Symbol symbol.Becomes) p ∷ expr_spelling v) a c s) ∙ e in cc
 compounded_of levels inner a c (stmt.Call m v) less e ends s f n =
-    let no : Some kind.Identifier ≡ Some (kind.Word word.Begin) = sym (begins (identifier m) (in_parentheses (map expr_spelling v.items)) a c s) ∙ e in cc
+    let no : Some kind.Identifier ≡ Some (kind.Word word.Begin) = sym (begins (identifier m) (in_parentheses (map actual_spelling v.items)) a c s) ∙ e in cc
 compounded_of levels inner a c (stmt.Compound v) less e ends s f n =
     let r = with_last_place (kind.Word word.End) (word_symbol word.Begin ∷ separated symbol.Semicolon (map stmt_spelling v.items)) a c s in
     let some = and_left (has_items (map is_statement v.items)) (list_all (λ b. b) (map is_statement v.items)) f in

@@ -1,5 +1,8 @@
 pub mod Equations
 pub mod Exact
+pub mod ExactActuals
+pub mod ExactChains
+pub mod ExactExpressions
 pub mod ExactLists
 pub mod ExactPrograms
 pub mod ExactStatements

@@ -1,5 +1,5 @@
 -- Lists that grow by one at the end.
-use Rattle.std.proofs.Common.{◌≡◌, ℕ, ◌≤◌, max, Bool, true, false, ◌&&◌, List, [], ◌∷◌, ◌++◌, map, fold, refl, ap, arith}
+use Rattle.std.proofs.Common.{◌≡◌, ℕ, ◌≤◌, max, Bool, true, false, ◌&&◌, List, [], ◌∷◌, ◌++◌, map, fold, length, refl, ap, arith}
 use Rattle.std.specs.List.{list_all}
 use Rattle.parser.specs.Nesting.{deepest}
 
@@ -35,3 +35,7 @@ deepest_push n xs x h k = let e = fold_max_push 0 xs x in omega arith
 pub all_mapped : {A : Type 0} (f : A → Bool) (xs : List A) → list_all (λ b. b) (map f xs) ≡ list_all f xs
 all_mapped f [] = refl
 all_mapped f (x ∷ xs) = ap (λ b. f x && b) (all_mapped f xs)
+
+pub length_map : {A B : Type 0} (f : A → B) (xs : List A) → length (map f xs) ≡ length xs
+length_map f [] = refl
+length_map f (x ∷ xs) = let e = length_map f xs in omega arith

@@ -1,5 +1,5 @@
 -- What the rules of lists and statements give.
-use Rattle.std.proofs.Common.{◌≡◌, ℕ, ◌+◌, ◌<◌, ◌≤◌, true, List, [], ◌∷◌, ◌++◌, length, map, Option, Some, None, is_some, Bool, not, false, IfSome, OnSome, refl, subst, sym, ap, ◌∙◌, arith}
+use Rattle.std.proofs.Common.{◌≡◌, ℕ, ◌+◌, ◌<◌, ◌≤◌, true, List, [], ◌∷◌, ◌++◌, length, map, Option, Some, None, is_some, Bool, not, false, IfSome, OnSome, subst, sym, ap, ◌∙◌, arith}
 use Rattle.std.specs.List.{list_all}
 use Rattle.std.specs.declared.alloc.Global.{Global}
 use Rattle.std.specs.declared.vec.Vec.{Vec}
@@ -11,16 +11,16 @@ use Rattle.lexer.specs.declared.token.Symbol.{Symbol}
 use Rattle.lexer.specs.declared.token.Symbol.TheVariants as symbol
 use Rattle.lexer.specs.declared.token.Word.TheVariants as word
 use Rattle.parser.specs.declared.cursor.Cursor.{Cursor}
-use Rattle.parser.specs.declared.tree.Expr.{Expr}
+use Rattle.parser.specs.declared.tree.Actual.{Actual}
 use Rattle.parser.specs.declared.tree.Stmt.{Stmt}
 use Rattle.parser.specs.declared.tree.Stmt.TheVariants as statement
 use Rattle.parser.specs.Cursor.{Took}
-use Rattle.parser.specs.Spelling.{Spelling, expr_spelling, stmt_spelling, of_kind_at, mark, word_symbol, separated, in_parentheses}
-use Rattle.parser.specs.WellFormed.{is_expression, is_statement, has_items}
-use Rattle.parser.specs.Nesting.{expr_levels, stmt_levels, deepest}
+use Rattle.parser.specs.Spelling.{Spelling, actual_spelling, stmt_spelling, of_kind_at, mark, word_symbol, separated, in_parentheses}
+use Rattle.parser.specs.WellFormed.{is_actual, is_statement, has_items}
+use Rattle.parser.specs.Nesting.{actual_levels, stmt_levels, deepest}
 use Rattle.parser.specs.Rules.{Read, BeginsList, BeginsActual, BeginsActualList, BeginsActuals, BeginsStmt, BeginsStatements, BeginsCompound}
 use Rattle.parser.proofs.Equations.{spelling-Compound, form-Compound, levels-Compound}
-use Rattle.parser.proofs.Lists.{map_push, all_push, deepest_push, all_mapped, and_true}
+use Rattle.parser.proofs.Lists.{map_push, all_push, deepest_push, all_mapped, and_true, length_map}
 use Rattle.parser.proofs.Reading.{both, without_place, without_last_place, separated_more, in_parentheses_some}
 
 -- a token was taken where the call answered its place
@@ -36,10 +36,6 @@ fewer m n (Some place) h t = t
 pub taken_if : (a b : Cursor) (k : Kind) (o : Option Place) (none : Bool) → is_some o ≡ not none → none ≡ false → IfSome o (λ place. Took a b (of_kind_at k place ∷ [])) → (place : Place) × Took a b (of_kind_at k place ∷ [])
 taken_if a b k None none e h t = cc
 taken_if a b k (Some place) none e h t = (place, t)
-
-pub length_map : {A B : Type 0} (f : A → B) (xs : List A) → length (map f xs) ≡ length xs
-length_map f [] = refl
-length_map f (x ∷ xs) = let e = length_map f xs in omega arith
 
 pub some_grown : {A : Type 0} (xs : List A) (x : A) → 0 < length (xs ++ x ∷ [])
 some_grown [] x = omega arith
@@ -60,15 +56,13 @@ list_goes_on m a b c d parts grown p last given comma taken e = record {
 }
 
 -- one more actual
-pub actuals_go_on : (levels : ℕ) (a b c d : Cursor) (actuals grown : List Expr) (p : Place) (e : Expr)
-    → Read (BeginsActualList levels) a b actuals → Took b c (of_kind_at (kind.Symbol symbol.Comma) p ∷ []) → Read (BeginsActual levels) c d e → grown ≡ actuals ++ e ∷ [] → Read (BeginsActualList levels) a d grown
-actuals_go_on levels a b c d actuals grown p e list comma given is =
-    let level : Expr → ℕ = λ x. 1 + expr_levels x in
-    record {
-      list = list_goes_on symbol.Comma a b c d (map expr_spelling actuals) (map expr_spelling grown) p (expr_spelling e) list.list comma given.spelled (ap (map expr_spelling) is ∙ map_push expr_spelling actuals e);
-      formed = subst (λ x. list_all is_expression x ≡ true) (sym is) (all_push is_expression actuals e list.formed given.formed);
-      nests = subst (λ x. deepest x ≤ levels) (sym (ap (map level) is ∙ map_push level actuals e)) (deepest_push levels (map level actuals) (level e) list.nests given.nests);
-    }
+pub actuals_go_on : (levels : ℕ) (a b c d : Cursor) (actuals grown : List Actual) (p : Place) (x : Actual)
+    → Read (BeginsActualList levels) a b actuals → Took b c (of_kind_at (kind.Symbol symbol.Comma) p ∷ []) → Read (BeginsActual levels) c d x → grown ≡ actuals ++ x ∷ [] → Read (BeginsActualList levels) a d grown
+actuals_go_on levels a b c d actuals grown p x list comma given is = record {
+  list = list_goes_on symbol.Comma a b c d (map actual_spelling actuals) (map actual_spelling grown) p (actual_spelling x) list.list comma given.spelled (ap (map actual_spelling) is ∙ map_push actual_spelling actuals x);
+  formed = subst (λ xs. list_all is_actual xs ≡ true) (sym is) (all_push is_actual actuals x list.formed given.formed);
+  nests = subst (λ xs. deepest xs ≤ levels) (sym (ap (map actual_levels) is ∙ map_push actual_levels actuals x)) (deepest_push levels (map actual_levels actuals) (actual_levels x) list.nests given.nests);
+}
 
 -- a list in its parentheses
 pub in_their_parentheses : (a b c d : Cursor) (p q : Place) (parts : List Spelling)
@@ -79,10 +73,10 @@ in_their_parentheses a b c d p q parts opened list closed =
     (both (separated symbol.Comma parts) (mark symbol.CloseParenthesis ∷ []) b.rest.now c.rest.now d.rest.now list.spelled (without_place (kind.Symbol symbol.CloseParenthesis) q [] c.rest.now d.rest.now closed)))
 
 -- actuals in their parentheses
-pub actuals_closed : (levels : ℕ) (a b c d : Cursor) (p q : Place) (actuals : List Expr)
+pub actuals_closed : (levels : ℕ) (a b c d : Cursor) (p q : Place) (actuals : List Actual)
     → Took a b (of_kind_at (kind.Symbol symbol.OpenParenthesis) p ∷ []) → Read (BeginsActualList levels) b c actuals → Took c d (of_kind_at (kind.Symbol symbol.CloseParenthesis) q ∷ []) → Read (BeginsActuals levels) a d actuals
 actuals_closed levels a b c d p q actuals opened list closed = record {
-  spelled = in_their_parentheses a b c d p q (map expr_spelling actuals) opened list.list closed;
+  spelled = in_their_parentheses a b c d p q (map actual_spelling actuals) opened list.list closed;
   formed = list.formed;
   nests = list.nests;
 }

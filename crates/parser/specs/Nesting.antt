@@ -1,13 +1,15 @@
 -- How deep a tree nests. The program's own compound statement is the first level. Each statement in a compound
--- statement, each actual and each expression in parentheses is one level below what it stands in.
+-- statement, each actual with its width, each expression in parentheses and each operand of `not` is one level below what
+-- it stands in.
 -- A chain of operators is a list and no nesting. The standard sets no bound.
-use Rattle.std.specs.Prelude.{ℕ, ◌+◌, List, map, max, fold}
+use Rattle.std.specs.Prelude.{ℕ, ◌+◌, List, Option, Some, None, map, max, fold}
 use Rattle.parser.specs.declared.tree.Program.{Program}
 use Rattle.parser.specs.declared.tree.Expr.{Expr}
 use Rattle.parser.specs.declared.tree.Link.{Link}
-use Rattle.parser.specs.declared.tree.Expr.TheOpen.{Expr-F}
+use Rattle.parser.specs.declared.tree.Actual.{Actual}
+use Rattle.parser.specs.declared.tree.Expr.TheOpen.{Expr-F, Actual-F}
 use Rattle.parser.specs.declared.tree.Expr.TheOpen as expr
-use Rattle.parser.specs.declared.tree.Expr.TheFolds.{fold-Expr, fold-Link}
+use Rattle.parser.specs.declared.tree.Expr.TheFolds.{fold-Expr, fold-Link, fold-Actual}
 use Rattle.parser.specs.declared.tree.Stmt.{Stmt}
 use Rattle.parser.specs.declared.tree.Stmt.TheOpen.{Stmt-F}
 use Rattle.parser.specs.declared.tree.Stmt.TheOpen as stmt
@@ -17,27 +19,42 @@ use Rattle.parser.specs.declared.tree.Stmt.TheFolds.{fold-Stmt}
 abbrev pub deepest : List ℕ → ℕ
 deepest = fold max 0
 
+-- the levels in a width, where there is one
+abbrev pub width_levels : Option ℕ → ℕ
+width_levels None = 0
+width_levels (Some width) = width
+
 -- one layer of an expression: the levels in it
-abbrev pub expr_step : Expr-F ℕ ℕ → ℕ
+abbrev pub expr_step : Expr-F ℕ ℕ ℕ → ℕ
 expr_step (expr.Number value place) = 0
 expr_step (expr.Name name) = 0
+expr_step (expr.Call name actuals) = deepest actuals.items
 expr_step (expr.Parenthesized place inner) = 1 + inner.value
+expr_step (expr.Not place operand) = 1 + operand.value
 expr_step (expr.Signed s place operand) = operand.value
-expr_step (expr.Sum first rest) = max first.value (deepest rest.items)
+expr_step (expr.Chain first rest) = max first.value (deepest rest.items)
+
+-- an actual is a level of its own
+abbrev pub actual_step : Actual-F ℕ ℕ ℕ → ℕ
+actual_step actual = 1 + max actual.value (width_levels actual.width)
 
 -- the levels in an expression, its own left out
 abbrev pub expr_levels : Expr → ℕ
-expr_levels = fold-Expr ℕ ℕ expr_step (λ link. link.operand)
+expr_levels = fold-Expr ℕ ℕ ℕ expr_step actual_step (λ link. link.operand)
 
--- the levels in the term behind an operator
+-- the levels in the operand behind an operator
 abbrev pub link_levels : Link → ℕ
-link_levels = fold-Link ℕ ℕ expr_step (λ link. link.operand)
+link_levels = fold-Link ℕ ℕ ℕ expr_step actual_step (λ link. link.operand)
+
+-- the levels of an actual, its own among them
+abbrev pub actual_levels : Actual → ℕ
+actual_levels = fold-Actual ℕ ℕ ℕ expr_step actual_step (λ link. link.operand)
 
 -- one layer of a statement: the levels in it and its own
 abbrev pub stmt_step : Stmt-F ℕ → ℕ
 stmt_step stmt.Empty = 1
 stmt_step (stmt.Assign name becomes value) = 1 + expr_levels value
-stmt_step (stmt.Call name actuals) = 1 + deepest (map (λ actual. 1 + expr_levels actual) actuals.items)
+stmt_step (stmt.Call name actuals) = 1 + deepest (map actual_levels actuals.items)
 stmt_step (stmt.Compound statements) = 1 + deepest statements.items
 
 -- the levels of a statement, its own among them

@@ -1,7 +1,7 @@
 -- What a rule answers where the tokens that are left begin with a spelling of its form: it reads this spelling and no
 -- more, or memory runs out. What stands behind the form may not go on with it.
 -- This doesn't say what a rule answers to other tokens.
-use Rattle.std.specs.Prelude.{◌≡◌, List, [], ◌∷◌, Option, Some, None, Result, MatchResult}
+use Rattle.std.specs.Prelude.{◌≡◌, ℕ, ◌≤◌, List, [], ◌∷◌, Option, Some, None, Result, MatchResult}
 use Rattle.lexer.specs.declared.place.Place.{Place}
 use Rattle.lexer.specs.declared.token.Kind.{Kind}
 use Rattle.lexer.specs.declared.token.Kind.TheVariants as kind
@@ -12,7 +12,9 @@ use Rattle.parser.specs.declared.fault.ParseFault.{ParseFault}
 use Rattle.parser.specs.declared.fault.ParseFault.TheVariants.{Memory}
 use Rattle.parser.specs.declared.cursor.Cursor.{Cursor}
 use Rattle.parser.specs.declared.tree.Sign.{Sign}
-use Rattle.parser.specs.Spelling.{sign}
+use Rattle.parser.specs.declared.tree.Operator.{Operator}
+use Rattle.parser.specs.Spelling.{sign, operator_kind}
+use Rattle.parser.specs.WellFormed.{operator_level}
 
 -- the kind of the first token
 abbrev pub next_kind : List Token → Option Kind
@@ -31,10 +33,6 @@ ReadsEach {A} Begins Ends old new answer = (found : A) (others : List Token) →
 abbrev pub Anything : List Token → Type 0
 Anything others = Unit {0}
 
--- no sign comes next, with which a sum would go on
-abbrev pub EndsSum : List Token → Type 0
-EndsSum others = (s : Sign) (place : Place) → ¬ (next_kind others ≡ Some (sign s place).kind)
-
 -- no token of this kind comes next
 abbrev pub NoNext : Kind → List Token → Type 0
 NoNext k others = ¬ (next_kind others ≡ Some k)
@@ -42,6 +40,24 @@ NoNext k others = ¬ (next_kind others ≡ Some k)
 -- a token of this kind comes next
 abbrev pub Next : Kind → List Token → Type 0
 Next k others = next_kind others ≡ Some k
+
+-- no sign comes next
+abbrev pub NoSign : List Token → Type 0
+NoSign others = (s : Sign) (place : Place) → ¬ (next_kind others ≡ Some (sign s place).kind)
+
+-- no operator of this level comes next
+abbrev pub NoOperator : ℕ → List Token → Type 0
+NoOperator level others = (o : Operator) → operator_level o ≡ level → ¬ (next_kind others ≡ Some (operator_kind o))
+
+-- what may stand behind an expression of at least this level: nothing with which it, or its last name, would go on
+pub record Ends (level : ℕ) (others : List Token) : Type 0 where
+  pub operators : (o : Operator) → level ≤ operator_level o → ¬ (next_kind others ≡ Some (operator_kind o))
+  pub call : NoNext (kind.Symbol symbol.OpenParenthesis) others
+
+-- what comes next behind an actual: a comma or the closing parenthesis of the list
+pub data EndsActual (others : List Token) : Type 0 where
+  comma : Next (kind.Symbol symbol.Comma) others → EndsActual others
+  parenthesis : Next (kind.Symbol symbol.CloseParenthesis) others → EndsActual others
 
 -- the closing parenthesis of a list comes next
 abbrev pub Closes : List Token → Type 0

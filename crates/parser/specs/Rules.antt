@@ -12,14 +12,15 @@ use Rattle.lexer.specs.declared.token.Word.TheVariants as word
 use Rattle.parser.specs.declared.cursor.Cursor.{Cursor}
 use Rattle.parser.specs.declared.tree.Expr.{Expr}
 use Rattle.parser.specs.declared.tree.Link.{Link}
+use Rattle.parser.specs.declared.tree.Actual.{Actual}
 use Rattle.parser.specs.declared.tree.Stmt.{Stmt}
 use Rattle.parser.specs.declared.tree.Name.{Name}
 use Rattle.parser.specs.declared.tree.VariableGroup.{VariableGroup}
 use Rattle.parser.specs.declared.tree.Block.{Block}
 use Rattle.parser.specs.declared.tree.Program.{Program}
-use Rattle.parser.specs.Spelling.{Spelling, Reads, expr_spelling, link_spelling, stmt_spelling, joined, identifiers, group_spelling, variables_spelling, block_spelling, program_spelling, separated, in_parentheses, word_symbol, of_kind_at}
-use Rattle.parser.specs.WellFormed.{expr_form, link_form, fits, signed_level, sum_level, term_level, is_expression, is_statement, is_group, is_block, is_program}
-use Rattle.parser.specs.Nesting.{expr_levels, link_levels, stmt_levels, deepest, nesting}
+use Rattle.parser.specs.Spelling.{Spelling, Reads, expr_spelling, link_spelling, actual_spelling, stmt_spelling, joined, identifiers, group_spelling, variables_spelling, block_spelling, program_spelling, separated, in_parentheses, word_symbol, of_kind_at}
+use Rattle.parser.specs.WellFormed.{expr_form, link_form, fits, relation_level, first_level, is_link, is_actual, is_statement, is_group, is_block, is_program}
+use Rattle.parser.specs.Nesting.{expr_levels, link_levels, actual_levels, stmt_levels, deepest, nesting}
 
 -- a rule read this from the old state to the new one
 abbrev pub Read : {A : Type 0} → (List Token → List Token → A → Type 0) → Cursor → Cursor → A → Type 0
@@ -31,10 +32,11 @@ pub record BeginsExpr (level levels : ℕ) (tokens others : List Token) (e : Exp
   pub formed : fits level (expr_form e) ≡ true
   pub nests : expr_levels e ≤ levels
 
--- operators with their terms behind a first term
+-- a first operand with the operators and operands behind it, whatever the level of their chain
 pub record IsChain (first : Expr) (rest : List Link) (e : Expr) : Type 0 where
   pub spelled : expr_spelling e ≡ expr_spelling first ++ joined (map link_spelling rest)
-  pub formed : fits signed_level (expr_form first) ≡ true → list_all (fits term_level) (map link_form rest) ≡ true → fits sum_level (expr_form e) ≡ true
+  pub formed : (level : ℕ) → fits (first_level level) (expr_form first) ≡ true → list_all (is_link level) (map link_form rest) ≡ true
+      → (level ≡ relation_level → length rest ≤ 1) → fits level (expr_form e) ≡ true
   pub nests : expr_levels e ≡ max (expr_levels first) (deepest (map link_levels rest))
 
 -- one or more parts with a symbol between each two
@@ -43,22 +45,22 @@ pub record BeginsList (m : Symbol) (tokens others : List Token) (parts : List Sp
   pub spelled : Reads tokens (separated m parts) others
 
 -- an actual, which is a level of its own
-pub record BeginsActual (levels : ℕ) (tokens others : List Token) (e : Expr) : Type 0 where
-  pub spelled : Reads tokens (expr_spelling e) others
-  pub formed : is_expression e ≡ true
-  pub nests : 1 + expr_levels e ≤ levels
+pub record BeginsActual (levels : ℕ) (tokens others : List Token) (actual : Actual) : Type 0 where
+  pub spelled : Reads tokens (actual_spelling actual) others
+  pub formed : is_actual actual ≡ true
+  pub nests : actual_levels actual ≤ levels
 
 -- one or more actuals
-pub record BeginsActualList (levels : ℕ) (tokens others : List Token) (actuals : List Expr) : Type 0 where
-  pub list : BeginsList symbol.Comma tokens others (map expr_spelling actuals)
-  pub formed : list_all is_expression actuals ≡ true
-  pub nests : deepest (map (λ e. 1 + expr_levels e) actuals) ≤ levels
+pub record BeginsActualList (levels : ℕ) (tokens others : List Token) (actuals : List Actual) : Type 0 where
+  pub list : BeginsList symbol.Comma tokens others (map actual_spelling actuals)
+  pub formed : list_all is_actual actuals ≡ true
+  pub nests : deepest (map actual_levels actuals) ≤ levels
 
 -- actuals in parentheses, or none
-pub record BeginsActuals (levels : ℕ) (tokens others : List Token) (actuals : List Expr) : Type 0 where
-  pub spelled : Reads tokens (in_parentheses (map expr_spelling actuals)) others
-  pub formed : list_all is_expression actuals ≡ true
-  pub nests : deepest (map (λ e. 1 + expr_levels e) actuals) ≤ levels
+pub record BeginsActuals (levels : ℕ) (tokens others : List Token) (actuals : List Actual) : Type 0 where
+  pub spelled : Reads tokens (in_parentheses (map actual_spelling actuals)) others
+  pub formed : list_all is_actual actuals ≡ true
+  pub nests : deepest (map actual_levels actuals) ≤ levels
 
 -- a statement, which is a level of its own
 pub record BeginsStmt (levels : ℕ) (tokens others : List Token) (s : Stmt) : Type 0 where

@@ -13,6 +13,8 @@ use Rattle.lexer.specs.declared.token.Token.{Token}
 use Rattle.parser.specs.declared.tree.Name.{Name}
 use Rattle.parser.specs.declared.tree.Sign.{Sign}
 use Rattle.parser.specs.declared.tree.Sign.TheVariants.{Plus, Minus}
+use Rattle.parser.specs.declared.tree.Operator.{Operator}
+use Rattle.parser.specs.declared.tree.Operator.TheVariants as op
 use Rattle.parser.specs.declared.tree.TypeDenoter.{TypeDenoter}
 use Rattle.parser.specs.declared.tree.TypeDenoter.TheVariants as denoter
 use Rattle.parser.specs.declared.tree.VariableGroup.{VariableGroup}
@@ -20,9 +22,10 @@ use Rattle.parser.specs.declared.tree.Block.{Block}
 use Rattle.parser.specs.declared.tree.Program.{Program}
 use Rattle.parser.specs.declared.tree.Expr.{Expr}
 use Rattle.parser.specs.declared.tree.Link.{Link}
-use Rattle.parser.specs.declared.tree.Expr.TheOpen.{Expr-F, Link-F}
+use Rattle.parser.specs.declared.tree.Actual.{Actual}
+use Rattle.parser.specs.declared.tree.Expr.TheOpen.{Expr-F, Link-F, Actual-F}
 use Rattle.parser.specs.declared.tree.Expr.TheOpen as expr
-use Rattle.parser.specs.declared.tree.Expr.TheFolds.{fold-Expr, fold-Link}
+use Rattle.parser.specs.declared.tree.Expr.TheFolds.{fold-Expr, fold-Link, fold-Actual}
 use Rattle.parser.specs.declared.tree.Stmt.{Stmt}
 use Rattle.parser.specs.declared.tree.Stmt.TheOpen.{Stmt-F}
 use Rattle.parser.specs.declared.tree.Stmt.TheOpen as stmt
@@ -70,10 +73,29 @@ mark s = of_kind (kind.Symbol s)
 abbrev pub identifier : Name → Lexeme
 identifier name = record { kind = kind.Identifier; text = Some name.text.now; place = Some name.place }
 
--- a sign, or an operator that adds
+-- a sign
 abbrev pub sign : Sign → Place → Lexeme
 sign Plus place = of_kind_at (kind.Symbol symbol.Plus) place
 sign Minus place = of_kind_at (kind.Symbol symbol.Minus) place
+
+-- the token of an operator (6.7.2.1)
+abbrev pub operator_kind : Operator → Kind
+operator_kind op.Plus = kind.Symbol symbol.Plus
+operator_kind op.Minus = kind.Symbol symbol.Minus
+operator_kind op.Or = kind.Word word.Or
+operator_kind op.Times = kind.Symbol symbol.Times
+operator_kind op.Div = kind.Word word.Div
+operator_kind op.Mod = kind.Word word.Mod
+operator_kind op.And = kind.Word word.And
+operator_kind op.Equal = kind.Symbol symbol.Equal
+operator_kind op.NotEqual = kind.Symbol symbol.NotEqual
+operator_kind op.Less = kind.Symbol symbol.Less
+operator_kind op.Greater = kind.Symbol symbol.Greater
+operator_kind op.LessOrEqual = kind.Symbol symbol.LessOrEqual
+operator_kind op.GreaterOrEqual = kind.Symbol symbol.GreaterOrEqual
+
+abbrev pub operator : Operator → Place → Lexeme
+operator o place = of_kind_at (operator_kind o) place
 
 -- spellings one behind another
 abbrev pub joined : List Spelling → Spelling
@@ -96,33 +118,48 @@ in_parentheses (one ∷ others) =
 abbrev pub identifiers : List Name → List Spelling
 identifiers = map (λ name. identifier name ∷ [])
 
+-- a width behind its colon, where there is one
+abbrev pub width_spelling : Option Spelling → Spelling
+width_spelling None = []
+width_spelling (Some width) = mark symbol.Colon ∷ width
+
 -- one layer of an expression, its parts spelled
-abbrev pub expr_step : Expr-F Spelling Spelling → Spelling
+abbrev pub expr_step : Expr-F Spelling Spelling Spelling → Spelling
 expr_step (expr.Number value place) = of_kind_at (kind.Number value) place ∷ []
 expr_step (expr.Name name) = identifier name ∷ []
+expr_step (expr.Call name actuals) = identifier name ∷ in_parentheses actuals.items
 expr_step (expr.Parenthesized place inner) =
     of_kind_at (kind.Symbol symbol.OpenParenthesis) place ∷ inner.value ++ mark symbol.CloseParenthesis ∷ []
+expr_step (expr.Not place operand) = of_kind_at (kind.Word word.Not) place ∷ operand.value
 expr_step (expr.Signed s place term) = sign s place ∷ term.value
-expr_step (expr.Sum first rest) = first.value ++ joined rest.items
+expr_step (expr.Chain first rest) = first.value ++ joined rest.items
 
--- an operator and the term behind it
-abbrev pub link_step : Link-F Spelling Spelling → Spelling
-link_step link = sign link.operator link.place ∷ link.operand
+-- an operator and the operand behind it
+abbrev pub link_step : Link-F Spelling Spelling Spelling → Spelling
+link_step link = operator link.operator link.place ∷ link.operand
+
+-- an actual and its width
+abbrev pub actual_step : Actual-F Spelling Spelling Spelling → Spelling
+actual_step actual = actual.value ++ width_spelling actual.width
 
 -- an expression (6.7.1)
 abbrev pub expr_spelling : Expr → Spelling
-expr_spelling = fold-Expr Spelling Spelling expr_step link_step
+expr_spelling = fold-Expr Spelling Spelling Spelling expr_step actual_step link_step
 
--- an operator and its term
+-- an operator and its operand
 abbrev pub link_spelling : Link → Spelling
-link_spelling = fold-Link Spelling Spelling expr_step link_step
+link_spelling = fold-Link Spelling Spelling Spelling expr_step actual_step link_step
+
+-- an actual parameter (6.7.3, 6.9.3)
+abbrev pub actual_spelling : Actual → Spelling
+actual_spelling = fold-Actual Spelling Spelling Spelling expr_step actual_step link_step
 
 -- one layer of a statement, its parts spelled
 abbrev pub stmt_step : Stmt-F Spelling → Spelling
 stmt_step stmt.Empty = []
 stmt_step (stmt.Assign name becomes value) =
     identifier name ∷ of_kind_at (kind.Symbol symbol.Becomes) becomes ∷ expr_spelling value
-stmt_step (stmt.Call name actuals) = identifier name ∷ in_parentheses (map expr_spelling actuals.items)
+stmt_step (stmt.Call name actuals) = identifier name ∷ in_parentheses (map actual_spelling actuals.items)
 stmt_step (stmt.Compound statements) =
     word_symbol word.Begin ∷ separated symbol.Semicolon statements.items ++ word_symbol word.End ∷ []
 

@@ -1,7 +1,8 @@
 ghost use Rattle.std.specs.Prelude.{◌≡◌, ◌<◌, ◌≤◌, [], ◌∷◌, IfSome, IfOk, ℕ, ◌↔◌, IsTrue, OnSome, OnOk, IfErr, IfNone};
 
 use crate::fault::ParseFault;
-use crate::tree::{Name, Sign};
+use crate::operator::{Level, level_of, operator_of};
+use crate::tree::{Name, Operator, Sign};
 use lexer::place::Place;
 use lexer::token::{Kind, Symbol, Token, Word};
 
@@ -14,9 +15,11 @@ pub struct Cursor<'t, 'a> {
 }
 
 impl<'t, 'a> Cursor<'t, 'a> {
-    ghost use Rattle.parser.specs.Spelling.{of_kind_at, identifier, sign};
+    ghost use Rattle.parser.specs.Spelling.{of_kind_at, identifier, sign, operator};
+    ghost use Rattle.parser.specs.WellFormed.{operator_level};
+    ghost use Rattle.parser.specs.Level.{level_number};
     ghost use Rattle.parser.specs.Cursor.{left, place_of_next, IsOfRules, Took};
-    ghost use Rattle.parser.specs.Reading.{next_kind, EndsSum};
+    ghost use Rattle.parser.specs.Reading.{next_kind, NoSign, NoOperator};
 
     pub fn new(tokens: &'t [Token<'a>]) -> Self
         ensures { result.rest.now ≡ tokens.now }
@@ -168,7 +171,7 @@ impl<'t, 'a> Cursor<'t, 'a> {
     pub fn take_sign(&mut self) -> Option<(Sign, Place)>
         ensures taken { OnSome result (left self.new < left self.old) }
         ensures kept { IfNone result (self.new ≡ self.old) }
-        ensures missed { IfNone result (EndsSum self.old.rest.now) }
+        ensures missed { IfNone result (NoSign self.old.rest.now) }
         ensures spelled { IfSome result
             (λ found. Took self.old self.new (sign found.0 found.1 ∷ [])) }
     {
@@ -177,6 +180,29 @@ impl<'t, 'a> Cursor<'t, 'a> {
         }
         let place = self.take_symbol(Symbol::Minus)?;
         Some((Sign::Minus, place))
+    }
+
+    /// Takes an operator of this level, if one is next.
+    pub fn take_operator(&mut self, level: Level) -> Option<(Operator, Place)>
+        ensures taken { OnSome result (left self.new < left self.old) }
+        ensures kept { IfNone result (self.new ≡ self.old) }
+        ensures missed { IfNone result (NoOperator (level_number level) self.old.rest.now) }
+        ensures level { IfSome result (λ found. operator_level found.0 ≡ level_number level) }
+        ensures spelled { IfSome result
+            (λ found. Took self.old self.new (operator found.0 found.1 ∷ [])) }
+    {
+        match self.rest {
+            [token, rest @ ..] => {
+                let operator = operator_of(token.kind)?;
+                if level_of(operator) != level {
+                    return None;
+                }
+                let place = token.place;
+                self.rest = rest;
+                Some((operator, place))
+            }
+            _ => None,
+        }
     }
 }
 

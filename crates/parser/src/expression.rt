@@ -1,18 +1,19 @@
-ghost use Rattle.std.specs.Prelude.{◌≡◌, ◌≤◌, IfOk, MatchResult};
+ghost use Rattle.std.specs.Prelude.{◌≡◌, ◌≤◌, IfOk, MatchResult, Some};
 ghost use Rattle.parser.specs.Cursor.{left, IsOfRules};
 ghost use Rattle.parser.specs.declared.fault.ParseFault.TheVariants.{Memory};
-ghost use Rattle.parser.specs.Reading.{ReadsEach, EndsSum, Anything};
-ghost use Rattle.parser.specs.Rules.{Read, BeginsExpr, IsChain};
-ghost use Rattle.parser.specs.WellFormed.{sum_level, signed_level, term_level};
+ghost use Rattle.parser.specs.Reading.{next_kind, ReadsEach, Ends, EndsActual, Closes, NoNext};
+ghost use Rattle.parser.specs.Rules.{Read, BeginsExpr, BeginsActual, BeginsActualList, BeginsActuals, IsChain};
+ghost use Rattle.parser.specs.WellFormed.{relation_level, sum_level, signed_level, product_level, factor_level};
 
 use crate::cursor::Cursor;
 use crate::fault::ParseFault;
 use crate::nesting::inside;
-use crate::tree::{Expr, Link};
-use lexer::token::Symbol;
+use crate::operator::Level;
+use crate::tree::{Actual, Expr, Link};
+use lexer::token::{Kind, Symbol, Word};
 use std::alloc::Global;
 
-// expression = signed_term {("+" | "-") term}
+// expression = simple [relation simple]
 /// An expression, below which `levels` levels are left (6.7.1).
 #[cycle(expression)]
 pub fn expression<'a>(
@@ -21,12 +22,39 @@ pub fn expression<'a>(
     levels: u32,
 ) -> Result<Expr<'a>, ParseFault>
     ensures left { MatchResult result (λ _. left cursor.new ≤ left cursor.old) IsOfRules }
-    ensures given { IfOk result (Read (BeginsExpr sum_level levels) cursor.old cursor.new) }
-    ensures exact { ReadsEach (BeginsExpr sum_level levels) EndsSum cursor.old cursor.new result }
+    ensures given { IfOk result (Read (BeginsExpr relation_level levels) cursor.old cursor.new) }
+    ensures exact { ReadsEach (BeginsExpr relation_level levels) (Ends relation_level)
+        cursor.old cursor.new result }
 {
-    let first = signed_term(alloc, cursor, levels)?;
+    let first = simple(alloc, cursor, levels)?;
+    let Some((operator, place)) = cursor.take_operator(Level::Relation) else {
+        return Ok(first);
+    };
+    let operand = simple(alloc, cursor, levels)?;
     let mut rest = Vec::new(alloc);
-    while let Some((operator, place)) = cursor.take_sign() {
+    rest.push(Link {
+        operator,
+        place,
+        operand,
+    })?;
+    chained(alloc, first, rest)
+}
+
+// simple = signed {("+" | "-" | "or") term}
+#[cycle(expression)]
+fn simple<'a>(
+    alloc: Global,
+    cursor: &mut Cursor<'_, 'a>,
+    levels: u32,
+) -> Result<Expr<'a>, ParseFault>
+    ensures left { MatchResult result (λ _. left cursor.new ≤ left cursor.old) IsOfRules }
+    ensures given { IfOk result (Read (BeginsExpr sum_level levels) cursor.old cursor.new) }
+    ensures exact { ReadsEach (BeginsExpr sum_level levels) (Ends sum_level)
+        cursor.old cursor.new result }
+{
+    let first = signed(alloc, cursor, levels)?;
+    let mut rest = Vec::new(alloc);
+    while let Some((operator, place)) = cursor.take_operator(Level::Sum) {
         let operand = term(alloc, cursor, levels)?;
         rest.push(Link {
             operator,
@@ -37,16 +65,17 @@ pub fn expression<'a>(
     chained(alloc, first, rest)
 }
 
-// signed_term = [sign] term
+// signed = [sign] term
 #[cycle(expression)]
-fn signed_term<'a>(
+fn signed<'a>(
     alloc: Global,
     cursor: &mut Cursor<'_, 'a>,
     levels: u32,
 ) -> Result<Expr<'a>, ParseFault>
     ensures left { MatchResult result (λ _. left cursor.new ≤ left cursor.old) IsOfRules }
     ensures given { IfOk result (Read (BeginsExpr signed_level levels) cursor.old cursor.new) }
-    ensures exact { ReadsEach (BeginsExpr signed_level levels) Anything cursor.old cursor.new result }
+    ensures exact { ReadsEach (BeginsExpr signed_level levels) (Ends signed_level)
+        cursor.old cursor.new result }
 {
     match cursor.take_sign() {
         None => term(alloc, cursor, levels),
@@ -58,19 +87,91 @@ fn signed_term<'a>(
     }
 }
 
-// term = number | name | "(" expression ")"
+// term = factor {("*" | "div" | "mod" | "and") factor}
 #[cycle(expression)]
 fn term<'a>(alloc: Global, cursor: &mut Cursor<'_, 'a>, levels: u32) -> Result<Expr<'a>, ParseFault>
     ensures left { MatchResult result (λ _. left cursor.new ≤ left cursor.old) IsOfRules }
-    ensures given { IfOk result (Read (BeginsExpr term_level levels) cursor.old cursor.new) }
-    ensures exact { ReadsEach (BeginsExpr term_level levels) Anything cursor.old cursor.new result }
+    ensures given { IfOk result (Read (BeginsExpr product_level levels) cursor.old cursor.new) }
+    ensures exact { ReadsEach (BeginsExpr product_level levels) (Ends product_level)
+        cursor.old cursor.new result }
+{
+    let first = factor(alloc, cursor, levels)?;
+    let mut rest = Vec::new(alloc);
+    while let Some((operator, place)) = cursor.take_operator(Level::Product) {
+        let operand = factor(alloc, cursor, levels)?;
+        rest.push(Link {
+            operator,
+            place,
+            operand,
+        })?;
+    }
+    chained(alloc, first, rest)
+}
+
+// factor = number | named | "not" factor | parenthesized
+#[cycle(expression)]
+fn factor<'a>(
+    alloc: Global,
+    cursor: &mut Cursor<'_, 'a>,
+    levels: u32,
+) -> Result<Expr<'a>, ParseFault>
+    ensures left { MatchResult result (λ _. left cursor.new ≤ left cursor.old) IsOfRules }
+    ensures given { IfOk result (Read (BeginsExpr factor_level levels) cursor.old cursor.new) }
+    ensures exact { ReadsEach (BeginsExpr factor_level levels) (Ends factor_level)
+        cursor.old cursor.new result }
 {
     if let Some((value, place)) = cursor.take_number() {
         return Ok(Expr::Number { value, place });
     }
-    if let Some(name) = cursor.take_name() {
+    if let Some(Kind::Identifier) = cursor.peek() {
+        return named(alloc, cursor, levels);
+    }
+    let Some(place) = cursor.take_word(Word::Not) else {
+        return parenthesized(alloc, cursor, levels);
+    };
+    let levels = inside(levels, cursor.place())?;
+    let inner = factor(alloc, cursor, levels)?;
+    Ok(Expr::Not {
+        place,
+        operand: Box::new(alloc, inner)?,
+    })
+}
+
+// named = name actuals
+/// A variable, a constant or the call of a function (6.5.1, 6.3, 6.7.3).
+#[cycle(expression)]
+fn named<'a>(
+    alloc: Global,
+    cursor: &mut Cursor<'_, 'a>,
+    levels: u32,
+) -> Result<Expr<'a>, ParseFault>
+    ensures left { MatchResult result (λ _. left cursor.new ≤ left cursor.old) IsOfRules }
+    ensures given { IfOk result (Read (BeginsExpr factor_level levels) cursor.old cursor.new) }
+    ensures exact { next_kind cursor.old.rest.now ≡ Some Kind.Identifier →
+        ReadsEach (BeginsExpr factor_level levels) (Ends factor_level)
+        cursor.old cursor.new result }
+{
+    let name = cursor.expect_name()?;
+    let actuals = actuals(alloc, cursor, levels)?;
+    if actuals.is_empty() {
         return Ok(Expr::Name(name));
     }
+    Ok(Expr::Call { name, actuals })
+}
+
+// parenthesized = "(" expression ")"
+#[cycle(expression)]
+fn parenthesized<'a>(
+    alloc: Global,
+    cursor: &mut Cursor<'_, 'a>,
+    levels: u32,
+) -> Result<Expr<'a>, ParseFault>
+    ensures left { MatchResult result (λ _. left cursor.new ≤ left cursor.old) IsOfRules }
+    ensures given { IfOk result (Read (BeginsExpr factor_level levels) cursor.old cursor.new) }
+    ensures exact { next_kind cursor.old.rest.now ≡ Some (Kind.Symbol Symbol.OpenParenthesis) →
+        ReadsEach (BeginsExpr factor_level levels) (Ends factor_level)
+        cursor.old cursor.new result }
+{
     let open = cursor.expect_symbol(Symbol::OpenParenthesis)?;
     let inner = expression(alloc, cursor, inside(levels, open)?)?;
     cursor.expect_symbol(Symbol::CloseParenthesis)?;
@@ -80,14 +181,78 @@ fn term<'a>(alloc: Global, cursor: &mut Cursor<'_, 'a>, levels: u32) -> Result<E
     })
 }
 
-/// A sum, or its first term where no operator stands behind it.
+// actuals = ["(" actual_list ")"]
+/// The actual parameters of a call, below which `levels` levels are left (6.7.3).
+#[cycle(expression)]
+pub fn actuals<'a>(
+    alloc: Global,
+    cursor: &mut Cursor<'_, 'a>,
+    levels: u32,
+) -> Result<Vec<Actual<'a>>, ParseFault>
+    ensures left { MatchResult result (λ _. left cursor.new ≤ left cursor.old) IsOfRules }
+    ensures given { IfOk result (λ found. Read (BeginsActuals levels) cursor.old cursor.new found.items) }
+    ensures exact { ReadsEach (BeginsActuals levels) (NoNext (Kind.Symbol Symbol.OpenParenthesis))
+        cursor.old cursor.new result }
+{
+    if cursor.take_symbol(Symbol::OpenParenthesis).is_none() {
+        return Ok(Vec::new(alloc));
+    }
+    let actuals = actual_list(alloc, cursor, levels)?;
+    cursor.expect_symbol(Symbol::CloseParenthesis)?;
+    Ok(actuals)
+}
+
+// actual_list = actual {"," actual}
+#[cycle(expression)]
+fn actual_list<'a>(
+    alloc: Global,
+    cursor: &mut Cursor<'_, 'a>,
+    levels: u32,
+) -> Result<Vec<Actual<'a>>, ParseFault>
+    ensures left { MatchResult result (λ _. left cursor.new ≤ left cursor.old) IsOfRules }
+    ensures given { IfOk result
+        (λ found. Read (BeginsActualList levels) cursor.old cursor.new found.items) }
+    ensures exact { ReadsEach (BeginsActualList levels) Closes cursor.old cursor.new result }
+{
+    let mut actuals = Vec::new(alloc);
+    actuals.push(actual(alloc, cursor, levels)?)?;
+    while cursor.take_symbol(Symbol::Comma).is_some() {
+        actuals.push(actual(alloc, cursor, levels)?)?;
+    }
+    Ok(actuals)
+}
+
+// actual = expression [":" expression]
+#[cycle(expression)]
+fn actual<'a>(
+    alloc: Global,
+    cursor: &mut Cursor<'_, 'a>,
+    levels: u32,
+) -> Result<Actual<'a>, ParseFault>
+    ensures left { MatchResult result (λ _. left cursor.new ≤ left cursor.old) IsOfRules }
+    ensures given { IfOk result (Read (BeginsActual levels) cursor.old cursor.new) }
+    ensures exact { ReadsEach (BeginsActual levels) EndsActual cursor.old cursor.new result }
+{
+    let levels = inside(levels, cursor.place())?;
+    let value = expression(alloc, cursor, levels)?;
+    if cursor.take_symbol(Symbol::Colon).is_none() {
+        return Ok(Actual { value, width: None });
+    }
+    let width = expression(alloc, cursor, levels)?;
+    Ok(Actual {
+        value,
+        width: Some(width),
+    })
+}
+
+/// A first operand with the operators behind it, or alone where there are none.
 fn chained<'a>(alloc: Global, first: Expr<'a>, rest: Vec<Link<'a>>) -> Result<Expr<'a>, ParseFault>
     ensures { MatchResult result (IsChain first.entry rest.entry.items) (λ fault. fault ≡ Memory) }
 {
     if rest.is_empty() {
         return Ok(first);
     }
-    Ok(Expr::Sum {
+    Ok(Expr::Chain {
         first: Box::new(alloc, first)?,
         rest,
     })

@@ -5,6 +5,7 @@ mod cursor;
 mod expression;
 pub mod fault;
 mod nesting;
+mod operator;
 mod program;
 mod statement;
 pub mod tree;

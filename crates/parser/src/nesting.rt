@@ -5,8 +5,8 @@ use crate::fault::ParseFault;
 use lexer::place::Place;
 
 /// How deep a program may nest. Its own compound statement is the first level; each statement in a
-/// compound statement, each actual and each expression in parentheses is one level below what it
-/// stands in.
+/// compound statement, each actual with its width, each expression in parentheses and each operand
+/// of `not` is one level below what it stands in.
 pub const MAX_NESTING: u32 = 128;
 
 /// The levels that are left inside the next one, which begins at `place`, or P2.

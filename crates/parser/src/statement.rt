@@ -1,13 +1,13 @@
 ghost use Rattle.std.specs.Prelude.{◌≡◌, ◌+◌, ◌≤◌, IfOk, MatchResult, Some};
 ghost use Rattle.parser.specs.Cursor.{left, IsOfRules};
-ghost use Rattle.parser.specs.Reading.{next_kind, ReadsEach, EndsSum, EndsStmt, EndsStatements, Closes, NoNext, Anything};
-ghost use Rattle.parser.specs.Rules.{Read, BeginsActual, BeginsActuals, BeginsActualList, BeginsStmt, BeginsStatements, BeginsCompound};
+ghost use Rattle.parser.specs.Reading.{next_kind, ReadsEach, EndsStmt, EndsStatements, Anything};
+ghost use Rattle.parser.specs.Rules.{Read, BeginsStmt, BeginsStatements, BeginsCompound};
 
 use crate::cursor::Cursor;
-use crate::expression::expression;
+use crate::expression::{actuals, expression};
 use crate::fault::ParseFault;
 use crate::nesting::inside;
-use crate::tree::{Expr, Stmt};
+use crate::tree::Stmt;
 use lexer::place::Place;
 use lexer::token::{Kind, Symbol, Word};
 use std::alloc::Global;
@@ -100,57 +100,4 @@ fn simple<'a>(
             actuals: actuals(alloc, cursor, levels)?,
         }),
     }
-}
-
-// actuals = ["(" actual_list ")"]
-/// The actual parameters of a call (6.7.3).
-fn actuals<'a>(
-    alloc: Global,
-    cursor: &mut Cursor<'_, 'a>,
-    levels: u32,
-) -> Result<Vec<Expr<'a>>, ParseFault>
-    ensures left { MatchResult result (λ _. left cursor.new ≤ left cursor.old) IsOfRules }
-    ensures given { IfOk result (λ found. Read (BeginsActuals levels) cursor.old cursor.new found.items) }
-    ensures exact { ReadsEach (BeginsActuals levels) (NoNext (Kind.Symbol Symbol.OpenParenthesis))
-        cursor.old cursor.new result }
-{
-    if cursor.take_symbol(Symbol::OpenParenthesis).is_none() {
-        return Ok(Vec::new(alloc));
-    }
-    let actuals = actual_list(alloc, cursor, levels)?;
-    cursor.expect_symbol(Symbol::CloseParenthesis)?;
-    Ok(actuals)
-}
-
-// actual_list = actual {"," actual}
-fn actual_list<'a>(
-    alloc: Global,
-    cursor: &mut Cursor<'_, 'a>,
-    levels: u32,
-) -> Result<Vec<Expr<'a>>, ParseFault>
-    ensures left { MatchResult result (λ _. left cursor.new ≤ left cursor.old) IsOfRules }
-    ensures given { IfOk result
-        (λ found. Read (BeginsActualList levels) cursor.old cursor.new found.items) }
-    ensures exact { ReadsEach (BeginsActualList levels) Closes cursor.old cursor.new result }
-{
-    let mut actuals = Vec::new(alloc);
-    actuals.push(actual(alloc, cursor, levels)?)?;
-    while cursor.take_symbol(Symbol::Comma).is_some() {
-        actuals.push(actual(alloc, cursor, levels)?)?;
-    }
-    Ok(actuals)
-}
-
-// actual = expression
-fn actual<'a>(
-    alloc: Global,
-    cursor: &mut Cursor<'_, 'a>,
-    levels: u32,
-) -> Result<Expr<'a>, ParseFault>
-    ensures left { MatchResult result (λ _. left cursor.new ≤ left cursor.old) IsOfRules }
-    ensures given { IfOk result (Read (BeginsActual levels) cursor.old cursor.new) }
-    ensures exact { ReadsEach (BeginsActual levels) EndsSum cursor.old cursor.new result }
-{
-    let levels = inside(levels, cursor.place())?;
-    expression(alloc, cursor, levels)
 }

@@ -1,6 +1,6 @@
 use crate::fault::ParseFault;
 use crate::parse;
-use crate::tree::Stmt;
+use crate::tree::{Actual, Expr, Operator, Stmt};
 use lexer::place::Place;
 use lexer::token::{Kind, Symbol, Token, Word};
 use lexer::tokens;
@@ -35,7 +35,7 @@ fn next_random(seed: u64) -> u64 {
 
 #[test]
 fn tells_the_fault(rt: HostRuntime) -> Result<(), Fail> {
-    let faults: [(&[u8], u8, Place); 31] = [
+    let faults: [(&[u8], u8, Place); 39] = [
         (b"", 1, at(1, 1)),
         (b"  ", 1, at(1, 1)),
         (b"p", 1, at(1, 1)),
@@ -59,9 +59,17 @@ fn tells_the_fault(rt: HostRuntime) -> Result<(), Fail> {
         (b"program p; begin x := 1 + end.", 1, at(1, 27)),
         (b"program p; begin x := (1 end.", 1, at(1, 26)),
         (b"program p; begin x := 'a' end.", 1, at(1, 23)),
-        (b"program p; begin x := 1 * 2 end.", 1, at(1, 25)),
+        (b"program p; begin x := 1 / 2 end.", 1, at(1, 25)),
+        (b"program p; begin x := a < b < c end.", 1, at(1, 29)),
+        (b"program p; begin x := a * - b end.", 1, at(1, 27)),
+        (b"program p; begin x := a and or b end.", 1, at(1, 29)),
+        (b"program p; begin x := not end.", 1, at(1, 27)),
+        (b"program p; begin x := f() end.", 1, at(1, 25)),
+        (b"program p; begin x := f(1 end.", 1, at(1, 27)),
         (b"program p; begin f() end.", 1, at(1, 20)),
-        (b"program p; begin f(1: 2) end.", 1, at(1, 21)),
+        (b"program p; begin f(1: ) end.", 1, at(1, 23)),
+        (b"program p; begin x := (1: 2) end.", 1, at(1, 25)),
+        (b"program p; begin write(x:1:2) end.", 1, at(1, 27)),
         (b"program p; begin a[1] := 2 end.", 1, at(1, 19)),
         (b"program p; begin if a then end.", 1, at(1, 18)),
         (b"program p; begin goto 1 end.", 3, at(1, 18)),
@@ -92,7 +100,7 @@ fn keeps_what_stands_in_the_text(rt: HostRuntime) -> Result<(), Fail> {
     assert_eq!(rt; statements.len(), 5);
     let found = format!(in rt.alloc(); "{:?}", statements[0])?;
     let wanted = "Assign { name: Name { text: [120], place: Place { line: 1, column: 43 } }, \
-        becomes: Place { line: 1, column: 45 }, value: Sum { \
+        becomes: Place { line: 1, column: 45 }, value: Chain { \
         first: Signed { sign: Minus, place: Place { line: 1, column: 48 }, \
         term: Name(Name { text: [120], place: Place { line: 1, column: 49 } }) }, \
         rest: [Link { operator: Plus, place: Place { line: 1, column: 50 }, \
@@ -112,6 +120,92 @@ fn keeps_what_stands_in_the_text(rt: HostRuntime) -> Result<(), Fail> {
     Ok(())
 }
 
+/// The operator of a chain.
+fn operator(expression: &Expr<'_>) -> Option<Operator> {
+    match expression {
+        Expr::Chain { rest, .. } => Some(rest.first()?.operator),
+        _ => None,
+    }
+}
+
+/// The operator of an expression, of what it begins with and of what stands behind its operator.
+fn operators(expression: &Expr<'_>) -> (Option<Operator>, Option<Operator>, Option<Operator>) {
+    match expression {
+        Expr::Chain { first, rest } => {
+            let behind = rest.first().and_then(|link| operator(&link.operand));
+            (operator(expression), operator(first), behind)
+        }
+        Expr::Signed { term, .. } => (None, operator(term), None),
+        Expr::Not { operand, .. } => (None, operator(operand), None),
+        _ => (None, None, None),
+    }
+}
+
+#[test]
+fn binds_by_precedence(rt: HostRuntime) -> Result<(), Fail> {
+    use Operator::{And, Equal, Less, Minus, Mod, Or, Plus, Times};
+    let alloc = rt.alloc();
+    let rows: [(
+        &[u8],
+        (Option<Operator>, Option<Operator>, Option<Operator>),
+    ); 11] = [
+        (b"-7 mod 2", (None, Some(Mod), None)),
+        (b"not a and b", (Some(And), None, None)),
+        (b"not (a and b)", (None, None, None)),
+        (b"a = b or c", (Some(Equal), None, Some(Or))),
+        (b"a or b < c", (Some(Less), Some(Or), None)),
+        (b"a + b * c", (Some(Plus), None, Some(Times))),
+        (b"a and b or c", (Some(Or), Some(And), None)),
+        (b"-a * b - c", (Some(Minus), None, None)),
+        (b"a - b + c", (Some(Minus), None, None)),
+        (b"(a + b) * c", (Some(Times), None, None)),
+        (b"f(a + b) mod 2", (Some(Mod), None, None)),
+    ];
+    for (row, wanted) in rows {
+        let text = repeated(alloc, b"program p; begin x := ", row, 1, b" end.")?;
+        let tokens = tokens(alloc, &text)?;
+        let program = parse(alloc, &tokens)?;
+        match program.block.statements.first() {
+            Some(Stmt::Assign { value, .. }) => assert_eq!(rt; operators(value), wanted, "{row:?}"),
+            _ => assert!(rt; false, "{row:?}"),
+        }
+    }
+    Ok(())
+}
+
+#[test]
+fn keeps_each_width(rt: HostRuntime) -> Result<(), Fail> {
+    let alloc = rt.alloc();
+    let texts: [&[u8]; 2] = [
+        b"program p; begin f(x:1, y) end.",
+        b"program p; begin x := f(x:1, y) end.",
+    ];
+    for text in texts {
+        let tokens = tokens(alloc, text)?;
+        let program = parse(alloc, &tokens)?;
+        let widths = match program.block.statements.first() {
+            Some(
+                Stmt::Call { actuals, .. }
+                | Stmt::Assign {
+                    value: Expr::Call { actuals, .. },
+                    ..
+                },
+            ) => widths(actuals),
+            _ => None,
+        };
+        assert_eq!(rt; widths, Some((true, false)), "{text:?}");
+    }
+    Ok(())
+}
+
+/// Which of two actuals have a width.
+fn widths(actuals: &[Actual<'_>]) -> Option<(bool, bool)> {
+    match actuals {
+        [one, two] => Some((one.width.is_some(), two.width.is_some())),
+        _ => None,
+    }
+}
+
 /// A way to nest: text before, what opens and closes a level, text inside and after, and how many
 /// levels fit.
 type Nest = (
@@ -126,8 +220,10 @@ type Nest = (
 #[test]
 fn nests_to_128(rt: HostRuntime) -> Result<(), Fail> {
     let alloc = rt.alloc();
-    let nests: [Nest; 6] = [
+    let nests: [Nest; 8] = [
         (b"x := ", b"(", b"1", b")", b"", 126),
+        (b"x := ", b"not ", b"y", b"", b"", 126),
+        (b"x := ", b"f(", b"1:2", b")", b"", 126),
         (b"", b"begin ", b"", b" end", b"", 126),
         (b"begin x := 2 - ", b"(-", b"1", b")", b"; end", 125),
         (b"f(1, (2), ", b"(3 + ", b"1", b")", b")", 125),
@@ -164,8 +260,9 @@ fn nests_to_128(rt: HostRuntime) -> Result<(), Fail> {
 #[test]
 fn takes_long_lists(rt: HostRuntime) -> Result<(), Fail> {
     let alloc = rt.alloc();
-    let lists: [(&[u8], &[u8], &[u8]); 5] = [
+    let lists: [(&[u8], &[u8], &[u8]); 6] = [
         (b"program p; begin x := x", b"+x", b" end."),
+        (b"program p; begin x := x", b"*x", b" end."),
         (b"program p; begin x := 1", b" ;", b" end."),
         (b"program p; begin f(1", b",x", b") end."),
         (b"program p(a", b",b", b"); begin end."),
@@ -185,12 +282,12 @@ fn answers_any_list(rt: HostRuntime) -> Result<(), Fail> {
     let kinds = [
         Kind::Word(Word::Program),
         Kind::Word(Word::Begin),
-        Kind::Word(Word::Begin),
+        Kind::Word(Word::Not),
         Kind::Word(Word::End),
         Kind::Word(Word::Var),
         Kind::Word(Word::Nil),
         Kind::Identifier,
-        Kind::Identifier,
+        Kind::Symbol(Symbol::Times),
         Kind::Number(u32::MAX),
         Kind::Text,
         Kind::Symbol(Symbol::Semicolon),

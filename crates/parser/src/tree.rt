@@ -52,7 +52,7 @@ pub enum Stmt<'a> {
     /// The call of a procedure; no actuals where no parentheses stand.
     Call {
         name: Name<'a>,
-        actuals: Vec<Expr<'a>>,
+        actuals: Vec<Actual<'a>>,
     },
     /// One or more statements.
     Compound {
@@ -60,11 +60,29 @@ pub enum Stmt<'a> {
     },
 }
 
-/// A sign or an operator that adds (6.7.2.1).
+/// A sign (6.7.2.2).
 #[derive(Clone, Copy, Debug, PartialEq, Eq)]
 pub enum Sign {
     Plus,
     Minus,
+}
+
+/// An operator between two operands (6.7.2.1).
+#[derive(Clone, Copy, Debug, PartialEq, Eq)]
+pub enum Operator {
+    Plus,
+    Minus,
+    Or,
+    Times,
+    Div,
+    Mod,
+    And,
+    Equal,
+    NotEqual,
+    Less,
+    Greater,
+    LessOrEqual,
+    GreaterOrEqual,
 }
 
 /// An expression (6.7.1), its parentheses kept.
@@ -78,10 +96,20 @@ pub enum Expr<'a> {
     },
     /// A variable, a constant or a call without actuals.
     Name(Name<'a>),
+    /// The call of a function with its actuals: one or more.
+    Call {
+        name: Name<'a>,
+        actuals: Vec<Actual<'a>>,
+    },
     /// `( inner )`, with the place of the opening parenthesis.
     Parenthesized {
         open: Place,
         inner: Box<Expr<'a>>,
+    },
+    /// `not operand`, with the place of the word.
+    Not {
+        place: Place,
+        operand: Box<Expr<'a>>,
     },
     /// A sign, which covers the whole first term of a sum.
     Signed {
@@ -89,18 +117,27 @@ pub enum Expr<'a> {
         place: Place,
         term: Box<Expr<'a>>,
     },
-    /// A first term, and one or more operators with their terms.
-    Sum {
+    /// A first operand, and one or more operators of one precedence with their right operands: a term, a simple
+    /// expression, or a relation, which has one operator alone.
+    Chain {
         first: Box<Expr<'a>>,
         rest: Vec<Link<'a>>,
     },
 }
 
-/// An operator of a sum and the term behind it.
+/// An operator of a chain and the operand behind it.
 #[cycle(expression)]
 #[derive(Debug, Drop)]
 pub struct Link<'a> {
-    pub operator: Sign,
+    pub operator: Operator,
     pub place: Place,
     pub operand: Expr<'a>,
+}
+
+/// An actual parameter (6.7.3); in a write or writeln it may have a total width (6.9.3.1).
+#[cycle(expression)]
+#[derive(Debug, Drop)]
+pub struct Actual<'a> {
+    pub value: Expr<'a>,
+    pub width: Option<Expr<'a>>,
 }

@@ -9,7 +9,8 @@ use Rattle.parser.specs.Spelling.{Reads, of_kind_at}
 use Rattle.parser.specs.Reading.{next_kind}
 use Rattle.parser.proofs.Exact.{same_first}
 use Rattle.parser.proofs.ExactLists.{parts_end}
-use Rattle.parser.proofs.ExactStatements.{not_taken, compounded, opened_compound, statement_list_parts, statements_begin, one_more_statement, statement_answer, statement_list_begins, statement_list_left}
+use Rattle.parser.proofs.ExactActuals.{not_taken}
+use Rattle.parser.proofs.ExactStatements.{compounded, opened_compound, statement_list_parts, statements_begin, one_more_statement, statement_answer, statement_list_begins, statement_list_left}
 use Rattle.parser.proofs.Statements.{taken, fewer, statements_go_on, compound_closed, compound_stands}
 use Rattle.parser.proofs.statement.+statement.Goals as goal
 

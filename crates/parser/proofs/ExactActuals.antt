@@ -1,0 +1,190 @@
+-- The rules of actuals read each spelling of their form.
+use Rattle.std.proofs.Common.{◌≡◌, ℕ, ◌+◌, ◌≤◌, Bool, true, List, [], ◌∷◌, map, Option, Some, None, is_some, not, false, IfNone, Result, Ok, refl, subst, sym, ap, ◌∙◌, arith}
+use Rattle.std.proofs.lemmas.List.{append-nil}
+use Rattle.lexer.specs.declared.place.Place.{Place}
+use Rattle.lexer.specs.declared.token.Kind.{Kind}
+use Rattle.lexer.specs.declared.token.Kind.TheVariants as kind
+use Rattle.lexer.specs.declared.token.Symbol.TheVariants as symbol
+use Rattle.lexer.specs.declared.token.Token.{Token}
+use Rattle.parser.specs.declared.fault.ParseFault.{ParseFault}
+use Rattle.parser.specs.declared.cursor.Cursor.{Cursor}
+use Rattle.parser.specs.declared.tree.Expr.{Expr}
+use Rattle.parser.specs.declared.tree.Actual.{Actual}
+use Rattle.parser.specs.declared.tree.Expr.TheViews.{out-Actual, roll-Actual, roll-out-Actual}
+use Rattle.parser.specs.Spelling.{Reads, expr_spelling, actual_spelling, of_kind_at, mark, separated}
+use Rattle.parser.specs.WellFormed.{is_expression, is_actual, relation_level}
+use Rattle.parser.specs.Nesting.{expr_levels, actual_levels}
+use Rattle.parser.specs.Reading.{next_kind, Ends, EndsActual, comma, parenthesis, Closes, NoNext, ReadTo, ReadsEach}
+use Rattle.parser.specs.Rules.{BeginsExpr, BeginsActual, BeginsActualList, BeginsActuals}
+use Rattle.parser.proofs.Lists.{and_left, and_right}
+use Rattle.parser.proofs.Equations.{spelling-Alone, form-Alone, levels-Alone, spelling-Wide, form-Wide, levels-Wide}
+use Rattle.parser.proofs.Exact.{parted, begins, same_first}
+use Rattle.parser.proofs.ExactChains.{close_ends, comma_ends, colon_ends}
+use Rattle.parser.proofs.ExactLists.{Parts, PartsLeft, PartThenOthers, ComesBehind, one_more, no_more, parts_begin, parts_go_on, comes_behind}
+
+-- no token was taken where the call answered none
+pub not_taken : (a b : Cursor) (k : Kind) (o : Option Place) → is_some o ≡ false → IfNone o (b ≡ a) → IfNone o (¬ (next_kind a.rest.now ≡ Some k)) → (b ≡ a) × ¬ (next_kind a.rest.now ≡ Some k)
+not_taken a b k None none kept missed = (kept, missed)
+not_taken a b k (Some place) none kept missed = cc
+
+pub missed_if : (a b : Cursor) (k : Kind) (o : Option Place) (none : Bool) → is_some o ≡ not none → none ≡ true → IfNone o (b ≡ a) → IfNone o (¬ (next_kind a.rest.now ≡ Some k)) → (b ≡ a) × ¬ (next_kind a.rest.now ≡ Some k)
+missed_if a b k o none e h kept missed = not_taken a b k o (e ∙ ap not h) kept missed
+
+-- ---- an actual
+
+-- a width behind its colon, or none
+pub data IsWidth (levels : ℕ) (tokens others : List Token) : Type 0 where
+  absent : tokens ≡ others → IsWidth levels tokens others
+  wide : (w : Expr) → Reads tokens (mark symbol.Colon ∷ expr_spelling w) others → is_expression w ≡ true → 1 + expr_levels w ≤ levels → IsWidth levels tokens others
+
+-- a value, and its width behind it
+pub record IsValue (levels : ℕ) (tokens others : List Token) : Type 0 where
+  pub value : Expr
+  pub middle : List Token
+  pub spelled : Reads tokens (expr_spelling value) middle
+  pub formed : is_expression value ≡ true
+  pub nests : 1 + expr_levels value ≤ levels
+  pub width : IsWidth levels middle others
+
+actual_with : (levels : ℕ) (a c : List Token) (e : Expr) (w : Option Expr) → BeginsActual levels a c (roll-Actual (record { value = e; width = w })) → IsValue levels a c
+actual_with levels a c e None h =
+    let n = levels-Alone e in
+    let m = h.nests in
+    record {
+      value = e;
+      middle = c;
+      spelled = subst (λ s. Reads a s c) (spelling-Alone e ∙ append-nil (expr_spelling e)) h.spelled;
+      formed = and_left (is_expression e) true (sym (form-Alone e) ∙ h.formed);
+      nests = omega arith;
+      width = absent refl;
+    }
+actual_with levels a c e (Some w) h =
+    let r = parted (expr_spelling e) (mark symbol.Colon ∷ expr_spelling w) a c (subst (λ s. Reads a s c) (spelling-Wide e w) h.spelled) in
+    let f = sym (form-Wide e w) ∙ h.formed in
+    let n = levels-Wide e w in
+    let m = h.nests in
+    record {
+      value = e;
+      middle = r.0;
+      spelled = r.1;
+      formed = and_left (is_expression e) (is_expression w) f;
+      nests = omega arith;
+      width = wide w r.2 (and_right (is_expression e) (is_expression w) f) (omega arith);
+    }
+
+-- each actual has these parts
+pub actual_parts : (levels : ℕ) (a c : List Token) (x : Actual) → BeginsActual levels a c x → IsValue levels a c
+actual_parts levels a c x h = actual_with levels a c (out-Actual x).value (out-Actual x).width (subst (λ y. BeginsActual levels a c y) (sym (roll-out-Actual x)) h)
+
+ends_expression : (c : List Token) → EndsActual c → Ends relation_level c
+ends_expression c (comma h) = comma_ends relation_level c h (omega arith)
+ends_expression c (parenthesis h) = close_ends relation_level c h (omega arith)
+
+value_ends : (levels : ℕ) (a c : List Token) → EndsActual c → IsWidth levels a c → Ends relation_level a
+value_ends levels a c ends (absent h) = subst (λ x. Ends relation_level x) (sym h) (ends_expression c ends)
+value_ends levels a c ends (wide w h f n) = colon_ends relation_level a (begins (mark symbol.Colon) (expr_spelling w) a c h) (omega arith)
+
+-- what the rule of expressions answers to the value
+pub value_answer : (levels inner : ℕ) (a b : Cursor) (others : List Token) (answer : Result Expr ParseFault) → inner + 1 ≡ levels → EndsActual others
+    → (v : IsValue levels a.rest.now others) → ReadsEach (BeginsExpr relation_level inner) (Ends relation_level) a b answer → ReadTo v.middle b answer
+value_answer levels inner a b others answer less ends v reads =
+    reads v.value v.middle (record { spelled = v.spelled; formed = v.formed; nests = let n = v.nests in omega arith }) (value_ends levels v.middle others ends v.width)
+
+-- where no colon comes there is no width
+pub width_absent : (levels : ℕ) (a c : List Token) → NoNext (kind.Symbol symbol.Colon) a → IsWidth levels a c → a ≡ c
+width_absent levels a c none (absent h) = h
+width_absent levels a c none (wide w h f n) = absurd (none (begins (mark symbol.Colon) (expr_spelling w) a c h))
+
+-- a width behind its colon
+pub record IsWide (levels : ℕ) (a c : List Token) : Type 0 where
+  pub width : Expr
+  pub spelled : Reads a (expr_spelling width) c
+  pub formed : is_expression width ≡ true
+  pub nests : 1 + expr_levels width ≤ levels
+
+no_colon : (c : List Token) → EndsActual c → ¬ (next_kind c ≡ Some (kind.Symbol symbol.Colon))
+no_colon c (comma h) e = let no : Some (kind.Symbol symbol.Comma) ≡ Some (kind.Symbol symbol.Colon) = sym h ∙ e in cc
+no_colon c (parenthesis h) e = let no : Some (kind.Symbol symbol.CloseParenthesis) ≡ Some (kind.Symbol symbol.Colon) = sym h ∙ e in cc
+
+-- behind a colon stands a width
+pub width_taken : (levels : ℕ) (p : Place) (a b c : List Token) → Reads a (of_kind_at (kind.Symbol symbol.Colon) p ∷ []) b → EndsActual c → IsWidth levels a c → IsWide levels b c
+width_taken levels p a b c k ends (absent h) = absurd (no_colon c ends (ap next_kind (sym h) ∙ begins (of_kind_at (kind.Symbol symbol.Colon) p) [] a b k))
+width_taken levels p a b c k ends (wide w h f n) = record { width = w; spelled = (same_first (of_kind_at (kind.Symbol symbol.Colon) p) (mark symbol.Colon) (expr_spelling w) a b c k h).1; formed = f; nests = n }
+
+-- behind a value
+pub width_left : (levels inner : ℕ) (a b : Cursor) (value : Expr) (x : Actual) (others : List Token) → inner + 1 ≡ levels → ReadsEach (BeginsExpr relation_level inner) (Ends relation_level) a b (Ok value)
+    → BeginsActual levels a.rest.now others x → EndsActual others → IsWidth levels b.rest.now others
+width_left levels inner a b value x others less reads h ends =
+    let v = actual_parts levels a.rest.now others x h in
+    subst (λ t. IsWidth levels t others) (sym (value_answer levels inner a b others (Ok value) less ends v reads)) v.width
+
+-- what the rule of expressions answers to it
+pub width_answer : (levels inner : ℕ) (a b : Cursor) (others : List Token) (answer : Result Expr ParseFault) → inner + 1 ≡ levels → EndsActual others
+    → IsWide levels a.rest.now others → ReadsEach (BeginsExpr relation_level inner) (Ends relation_level) a b answer → ReadTo others b answer
+width_answer levels inner a b others answer less ends w reads =
+    reads w.width others (record { spelled = w.spelled; formed = w.formed; nests = let n = w.nests in omega arith }) (ends_expression others ends)
+
+-- ---- lists of actuals
+
+-- the parts of a list of actuals
+abbrev pub actual_list_parts : Parts Actual
+actual_list_parts = record { symbol = symbol.Comma; spelling = actual_spelling; well = is_actual; levels = actual_levels }
+
+-- what is left of each list of actuals that may stand there
+abbrev pub ActualsListLeft : ℕ → List Token → List Token → Type 0
+ActualsListLeft levels start now = (actuals : List Actual) (others : List Token) → BeginsActualList levels start others actuals → Closes others → PartsLeft Actual actual_list_parts levels now others
+
+-- a list of actuals begins with one
+pub actuals_begin : (levels : ℕ) (a c : List Token) (actuals : List Actual) → BeginsActualList levels a c actuals → PartThenOthers Actual actual_list_parts levels a c
+actuals_begin levels a c actuals h = parts_begin Actual actual_list_parts levels a c actuals h.list.some h.list.spelled h.formed h.nests
+
+no_comma : (c : List Token) → Closes c → ¬ (next_kind c ≡ Some (kind.Symbol symbol.Comma))
+no_comma c closes e = let no : Some (kind.Symbol symbol.CloseParenthesis) ≡ Some (kind.Symbol symbol.Comma) = sym closes ∙ e in cc
+
+-- behind a comma stands one more actual
+pub one_more_actual : (levels : ℕ) (p : Place) (a b c : List Token) → Reads a (of_kind_at (kind.Symbol symbol.Comma) p ∷ []) b → Closes c → PartsLeft Actual actual_list_parts levels a c → PartThenOthers Actual actual_list_parts levels b c
+one_more_actual levels p a b c k closes h = parts_go_on Actual actual_list_parts levels p a b c k (no_comma c closes) h
+
+actual_ends : (a c : List Token) → ComesBehind symbol.Comma a c → Closes c → EndsActual a
+actual_ends a c (one_more e) closes = comma e
+actual_ends a c (no_more e) closes = parenthesis (e ∙ closes)
+
+-- what the rule of actuals answers there
+pub actual_answer : (levels : ℕ) (a b : Cursor) (others : List Token) (answer : Result Actual ParseFault) → (p : PartThenOthers Actual actual_list_parts levels a.rest.now others) → Closes others
+    → ReadsEach (BeginsActual levels) EndsActual a b answer → ReadTo p.middle b answer
+actual_answer levels a b others answer p closes reads =
+    reads p.first p.middle (record { spelled = p.spelled; formed = p.formed; nests = p.nests }) (actual_ends p.middle others (comes_behind Actual actual_list_parts levels p.middle others p.left) closes)
+
+-- behind the first actual
+pub actual_list_begins : (levels : ℕ) (a b : Cursor) (e : Actual) → ReadsEach (BeginsActual levels) EndsActual a b (Ok e) → ActualsListLeft levels a.rest.now b.rest.now
+actual_list_begins levels a b e reads actuals others h closes =
+    let p = actuals_begin levels a.rest.now others actuals h in
+    subst (λ x. PartsLeft Actual actual_list_parts levels x others) (sym (actual_answer levels a b others (Ok e) p closes reads)) p.left
+
+-- behind one more
+pub actual_list_left : (levels : ℕ) (p : Place) (start : List Token) (a b c : Cursor) (e : Actual) → Reads a.rest.now (of_kind_at (kind.Symbol symbol.Comma) p ∷ []) b.rest.now
+    → ReadsEach (BeginsActual levels) EndsActual b c (Ok e) → ActualsListLeft levels start a.rest.now → ActualsListLeft levels start c.rest.now
+actual_list_left levels p start a b c e k reads left actuals others h closes =
+    let q = one_more_actual levels p a.rest.now b.rest.now others k closes (left actuals others h closes) in
+    subst (λ x. PartsLeft Actual actual_list_parts levels x others) (sym (actual_answer levels b c others (Ok e) q closes reads)) q.left
+
+-- what stands behind the opening parenthesis of actuals
+pub record OpenedActuals (levels : ℕ) (a c : List Token) (actuals : List Actual) : Type 0 where
+  pub middle : List Token
+  pub list : BeginsActualList levels a middle actuals
+  pub closed : Reads middle (mark symbol.CloseParenthesis ∷ []) c
+  pub closes : Closes middle
+
+-- in them stands a list, and a closing parenthesis behind it
+pub opened_actuals : (levels : ℕ) (p : Place) (a b c : List Token) (actuals : List Actual) → Reads a (of_kind_at (kind.Symbol symbol.OpenParenthesis) p ∷ []) b → NoNext (kind.Symbol symbol.OpenParenthesis) c
+    → BeginsActuals levels a c actuals → OpenedActuals levels b c actuals
+opened_actuals levels p a b c [] k ends h = absurd (ends (ap next_kind (sym h.spelled) ∙ begins (of_kind_at (kind.Symbol symbol.OpenParenthesis) p) [] a b k))
+opened_actuals levels p a b c (e ∷ es) k ends h =
+    let r = parted (separated symbol.Comma (map actual_spelling (e ∷ es))) (mark symbol.CloseParenthesis ∷ []) b c
+    (same_first (of_kind_at (kind.Symbol symbol.OpenParenthesis) p) (mark symbol.OpenParenthesis) _ a b c k h.spelled).1 in
+    record {
+      middle = r.0;
+      list = record { list = record { some = omega arith; spelled = r.1 }; formed = h.formed; nests = h.nests };
+      closed = r.2;
+      closes = begins (mark symbol.CloseParenthesis) [] r.0 c r.2;
+    }
