@@ -54,12 +54,12 @@ knows_all_known r names k = λ name d is. only_found (names name) d (sym (k.foun
 pub knows_all_later : (a b : Resolver) (e : List ℕ) (t : List Tested) (s : List Stands) (names : Denotes) → Adds a b e t s → KnowsAll a names → KnowsAll b names
 knows_all_later a b e t s names added k = record {
   found_are = λ name. ap (λ sc. found sc.blocks.items (folded name)) added.scopes ∙ k.found_are name;
-  variables = λ name root is. subst (λ vs. root < length vs.items) (sym added.variables) (k.variables name root is);
+  variables = λ name root type_id is. subst (λ vs. root < length vs.items) (sym added.variables) (k.variables name root type_id is);
 }
 
 -- ---- how many come
 
-site_count : (a b : Resolver) (e : List ℕ) (t : List Tested) (s : List Stands) → Adds a b e t s → length b.sites.items ≡ length a.sites.items + length t
+pub site_count : (a b : Resolver) (e : List ℕ) (t : List Tested) (s : List Stands) → Adds a b e t s → length b.sites.items ≡ length a.sites.items + length t
 site_count a b e t s added =
     sym (length-map b.sites.items (λ site. (site.kind, site.id))) ∙ ap length added.ids ∙ length-append (tested a.sites.items) t
     ∙ ap (λ n. n + length t) (length-map a.sites.items (λ site. (site.kind, site.id)))
@@ -88,6 +88,10 @@ module _ {T : Type 0} (well : ℕ → ℕ → T → Bool) (entries : T → List 
   pub refuses_as : (a : Resolver) (f g : Denotes → T → Bool) → ((names : Denotes) → KnowsAll a names → (t : T) → g names t ≡ f names t) → Refuses well entries sites a f → Refuses well entries sites a g
   refuses_as a f g is refused = λ names k t typed v n w. refused names k t (sym (is names k t) ∙ typed) v n w
 
+  -- nothing is typed so
+  pub refuses_all : (a : Resolver) (f : Denotes → T → Bool) → ((names : Denotes) → KnowsAll a names → (t : T) → f names t ≡ true → ⊥) → Refuses well entries sites a f
+  refuses_all a f none = λ names k t typed v n w. absurd (none names k t typed)
+
   -- where nothing came before
   pub refuses_from : (a m : Resolver) (f : Denotes → T → Bool) → AddsNothing a m → Refuses well entries sites m f → Refuses well entries sites a f
   refuses_from a m f none refused = λ names k t typed v n w.
@@ -97,16 +101,16 @@ module _ {T : Type 0} (well : ℕ → ℕ → T → Bool) (entries : T → List 
 -- ---- rows of pieces
 
 -- a typed row is parted where its written row is
-record Parted {W T : Type 0} (f : W → T → Bool) (g : T → Bool) (before : List W) (w : W) (ts : List T) : Type 0 where
-  front : List T
-  one : T
-  back : List T
-  is : ts ≡ front ++ one ∷ back
-  typed_front : all_match (map f before) front ≡ true
-  typed_one : f w one ≡ true
-  well_one : g one ≡ true
+pub record Parted {W T : Type 0} (f : W → T → Bool) (g : T → Bool) (before : List W) (w : W) (ts : List T) : Type 0 where
+  pub front : List T
+  pub one : T
+  pub back : List T
+  pub is : ts ≡ front ++ one ∷ back
+  pub typed_front : all_match (map f before) front ≡ true
+  pub typed_one : f w one ≡ true
+  pub well_one : g one ≡ true
 
-parted : {W T : Type 0} (f : W → T → Bool) (g : T → Bool) (before : List W) (w : W) (behind : List W) (ts : List T) → all_match (map f (before ++ w ∷ behind)) ts ≡ true → all_hold (map g ts) ≡ true → Parted f g before w ts
+pub parted : {W T : Type 0} (f : W → T → Bool) (g : T → Bool) (before : List W) (w : W) (behind : List W) (ts : List T) → all_match (map f (before ++ w ∷ behind)) ts ≡ true → all_hold (map g ts) ≡ true → Parted f g before w ts
 parted f g [] w behind [] h q = cc
 parted f g [] w behind (t ∷ ts) h q = record {
   front = [];
@@ -131,11 +135,11 @@ parted f g (x ∷ xs) w behind (t ∷ ts) h q =
       well_one = r.well_one;
     }
 
-around : {W : Type 0} (ws : List W) (i : ℕ) (w : W) → i < length ws → w ≡ get_or ws i w → ws ≡ take i ws ++ w ∷ drop (i + 1) ws
+pub around : {W : Type 0} (ws : List W) (i : ℕ) (w : W) → i < length ws → w ≡ get_or ws i w → ws ≡ take i ws ++ w ∷ drop (i + 1) ws
 around ws i w within is =
     sym (take-append-drop i ws) ∙ ap (λ l. take i ws ++ l) (drop_more ws i w within) ∙ ap (λ x. take i ws ++ x ∷ drop (i + 1) ws) (sym is)
 
-count_around : {T A : Type 0} (f : T → List A) (ts front back : List T) (one : T) → ts ≡ front ++ one ∷ back → length (flat_map f front) + length (f one) ≤ length (flat_map f ts)
+pub count_around : {T A : Type 0} (f : T → List A) (ts front back : List T) (one : T) → ts ≡ front ++ one ∷ back → length (flat_map f front) + length (f one) ≤ length (flat_map f ts)
 count_around f ts front back one is =
     let parts : length (flat_map f ts) ≡ length (flat_map f front ++ (f one ++ flat_map f back)) = ap (λ l. length (flat_map f l)) is ∙ ap length (flat_map-append f front (one ∷ back)) in
     omega (arith, parts, length-append (flat_map f front) (f one ++ flat_map f back), length-append (f one) (flat_map f back))

@@ -1,6 +1,6 @@
 -- Where the declarations of a program are refused: a name that can't be defined, or a group that can't be passed, and
 -- the rule that the program breaks there.
-use Rattle.std.proofs.Common.{◌≡◌, ◌⊎◌, inl, inr, ⊎_elim, ℕ, ◌+◌, ◌<◌, Bool, true, false, List, [], ◌∷◌, ◌++◌, ◌≤◌, suc, if◌then◌else◌, Option, Some, None, is_some, Result, Ok, Err, MatchResult, IfErr, IsErrAnd, All, AllPairs, codes, nat_eq, map, take, drop, length, get_or, refl, sym, ap, subst, ◌∙◌, true≢false, append_assoc, length-append, arith}
+use Rattle.std.proofs.Common.{◌≡◌, ◌⊎◌, inl, inr, ⊎_elim, ℕ, ◌+◌, ◌<◌, Bool, true, false, List, [], ◌∷◌, ◌++◌, ◌≤◌, zero, suc, not, ◌&&◌, append-nil, if◌then◌else◌, Option, Some, None, is_some, Result, Ok, Err, MatchResult, IfErr, IsErrAnd, All, AllPairs, codes, nat_eq, map, take, drop, length, get_or, refl, sym, ap, subst, ◌∙◌, true≢false, append_assoc, length-append, arith}
 use Rattle.std.specs.List.{list_any}
 use Rattle.std.specs.Option.{option_map}
 use Rattle.std.specs.Cmp.Lexicographic.{pointwise}
@@ -13,6 +13,7 @@ use Rattle.parser.specs.declared.tree.VariableGroup.{VariableGroup}
 use Rattle.parser.specs.declared.tree.TypeDenoter.{TypeDenoter}
 use Rattle.parser.specs.declared.tree.TypeDenoter.TheVariants as denoter
 use Rattle.typed_tree.specs.declared.tree.Tree.{Tree}
+use Rattle.typed_tree.specs.declared.types.TypeId.{TypeId}
 use Rattle.typed_tree.specs.declared.tree.Variable.{Variable as DeclaredVariable}
 use Rattle.typed_tree.specs.declared.denotation.Denotation.{Denotation}
 use Rattle.typed_tree.specs.declared.denotation.Denotation.TheVariants as denotes
@@ -20,11 +21,11 @@ use Rattle.typed_tree.specs.declared.denotation.ScopeFault.{ScopeFault}
 use Rattle.typed_tree.specs.declared.denotation.ScopeFault.TheVariants as scope_fault
 use Rattle.typed_tree.specs.declared.fault.TypeFault.{TypeFault}
 use Rattle.typed_tree.specs.declared.fault.TypeFault.TheVariants as type_fault
-use Rattle.typed_tree.specs.Names.{Definition, folded, same_name, integer, required, looked_up, or_outer, definitions, defined_names, variable_names, AreDistinct}
+use Rattle.typed_tree.specs.Names.{Definition, folded, same_name, required, looked_up, or_outer, denoter_type, typed_names, definitions, defined_names, variable_names, AreDistinct}
 use Rattle.typed_tree.specs.Scopes.{Region, decided}
 use Rattle.typed_tree.specs.Regions.{said, is_defined, roots_from, placed, Opens, OpensRequired, Passes, PassesGroups, DenotesType, CannotDefine, CannotPass, CannotPassGroup, CannotPassGroups}
 use Rattle.typed_tree.specs.Typing.{type_denoted, declared, IsTyped}
-use Rattle.typed_tree.proofs.Declarations.{known, told, Apart, Holds, outputs, names_of, AreDeclared, looked_up-append, looked_up-known, last_same, opens_holds, passes_holds, typeless-outputs, roots-append, found_is, groups_hold, texts_of}
+use Rattle.typed_tree.proofs.Definitions.{known, told, Apart, Holds, outputs, typed_roots, of_type, typed_of, AreDeclared, looked_up-append, looked_up-known, last_same, opens_holds, passes_holds, typeless-outputs, typeless-outputs_and_roots, roots_typed, roots-append, length-typed_of, found_is, denotes_type, groups_hold, texts_of}
 
 -- a fault that is told with its place has the same reason
 pub refused_at : {A : Type 0} (r : Result A ScopeFault) (told : Result A TypeFault) (place : Place) (Reason : Type 0) (P : ScopeFault → TypeFault → Type 0)
@@ -41,6 +42,11 @@ refused_at (Err e) (Err f) place Reason P cases says (inr reason) = inr reason
 cut_at : {A : Type 0} (xs : List A) (i : ℕ) (d : A) → i < length xs → xs ≡ take i xs ++ get_or xs i d ∷ drop (i + 1) xs
 cut_at xs i d within = sym (take-append-drop i xs) ∙ ap (λ l. take i xs ++ l) (drop_more xs i d within)
 
+roots_from-append : (root : ℕ) (t : TypeId) (xs ys : List Name) → roots_from root t (xs ++ ys) ≡ roots_from root t xs ++ roots_from (root + length xs) t ys
+roots_from-append root t [] ys = ap (λ n. roots_from n t ys) (omega arith)
+roots_from-append root t (x ∷ xs) ys =
+    ap (λ l. (x.text.now, denotes.Variable root t) ∷ l) (roots_from-append (root + 1) t xs ys ∙ ap (λ n. roots_from (root + 1) t xs ++ roots_from n t ys) (omega arith))
+
 module _ {S : Type 0} where
   -- one of the items of a list can't be defined
   pub stuck_at : {A : Type 0} (f : A → Definition) (xs : List A) (i : ℕ) (d : A) (old reached : List (Region S)) → i < length xs
@@ -56,16 +62,16 @@ module _ {S : Type 0} where
   }
 
   -- and one of the names of a group
-  pub stuck_at_root : (root : ℕ) (names : List Name) (i : ℕ) (d : Name) (old reached : List (Region S)) → i < length names
-      → Passes (roots_from root (take i names)) old reached → CannotDefine (folded (get_or names i d).text.now) reached → CannotPass (roots_from root names) old
-  stuck_at_root root names i d old reached within p h =
+  pub stuck_at_root : (root : ℕ) (t : TypeId) (names : List Name) (i : ℕ) (d : Name) (old reached : List (Region S)) → i < length names
+      → Passes (roots_from root t (take i names)) old reached → CannotDefine (folded (get_or names i d).text.now) reached → CannotPass (roots_from root t names) old
+  stuck_at_root root t names i d old reached within p h =
       let x = get_or names i d in
       let n = root + length (take i names) in
       record {
-        before = roots_from root (take i names);
-        next = (x.text.now, denotes.Variable n);
-        after = roots_from (n + 1) (drop (i + 1) names);
-        order = ap (roots_from root) (cut_at names i d within) ∙ roots-append root (take i names) (x ∷ drop (i + 1) names);
+        before = roots_from root t (take i names);
+        next = (x.text.now, denotes.Variable n t);
+        after = roots_from (n + 1) t (drop (i + 1) names);
+        order = ap (roots_from root t) (cut_at names i d within) ∙ roots_from-append root t (take i names) (x ∷ drop (i + 1) names);
         reached = reached;
         passed = p;
         stuck = h;
@@ -93,6 +99,35 @@ alone (x ∷ xs) es d apart =
     ap (λ (e : Definition). same_name x.0 e.0) (sym (get_or_at (x ∷ xs) d es x (length (x ∷ xs)) refl)) ∙ apart 0 (length (x ∷ xs)) x (omega arith) (omega (arith, length-append (x ∷ xs) (d ∷ es))) in
     ap (λ b. if b then Some x.1 else looked_up xs d.0) here ∙ alone xs es d (λ i j e less within. apart (suc i) (suc j) e (omega arith) (omega arith))
 
+-- names, each unlike those before it
+abbrev all_new : List (List ℕ) → List (List ℕ) → Bool
+all_new before [] = true
+all_new before (name ∷ names) = not (list_any (pointwise nat_eq (folded name)) before) && all_new (before ++ folded name ∷ []) names
+
+module _ {A : Type 0} (name_of : A → List ℕ) where
+  is_new : (xs : List A) (before : List (List ℕ)) (i : ℕ) (d : A) → all_new before (map name_of xs) ≡ true → i < length xs
+      → list_any (pointwise nat_eq (folded (name_of (get_or xs i d)))) (before ++ map (λ x. folded (name_of x)) (take i xs)) ≡ false
+  is_new [] before i d h within = absurd (omega arith)
+  is_new (x ∷ xs) before i d h within =
+      let name = folded (name_of x) in
+      let parts = both (list_any (pointwise nat_eq name) before) (all_new (before ++ name ∷ []) (map name_of xs)) h in
+      by i parts.0 (λ j less. is_new xs (before ++ name ∷ []) j d parts.1 less) within
+    where
+      both : (a b : Bool) → (not a && b) ≡ true → (a ≡ false) × (b ≡ true)
+      both false b t = (refl, t)
+      both true b t = absurd (true≢false (sym t))
+
+      by : (i : ℕ) → list_any (pointwise nat_eq (folded (name_of x))) before ≡ false
+          → ((j : ℕ) → j < length xs → list_any (pointwise nat_eq (folded (name_of (get_or xs j d)))) ((before ++ folded (name_of x) ∷ []) ++ map (λ x. folded (name_of x)) (take j xs)) ≡ false)
+          → i < length (x ∷ xs) → list_any (pointwise nat_eq (folded (name_of (get_or (x ∷ xs) i d)))) (before ++ map (λ x. folded (name_of x)) (take i (x ∷ xs))) ≡ false
+      by zero none rest less = ap (list_any (pointwise nat_eq (folded (name_of x)))) (append-nil before) ∙ none
+      by (suc j) none rest less =
+          ap (list_any (pointwise nat_eq (folded (name_of (get_or xs j d))))) (sym (append_assoc before (folded (name_of x) ∷ []) (map (λ x. folded (name_of x)) (take j xs)))) ∙ rest j (omega arith)
+
+names_of_definitions : {A : Type 0} (f : A → Definition) (xs : List A) → map (λ d. folded d.0) (map f xs) ≡ map (λ x. folded (f x).0) xs
+names_of_definitions f [] = refl
+names_of_definitions f (x ∷ xs) = ap (λ l. folded (f x).0 ∷ l) (names_of_definitions f xs)
+
 -- distinct names have definitions of different names
 apart_definitions : (ds : List Definition) (names : List Name) → map (λ d. d.0) ds ≡ map (λ name. name.text.now) names → AreDistinct names → AllPairs Apart ds
 apart_definitions ds [] same distinct = λ i j e less within. absurd (omega (arith, ap length same, length-map ds (λ d. d.0)))
@@ -105,17 +140,18 @@ apart_definitions ds (x ∷ xs) same distinct = λ i j e less within.
     λ k less. sym (get_or-map (λ d. d.0) ds k e) ∙ ap (λ l. get_or l k e.0) same ∙ get_or_default texts k e.0 x.text.now less ∙ get_or-map (λ name. name.text.now) names k x in
     ap (λ (t : List ℕ). same_name t (get_or ds j e).0) (text i (omega arith)) ∙ ap (same_name (get_or names i x).text.now) (text j (omega arith)) ∙ distinct i j x less (omega arith)
 
-names_of-append : (xs ys : List VariableGroup) (g : VariableGroup) → names_of (xs ++ g ∷ ys) ≡ names_of xs ++ (g.names.items ++ names_of ys)
-names_of-append [] ys g = refl
-names_of-append (x ∷ xs) ys g =
-    ap (λ l. x.names.items ++ l) (names_of-append xs ys g) ∙ sym (append_assoc x.names.items (names_of xs) (g.names.items ++ names_of ys))
+typed_of-append : (xs ys : List VariableGroup) (g : VariableGroup) → typed_of (xs ++ g ∷ ys) ≡ typed_of xs ++ (of_type (denoter_type g.denoter) g.names.items ++ typed_of ys)
+typed_of-append [] ys g = refl
+typed_of-append (x ∷ xs) ys g =
+    let front = of_type (denoter_type x.denoter) x.names.items in
+    ap (λ l. front ++ l) (typed_of-append xs ys g) ∙ sym (append_assoc front (typed_of xs) (of_type (denoter_type g.denoter) g.names.items ++ typed_of ys))
 
 -- the declarations of a program break a rule
 abbrev pub BreaksDeclarations : Program → Type 0
 BreaksDeclarations program =
     (¬ All (λ name. folded name.text.now ≡ codes "output") program.parameters.items)
     ⊎ ((¬ AreDistinct (defined_names program))
-    ⊎ ((¬ All (λ group. type_denoted program group.denoter ≡ Some (denotes.TypeName integer)) program.block.variables.items)
+    ⊎ ((¬ All (λ group. type_denoted program group.denoter ≡ Some (denotes.TypeName (denoter_type group.denoter))) program.block.variables.items)
     ⊎ (1000000 < length (variable_names program))))
 
 -- such a program has no typed tree
@@ -140,6 +176,19 @@ module _ {S : Type 0} where
       by None false t = absurd (true≢false (sym t))
   looked_up_already names outer ds regions name h (inr none) = absurd (omega (arith, ap length (sym h.last ∙ none), length-append outer (h.region ∷ [])))
 
+  -- the required identifiers can be defined, one after another
+  pub required_stuck : {A : Type 0} (f : A → Definition) (xs : List A) (i : ℕ) (d : A) (old opened reached : List (Region S)) → map (λ x. (f x).0) xs ≡ map (λ d. d.0) required → i < length xs
+      → Opens [] old opened → Passes (map f (take i xs)) opened reached → CannotDefine (folded (f (get_or xs i d)).0) reached → ⊥
+  required_stuck f xs i d old opened reached same within opens passed stuck =
+      let name = (f (get_or xs i d)).0 in
+      let held = passes_holds [] old [] (map f (take i xs)) opened reached (opens_holds [] old opened opens) passed in
+      let unlike : list_any (pointwise nat_eq (folded name)) (map (λ x. folded (f x).0) (take i xs)) ≡ false = is_new (λ x. (f x).0) xs [] i d (ap (all_new []) same) within in
+      true≢false
+      (sym (looked_up_already [] old (map f (take i xs)) reached name held stuck)
+      ∙ looked_up-known (map f (take i xs)) name
+      ∙ ap (list_any (pointwise nat_eq (folded name))) (names_of_definitions f (take i xs))
+      ∙ unlike)
+
   -- where the definitions of a program can't be passed, a name is defined twice
   defined_twice : (program : Program) (names : List (List ℕ)) (outer : List (Region S)) (ds es rest : List Definition) (regions : List (Region S))
       → Holds names outer ds regions → definitions program ≡ ds ++ (es ++ rest) → CannotPass es regions → ¬ AreDistinct (defined_names program)
@@ -158,8 +207,8 @@ module _ {S : Type 0} where
 
     -- a type that the program denotes is found wherever a part of its definitions was passed
     type_is_found : (ds rest : List Definition) (regions : List (Region S)) → Holds names_in (round ∷ []) ds regions → definitions program ≡ ds ++ rest
-        → (d : TypeDenoter) → type_denoted program d ≡ Some (denotes.TypeName integer) → DenotesType regions d integer
-    type_is_found ds rest regions h order (denoter.Name name) is =
+        → (d : TypeDenoter) (t : TypeId) → type_denoted program d ≡ Some (denotes.TypeName t) → DenotesType regions d t
+    type_is_found ds rest regions h order (denoter.Name name) t is =
         let n = name.text.now in
         let r = outer_type (looked_up (definitions program) n) (looked_up required n) is in
         let none : looked_up ds n ≡ None = first (looked_up ds n) (looked_up rest n) (sym (looked_up-append ds rest n) ∙ ap (λ l. looked_up l n) (sym order) ∙ r.0) in
@@ -167,54 +216,61 @@ module _ {S : Type 0} where
         sym (looked_up-known (definitions program) n ∙ ap (list_any (pointwise nat_eq (folded n))) (texts_of folded program)) ∙ ap is_some r.0 in
         found_is names_in round says_required ds regions h n ∙ found_type (looked_up ds n) (list_any (pointwise nat_eq (folded n)) names_in) (looked_up required n) none unknown r.1
       where
-        outer_type : (o q : Option Denotation) → or_outer (option_map (λ d. denotes.Output) o) q ≡ Some (denotes.TypeName integer) → (o ≡ None) × (q ≡ Some (denotes.TypeName integer))
-        outer_type None q t = (refl, t)
-        outer_type (Some x) q t = absurd cc
+        outer_type : (o q : Option Denotation) → or_outer (option_map (λ d. denotes.Output) o) q ≡ Some (denotes.TypeName t) → (o ≡ None) × (q ≡ Some (denotes.TypeName t))
+        outer_type None q u = (refl, u)
+        outer_type (Some x) q u = absurd cc
 
         first : (o q : Option Denotation) → or_outer o q ≡ None → o ≡ None
-        first None q t = refl
-        first (Some x) q t = absurd cc
+        first None q u = refl
+        first (Some x) q u = absurd cc
 
-        found_type : (o : Option Denotation) (b : Bool) (q : Option Denotation) → o ≡ None → b ≡ false → q ≡ Some (denotes.TypeName integer)
-            → decided (told o (if b then Some None else None)) (decided (told q None) (Err scope_fault.NotDeclared)) ≡ Ok (denotes.TypeName integer)
-        found_type None false (Some x) t u v = cc
-        found_type None false None t u v = absurd cc
-        found_type None true q t u v = absurd (true≢false u)
-        found_type (Some x) b q t u v = absurd cc
+        found_type : (o : Option Denotation) (b : Bool) (q : Option Denotation) → o ≡ None → b ≡ false → q ≡ Some (denotes.TypeName t)
+            → decided (told o (if b then Some None else None)) (decided (told q None) (Err scope_fault.NotDeclared)) ≡ Ok (denotes.TypeName t)
+        found_type None false (Some x) u v w = cc
+        found_type None false None u v w = absurd cc
+        found_type None true q u v w = absurd (true≢false v)
+        found_type (Some x) b q u v w = absurd cc
 
     -- where the groups of a program can't be passed, a name is defined twice, a group has no type, or there are too many variables
     groups_break : (old : List (Region S)) → Holds names_in (round ∷ []) (outputs program.parameters.items) old
         → CannotPassGroups program.block.variables.items old [] → BreaksDeclarations program
     groups_break old h c =
         let front = outputs program.parameters.items in
-        let passed = names_of c.before in
-        let group = c.next.names.items in
-        let later = names_of c.after in
+        let passed = typed_of c.before in
+        let t = denoter_type c.next.denoter in
+        let group = of_type t c.next.names.items in
+        let later = typed_of c.after in
         let g = groups_hold names_in round says_required c.before front old c.reached [] c.more h (typeless-outputs program.parameters.items) c.passed in
         let long : length c.more ≡ length passed = ap length g.variables ∙ length-map passed declared in
-        let all : variable_names program ≡ passed ++ (group ++ later) = ap names_of c.order ∙ names_of-append c.before c.after c.next in
-        let many : length (variable_names program) ≡ length passed + (length group + length later) =
-        ap length all ∙ length-append passed (group ++ later) ∙ ap (λ n. length passed + n) (length-append group later) in
-        let ds = front ++ roots_from 0 passed in
-        let es = roots_from (length c.more) group in
-        let rest = roots_from (length c.more + length group) later in
+        let all : typed_names program ≡ passed ++ (group ++ later) = ap typed_of c.order ∙ typed_of-append c.before c.after c.next in
+        let many : length (variable_names program) ≡ length passed + (length c.next.names.items + length later) =
+        sym (length-typed_of program.block.variables.items) ∙ ap length all ∙ length-append passed (group ++ later)
+        ∙ ap (λ n. length passed + n) (length-append group later ∙ ap (λ n. n + length later) (length-map c.next.names.items (λ name. (name, t)))) in
+        let ds = front ++ typed_roots 0 passed in
+        let es = typed_roots (length c.more) group in
+        let rest = typed_roots (length c.more + length group) later in
         let next : 0 + length passed ≡ length c.more = omega (arith, long) in
         let order : definitions program ≡ ds ++ (es ++ rest) =
-        ap (λ l. front ++ roots_from 0 l) all
+        ap (λ l. front ++ typed_roots 0 l) all
         ∙ ap (λ l. front ++ l) (roots-append 0 passed (group ++ later))
-        ∙ sym (append_assoc front (roots_from 0 passed) (roots_from (0 + length passed) (group ++ later)))
-        ∙ ap (λ n. ds ++ roots_from n (group ++ later)) next
+        ∙ sym (append_assoc front (typed_roots 0 passed) (typed_roots (0 + length passed) (group ++ later)))
+        ∙ ap (λ n. ds ++ typed_roots n (group ++ later)) next
         ∙ ap (λ l. ds ++ l) (roots-append (length c.more) group later) in
         let within : length c.before < length program.block.variables.items = omega (arith, ap length c.order, length-append c.before (c.next ∷ c.after)) in
         let there : get_or program.block.variables.items (length c.before) c.next ≡ c.next =
         ap (λ l. get_or l (length c.before) c.next) c.order ∙ get_or_at c.before c.next c.after c.next (length c.before) refl in
         ⊎_elim
-        (λ stuck. inr (inl (defined_twice program names_in (round ∷ []) ds es rest c.reached g.holds order stuck)))
-        (⊎_elim
         (λ stuck. inr (inr (inl (λ types.
-        stuck.2 integer
-        (type_is_found (ds ++ es) rest stuck.0 (passes_holds names_in (round ∷ []) ds es c.reached stuck.0 g.holds stuck.1) (order ∙ sym (append_assoc ds es rest)) c.next.denoter
-        (ap (λ (x : VariableGroup). type_denoted program x.denoter) (sym there) ∙ types (length c.before) c.next within))))))
+        stuck t
+        (type_is_found ds (es ++ rest) c.reached g.holds order c.next.denoter t
+        (ap (λ (x : VariableGroup). type_denoted program x.denoter) (sym there) ∙ types (length c.before) c.next within
+        ∙ ap (λ (x : VariableGroup). Some (denotes.TypeName (denoter_type x.denoter))) there))))))
+        (⊎_elim
+        (λ stuck. inr (inl (defined_twice program names_in (round ∷ []) ds es rest c.reached g.holds order
+        (subst (λ l. CannotPass l c.reached)
+        (ap (λ (u : TypeId). roots_from (length c.more) u c.next.names.items)
+        (denotes_type names_in round says_required ds c.reached g.holds (typeless-outputs_and_roots program.parameters.items 0 passed) c.next.denoter stuck.0 stuck.1).1
+        ∙ roots_typed (length c.more) t c.next.names.items) stuck.2))))
         (λ stuck. inr (inr (inr (omega (arith, stuck, many, long))))))
         c.stuck
 
@@ -240,10 +296,10 @@ module _ {S : Type 0} where
     parameters_refused parameters same (inl other) = inl (subst (λ l. ¬ All (λ name. folded name.text.now ≡ codes "output") l) same other)
     parameters_refused parameters same (inr stuck) =
         let o = opened program none required_round opened_round start opens_required opens in
-        inr (inl (defined_twice program (map (λ name. folded name.text.now) (defined_names program)) (o.round ∷ []) [] (outputs program.parameters.items) (roots_from 0 (variable_names program)) opened_round
+        inr (inl (defined_twice program (map (λ name. folded name.text.now) (defined_names program)) (o.round ∷ []) [] (outputs program.parameters.items) (typed_roots 0 (typed_names program)) opened_round
         o.holds refl (subst (λ l. CannotPass (outputs l) opened_round) same stuck)))
 
-    -- the variables are refused where a name is defined twice, a type isn't integer, or there are too many
+    -- the variables are refused where a name is defined twice, a denoter denotes no type, or there are too many
     pub variables_refused : (parameters : List Name) (groups : List VariableGroup) (with_parameters : List (Region S)) → parameters ≡ program.parameters.items → groups ≡ program.block.variables.items
         → Passes (outputs parameters) opened_round with_parameters → CannotPassGroups groups with_parameters [] → BreaksDeclarations program
     variables_refused parameters groups r3 same same_groups passed stuck =
@@ -257,4 +313,4 @@ module _ {S : Type 0} where
   pub many_refused : (program : Program) (has_output : Bool) (variables : List DeclaredVariable) (regions : List (Region S))
       → AreDeclared program has_output variables regions → 1000000 < length variables → BreaksDeclarations program
   many_refused program has_output variables regions declares many =
-      inr (inr (inr (omega (arith, many, ap length declares.variables_are, length-map (variable_names program) declared))))
+      inr (inr (inr (omega (arith, many, ap length declares.variables_are, length-map (typed_names program) declared, length-typed_of program.block.variables.items))))

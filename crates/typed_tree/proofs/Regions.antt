@@ -1,5 +1,5 @@
 -- Regions while names are defined: what an insert does to what a region says, and definitions passed one by one.
-use Rattle.std.proofs.Common.{◌≡◌, ℕ, ◌+◌, ◌-◌, ◌<◌, ◌||◌, Bool, true, false, cond, if◌then◌else◌, List, [], ◌∷◌, ◌++◌, Option, Some, None, is_some, Result, Ok, Err, MatchResult, OkIff, is_ok, not, Vec, nat_eq, map, take, length, get_or, slice_index_or, slice_set, refl, sym, ap, subst, ◌∙◌, true≢false, append_assoc, arith}
+use Rattle.std.proofs.Common.{◌≡◌, ℕ, ◌+◌, ◌-◌, ◌<◌, ◌||◌, Bool, true, false, cond, if◌then◌else◌, List, [], ◌∷◌, ◌++◌, Option, Some, None, is_some, Result, Ok, Err, MatchResult, OkIff, is_ok, not, Vec, nat_eq, map, take, length, get_or, slice_index_or, slice_set, refl, sym, ap, subst, ◌∙◌, true≢false, append_assoc, length-append, arith}
 use Rattle.std.specs.Map.{lookup}
 use Rattle.std.specs.HashMap.{get}
 use Rattle.std.specs.Option.{option_flatten}
@@ -8,7 +8,7 @@ use Rattle.std.specs.Char.{to_ascii_lowercase}
 use Rattle.std.specs.declared.alloc.Global.{Global}
 use Rattle.std.specs.List.{list_any}
 use Rattle.std.proofs.lemmas.List.Folds.{list_any-append}
-use Rattle.std.proofs.lemmas.List.{map-append, take_all, take_more, take_more_set, length-set, length-take}
+use Rattle.std.proofs.lemmas.List.{map-append, length-map, take_all, take_more, take_more_set, length-set, length-take}
 use Rattle.std.proofs.lemmas.Bool.{false_from_ne_true}
 use Rattle.std.proofs.lemmas.Bool.Decides.{nat_tests}
 use Rattle.std.proofs.lemmas.Slice.Eq.{bytes_eq-Decides}
@@ -16,6 +16,7 @@ use Rattle.indexmap.specs.IndexMap.{insert_entry}
 use Rattle.parser.specs.declared.tree.Name.{Name}
 use Rattle.parser.specs.declared.tree.VariableGroup.{VariableGroup}
 use Rattle.typed_tree.specs.declared.tree.Variable.{Variable as DeclaredVariable}
+use Rattle.typed_tree.specs.declared.types.TypeId.{TypeId}
 use Rattle.typed_tree.specs.declared.denotation.Denotation.{Denotation}
 use Rattle.typed_tree.specs.declared.denotation.Denotation.TheVariants.{Variable}
 use Rattle.typed_tree.specs.Names.{Definition, small, folded}
@@ -87,6 +88,14 @@ pub number_is : {E : Type 0} (F : Type 0) (r : Result ℕ E) (P : E → Type 0) 
 number_is F (Ok x) P long short limit ok cases iff = (cc, iff.0)
 number_is F (Err e) P long short limit ok cases iff = absurd (true≢false (sym ok))
 
+-- a list that grew by one item for each of others
+pub grown_by : {A B : Type 0} (f : B → A) (xs : List B) (i : ℕ) (old now : List A) → i < length xs → now ≡ old ++ map f (take i xs) → length now ≡ length old + i
+grown_by {A} {B} f xs i old now within is =
+    ap length is ∙ length-append old (map f (take i xs)) ∙ ap (λ n. length old + n) (length-map (take i xs) f ∙ at_most)
+  where
+    at_most : length (take i xs) ≡ i
+    at_most = omega (arith, length-take {A = B})
+
 module _ {A : Type 0} where
   -- one item more for each of a list
   pub one_each : {B : Type 0} (xs : List B) (i : ℕ) (old now new : List A) (y : A) → i < length xs → now ≡ old ++ map (λ x. y) (take i xs) → new ≡ now ++ y ∷ [] → new ≡ old ++ map (λ x. y) (take (i + 1) xs)
@@ -117,10 +126,10 @@ not_defined (Some None) h = refl
 not_defined (Some (Some d)) h = h
 
 -- the next name takes the next root number
-roots_from-push : (root : ℕ) (names : List Name) (name : Name) → roots_from root (names ++ name ∷ []) ≡ roots_from root names ++ (name.text.now, Variable (root + length names)) ∷ []
-roots_from-push root [] name = ap (λ n. (name.text.now, Variable n) ∷ []) (omega arith)
-roots_from-push root (x ∷ xs) name =
-    ap (λ ds. (x.text.now, Variable root) ∷ ds) (roots_from-push (root + 1) xs name ∙ ap (λ n. roots_from (root + 1) xs ++ (name.text.now, Variable n) ∷ []) (omega arith))
+roots_from-push : (root : ℕ) (t : TypeId) (names : List Name) (name : Name) → roots_from root t (names ++ name ∷ []) ≡ roots_from root t names ++ (name.text.now, Variable (root + length names) t) ∷ []
+roots_from-push root t [] name = ap (λ n. (name.text.now, Variable n t) ∷ []) (omega arith)
+roots_from-push root t (x ∷ xs) name =
+    ap (λ ds. (x.text.now, Variable root t) ∷ ds) (roots_from-push (root + 1) t xs name ∙ ap (λ n. roots_from (root + 1) t xs ++ (name.text.now, Variable n t) ∷ []) (omega arith))
 
 module _ {S : Type 0} where
   -- an insert into the innermost region defines a name
@@ -170,14 +179,14 @@ module _ {S : Type 0} where
       (Passes-more (map f (take i xs)) (f (get_or xs i d)) old mid new p h)
 
   -- and of the roots of names
-  pub Passes-roots_more : (names : List Name) (root i number : ℕ) (d : Name) (old mid new : List (Region S)) → i < length names → number ≡ root + i
-      → Passes (roots_from root (take i names)) old mid → Defines (folded (get_or names i d).text.now) (Variable number) mid new → Passes (roots_from root (take (i + 1) names)) old new
-  Passes-roots_more names root i number d old mid new within is p h =
+  pub Passes-roots_more : (names : List Name) (root : ℕ) (t : TypeId) (i number : ℕ) (d : Name) (old mid new : List (Region S)) → i < length names → number ≡ root + i
+      → Passes (roots_from root t (take i names)) old mid → Defines (folded (get_or names i d).text.now) (Variable number t) mid new → Passes (roots_from root t (take (i + 1) names)) old new
+  Passes-roots_more names root t i number d old mid new within is p h =
       let x = get_or names i d in
       let same : root + length (take i names) ≡ number = omega (arith, length-take {A = Name}) in
       subst (λ ds. Passes ds old new)
-      (ap (λ n. roots_from root (take i names) ++ (x.text.now, Variable n) ∷ []) (sym same) ∙ sym (roots_from-push root (take i names) x) ∙ sym (ap (roots_from root) (take_more names i d within)))
-      (Passes-more (roots_from root (take i names)) (x.text.now, Variable number) old mid new p h)
+      (ap (λ n. roots_from root t (take i names) ++ (x.text.now, Variable n t) ∷ []) (sym same) ∙ sym (roots_from-push root t (take i names) x) ∙ sym (ap (roots_from root t) (take_more names i d within)))
+      (Passes-more (roots_from root t (take i names)) (x.text.now, Variable number t) old mid new p h)
 
   -- groups, one more
   pub PassesGroups-more : (gs : List VariableGroup) (g : VariableGroup) (old mid new : List (Region S)) (vs us ws : List DeclaredVariable)

@@ -15,7 +15,7 @@ use Rattle.typed_tree.proofs.FormedLemmas.{both_true}
 
 -- ---- entries and sites that came
 
-range_joins : (a m n : ℕ) → range_with_len a (m + n) ≡ range_with_len a m ++ range_with_len (a + m) n
+pub range_joins : (a m n : ℕ) → range_with_len a (m + n) ≡ range_with_len a m ++ range_with_len (a + m) n
 range_joins a zero n =
     let left : 0 + n ≡ n = omega arith in
     let right : a ≡ a + 0 = omega arith in
@@ -67,6 +67,17 @@ pub if_ok : {A E : Type 0} (r : Result A E) (P Q : A → Type 0) → ((x : A) �
 if_ok (Ok x) P Q f h = f x h
 if_ok (Err e) P Q f h = h
 
+pub if_both : {A E : Type 0} (r : Result A E) (P Q R : A → Type 0) → ((x : A) → P x → Q x → R x) → IfOk r P → IfOk r Q → IfOk r R
+if_both (Ok x) P Q R f h k = f x h k
+if_both (Err e) P Q R f h k = h
+
+-- what was made, told otherwise
+pub makes_as : (a b : Resolver) (f g : Denotes → Bool) (e d : List ℕ) (t u : List Tested) (s r : Denotes → List Stands)
+    → ((names : Denotes) → Knows a names → IsTrue (f names) → IsTrue (g names)) → d ≡ e → u ≡ t → ((names : Denotes) → Knows a names → r names ≡ s names) → Makes a b f e t s → Makes a b g d u r
+makes_as a b f g e d t u s r typed same_entries same_tests same_stands made = λ names known.
+    let k = made names known in
+    (typed names known k.0, adds_as a b e d t u (s names) (r names) same_entries same_tests (same_stands names known) k.1)
+
 module _ (typed : Denotes → Bool) (e : List ℕ) (t : List Tested) (s : Denotes → List Stands) where
   -- where nothing came before
   pub makes_from : (a m b : Resolver) → AddsNothing a m → Makes m b typed e t s → Makes a b typed e t s
@@ -93,10 +104,10 @@ and_right : (x y : Bool) → (x && y) ≡ true → y ≡ true
 and_right true y h = h
 and_right false y h = cc
 
-pushed : {X A : Type 0} (f : X → List A) (xs : List X) (x : X) → flat_map f (xs ++ x ∷ []) ≡ flat_map f xs ++ f x
+pub pushed : {X A : Type 0} (f : X → List A) (xs : List X) (x : X) → flat_map f (xs ++ x ∷ []) ≡ flat_map f xs ++ f x
 pushed f xs x = flat_map-append f xs (x ∷ []) ∙ ap (λ l. flat_map f xs ++ l) (append-nil (f x))
 
-all_match-push : {A : Type 0} (tests : List (A → Bool)) (test : A → Bool) (xs : List A) (x : A) → IsTrue (all_match tests xs) → IsTrue (test x) → IsTrue (all_match (tests ++ test ∷ []) (xs ++ x ∷ []))
+pub all_match-push : {A : Type 0} (tests : List (A → Bool)) (test : A → Bool) (xs : List A) (x : A) → IsTrue (all_match tests xs) → IsTrue (test x) → IsTrue (all_match (tests ++ test ∷ []) (xs ++ x ∷ []))
 all_match-push [] test [] x row one = both_true (test x) true one refl
 all_match-push [] test (y ∷ ys) x row one = cc
 all_match-push (f ∷ fs) test [] x row one = cc

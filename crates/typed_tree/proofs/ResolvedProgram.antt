@@ -9,20 +9,20 @@ use Rattle.typed_tree.specs.declared.tree.Stmt.{Stmt}
 use Rattle.typed_tree.specs.declared.tree.Stmt.TheOpen as stmt_layer
 use Rattle.typed_tree.specs.declared.tree.Stmt.TheViews.{out-Stmt}
 use Rattle.typed_tree.specs.declared.tree.Tree.{Tree}
-use Rattle.typed_tree.specs.declared.types.TypeForm.TheVariants.{Integer}
+use Rattle.typed_tree.specs.declared.types.TypeForm.TheVariants.{Integer, Boolean}
 use Rattle.typed_tree.specs.declared.denotation.Denotation.TheVariants as denotes
 use Rattle.typed_tree.specs.Ids.{AreInOrder}
 use Rattle.typed_tree.specs.WellFormed.{IsWellFormed}
 use Rattle.typed_tree.specs.Entries.{entries_of, entries_of_statement, sites_of, sites_of_statement}
-use Rattle.typed_tree.specs.Names.{folded, integer, defined_names, variable_names, denoted, AreDistinct}
+use Rattle.typed_tree.specs.Names.{folded, denoter_type, typed_names, defined_names, variable_names, denoted, AreDistinct}
 use Rattle.typed_tree.specs.Typing.{types_statement, stands_in, is_compound, is_body, declared, type_denoted, writes_nothing, IsTyped}
 use Rattle.typed_tree.specs.Resolved.{Knows, placed, tested, MakesCompound, AreSilent}
 
-is_body_of : (program : Program) (d : stmt_layer.Stmt-F Stmt) → is_compound (denoted program) (map (types_statement (denoted program)) program.block.statements.items) d ≡ true → is_body program d ≡ true
+is_body_of : (program : Program) (d : stmt_layer.Stmt-F Stmt) → is_compound (map (types_statement (denoted program)) program.block.statements.items) d ≡ true → is_body program d ≡ true
 is_body_of program (stmt_layer.Compound n v) h = h
 is_body_of program (stmt_layer.Empty n) h = h
 is_body_of program (stmt_layer.Assign n t f e) h = h
-is_body_of program (stmt_layer.Writeln n v) h = h
+is_body_of program (stmt_layer.Write n v l) h = h
 
 has_output_or : (program : Program) (output : Bool) → (output ≡ true → 0 < length program.parameters.items) → (output ≡ false → AreSilent program.block.statements.items)
     → 0 < length program.parameters.items ⊎ All (λ s. IsTrue (writes_nothing s)) program.block.statements.items
@@ -33,9 +33,9 @@ has_output_or program false named silent = inr (silent refl)
 pub record Begins (program : Program) (r : Resolver) : Type 0 where
   pub parameters : All (λ name. folded name.text.now ≡ codes "output") program.parameters.items
   pub distinct : AreDistinct (defined_names program)
-  pub types : All (λ group. type_denoted program group.denoter ≡ Some (denotes.TypeName integer)) program.block.variables.items
+  pub types : All (λ group. type_denoted program group.denoter ≡ Some (denotes.TypeName (denoter_type group.denoter))) program.block.variables.items
   pub output : r.has_output ≡ true → 0 < length program.parameters.items
-  pub variables : r.variables.items ≡ map declared (variable_names program)
+  pub variables : r.variables.items ≡ map declared (typed_names program)
   pub knows : Knows r (denoted program)
   pub no_entry : r.entries ≡ 0
   pub no_site : r.sites.items ≡ []
@@ -43,7 +43,7 @@ pub record Begins (program : Program) (r : Resolver) : Type 0 where
 
 module _ (program : Program) (tree : Tree) (old new : Resolver) (body : Stmt) (written : List SyntaxStmt) where
   pub typed_program : Begins program old → MakesCompound old new written body → (old.has_output ≡ false → AreSilent written) → written ≡ program.block.statements.items → tree.blocks.items ≡ record { body = body; end = program.block.end } ∷ [] → tree.variables ≡ new.variables → tree.sites ≡ new.sites
-      → tree.points.items ≡ [] → tree.types.forms.items ≡ Integer ∷ [] → IsWellFormed tree → IsTyped program tree
+      → tree.points.items ≡ [] → tree.types.forms.items ≡ Integer ∷ Boolean ∷ [] → IsWellFormed tree → IsTyped program tree
   typed_program begins made_of silent_of same blocks variables sites points forms well =
       let made = subst (λ ss. MakesCompound old new ss body) same made_of in
       let silent = λ (none : old.has_output ≡ false). subst AreSilent same (silent_of none) in

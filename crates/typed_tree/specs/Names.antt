@@ -6,10 +6,13 @@ use Rattle.std.specs.List.{range_with_len}
 use Rattle.std.specs.Cmp.Lexicographic.{pointwise}
 use Rattle.parser.specs.declared.tree.Program.{Program}
 use Rattle.parser.specs.declared.tree.Name.{Name}
+use Rattle.parser.specs.declared.tree.TypeDenoter.{TypeDenoter}
+use Rattle.parser.specs.declared.tree.TypeDenoter.TheVariants as denoter
 use Rattle.typed_tree.specs.declared.types.TypeId.{TypeId}
 use Rattle.typed_tree.specs.declared.denotation.Denotation.{Denotation}
-use Rattle.typed_tree.specs.declared.denotation.Denotation.TheVariants.{TypeName, Constant, Variable, Procedure, Output}
-use Rattle.typed_tree.specs.declared.denotation.RequiredProcedure.TheVariants.{Writeln}
+use Rattle.typed_tree.specs.declared.denotation.Denotation.TheVariants.{TypeName, Constant, Variable, Procedure, Function, Output}
+use Rattle.typed_tree.specs.declared.denotation.RequiredProcedure.TheVariants.{Write, Writeln}
+use Rattle.typed_tree.specs.declared.denotation.RequiredFunction.TheVariants.{Abs, Sqr, Odd}
 
 -- a small letter for a capital one
 abbrev pub small : ℕ → ℕ
@@ -30,10 +33,17 @@ Definition = List ℕ × Denotation
 abbrev pub integer : TypeId
 integer = record { index = 0 }
 
+-- the type Boolean is the second
+abbrev pub boolean : TypeId
+boolean = record { index = 1 }
+
 -- the required identifiers
 abbrev pub required : List Definition
 required =
-    (codes "integer", TypeName integer) ∷ (codes "maxint", Constant (pos 2147483647) integer) ∷ (codes "writeln", Procedure Writeln) ∷ []
+    (codes "integer", TypeName integer) ∷ (codes "boolean", TypeName boolean)
+    ∷ (codes "maxint", Constant (pos 2147483647) integer) ∷ (codes "false", Constant (pos 0) boolean) ∷ (codes "true", Constant (pos 1) boolean)
+    ∷ (codes "abs", Function Abs) ∷ (codes "sqr", Function Sqr) ∷ (codes "odd", Function Odd)
+    ∷ (codes "write", Procedure Write) ∷ (codes "writeln", Procedure Writeln) ∷ []
 
 -- the names of the variables, in the order of declaration
 abbrev pub variable_names : Program → List Name
@@ -43,18 +53,30 @@ variable_names program = flat_map (λ group. group.names.items) program.block.va
 abbrev pub defined_names : Program → List Name
 defined_names program = program.parameters.items ++ variable_names program
 
--- each variable has its root number, in the order of declaration
-abbrev pub roots_of : List Name → List Definition
-roots_of names = map (λ p. (p.0.text.now, Variable p.1)) (zip names (range_with_len 0 (length names)))
-
--- the definitions of the block: output where it is a parameter, and the variables
-abbrev pub definitions : Program → List Definition
-definitions program = map (λ name. (name.text.now, Output)) program.parameters.items ++ roots_of (variable_names program)
-
 -- the first definition of a name
 abbrev pub looked_up : List Definition → List ℕ → Option Denotation
 looked_up [] name = None
 looked_up (d ∷ ds) name = if same_name d.0 name then Some d.1 else looked_up ds name
+
+-- the required type that a denoter names; another names no type
+abbrev pub type_named : Option Denotation → TypeId
+type_named (Some (TypeName type_id)) = type_id
+type_named other = integer
+
+abbrev pub denoter_type : TypeDenoter → TypeId
+denoter_type (denoter.Name name) = type_named (looked_up required name.text.now)
+
+-- the variables with their types, in the order of declaration
+abbrev pub typed_names : Program → List (Name × TypeId)
+typed_names program = flat_map (λ group. map (λ name. (name, denoter_type group.denoter)) group.names.items) program.block.variables.items
+
+-- each variable has its root number, in the order of declaration
+abbrev pub roots_of : List (Name × TypeId) → List Definition
+roots_of variables = map (λ p. (p.0.0.text.now, Variable p.1 p.0.1)) (zip variables (range_with_len 0 (length variables)))
+
+-- the definitions of the block: output where it is a parameter, and the variables
+abbrev pub definitions : Program → List Definition
+definitions program = map (λ name. (name.text.now, Output)) program.parameters.items ++ roots_of (typed_names program)
 
 abbrev pub or_outer : Option Denotation → Option Denotation → Option Denotation
 or_outer None outer = outer

@@ -26,9 +26,9 @@ is_defined None = false
 is_defined (Some None) = false
 is_defined (Some (Some denotation)) = true
 
--- variables have their root numbers from this one on
-abbrev pub roots_from : ℕ → List Name → List Definition
-roots_from root names = map (λ p. (p.0.text.now, denotes.Variable p.1)) (zip names (range_with_len root (length names)))
+-- variables of a type have their root numbers from this one on
+abbrev pub roots_from : ℕ → TypeId → List Name → List Definition
+roots_from root type_id names = map (λ p. (p.0.text.now, denotes.Variable p.1 type_id)) (zip names (range_with_len root (length names)))
 
 -- what a region says of a name
 abbrev pub said : {S : Type 0} → Region S → List ℕ → Option (Option Denotation)
@@ -82,11 +82,12 @@ module _ {S : Type 0} where
   abbrev pub DenotesType : List (Region S) → TypeDenoter → TypeId → Type 0
   DenotesType regions (denoter.Name name) type_id = found regions (folded name.text.now) ≡ Ok (denotes.TypeName type_id)
 
-  -- variables that are declared together are defined, and then their type is looked up
+  -- the type of variables that are declared together is looked up, and then they are defined
   abbrev pub PassesGroup : VariableGroup → List (Region S) → List Variable → List (Region S) → List Variable → Type 0
   PassesGroup group old variables new more =
-      Passes (roots_from (length variables) group.names.items) old new
-      × (type_id : TypeId) × DenotesType new group.denoter type_id × (more ≡ variables ++ map (λ name. record { block = 0; type_id = type_id }) group.names.items)
+      (type_id : TypeId) × DenotesType old group.denoter type_id
+      × Passes (roots_from (length variables) type_id group.names.items) old new
+      × (more ≡ variables ++ map (λ name. record { block = 0; type_id = type_id }) group.names.items)
 
   -- groups are passed, one after another
   abbrev pub PassesGroups : List VariableGroup → List (Region S) → List Variable → List (Region S) → List Variable → Type 0
@@ -109,16 +110,16 @@ module _ {S : Type 0} where
   abbrev pub DenotesNoType : List (Region S) → TypeDenoter → Type 0
   DenotesNoType regions denoter = (type_id : TypeId) → ¬ DenotesType regions denoter type_id
 
-  -- the names of a group are passed, and its denoter denotes no type
-  abbrev pub HasNoType : VariableGroup → List (Region S) → List Variable → Type 0
-  HasNoType group old variables =
-      (reached : List (Region S)) × Passes (roots_from (length variables) group.names.items) old reached × DenotesNoType reached group.denoter
+  -- the variables of a group can't be defined
+  abbrev pub CannotDefineGroup : VariableGroup → List (Region S) → List Variable → Type 0
+  CannotDefineGroup group old variables =
+      (type_id : TypeId) × DenotesType old group.denoter type_id × CannotPass (roots_from (length variables) type_id group.names.items) old
 
-  -- a group can't be passed: a name can't be defined, the group has no type, or a root number is above 4294967295
+  -- a group can't be passed: it has no type, a name can't be defined, or a root number is above 4294967295
   abbrev pub CannotPassGroup : VariableGroup → List (Region S) → List Variable → Type 0
   CannotPassGroup group old variables =
-      CannotPass (roots_from (length variables) group.names.items) old
-      ⊎ (HasNoType group old variables ⊎ (4294967296 < length variables + length group.names.items))
+      DenotesNoType old group.denoter
+      ⊎ (CannotDefineGroup group old variables ⊎ (4294967296 < length variables + length group.names.items))
 
 -- some of the groups are passed, and the next can't be
 pub record CannotPassGroups {S : Type 0} (groups : List VariableGroup) (old : List (Region S)) (variables : List Variable) : Type 0 where

@@ -2,7 +2,7 @@
 -- the cells that a variable takes. It says nothing of which type a denoter denotes.
 use Rattle.std.specs.Prelude.{ℕ, pos, neg_ℤ, Bool, true, false, Option, Some, None, slice_get}
 use Rattle.typed_tree.specs.declared.types.TypeForm.{TypeForm}
-use Rattle.typed_tree.specs.declared.types.TypeForm.TheVariants.{Integer}
+use Rattle.typed_tree.specs.declared.types.TypeForm.TheVariants.{Integer, Boolean}
 use Rattle.typed_tree.specs.declared.types.TypeId.{TypeId}
 use Rattle.typed_tree.specs.declared.types.OrdinalRange.{OrdinalRange}
 use Rattle.typed_tree.specs.declared.types.TypeTable.{TypeTable}
@@ -11,18 +11,19 @@ use Rattle.typed_tree.specs.declared.types.TypeTable.{TypeTable}
 abbrev pub form_at : TypeTable → TypeId → Option TypeForm
 form_at table id = slice_get table.forms.items id.index
 
--- compatible types: here all are of host integer
+-- compatible types: the same host type
 abbrev pub is_compatible : Option TypeForm → Option TypeForm → Bool
 is_compatible (Some Integer) (Some Integer) = true
-is_compatible (Some Integer) None = false
-is_compatible None second = false
+is_compatible (Some Boolean) (Some Boolean) = true
+is_compatible first second = false
 
 -- the first and the last value of an ordinal type
 abbrev pub range_at : Option TypeForm → Option OrdinalRange
 range_at None = None
 range_at (Some Integer) = Some (record { first = neg_ℤ (pos 2147483647); last = pos 2147483647 })
+range_at (Some Boolean) = Some (record { first = pos 0; last = pos 1 })
 
 -- a scalar takes one cell
 abbrev pub cells_at : Option TypeForm → ℕ
 cells_at None = 0
-cells_at (Some Integer) = 1
+cells_at (Some form) = 1

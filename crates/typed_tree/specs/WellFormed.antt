@@ -1,34 +1,60 @@
--- Well formed trees: each constant is of type integer (ISO 7185:1990, 6.4.2.2), each variable is one of the program's
--- (6.2.2), each test names a site of the table, and the program has no more variables than an operand may name. It does
--- not say that a tree is that of a program.
-use Rattle.std.specs.Prelude.{◌≡◌, ℕ, ◌≤◌, pos, neg_ℤ, ◌&&◌, Bool, true, List, Option, Some, None, int_le, nat_lt, length, map, slice_get}
+-- Well formed trees: each constant and each range of a test lies in that of integer (ISO 7185:1990, 6.4.2.2), each
+-- variable is one of the program's (6.2.2), each test names a site of the table, and the program has no more variables
+-- than an operand may name. It does not say that a tree is that of a program.
+use Rattle.std.specs.Prelude.{◌≡◌, ℕ, ℤ, ◌≤◌, pos, neg_ℤ, ◌&&◌, Bool, true, List, Option, Some, None, int_le, nat_lt, length, map, slice_get}
 use Rattle.std.specs.List.{list_all}
 use Rattle.typed_tree.specs.declared.tree.Tree.{Tree}
 use Rattle.typed_tree.specs.declared.tree.Block.{Block}
+use Rattle.typed_tree.specs.declared.types.OrdinalRange.{OrdinalRange}
+use Rattle.typed_tree.specs.declared.tree.Monadic.{Monadic}
+use Rattle.typed_tree.specs.declared.tree.Monadic.TheVariants as monadic
+use Rattle.typed_tree.specs.declared.tree.Dyadic.{Dyadic}
+use Rattle.typed_tree.specs.declared.tree.Dyadic.TheVariants as dyadic
+use Rattle.typed_tree.specs.declared.tree.RangeTest.{RangeTest}
+use Rattle.typed_tree.specs.declared.tree.Width.{Width}
+use Rattle.typed_tree.specs.declared.tree.WriteParameter.{WriteParameter}
 use Rattle.typed_tree.specs.declared.tree.Expr.{Expr}
 use Rattle.typed_tree.specs.declared.tree.Link.{Link}
 use Rattle.typed_tree.specs.declared.tree.Expr.TheOpen.{Expr-F, Link-F}
-use Rattle.typed_tree.specs.declared.tree.Expr.TheOpen.Expr-F.{Constant, Variable, Signed, Sum}
+use Rattle.typed_tree.specs.declared.tree.Expr.TheOpen.Expr-F.{Constant, Variable, Monadic as MonadicOf, Chain}
 use Rattle.typed_tree.specs.declared.tree.Expr.TheFolds.{fold-Expr, fold-Link}
 use Rattle.typed_tree.specs.declared.tree.Stmt.{Stmt}
 use Rattle.typed_tree.specs.declared.tree.Stmt.TheOpen.{Stmt-F}
-use Rattle.typed_tree.specs.declared.tree.Stmt.TheOpen.Stmt-F.{Empty, Assign, Writeln, Compound}
+use Rattle.typed_tree.specs.declared.tree.Stmt.TheOpen.Stmt-F.{Empty, Assign, Write, Compound}
 use Rattle.typed_tree.specs.declared.tree.Stmt.TheFolds.{fold-Stmt}
 
 -- they all hold
 abbrev pub all_hold : List Bool → Bool
 all_hold tests = list_all (λ b. b) tests
 
+-- a number of type integer
+abbrev pub is_whole : ℤ → Bool
+is_whole value = int_le (neg_ℤ (pos 2147483647)) value && int_le value (pos 2147483647)
+
 -- with so many variables and so many sites
 module _ (variables sites : ℕ) where
+  abbrev pub monadic_is_well_formed : Monadic → Bool
+  monadic_is_well_formed (monadic.Sqr overflow) = nat_lt overflow sites
+  monadic_is_well_formed other = true
+
+  abbrev pub dyadic_is_well_formed : Dyadic → Bool
+  dyadic_is_well_formed (dyadic.Plus overflow) = nat_lt overflow sites
+  dyadic_is_well_formed (dyadic.Minus overflow) = nat_lt overflow sites
+  dyadic_is_well_formed (dyadic.Times overflow) = nat_lt overflow sites
+  dyadic_is_well_formed (dyadic.Div by_zero) = nat_lt by_zero sites
+  dyadic_is_well_formed (dyadic.Mod by_zero_or_less) = nat_lt by_zero_or_less sites
+  dyadic_is_well_formed dyadic.And = true
+  dyadic_is_well_formed dyadic.Or = true
+  dyadic_is_well_formed (dyadic.Relation relation) = true
+
   abbrev pub link_is_well_formed : Link-F Bool Bool → Bool
-  link_is_well_formed link = nat_lt link.overflow sites && link.operand
+  link_is_well_formed link = dyadic_is_well_formed link.operation && link.operand
 
   abbrev pub expr_is_well_formed : Expr-F Bool Bool → Bool
-  expr_is_well_formed (Constant number value) = int_le (neg_ℤ (pos 2147483647)) value && int_le value (pos 2147483647)
+  expr_is_well_formed (Constant number value) = is_whole value
   expr_is_well_formed (Variable access defined) = nat_lt access.root variables && nat_lt defined sites
-  expr_is_well_formed (Signed number sign operand) = operand.value
-  expr_is_well_formed (Sum first rest) = first.value && all_hold rest.items
+  expr_is_well_formed (MonadicOf number operation operand) = monadic_is_well_formed operation && operand.value
+  expr_is_well_formed (Chain first rest) = first.value && all_hold rest.items
 
   -- an expression is well formed
   abbrev pub is_well_formed_expr : Expr → Bool
@@ -38,10 +64,22 @@ module _ (variables sites : ℕ) where
   abbrev pub is_well_formed_link : Link → Bool
   is_well_formed_link = fold-Link Bool Bool expr_is_well_formed link_is_well_formed
 
+  abbrev pub is_well_formed_width : Option Width → Bool
+  is_well_formed_width None = true
+  is_well_formed_width (Some width) = nat_lt width.site sites && is_well_formed_expr width.value
+
+  -- a value that is written, and its width
+  abbrev pub is_well_formed_parameter : WriteParameter → Bool
+  is_well_formed_parameter parameter = is_well_formed_expr parameter.value && is_well_formed_width parameter.width
+
+  -- the test of a value
+  abbrev pub is_well_formed_test : RangeTest → Bool
+  is_well_formed_test test = nat_lt test.site sites && (is_whole test.range.first && is_whole test.range.last)
+
   abbrev pub stmt_is_well_formed : Stmt-F Bool → Bool
   stmt_is_well_formed (Empty number) = true
-  stmt_is_well_formed (Assign number target fits value) = nat_lt target.root variables && (nat_lt fits sites && is_well_formed_expr value)
-  stmt_is_well_formed (Writeln number values) = all_hold (map is_well_formed_expr values.items)
+  stmt_is_well_formed (Assign number target fits value) = nat_lt target.root variables && (is_well_formed_test fits && is_well_formed_expr value)
+  stmt_is_well_formed (Write number parameters ends_line) = all_hold (map is_well_formed_parameter parameters.items)
   stmt_is_well_formed (Compound number statements) = all_hold statements.items
 
   -- a statement is well formed

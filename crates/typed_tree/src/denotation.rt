@@ -10,8 +10,9 @@ pub enum Denotation {
     TypeName(TypeId),
     Constant { value: i32, type_id: TypeId },
     /// The variable with this root number.
-    Variable(u32),
+    Variable { root: u32, type_id: TypeId },
     Procedure(RequiredProcedure),
+    Function(RequiredFunction),
     /// The file output, a program parameter.
     Output,
 }
@@ -19,7 +20,16 @@ pub enum Denotation {
 /// A required procedure (6.6.4, 6.9).
 #[derive(Clone, Copy, Debug, PartialEq, Eq)]
 pub enum RequiredProcedure {
+    Write,
     Writeln,
+}
+
+/// A required function of one ordinal (6.6.6.2, 6.6.6.5).
+#[derive(Clone, Copy, Debug, PartialEq, Eq)]
+pub enum RequiredFunction {
+    Abs,
+    Sqr,
+    Odd,
 }
 
 /// Why a name has no meaning, or gets none.

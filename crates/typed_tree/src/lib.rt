@@ -2,15 +2,19 @@
 //! (ISO 7185:1990, 6.2.2 and 6.4 to 6.9).
 #![tactic(auto)]
 
+mod declarations;
 mod denotation;
+mod expressions;
 pub mod fault;
+mod program;
 mod resolver;
 mod scopes;
 pub mod site;
+mod statements;
 pub mod tree;
 pub mod types;
 
-pub use resolver::{resolve, sites};
+pub use program::{resolve, sites};
 
 #[cfg(test)]
 mod tests;

@@ -1,18 +1,21 @@
 use crate::denotation::{Denotation, ScopeFault};
-use crate::resolver::{resolve, sites};
+use crate::fault::TypeFault;
+use crate::program::{resolve, sites};
 use crate::scopes::Scopes;
 use crate::site::{Site, SiteKind};
-use crate::tree::{Expr, Stmt};
-use crate::types::{MAXINT, OrdinalRange, TypeTable};
+use crate::tree::{Dyadic, Expr, Monadic, Representation, Stmt};
+use crate::types::{MAXINT, OrdinalRange, TypeForm, TypeId, TypeTable, required_form};
 use lexer::place::Place;
 use lexer::tokens;
 use parser::parse;
+use std::alloc::Global;
+use std::process::Abort;
 use std::test::Fail;
 
 #[test]
 fn integer_is_a_type_of_its_own(rt: HostRuntime) -> Result<(), Fail> {
     let table = TypeTable::required(rt.alloc())?;
-    assert_eq!(rt; table.forms.len(), 1);
+    assert_eq!(rt; table.forms.len(), 2);
     let integer = TypeTable::INTEGER;
     assert!(rt; table.same(integer, integer));
     assert!(rt; table.compatible(integer, integer));
@@ -30,6 +33,33 @@ fn integer_is_a_type_of_its_own(rt: HostRuntime) -> Result<(), Fail> {
 }
 
 #[test]
+fn boolean_is_a_type_of_its_own(rt: HostRuntime) -> Result<(), Fail> {
+    let table = TypeTable::required(rt.alloc())?;
+    let (integer, boolean) = (TypeTable::INTEGER, TypeTable::BOOLEAN);
+    assert!(rt; table.same(boolean, boolean));
+    assert!(rt; !table.same(integer, boolean));
+    assert!(rt; table.compatible(boolean, boolean));
+    assert!(rt; !table.compatible(integer, boolean));
+    assert!(rt; !table.compatible(boolean, integer));
+    assert_eq!(rt; table.cells(boolean), 1);
+    assert_eq!(rt;
+        table.range(boolean),
+        Some(OrdinalRange { first: 0, last: 1 })
+    );
+    assert_eq!(rt; required_form(integer), Some(TypeForm::Integer));
+    assert_eq!(rt; required_form(boolean), Some(TypeForm::Boolean));
+    assert_eq!(rt; required_form(TypeId { index: 2 }), None);
+    Ok(())
+}
+
+fn variable(root: u32) -> Denotation {
+    Denotation::Variable {
+        root,
+        type_id: TypeTable::INTEGER,
+    }
+}
+
+#[test]
 fn the_innermost_region_decides(rt: HostRuntime) -> Result<(), Fail> {
     let alloc = rt.alloc();
     let mut scopes = Scopes::new(alloc);
@@ -40,7 +70,7 @@ fn the_innermost_region_decides(rt: HostRuntime) -> Result<(), Fail> {
     scopes.open(alloc, &both)?;
     assert!(rt;
         scopes
-            .declare(Vec::from_slice(alloc, b"a")?, Denotation::Variable(0))
+            .declare(Vec::from_slice(alloc, b"a")?, variable(0))
             .is_ok()
     );
     let inner = vec![in alloc; Vec::from_slice(alloc, b"a")?]?;
@@ -48,51 +78,101 @@ fn the_innermost_region_decides(rt: HostRuntime) -> Result<(), Fail> {
     assert_eq!(rt; scopes.find(b"a"), Err(ScopeFault::UsedBeforeDeclared));
     assert!(rt;
         scopes
-            .declare(Vec::from_slice(alloc, b"a")?, Denotation::Variable(1))
+            .declare(Vec::from_slice(alloc, b"a")?, variable(1))
             .is_ok()
     );
-    assert_eq!(rt; scopes.find(b"a"), Ok(Denotation::Variable(1)));
+    assert_eq!(rt; scopes.find(b"a"), Ok(variable(1)));
     assert_eq!(rt; scopes.find(b"b"), Err(ScopeFault::UsedBeforeDeclared));
     assert_eq!(rt; scopes.find(b"c"), Err(ScopeFault::NotDeclared));
-    let twice = scopes.declare(Vec::from_slice(alloc, b"a")?, Denotation::Variable(2));
+    let twice = scopes.declare(Vec::from_slice(alloc, b"a")?, variable(2));
     assert_eq!(rt; twice, Err(ScopeFault::DeclaredTwice));
     scopes.close();
-    assert_eq!(rt; scopes.find(b"a"), Ok(Denotation::Variable(0)));
+    assert_eq!(rt; scopes.find(b"a"), Ok(variable(0)));
     Ok(())
 }
 
-const SOURCE: &[u8] =
-    b"program p(output); var x, y: integer; begin x := 7; y := x - 10; writeln(x + y, -x) end.";
-
-#[test]
-fn sites_stand_in_the_order_of_the_text(rt: HostRuntime) -> Result<(), Fail> {
-    let alloc = rt.alloc();
-    let list = tokens(alloc, SOURCE)?;
+// Each site of a program of one line, with its kind and its column.
+fn assert_sites(
+    rt: &impl Abort,
+    alloc: Global,
+    source: &[u8],
+    stand: &[(SiteKind, u32)],
+) -> Result<(), Fail> {
+    let list = tokens(alloc, source)?;
     let program = parse(alloc, &list)?;
     let tree = resolve(alloc, &program)?;
-    let stand = [
-        (SiteKind::Subrange, 47),
-        (SiteKind::Subrange, 55),
-        (SiteKind::UndefinedVariable, 58),
-        (SiteKind::Overflow, 60),
-        (SiteKind::UndefinedVariable, 74),
-        (SiteKind::Overflow, 76),
-        (SiteKind::UndefinedVariable, 78),
-        (SiteKind::UndefinedVariable, 82),
-    ];
     assert_eq!(rt; sites(&tree).len(), stand.len());
     for (id, (site, (kind, column))) in sites(&tree).iter().zip(stand).enumerate() {
-        let place = Place { line: 1, column };
+        let place = Place {
+            line: 1,
+            column: *column,
+        };
         assert_eq!(rt;
             *site,
             Site {
                 id: id as u32,
-                kind,
+                kind: *kind,
                 place
             }
         );
     }
     Ok(())
+}
+
+#[test]
+fn sites_stand_in_the_order_of_the_text(rt: HostRuntime) -> Result<(), Fail> {
+    assert_sites(
+        &rt,
+        rt.alloc(),
+        b"program p(output); var x, y: integer; begin x := 7; y := x - 10; writeln(x + y, -x) end.",
+        &[
+            (SiteKind::Subrange, 47),
+            (SiteKind::Subrange, 55),
+            (SiteKind::UndefinedVariable, 58),
+            (SiteKind::Overflow, 60),
+            (SiteKind::UndefinedVariable, 74),
+            (SiteKind::Overflow, 76),
+            (SiteKind::UndefinedVariable, 78),
+            (SiteKind::UndefinedVariable, 82),
+        ],
+    )
+}
+
+#[test]
+fn operators_have_sites_of_their_kinds(rt: HostRuntime) -> Result<(), Fail> {
+    assert_sites(
+        &rt,
+        rt.alloc(),
+        b"program p; var x: integer; b: boolean; begin x := x * 2 div x mod 3; b := not (x <> 1) end.",
+        &[
+            (SiteKind::Subrange, 48),
+            (SiteKind::UndefinedVariable, 51),
+            (SiteKind::Overflow, 53),
+            (SiteKind::DivisionByZero, 57),
+            (SiteKind::UndefinedVariable, 61),
+            (SiteKind::ModByZeroOrLess, 63),
+            (SiteKind::Subrange, 72),
+            (SiteKind::UndefinedVariable, 80),
+        ],
+    )
+}
+
+// The site of a width stands behind that of its first token.
+#[test]
+fn a_width_has_a_site_at_its_first_token(rt: HostRuntime) -> Result<(), Fail> {
+    assert_sites(
+        &rt,
+        rt.alloc(),
+        b"program p(output); var x, y, z: integer; begin write(x:y, sqr(z):5) end.",
+        &[
+            (SiteKind::UndefinedVariable, 54),
+            (SiteKind::UndefinedVariable, 56),
+            (SiteKind::Width, 56),
+            (SiteKind::Overflow, 59),
+            (SiteKind::UndefinedVariable, 63),
+            (SiteKind::Width, 66),
+        ],
+    )
 }
 
 #[test]
@@ -110,43 +190,223 @@ fn operators_are_entered_between_their_operands(rt: HostRuntime) -> Result<(), F
         panic!(rt; "no compound");
     };
     assert_eq!(rt; statements.len(), 1);
-    let Stmt::Writeln { number: 1, values } = &statements[0] else {
+    let Stmt::Write {
+        number: 1,
+        parameters,
+        ends_line: true,
+    } = &statements[0]
+    else {
         panic!(rt; "no writeln");
     };
-    assert_eq!(rt; values.len(), 1);
-    let Expr::Sum { first, rest } = &values[0] else {
-        panic!(rt; "no sum");
+    assert_eq!(rt; parameters.len(), 1);
+    assert_eq!(rt; parameters[0].representation, Representation::Integer);
+    assert!(rt; parameters[0].width.is_none());
+    let Expr::Chain { first, rest } = &parameters[0].value else {
+        panic!(rt; "no chain");
     };
-    assert!(rt;
-        matches!(
-            **first,
-            Expr::Constant {
-                number: 2,
-                value: 1
-            }
-        )
-    );
+    assert!(rt; is_constant(first, 2, 1));
     assert_eq!(rt; rest.len(), 2);
-    assert_eq!(rt; (rest[0].number, rest[0].overflow), (3, 0));
-    assert!(rt;
-        matches!(
-            rest[0].operand,
-            Expr::Constant {
-                number: 4,
-                value: 2
-            }
-        )
+    assert_eq!(rt;
+        (rest[0].number, rest[0].operation),
+        (3, Dyadic::Plus { overflow: 0 })
     );
-    assert_eq!(rt; (rest[1].number, rest[1].overflow), (5, 1));
-    assert!(rt;
-        matches!(
-            rest[1].operand,
-            Expr::Constant {
-                number: 6,
-                value: 3
-            }
-        )
+    assert!(rt; is_constant(&rest[0].operand, 4, 2));
+    assert_eq!(rt;
+        (rest[1].number, rest[1].operation),
+        (5, Dyadic::Minus { overflow: 1 })
     );
+    assert!(rt; is_constant(&rest[1].operand, 6, 3));
+    Ok(())
+}
+
+// Whether an expression is the constant with this number and this value.
+fn is_constant(expression: &Expr, entry: u32, constant: i32) -> bool {
+    match expression {
+        Expr::Constant { number, value } => *number == entry && *value == constant,
+        _ => false,
+    }
+}
+
+#[test]
+fn a_width_is_entered_behind_its_value(rt: HostRuntime) -> Result<(), Fail> {
+    let alloc = rt.alloc();
+    let list = tokens(alloc, b"program p(output); begin write(odd(abs(7)):8) end.")?;
+    let program = parse(alloc, &list)?;
+    let tree = resolve(alloc, &program)?;
+    let Stmt::Compound { statements, .. } = &tree.blocks[0].body else {
+        panic!(rt; "no compound");
+    };
+    let Stmt::Write {
+        number: 1,
+        parameters,
+        ends_line: false,
+    } = &statements[0]
+    else {
+        panic!(rt; "no write");
+    };
+    assert_eq!(rt; parameters[0].representation, Representation::Boolean);
+    let Expr::Monadic {
+        number: 2,
+        operation: Monadic::Odd,
+        operand,
+    } = &parameters[0].value
+    else {
+        panic!(rt; "no odd");
+    };
+    let Expr::Monadic {
+        number: 3,
+        operation: Monadic::Abs,
+        operand,
+    } = &**operand
+    else {
+        panic!(rt; "no abs");
+    };
+    assert!(rt; is_constant(operand, 4, 7));
+    let Some(width) = &parameters[0].width else {
+        panic!(rt; "no width");
+    };
+    assert!(rt; is_constant(&width.value, 5, 8));
+    assert_eq!(rt; width.site, 0);
+    Ok(())
+}
+
+// What is told of a program of one line, and the place where its second part begins.
+fn told(alloc: Global, before: &str, after: &str) -> Result<(Result<(), TypeFault>, Place), Fail> {
+    let source = format!(in alloc; "{before}{after}")?;
+    let list = tokens(alloc, source.as_bytes())?;
+    let program = parse(alloc, &list)?;
+    let place = Place {
+        line: 1,
+        column: before.len() as u32 + 1,
+    };
+    Ok((resolve(alloc, &program).map(|_| ()), place))
+}
+
+// What is told of a statement of a program with a Boolean b and an integer x.
+fn told_of_statement(
+    alloc: Global,
+    before: &str,
+    after: &str,
+) -> Result<(Result<(), TypeFault>, Place), Fail> {
+    let before = format!(in alloc;
+        "program p(output); var b: boolean; x: integer; begin {before}"
+    )?;
+    let after = format!(in alloc; "{after} end.")?;
+    told(alloc, before.as_str(), after.as_str())
+}
+
+#[test]
+fn types_that_do_not_fit_are_refused(rt: HostRuntime) -> Result<(), Fail> {
+    let cases = [
+        ("b ", ":= 1"),
+        ("x ", ":= true"),
+        ("b := ", "not 1"),
+        ("x := ", "-true"),
+        ("b := 1 ", "and true"),
+        ("b := true ", "or 1"),
+        ("x := 1 ", "+ true"),
+        ("x := true ", "div 1"),
+        ("b := 1 ", "= true"),
+        ("b := true ", "< 1"),
+        ("x := abs(", "true)"),
+        ("b := odd(", "b)"),
+        ("write(x:", "b)"),
+        ("write(x:", "(x = 1))"),
+        ("x := ", "output"),
+        ("x := ", "integer"),
+        ("x := ", "b(1)"),
+        ("", "x"),
+    ];
+    for (before, after) in cases {
+        let (answer, place) = told_of_statement(rt.alloc(), before, after)?;
+        assert_eq!(rt; answer, Err(TypeFault::Mismatch(place)));
+    }
+    Ok(())
+}
+
+#[test]
+fn wrong_parameters_are_refused(rt: HostRuntime) -> Result<(), Fail> {
+    let cases = [
+        ("x := ", "abs(1, 2)"),
+        ("x := ", "abs(1:2)"),
+        ("x := ", "abs"),
+        ("x := ", "writeln"),
+        ("x := ", "writeln(1)"),
+        ("", "abs(1)"),
+        ("", "write"),
+        ("", "write(output)"),
+    ];
+    for (before, after) in cases {
+        let (answer, place) = told_of_statement(rt.alloc(), before, after)?;
+        assert_eq!(rt; answer, Err(TypeFault::WrongParameters(place)));
+    }
+    Ok(())
+}
+
+#[test]
+fn statements_without_a_broken_rule_are_typed(rt: HostRuntime) -> Result<(), Fail> {
+    let cases = [
+        "b := (1 = x) and not odd(x) or (false < b)",
+        "x := -sqr(x) mod 7 * abs(-maxint)",
+        "write(output, b:x + 1, x)",
+        "writeln; writeln(output); write(true)",
+    ];
+    for statement in cases {
+        let (answer, _) = told_of_statement(rt.alloc(), statement, "")?;
+        assert_eq!(rt; answer, Ok(()));
+    }
+    Ok(())
+}
+
+#[test]
+fn a_write_needs_output(rt: HostRuntime) -> Result<(), Fail> {
+    let (answer, place) = told(rt.alloc(), "program p; begin ", "write(1) end.")?;
+    assert_eq!(rt; answer, Err(TypeFault::NotProgramParameter(place)));
+    Ok(())
+}
+
+#[test]
+fn a_denoter_is_no_name_of_the_block(rt: HostRuntime) -> Result<(), Fail> {
+    let (answer, place) = told(
+        rt.alloc(),
+        "program p; var x, Integer: ",
+        "integer; begin end.",
+    )?;
+    assert_eq!(rt; answer, Err(TypeFault::Mismatch(place)));
+    let (answer, place) = told(
+        rt.alloc(),
+        "program p; var x: ",
+        "integer; integer: boolean; begin end.",
+    )?;
+    assert_eq!(rt; answer, Err(TypeFault::UsedBeforeDeclared(place)));
+    let (answer, place) = told(rt.alloc(), "program p; var x: ", "real; begin end.")?;
+    assert_eq!(rt; answer, Err(TypeFault::NotDeclared(place)));
+    let (answer, place) = told(rt.alloc(), "program p; var x: ", "maxint; begin end.")?;
+    assert_eq!(rt; answer, Err(TypeFault::Mismatch(place)));
+    Ok(())
+}
+
+#[test]
+fn required_names_may_be_redefined(rt: HostRuntime) -> Result<(), Fail> {
+    let alloc = rt.alloc();
+    let list = tokens(alloc, b"program p; var true: integer; begin true := 5 end.")?;
+    let program = parse(alloc, &list)?;
+    let tree = resolve(alloc, &program)?;
+    let Stmt::Compound { statements, .. } = &tree.blocks[0].body else {
+        panic!(rt; "no compound");
+    };
+    let Stmt::Assign {
+        number: 1,
+        target,
+        fits,
+        value,
+    } = &statements[0]
+    else {
+        panic!(rt; "no assignment");
+    };
+    assert_eq!(rt; (target.number, target.root), (2, 0));
+    assert_eq!(rt; fits.range.last, MAXINT);
+    assert!(rt; is_constant(value, 3, 5));
     Ok(())
 }
 

@@ -1,5 +1,5 @@
 use crate::site::{Point, Site};
-use crate::types::{TypeId, TypeTable};
+use crate::types::{OrdinalRange, TypeId, TypeTable};
 use lexer::place::Place;
 
 /// A program with its names bound and its types known.
@@ -42,23 +42,32 @@ pub struct Access {
     pub root: u32,
 }
 
+/// A test that an ordinal lies in the range of a type, at a site.
+#[derive(Clone, Copy, Debug, PartialEq, Eq)]
+pub struct RangeTest {
+    pub site: u32,
+    /// Within -2147483647 to 2147483647.
+    pub range: OrdinalRange,
+}
+
 /// A statement. Each has its number in the order of entry over the program.
 #[derive(Debug, Drop)]
 pub enum Stmt {
     Empty {
         number: u32,
     },
-    /// The target is accessed, then comes the value, then its test at the site `fits` (subrange).
+    /// The target is accessed, then comes the value, then its test (subrange).
     Assign {
         number: u32,
         target: Access,
-        fits: u32,
+        fits: RangeTest,
         value: Expr,
     },
-    /// Each value in turn, and then a line end.
-    Writeln {
+    /// A write or writeln: each parameter is written before the next is evaluated; a writeln ends the line behind them.
+    Write {
         number: u32,
-        values: Vec<Expr>,
+        parameters: Vec<WriteParameter>,
+        ends_line: bool,
     },
     Compound {
         number: u32,
@@ -66,11 +75,66 @@ pub enum Stmt {
     },
 }
 
-/// The operator of a link or a sign.
+/// A value that is written (ISO 7185:1990, 6.9.3), before its width is evaluated.
+#[derive(Debug, Drop)]
+pub struct WriteParameter {
+    pub value: Expr,
+    pub representation: Representation,
+    /// The default width where there is none.
+    pub width: Option<Width>,
+}
+
+/// How a value is written, by its type (6.9.3.2, 6.9.3.5).
 #[derive(Clone, Copy, Debug, PartialEq, Eq)]
-pub enum Sign {
+pub enum Representation {
+    Integer,
+    Boolean,
+}
+
+/// A total width (6.9.3.1), tested at the site: it has to be at least 1.
+#[derive(Debug, Drop)]
+pub struct Width {
+    pub value: Expr,
+    pub site: u32,
+}
+
+/// An operation on one operand: a sign (6.7.2.2), `not` (6.7.2.3), or a required function (6.6.6.2, 6.6.6.5).
+#[derive(Clone, Copy, Debug, PartialEq, Eq)]
+pub enum Monadic {
     Plus,
     Minus,
+    Not,
+    Abs,
+    /// The square, tested at the site `overflow`.
+    Sqr { overflow: u32 },
+    Odd,
+}
+
+/// An operation on two operands (6.7.2.1).
+#[derive(Clone, Copy, Debug, PartialEq, Eq)]
+pub enum Dyadic {
+    /// The result is tested at the site `overflow`, as for the next two.
+    Plus { overflow: u32 },
+    Minus { overflow: u32 },
+    Times { overflow: u32 },
+    /// The divisor is tested at the site `by_zero`.
+    Div { by_zero: u32 },
+    /// The right operand is tested at the site `by_zero_or_less`.
+    Mod { by_zero_or_less: u32 },
+    And,
+    Or,
+    Relation(Relation),
+}
+
+/// A relation of two ordinals (6.7.2.5).
+#[derive(Clone, Copy, Debug, PartialEq, Eq)]
+pub enum Relation {
+    Equal,
+    NotEqual,
+    Less,
+    Greater,
+    LessOrEqual,
+    GreaterOrEqual,
 }
 
 /// An expression, its parentheses gone. Each factor, sign and operator has its number in the order of
@@ -78,7 +142,7 @@ pub enum Sign {
 #[cycle(expression)]
 #[derive(Debug, Drop)]
 pub enum Expr {
-    /// A number or a constant, of -2147483647 to 2147483647.
+    /// A number or a constant, of -2147483647 to 2147483647; a Boolean is 0 or 1.
     Constant {
         number: u32,
         value: i32,
@@ -88,24 +152,23 @@ pub enum Expr {
         access: Access,
         defined: u32,
     },
-    Signed {
+    Monadic {
         number: u32,
-        sign: Sign,
+        operation: Monadic,
         operand: Box<Expr>,
     },
-    /// From left to right.
-    Sum {
+    /// Operators of one precedence, from left to right.
+    Chain {
         first: Box<Expr>,
         rest: Vec<Link>,
     },
 }
 
-/// An operator of a sum, the right operand, and the site of the result's test (overflow).
+/// An operator of a chain, and its right operand.
 #[cycle(expression)]
 #[derive(Debug, Drop)]
 pub struct Link {
     pub number: u32,
-    pub operator: Sign,
-    pub overflow: u32,
+    pub operation: Dyadic,
     pub operand: Expr,
 }

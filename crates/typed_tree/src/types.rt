@@ -1,4 +1,4 @@
-ghost use Rattle.std.specs.Prelude.{◌≡◌, ◌<◌, ◌↔◌, [], ◌∷◌, IsTrue, IfOk, vec_len};
+ghost use Rattle.std.specs.Prelude.{◌≡◌, ◌<◌, ◌↔◌, [], ◌∷◌, Some, IsTrue, IfOk, slice_get, vec_len};
 ghost use Rattle.typed_tree.specs.Types.{form_at, range_at, cells_at, is_compatible};
 
 use std::alloc::{AllocError, Global};
@@ -8,6 +8,23 @@ use std::alloc::{AllocError, Global};
 pub enum TypeForm {
     /// The required type integer: -2147483647 to 2147483647.
     Integer,
+    /// The required type Boolean: false is 0, true is 1.
+    Boolean,
+}
+
+impl TypeForm {
+    /// The values of the type, which is ordinal.
+    pub fn range(self) -> OrdinalRange
+        ensures { Some result ≡ range_at (Some self) }
+    {
+        match self {
+            TypeForm::Integer => OrdinalRange {
+                first: -MAXINT,
+                last: MAXINT,
+            },
+            TypeForm::Boolean => OrdinalRange { first: 0, last: 1 },
+        }
+    }
 }
 
 /// A type of a table, by its number there.
@@ -36,12 +53,16 @@ impl TypeTable {
     /// The type integer in each table that `required` makes.
     pub const INTEGER: TypeId = TypeId { index: 0 };
 
+    /// The type Boolean in such a table.
+    pub const BOOLEAN: TypeId = TypeId { index: 1 };
+
     /// The table of the required types.
     pub fn required(alloc: Global) -> Result<TypeTable, AllocError>
-        ensures { IfOk result (λ table. table.forms.items ≡ TypeForm.Integer ∷ []) }
+        ensures { IfOk result (λ table. table.forms.items ≡ TypeForm.Integer ∷ TypeForm.Boolean ∷ []) }
     {
         let mut forms = Vec::new(alloc);
         forms.push(TypeForm::Integer)?;
+        forms.push(TypeForm::Boolean)?;
         Ok(TypeTable { forms })
     }
 
@@ -62,6 +83,8 @@ impl TypeTable {
     {
         match (self.forms[first.index], self.forms[second.index]) {
             (TypeForm::Integer, TypeForm::Integer) => true,
+            (TypeForm::Boolean, TypeForm::Boolean) => true,
+            _ => false,
         }
     }
 
@@ -70,12 +93,7 @@ impl TypeTable {
         requires { id.index < vec_len self.now.forms }
         ensures { result ≡ range_at (form_at self.now id) }
     {
-        match self.forms[id.index] {
-            TypeForm::Integer => Some(OrdinalRange {
-                first: -MAXINT,
-                last: MAXINT,
-            }),
-        }
+        Some(self.forms[id.index].range())
     }
 
     /// How many cells a variable of the type takes.
@@ -84,7 +102,18 @@ impl TypeTable {
         ensures { result ≡ cells_at (form_at self.now id) }
     {
         match self.forms[id.index] {
-            TypeForm::Integer => 1,
+            TypeForm::Integer | TypeForm::Boolean => 1,
         }
+    }
+}
+
+/// What a required type is made of, by its number in each table that `TypeTable::required` makes.
+pub fn required_form(id: TypeId) -> Option<TypeForm>
+    ensures { result ≡ slice_get (TypeForm.Integer ∷ TypeForm.Boolean ∷ []) id.index }
+{
+    match id.index {
+        0 => Some(TypeForm::Integer),
+        1 => Some(TypeForm::Boolean),
+        _ => None,
     }
 }

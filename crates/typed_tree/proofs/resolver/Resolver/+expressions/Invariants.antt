@@ -8,6 +8,6 @@ abbrev pub invariant-links-loop-link : goal.invariant-links-loop-link
 invariant-links-loop-link l = record {
   same : l.self.variables ≡ l.initial.self.variables;
   grows : length l.initial.self.sites.items ≤ length l.self.sites.items;
-  formed : AreFormedLinks (length l.initial.self.variables.items) (length l.self.sites.items) l.typed.items;
-  typed : MakesLinks l.initial.self l.self (take l.link-index l.rest) l.typed.items;
+  formed : AreFormedLinks (length l.initial.self.variables.items) (length l.self.sites.items) l.links.items;
+  typed : MakesLinks l.initial.self l.self l.fn.left (take l.link-index l.rest) (record { links = l.links; type_id = l.type_id });
 }

@@ -5,7 +5,8 @@ use Rattle.typed_tree.specs.Typing.{types_statement, stands_in_statement}
 use Rattle.typed_tree.specs.Resolved.{MakesCall, MakesCompound, AreSilent}
 use Rattle.typed_tree.proofs.ResolvedPieces.{if_ok, row_next, row_ends, output_kept}
 use Rattle.typed_tree.proofs.ResolvedStatements.{assign_made, call_statement_made, compound_statement_made, compound_made, compound_silent, silent_next, silent_whole}
-use Rattle.typed_tree.proofs.FormedLemmas.{all-push, compound-formed}
+use Rattle.typed_tree.proofs.FormedLemmas.{all-push}
+use Rattle.typed_tree.proofs.StatementFormed.{compound-formed}
 use Rattle.typed_tree.specs.Refusing.{RefusesCall, RefusesCompound}
 use Rattle.typed_tree.proofs.Refusals.{refused_so, refused_by}
 use Rattle.typed_tree.proofs.RefusedStatements.{compound_refused, assign_statement_refused, call_statement_refused, compound_statement_refused, statements_refused}
