@@ -1,13 +1,20 @@
 -- The definitions on small rows, worked out by hand.
-use Rattle.std.proofs.Common.{◌≡◌, ℕ, refl, true, false, pos, negsuc, List, [], ◌∷◌, Some, None, codes}
-use Rattle.typed_tree.specs.declared.tree.Sign.TheVariants.{Plus, Minus}
+use Rattle.std.proofs.Common.{◌≡◌, ℕ, ap, refl, true, false, pos, negsuc, List, [], ◌∷◌, Some, None, codes}
+use Rattle.typed_tree.specs.declared.tree.Dyadic.{Dyadic}
+use Rattle.typed_tree.specs.declared.tree.Dyadic.TheVariants as dyadic
+use Rattle.typed_tree.specs.declared.tree.Monadic.TheVariants as monadic
+use Rattle.typed_tree.specs.declared.tree.Relation.TheVariants.{Equal}
+use Rattle.typed_tree.specs.declared.tree.WriteParameter.{WriteParameter}
+use Rattle.typed_tree.specs.declared.types.OrdinalRange.{OrdinalRange}
 use Rattle.meaning.specs.declared.outcome.Ending.{Ending}
 use Rattle.meaning.specs.declared.outcome.Ending.TheVariants.{Error}
 use Rattle.meaning.specs.declared.store.Value.{Value}
 use Rattle.meaning.specs.declared.store.Value.TheVariants.{Number}
 use Rattle.meaning.specs.Store.{Place, Step, Element, Environment, stored, written, undefined, overlap}
-use Rattle.meaning.specs.Effect.{Reply, Gives, Stops, give, fetch, is_integer}
-use Rattle.meaning.specs.Meaning.{Evaluation, link_step, in_turn, completed, first_state}
+use Rattle.meaning.specs.Integers.{is_integer_number}
+use Rattle.meaning.specs.Effect.{State, Reply, Gives, Stops, ◌>>=◌, and_then, give, fetch, write, is_in, boolean_text, text_of}
+use Rattle.meaning.specs.Meaning.{Evaluation, Combination, link_step, in_turn, operated, value_of, width_of, parameter_of, completed, first_state}
+use Rattle.meaning.specs.Pending.{positive}
 
 abbrev place : ℕ → List Step → Place
 place root steps = record { activation = 0; variable = root; steps = steps }
@@ -30,11 +37,28 @@ parts_apart : overlap (place 0 (Element (pos 2) ∷ [])) (place 0 (Element (pos 
 parts_apart = refl
 
 -- type integer is symmetric
-maxint_fits : is_integer (Number (pos 2147483647)) ≡ true
+maxint_fits : is_integer_number (pos 2147483647) ≡ true
 maxint_fits = refl
 
-one_below : is_integer (Number (negsuc 2147483647)) ≡ false
+one_below : is_integer_number (negsuc 2147483647) ≡ false
 one_below = refl
+
+-- a Boolean variable holds 0 and 1
+abbrev booleans : OrdinalRange
+booleans = record { first = pos 0; last = pos 1 }
+
+true_fits : is_in booleans (Number (pos 1)) ≡ true
+true_fits = refl
+
+two_is_no_boolean : is_in booleans (Number (pos 2)) ≡ false
+two_is_no_boolean = refl
+
+-- a Boolean is cut or set right in its width
+cut : boolean_text (pos 1) (pos 2) ≡ codes "tr"
+cut = refl
+
+set_right : boolean_text (pos 0) (pos 7) ≡ codes "  false"
+set_right = refl
 
 -- an input's last line end is supplied
 line_end_supplied : completed (codes "7") ≡ codes "7\n"
@@ -64,21 +88,93 @@ operand v environment = give v
 abbrev nothing_there : Evaluation
 nothing_there environment = fetch (place 0 []) 7
 
+-- an operator with its right operand
+abbrev link : Dyadic → Evaluation → Combination
+link operation right = link_step (record { number = 1; operation = operation; operand = right })
+
+-- what an operation on two numbers tells
+abbrev of_two : Dyadic → Value → Value → Told
+of_two operation left right = told (link operation (operand right) nowhere left (first_state [] 0))
+
 -- 5 - 10 is -5
-difference : told (link_step (record { number = 1; operator = Minus; overflow = 3; operand = operand (Number (pos 10)) }) nowhere (Number (pos 5)) (first_state [] 0)) ≡ Value_of (Number (negsuc 4))
+difference : of_two (dyadic.Minus 3) (Number (pos 5)) (Number (pos 10)) ≡ Value_of (Number (negsuc 4))
 unfolding nowhere
 difference = refl
 
 -- maxint + 1 is an error at the operator's site
-overflows : told (link_step (record { number = 1; operator = Plus; overflow = 3; operand = operand (Number (pos 1)) }) nowhere (Number (pos 2147483647)) (first_state [] 0)) ≡ End_of (Error 3)
+overflows : of_two (dyadic.Plus 3) (Number (pos 2147483647)) (Number (pos 1)) ≡ End_of (Error 3)
 unfolding nowhere
 overflows = refl
 
+-- -7 div 2 is the sign of 7 div 2: -3; and (-7) div 2 is cut toward zero too
+sign_of_quotient : told ((link (dyadic.Div 3) (operand (Number (pos 2))) nowhere (Number (pos 7)) >>= operated monadic.Minus) (first_state [] 0)) ≡ Value_of (Number (negsuc 2))
+unfolding nowhere
+sign_of_quotient = refl
+
+quotient_of_negative : of_two (dyadic.Div 3) (Number (negsuc 6)) (Number (pos 2)) ≡ Value_of (Number (negsuc 2))
+unfolding nowhere
+quotient_of_negative = refl
+
+-- (-7) mod 2 is 1
+modulus_of_negative : of_two (dyadic.Mod 3) (Number (negsuc 6)) (Number (pos 2)) ≡ Value_of (Number (pos 1))
+unfolding nowhere
+modulus_of_negative = refl
+
+-- 7 div 0, 7 mod 0 and 7 mod -1 are errors at their sites
+quotient_by_zero : of_two (dyadic.Div 3) (Number (pos 7)) (Number (pos 0)) ≡ End_of (Error 3)
+unfolding nowhere
+quotient_by_zero = refl
+
+modulus_by_zero : of_two (dyadic.Mod 4) (Number (pos 7)) (Number (pos 0)) ≡ End_of (Error 4)
+unfolding nowhere
+modulus_by_zero = refl
+
+modulus_by_less : of_two (dyadic.Mod 4) (Number (pos 7)) (Number (negsuc 0)) ≡ End_of (Error 4)
+unfolding nowhere
+modulus_by_less = refl
+
+-- 46340 is the largest number whose square is of type integer
+product_too_large : of_two (dyadic.Times 3) (Number (pos 46341)) (Number (pos 46341)) ≡ End_of (Error 3)
+unfolding nowhere
+product_too_large = refl
+
+product_fits : of_two (dyadic.Times 3) (Number (pos 46340)) (Number (pos 46340)) ≡ Value_of (Number (pos 2147395600))
+unfolding nowhere
+product_fits = refl
+
+square_too_large : told (operated (monadic.Sqr 5) (Number (pos 46341)) (first_state [] 0)) ≡ End_of (Error 5)
+square_too_large = refl
+
+-- abs(-maxint) is maxint, and -3 is odd
+without_sign : told (operated monadic.Abs (Number (negsuc 2147483646)) (first_state [] 0)) ≡ Value_of (Number (pos 2147483647))
+without_sign = refl
+
+negative_is_odd : told (operated monadic.Odd (Number (negsuc 2)) (first_state [] 0)) ≡ Value_of (Number (pos 1))
+negative_is_odd = refl
+
+-- 1 div 0 = 1, with the division's site 3
+abbrev quotient_is_one : Evaluation
+quotient_is_one environment = in_turn (link (dyadic.Div 3) (operand (Number (pos 0))) ∷ []) environment (Number (pos 1)) >>= link (dyadic.Relation Equal) (operand (Number (pos 1))) environment
+
+-- in false and (1 div 0 = 1) the division is an error: both operands of `and` are evaluated
+both_evaluated : told (link dyadic.And quotient_is_one nowhere (Number (pos 0)) (first_state [] 0)) ≡ End_of (Error 3)
+unfolding nowhere
+both_evaluated = refl
+
+-- a width of 0 is an error at its site
+no_width : told (positive 6 (Number (pos 0)) (first_state [] 0)) ≡ End_of (Error 6)
+no_width = refl
+
+-- where a value stops, its width isn't evaluated
+value_first : (parameter : WriteParameter) (environment : Environment) (s t : State) (end : Ending) → value_of parameter.value environment s ≡ Stops end t → parameter_of parameter environment s ≡ Stops end t
+value_first parameter environment s t end stopped =
+    ap (λ (r : Reply Value). and_then r (λ v. width_of parameter.width parameter.representation environment >>= λ w. write (text_of parameter.representation v w))) stopped
+
 -- in maxint + 1 + x the overflow is told, and the undefined x isn't reached; in maxint + x + 1 it is
-left_first : told (in_turn (link_step (record { number = 1; operator = Plus; overflow = 3; operand = operand (Number (pos 1)) }) ∷ link_step (record { number = 2; operator = Plus; overflow = 4; operand = nothing_there }) ∷ []) nowhere (Number (pos 2147483647)) (first_state [] 0)) ≡ End_of (Error 3)
+left_first : told (in_turn (link (dyadic.Plus 3) (operand (Number (pos 1))) ∷ link (dyadic.Plus 4) nothing_there ∷ []) nowhere (Number (pos 2147483647)) (first_state [] 0)) ≡ End_of (Error 3)
 unfolding nowhere
 left_first = refl
 
-right_reached : told (in_turn (link_step (record { number = 1; operator = Plus; overflow = 3; operand = nothing_there }) ∷ link_step (record { number = 2; operator = Plus; overflow = 4; operand = operand (Number (pos 1)) }) ∷ []) nowhere (Number (pos 2147483647)) (first_state [] 0)) ≡ End_of (Error 7)
+right_reached : told (in_turn (link (dyadic.Plus 3) nothing_there ∷ link (dyadic.Plus 4) (operand (Number (pos 1))) ∷ []) nowhere (Number (pos 2147483647)) (first_state [] 0)) ≡ End_of (Error 7)
 unfolding nowhere
 right_reached = refl

@@ -5,4 +5,3 @@ mod Resuming
 mod Starting
 mod Turns
 mod Unrolling
-mod Weights

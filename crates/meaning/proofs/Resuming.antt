@@ -1,19 +1,22 @@
 -- What pending work means, step by step.
 use Rattle.std.proofs.Common.{◌≡◌, ℕ, List, [], ◌∷◌, ◌++◌, Option, Some, None, Result, Ok, Err, IfOk, OnOk, reverse, sym, ◌∙◌, ap, subst, refl, length, arith, Bool, true, false, if◌then◌else◌}
 use Rattle.std.specs.declared.alloc.AllocError.{AllocError}
+use Rattle.typed_tree.specs.declared.tree.RangeTest.{RangeTest}
+use Rattle.typed_tree.specs.declared.types.OrdinalRange.{OrdinalRange}
 use Rattle.meaning.specs.declared.outcome.Ending.{Ending}
 use Rattle.std.specs.declared.cmp.Ordering.{Ordering}
 use Rattle.std.proofs.lemmas.List.{reverse-append}
-use Rattle.meaning.specs.declared.outcome.Ending.TheVariants.{Error, Finished}
+use Rattle.std.specs.Option.{ok_or}
+use Rattle.meaning.specs.declared.outcome.Ending.TheVariants.{Finished}
 use Rattle.meaning.specs.declared.store.Place.{Place as KeptPlace}
 use Rattle.meaning.specs.declared.store.Value.{Value}
 use Rattle.meaning.specs.declared.interpreter.Run.{Run}
 use Rattle.meaning.specs.declared.work.Work.{Work}
 use Rattle.meaning.specs.declared.work.Work.TheVariants as work
 use Rattle.meaning.specs.Store.{Environment, Place, stored, written}
-use Rattle.meaning.specs.Effect.{State, Reply, Gives, Stops, Action, ◌>>=◌, and_then, give, fetched, place_of, is_integer, require, store}
+use Rattle.meaning.specs.Effect.{State, Reply, Gives, Stops, Action, ◌>>=◌, and_then, give, fetched, fetch, place_of, is_in, require, store}
 use Rattle.meaning.specs.Meaning.{Meaning, ended}
-use Rattle.meaning.specs.Pending.{Resumption, Agrees, StoreAgrees, Continues, Does, pending_of, resumed, rest_of, using_variable, top_of, below_top, checked}
+use Rattle.meaning.specs.Pending.{Resumption, Agrees, IsFlat, StoreAgrees, Continues, Does, pending_of, resumed, rest_of, answered, giving, top_of, below_top, checked}
 
 -- one more at the end of a stack is one more at its top
 pub reverse_push : {A : Type 0} (xs : List A) (x : A) → reverse (xs ++ x ∷ []) ≡ x ∷ reverse xs
@@ -36,37 +39,32 @@ pub and_then-same : {A B : Type 0} (r : Reply A) (f g : A → State → Reply B)
 and_then-same (Gives a s) f g same = same a s
 and_then-same (Stops e s) f g same = refl
 
--- the variable is defined: its value is the topmost operand
-pub using-found : (root defined : ℕ) (env : Environment) (next : Resumption) (operands : List Value) (s : State) (p : Place) (v : Value) → place_of env root ≡ p → stored s.store p ≡ Some v → using_variable root defined env next operands s ≡ next (v ∷ operands) s
-using-found root defined env next operands s p v there holds =
-    ap (λ q. and_then (fetched (stored s.store q) defined s) (λ w. next (w ∷ operands))) there
-    ∙ ap (λ o. and_then (fetched o defined s) (λ w. next (w ∷ operands))) holds
+fetched_answer : (o : Option Value) (site : ℕ) (s : State) → fetched o site s ≡ answered (ok_or o site) s
+fetched_answer None site s = refl
+fetched_answer (Some v) site s = refl
 
--- the variable is undefined: an error at the site
-pub using-none : (root defined : ℕ) (env : Environment) (next : Resumption) (operands : List Value) (s : State) (p : Place) → place_of env root ≡ p → stored s.store p ≡ None → using_variable root defined env next operands s ≡ Stops (Error defined) s
-using-none root defined env next operands s p there holds =
-    ap (λ q. and_then (fetched (stored s.store q) defined s) (λ w. next (w ∷ operands))) there
-    ∙ ap (λ o. and_then (fetched o defined s) (λ w. next (w ∷ operands))) holds
+-- the value of a variable is what is stored at its place
+pub fetched_there : (root defined : ℕ) (env : Environment) (s : State) (p : Place) (o : Option Value) (answer : Result Value ℕ) → place_of env root ≡ p → o ≡ stored s.store p → answer ≡ ok_or o defined → fetch (place_of env root) defined s ≡ answered answer s
+fetched_there root defined env s p o answer there holds is =
+    ap (λ q. fetched (stored s.store q) defined s) there
+    ∙ ap (λ w. fetched w defined s) (sym holds)
+    ∙ fetched_answer o defined s
+    ∙ ap (λ a. answered a s) (sym is)
 
 module _ (cmp : KeptPlace → KeptPlace → Ordering) (env : Environment) (old new : Run) where
-  -- the run goes on with one more operand
-  pub goes_on_with : (s : State) (v : Value) (reply : Reply (Unit {0})) → Agrees cmp new s → new.pending.items ≡ old.pending.items → new.values.items ≡ old.values.items ++ v ∷ [] → reply ≡ pending_of env (reverse old.pending.items) (v ∷ reverse old.values.items) s → Continues cmp env reply (Ok None) new
-  goes_on_with s v reply agrees same pushed is =
-      (s, agrees, is ∙ ap (λ l. pending_of env (reverse old.pending.items) l s) (sym (ap reverse pushed ∙ reverse_push old.values.items v)) ∙ ap (λ p. pending_of env (reverse p) (reverse new.values.items) s) (sym same))
-
   -- the run goes on with other work
   pub goes_on_to : (s : State) (works : List Work) (reply : Reply (Unit {0})) → Agrees cmp new s → reverse new.pending.items ≡ works → new.values.items ≡ old.values.items → reply ≡ pending_of env works (reverse old.values.items) s → Continues cmp env reply (Ok None) new
   goes_on_to s works reply agrees work same is =
       (s, agrees, is ∙ ap (λ l. pending_of env works (reverse l) s) (sym same) ∙ ap (λ p. pending_of env p (reverse new.values.items) s) (sym work))
 
-  -- a call that left two more pieces of work, or found no memory
-  pub goes_on_after : (s : State) (a b : Work) (reply : Reply (Unit {0})) (result : Result (Option Ending) AllocError) → IfOk result (λ e. e ≡ None) → new ≡ record old { pending = new.pending } → OnOk result (new.pending.items ≡ old.pending.items ++ a ∷ [] ++ b ∷ []) → Agrees cmp old s → reply ≡ pending_of env (b ∷ a ∷ reverse old.pending.items) (reverse old.values.items) s → Continues cmp env reply result new
-  goes_on_after s a b reply (Err e) goes_on same pushed agrees is = tt
-  goes_on_after s a b reply (Ok (Some e)) goes_on same pushed agrees is = let no : ⊥ = cc in absurd no
-  goes_on_after s a b reply (Ok None) goes_on same pushed agrees is =
+  -- a call that left more work, or found no memory
+  pub goes_on_after : (s : State) (before : List Work) (work : Work) (works : List Work) (reply : Reply (Unit {0})) (result : Result (Option Ending) AllocError) → IfOk result (λ e. e ≡ None) → new ≡ record old { pending = new.pending } → OnOk result (new.pending.items ≡ before ++ work ∷ []) → reverse before ≡ works → Agrees cmp old s → reply ≡ pending_of env (work ∷ works) (reverse old.values.items) s → Continues cmp env reply result new
+  goes_on_after s before work works reply (Err e) goes_on same pushed below agrees is = tt
+  goes_on_after s before work works reply (Ok (Some e)) goes_on same pushed below agrees is = let no : ⊥ = cc in absurd no
+  goes_on_after s before work works reply (Ok None) goes_on same pushed below agrees is =
       let kept : StoreAgrees cmp new.store s.store = subst (λ (r : Run). StoreAgrees cmp r.store s.store) (sym same) agrees.store in
-      goes_on_to s (b ∷ a ∷ reverse old.pending.items) reply (record { store = kept; output = ap (λ (r : Run). r.output.items) same ∙ agrees.output })
-      (reverse_pushed new.pending.items (old.pending.items ++ a ∷ []) b (a ∷ reverse old.pending.items) pushed (reverse_push old.pending.items a))
+      goes_on_to s (work ∷ works) reply (record { store = kept; output = ap (λ (r : Run). r.output.items) same ∙ agrees.output })
+      (reverse_pushed new.pending.items before work works pushed below)
       (ap (λ (r : Run). r.values.items) same)
       is
 
@@ -98,24 +96,34 @@ module _ (cmp : KeptPlace → KeptPlace → Ordering) (old new : Run) where
       ∙ ap (λ (l : List Work). ended (pending_of env (reverse l) (reverse new.values.items) t)) none
       ∙ ap (λ (o : List ℕ). let m : Meaning = record { output = o; ending = Finished } in m) (sym agrees.output)
 
+-- a calculation with operands that were taken from the stack
+pub goes_on_by : (cmp : KeptPlace → KeptPlace → Ordering) (old taken new : Run) (env : Environment) (s : State) (action : Action Value) (answer : Result Value ℕ) (below : List Value) (result : Result (Option Ending) AllocError) → taken ≡ record old { values = taken.values } → reverse taken.values.items ≡ below → action s ≡ answered answer s → IsFlat env → Agrees cmp old s → Does cmp (λ env. giving (answered answer)) taken result new → Continues cmp env (giving action (pending_of env (reverse old.pending.items)) below s) result new
+goes_on_by cmp old taken new env s action answer below result same left gives flat agrees does =
+    let kept : StoreAgrees cmp taken.store s.store = subst (λ (r : Run). StoreAgrees cmp r.store s.store) (sym same) agrees.store in
+    continues_as cmp env old new _ _ result
+    (ap (λ (r : Reply Value). and_then r (λ v. pending_of env (reverse old.pending.items) (v ∷ below))) gives
+    ∙ ap (λ (l : List Value). giving (answered answer) (pending_of env (reverse old.pending.items)) l s) (sym left)
+    ∙ ap (λ (r : Run). giving (answered answer) (pending_of env (reverse r.pending.items)) (reverse taken.values.items) s) (sym same))
+    (does env flat s (record { store = kept; output = ap (λ (r : Run). r.output.items) same ∙ agrees.output }))
+
 -- the topmost piece of work is taken from the stack
 pub taken : (env : Environment) (run : Run) (left : List Work) (work : Work) (t : State) → run.pending.items ≡ left ++ work ∷ [] → rest_of env run t ≡ resumed env work (pending_of env (reverse left)) (reverse run.values.items) t
 taken env run left work t is = ap (λ (l : List Work). pending_of env l (reverse run.values.items) t) (ap reverse is ∙ reverse_push left work)
 
 -- the topmost operand is stored
-pub stores : (env : Environment) (root fits : ℕ) (next : Resumption) (operands : List Value) (s : State) (v : Value) → v ≡ top_of operands → is_integer v ≡ true → resumed env (work.Store root fits) next operands s ≡ next (below_top operands) (record s { store = written s.store (place_of env root) v })
+pub stores : (env : Environment) (root : ℕ) (fits : RangeTest) (next : Resumption) (operands : List Value) (s : State) (v : Value) → v ≡ top_of operands → is_in fits.range v ≡ true → resumed env (work.Store root fits) next operands s ≡ next (below_top operands) (record s { store = written s.store (place_of env root) v })
 stores env root fits next operands s v top fine =
     let then_rest : Value → Unit {0} → Action (Unit {0}) = λ u _. store (place_of env root) u >>= λ _. next (below_top operands) in
-    ap (λ (u : Value). and_then (require (is_integer u) fits s) (then_rest u)) (sym top)
-    ∙ ap (λ (b : Bool). and_then (require b fits s) (then_rest v)) fine
+    ap (λ (u : Value). and_then (require (is_in fits.range u) fits.site s) (then_rest u)) (sym top)
+    ∙ ap (λ (b : Bool). and_then (require b fits.site s) (then_rest v)) fine
 
 -- a value that passed the test
 choice_some : (b : Bool) (v u : Value) → (if b then Some v else None) ≡ Some u → (v ≡ u) × (b ≡ true)
 choice_some true v u h = (cc, refl)
 choice_some false v u h = let no : ⊥ = cc in absurd no
 
-pub checked_some : (v u : Value) (o : Option Value) → o ≡ checked v → o ≡ Some u → (v ≡ u) × (is_integer v ≡ true)
-checked_some v u o is some = choice_some (is_integer v) v u (sym is ∙ some)
+pub checked_some : (range : OrdinalRange) (v u : Value) (o : Option Value) → o ≡ checked range v → o ≡ Some u → (v ≡ u) × (is_in range v ≡ true)
+checked_some range v u o is some = choice_some (is_in range v) v u (sym is ∙ some)
 
 -- nothing follows
 pub and_then-nothing : (r : Reply (Unit {0})) → and_then r (λ _. give tt) ≡ r

@@ -1,20 +1,32 @@
 -- Nothing of this meaning reads how many turns are left.
-use Rattle.std.proofs.Common.{◌≡◌, ℕ, List, [], ◌∷◌, Bool, true, false, Option, Some, None, map, slice_get, sym, ◌∙◌, ap, subst, refl}
+use Rattle.std.specs.Prelude.{int_div, int_le, not}
+use Rattle.std.specs.Int.{int_rem_euclid}
+use Rattle.std.specs.Ordering.{int_eq}
+use Rattle.std.proofs.Common.{◌≡◌, ℕ, ℤ, pos, ◌+ℤ◌, ◌-ℤ◌, ◌*ℤ◌, List, [], ◌∷◌, Bool, true, false, Option, Some, None, map, slice_get, sym, ◌∙◌, ap, subst, refl}
 use Rattle.typed_tree.specs.declared.tree.Tree.{Tree}
 use Rattle.typed_tree.specs.declared.tree.Block.{Block}
+use Rattle.typed_tree.specs.declared.tree.Dyadic.{Dyadic}
+use Rattle.typed_tree.specs.declared.tree.Dyadic.TheVariants as dyadic
+use Rattle.typed_tree.specs.declared.tree.Monadic.{Monadic}
+use Rattle.typed_tree.specs.declared.tree.Monadic.TheVariants as monadic
+use Rattle.typed_tree.specs.declared.tree.Representation.{Representation}
+use Rattle.typed_tree.specs.declared.tree.Width.{Width}
+use Rattle.typed_tree.specs.declared.tree.WriteParameter.{WriteParameter}
 use Rattle.typed_tree.specs.declared.tree.Expr.{Expr}
 use Rattle.typed_tree.specs.declared.tree.Link.{Link}
 use Rattle.typed_tree.specs.declared.tree.Stmt.{Stmt}
 use Rattle.typed_tree.specs.declared.tree.Expr.TheOpen.{Expr-F, Link-F}
-use Rattle.typed_tree.specs.declared.tree.Expr.TheOpen.Expr-F.{Constant, Variable, Signed, Sum}
+use Rattle.typed_tree.specs.declared.tree.Expr.TheOpen.Expr-F.{Constant, Variable, Monadic as MonadicOf, Chain}
 use Rattle.typed_tree.specs.declared.tree.Expr.TheFolds.{map-Expr, map-Link, fold-roll-Expr, fold-roll-Link, ind-Expr}
 use Rattle.typed_tree.specs.declared.tree.Stmt.TheOpen.{Stmt-F}
-use Rattle.typed_tree.specs.declared.tree.Stmt.TheOpen.Stmt-F.{Empty, Assign, Writeln, Compound}
+use Rattle.typed_tree.specs.declared.tree.Stmt.TheOpen.Stmt-F.{Empty, Assign, Write, Compound}
 use Rattle.typed_tree.specs.declared.tree.Stmt.TheFolds.{map-Stmt, fold-roll-Stmt, ind-Stmt}
 use Rattle.meaning.specs.declared.store.Value.{Value}
+use Rattle.meaning.specs.declared.store.Value.TheVariants.{Number}
+use Rattle.meaning.specs.Integers.{is_integer_number}
 use Rattle.meaning.specs.Store.{Environment, Place, stored}
-use Rattle.meaning.specs.Effect.{State, Reply, Gives, Stops, Action, ◌>>=◌, and_then, give, require, enter, place_of, fetched, fetch, store, write, is_integer, integer_text}
-use Rattle.meaning.specs.Meaning.{Evaluation, Combination, Execution, value_step, link_step, effect_step, signed, combined, in_turn, all_of, each_written, value_of, link_of, effect_of, run_of, ended, meaning, program_environment, first_state}
+use Rattle.meaning.specs.Effect.{State, Reply, Gives, Stops, Action, ◌>>=◌, and_then, give, require, enter, place_of, fetched, fetch, store, write, is_in, is_positive, text_of}
+use Rattle.meaning.specs.Meaning.{Evaluation, Combination, Execution, value_step, link_step, effect_step, whole, operated, combined, in_turn, all_of, width_of, parameter_of, line_ended, value_of, link_of, effect_of, run_of, ended, meaning, program_environment, first_state}
 
 -- a state with another number of turns
 abbrev retimed : ℕ → State → State
@@ -46,6 +58,31 @@ blind_fetched (Some v) site = λ n s. refl
 blind_fetch : (p : Place) (site : ℕ) → Blind (fetch p site)
 blind_fetch p site = λ n s. blind_fetched (stored s.store p) site n s
 
+-- a test, and then a value
+blind_tested : (b : Bool) (site : ℕ) (v : Value) → Blind (require b site >>= λ _. give v)
+blind_tested b site v = blind_bind (require b site) (λ _. give v) (blind_require b site) (λ _ n s. refl)
+
+blind_whole : (overflow : ℕ) (z : ℤ) → Blind (whole overflow z)
+blind_whole overflow z = blind_tested (is_integer_number z) overflow (Number z)
+
+blind_operated : (operation : Monadic) (v : Value) → Blind (operated operation v)
+blind_operated monadic.Plus (Number a) = λ n s. refl
+blind_operated monadic.Minus (Number a) = λ n s. refl
+blind_operated monadic.Not (Number a) = λ n s. refl
+blind_operated monadic.Abs (Number a) = λ n s. refl
+blind_operated (monadic.Sqr overflow) (Number a) = blind_whole overflow (a *ℤ a)
+blind_operated monadic.Odd (Number a) = λ n s. refl
+
+blind_combined : (operation : Dyadic) (left right : Value) → Blind (combined operation left right)
+blind_combined (dyadic.Plus overflow) (Number a) (Number b) = blind_whole overflow (a +ℤ b)
+blind_combined (dyadic.Minus overflow) (Number a) (Number b) = blind_whole overflow (a -ℤ b)
+blind_combined (dyadic.Times overflow) (Number a) (Number b) = blind_whole overflow (a *ℤ b)
+blind_combined (dyadic.Div by_zero) (Number a) (Number b) = blind_tested (not (int_eq b (pos 0))) by_zero (Number (int_div a b))
+blind_combined (dyadic.Mod by_zero_or_less) (Number a) (Number b) = blind_tested (int_le (pos 1) b) by_zero_or_less (Number (int_rem_euclid a b))
+blind_combined dyadic.And (Number a) (Number b) = λ n s. refl
+blind_combined dyadic.Or (Number a) (Number b) = λ n s. refl
+blind_combined (dyadic.Relation r) (Number a) (Number b) = λ n s. refl
+
 abbrev BlindExpr : Type 0
 BlindExpr = (e : Expr) × ((env : Environment) → Blind (value_of e env))
 
@@ -59,28 +96,41 @@ blind_in_turn (link ∷ links) env v = blind_bind (link_of link.0 env v) (λ w. 
 value-parts : (y : Expr-F BlindExpr BlindLink) (env : Environment) → Blind (value_step (map-Expr Expr Link Evaluation Combination value_of link_of (map-Expr BlindExpr BlindLink Expr Link (λ e. e.0) (λ l. l.0) y)) env)
 value-parts (Constant number value) env = λ n s. refl
 value-parts (Variable access defined) env = blind_bind (enter access.number env) (λ _. fetch (place_of env access.root) defined) (λ n s. refl) (λ _. blind_fetch (place_of env access.root) defined)
-value-parts (Signed number sign operand) env =
-    blind_bind (enter number env) (λ _. value_of operand.value.0 env >>= λ v. give (signed sign v)) (λ n s. refl) (λ _. blind_bind (value_of operand.value.0 env) (λ v. give (signed sign v)) (operand.value.1 env) (λ v n s. refl))
-value-parts (Sum first rest) env =
+value-parts (MonadicOf number operation operand) env =
+    blind_bind (enter number env) (λ _. value_of operand.value.0 env >>= λ v. operated operation v) (λ n s. refl) (λ _. blind_bind (value_of operand.value.0 env) (λ v. operated operation v) (operand.value.1 env) (λ v. blind_operated operation v))
+value-parts (Chain first rest) env =
     blind_bind (value_of first.value.0 env) (λ v. in_turn (map link_of (map (λ l. l.0) rest.items)) env v) (first.value.1 env) (λ v. blind_in_turn rest.items env v)
 
 link-parts : (y : Link-F BlindExpr BlindLink) (env : Environment) (left : Value) → Blind (link_step (map-Link Expr Link Evaluation Combination value_of link_of (map-Link BlindExpr BlindLink Expr Link (λ e. e.0) (λ l. l.0) y)) env left)
 link-parts y env left =
-    let result : Value → Action Value = λ right. require (is_integer (combined y.operator left right)) y.overflow >>= λ _. give (combined y.operator left right) in
+    let result : Value → Action Value = λ right. combined y.operation left right in
     blind_bind (enter y.number env) (λ _. value_of y.operand.0 env >>= result) (λ n s. refl) (λ _.
-    blind_bind (value_of y.operand.0 env) result (y.operand.1 env) (λ right.
-    blind_bind (require (is_integer (combined y.operator left right)) y.overflow) (λ _. give (combined y.operator left right)) (blind_require (is_integer (combined y.operator left right)) y.overflow) (λ _ n s. refl)))
+    blind_bind (value_of y.operand.0 env) result (y.operand.1 env) (λ right. blind_combined y.operation left right))
 
 blind_value : (e : Expr) (env : Environment) → Blind (value_of e env)
 blind_value = ind-Expr (λ e. (env : Environment) → Blind (value_of e env)) (λ l. (env : Environment) (v : Value) → Blind (link_of l env v))
     (λ x y is env. subst (λ (f : Evaluation). Blind (f env)) (sym (fold-roll-Expr Evaluation Combination value_step link_step x ∙ ap (λ z. value_step (map-Expr Expr Link Evaluation Combination value_of link_of z)) (sym is))) (value-parts y env))
     (λ x y is env left. subst (λ (f : Combination). Blind (f env left)) (sym (fold-roll-Link Evaluation Combination value_step link_step x ∙ ap (λ z. link_step (map-Link Expr Link Evaluation Combination value_of link_of z)) (sym is))) (link-parts y env left))
 
-blind_each_written : (values : List Expr) (env : Environment) → Blind (each_written (map value_of values) env)
-blind_each_written [] env = λ n s. refl
-blind_each_written (value ∷ values) env =
-    let rest : Unit {0} → Action (Unit {0}) = λ _. each_written (map value_of values) env in
-    blind_bind (value_of value env) (λ v. write (integer_text v 10) >>= rest) (blind_value value env) (λ v. blind_bind (write (integer_text v 10)) rest (λ n s. refl) (λ _. blind_each_written values env))
+blind_width : (width : Option Width) (representation : Representation) (env : Environment) → Blind (width_of width representation env)
+blind_width None representation env = λ n s. refl
+blind_width (Some width) representation env =
+    blind_bind (value_of width.value env) (λ w. require (is_positive w) width.site >>= λ _. give w) (blind_value width.value env) (λ w. blind_tested (is_positive w) width.site w)
+
+blind_parameter : (parameter : WriteParameter) (env : Environment) → Blind (parameter_of parameter env)
+blind_parameter parameter env =
+    let width : Action Value = width_of parameter.width parameter.representation env in
+    let written : Value → Value → Action (Unit {0}) = λ v w. write (text_of parameter.representation v w) in
+    blind_bind (value_of parameter.value env) (λ v. width >>= written v) (blind_value parameter.value env) (λ v.
+    blind_bind width (written v) (blind_width parameter.width parameter.representation env) (λ w n s. refl))
+
+blind_parameters : (parameters : List WriteParameter) (env : Environment) → Blind (all_of (map parameter_of parameters) env)
+blind_parameters [] env = λ n s. refl
+blind_parameters (parameter ∷ parameters) env = blind_bind (parameter_of parameter env) (λ _. all_of (map parameter_of parameters) env) (blind_parameter parameter env) (λ _. blind_parameters parameters env)
+
+blind_line_ended : (ends_line : Bool) → Blind (line_ended ends_line)
+blind_line_ended true = λ n s. refl
+blind_line_ended false = λ n s. refl
 
 abbrev BlindStmt : Type 0
 BlindStmt = (e : Stmt) × ((env : Environment) → Blind (effect_of e env))
@@ -92,14 +142,14 @@ blind_all_of (statement ∷ statements) env = blind_bind (effect_of statement.0 
 effect-parts : (y : Stmt-F BlindStmt) (env : Environment) → Blind (effect_step (map-Stmt Stmt Execution effect_of (map-Stmt BlindStmt Stmt (λ e. e.0) y)) env)
 effect-parts (Empty number) env = λ n s. refl
 effect-parts (Assign number target fits value) env =
-    let kept : Value → Action (Unit {0}) = λ v. require (is_integer v) fits >>= λ _. store (place_of env target.root) v in
+    let kept : Value → Action (Unit {0}) = λ v. require (is_in fits.range v) fits.site >>= λ _. store (place_of env target.root) v in
     blind_bind (enter number env) (λ _. enter target.number env >>= λ _. value_of value env >>= kept) (λ n s. refl) (λ _.
     blind_bind (enter target.number env) (λ _. value_of value env >>= kept) (λ n s. refl) (λ _.
     blind_bind (value_of value env) kept (blind_value value env) (λ v.
-    blind_bind (require (is_integer v) fits) (λ _. store (place_of env target.root) v) (blind_require (is_integer v) fits) (λ _ n s. refl))))
-effect-parts (Writeln number values) env =
-    blind_bind (enter number env) (λ _. each_written (map value_of values.items) env >>= λ _. write (10 ∷ [])) (λ n s. refl) (λ _.
-    blind_bind (each_written (map value_of values.items) env) (λ _. write (10 ∷ [])) (blind_each_written values.items env) (λ _ n s. refl))
+    blind_bind (require (is_in fits.range v) fits.site) (λ _. store (place_of env target.root) v) (blind_require (is_in fits.range v) fits.site) (λ _ n s. refl))))
+effect-parts (Write number parameters ends_line) env =
+    blind_bind (enter number env) (λ _. all_of (map parameter_of parameters.items) env >>= λ _. line_ended ends_line) (λ n s. refl) (λ _.
+    blind_bind (all_of (map parameter_of parameters.items) env) (λ _. line_ended ends_line) (blind_parameters parameters.items env) (λ _. blind_line_ended ends_line))
 effect-parts (Compound number statements) env =
     blind_bind (enter number env) (λ _. all_of (map effect_of (map (λ e. e.0) statements.items)) env) (λ n s. refl) (λ _. blind_all_of statements.items env)
 

@@ -1,12 +1,15 @@
 -- What a piece of a program does: from a state to a reply, which gives a value or stops (ISO 7185:1990, 6.7, 6.8).
 -- It says nothing of how long that takes.
-use Rattle.std.specs.Prelude.{ℕ, ◌-◌, ◌++◌, Bool, List, [], ◌∷◌, Option, Some, None, if◌then◌else◌, length, replicate, unwrap_or}
+use Rattle.std.specs.Prelude.{ℕ, ℤ, pos, negsuc, ◌-◌, ◌++◌, ◌&&◌, Bool, List, [], ◌∷◌, Option, Some, None, if◌then◌else◌, int_le, length, replicate, take, unwrap_or, codes}
 use Rattle.std.specs.Fmt.{signed_decimal}
+use Rattle.typed_tree.specs.declared.types.OrdinalRange.{OrdinalRange}
+use Rattle.typed_tree.specs.declared.tree.Representation.{Representation}
+use Rattle.typed_tree.specs.declared.tree.Representation.TheVariants as representation
 use Rattle.meaning.specs.declared.outcome.Ending.{Ending}
 use Rattle.meaning.specs.declared.outcome.Ending.TheVariants as ending
 use Rattle.meaning.specs.declared.store.Value.{Value}
 use Rattle.meaning.specs.declared.store.Value.TheVariants.{Number}
-use Rattle.meaning.specs.Integers.{is_integer_number}
+use Rattle.meaning.specs.Integers.{is_integer_number, is_true, is_within}
 use Rattle.meaning.specs.Store.{Environment, Place, Store, stored, written}
 
 -- an entry into the statement or expression with this number, for theorems alone
@@ -76,10 +79,32 @@ store p v s = Gives tt (record s { store = written s.store p v })
 abbrev pub write : List ℕ → Action (Unit {0})
 write bytes s = Gives tt (record s { output = s.output ++ bytes })
 
--- a value of type integer
-abbrev pub is_integer : Value → Bool
-is_integer (Number n) = is_integer_number n
+-- a value in the range of an ordinal type (6.4.2); each range lies in that of integer
+abbrev pub is_in : OrdinalRange → Value → Bool
+is_in range (Number n) = is_integer_number n && is_within range.first range.last n
+
+-- a width that may be (6.9.3.1): at least 1
+abbrev pub is_positive : Value → Bool
+is_positive (Number n) = int_le (pos 1) n
+
+-- how many places a width gives
+abbrev pub places : ℤ → ℕ
+places (pos n) = n
+places (negsuc n) = 0
 
 -- an integer, set right in a width and never cut (6.9.3.2)
-abbrev pub integer_text : Value → ℕ → List ℕ
-integer_text (Number n) width = replicate (width - length (signed_decimal n)) 32 ++ signed_decimal n
+abbrev pub integer_text : ℤ → ℤ → List ℕ
+integer_text n width = replicate (places width - length (signed_decimal n)) 32 ++ signed_decimal n
+
+-- a string, set right in a width or cut to its first characters (6.9.3.6)
+abbrev pub string_text : List ℕ → ℤ → List ℕ
+string_text text width = replicate (places width - length text) 32 ++ take (places width) text
+
+-- a Boolean is written as a string (6.9.3.5)
+abbrev pub boolean_text : ℤ → ℤ → List ℕ
+boolean_text n width = string_text (if is_true n then codes "true" else codes "false") width
+
+-- a value as it is written in a width
+abbrev pub text_of : Representation → Value → Value → List ℕ
+text_of representation.Integer (Number n) (Number width) = integer_text n width
+text_of representation.Boolean (Number n) (Number width) = boolean_text n width

@@ -1,5 +1,5 @@
 -- What holds of the meaning of every program (ISO 7185:1990, 6.7.2.1, 6.8): a run with more turns goes on from where the
--- shorter one was, and a sum is calculated from left to right. It says nothing of what the single steps are.
+-- shorter one was, and a chain of operators is calculated from left to right. It says nothing of what the single steps are.
 use Rattle.std.specs.Prelude.{◌≡◌, ◌≢◌, ℕ, ◌+◌, List, ◌++◌}
 use Rattle.std.specs.declared.alloc.Global.{Global}
 use Rattle.std.specs.declared.boxed.Box.{Box}
@@ -7,7 +7,7 @@ use Rattle.std.specs.declared.vec.Vec.{Vec}
 use Rattle.typed_tree.specs.declared.tree.Tree.{Tree}
 use Rattle.typed_tree.specs.declared.tree.Expr.{Expr}
 use Rattle.typed_tree.specs.declared.tree.Link.{Link}
-use Rattle.typed_tree.specs.declared.tree.Expr.TheVariants.{Sum}
+use Rattle.typed_tree.specs.declared.tree.Expr.TheVariants.{Chain}
 use Rattle.meaning.specs.declared.outcome.Ending.{Ending}
 use Rattle.meaning.specs.declared.outcome.Ending.TheVariants as ending
 use Rattle.meaning.specs.Store.{Environment}
@@ -26,8 +26,8 @@ EndingsStay =
     (tree : Tree) (input : List ℕ) (turns more : ℕ) →
     (meaning tree input turns).ending ≢ ending.More → meaning tree input (turns + more) ≡ meaning tree input turns
 
--- where the beginning of a sum stops, the sum stops there, whatever stands to the right
-abbrev pub SumsGoLeftToRight : Type 0
-SumsGoLeftToRight =
+-- where the beginning of a chain stops, the chain stops there, whatever stands to the right
+abbrev pub ChainsGoLeftToRight : Type 0
+ChainsGoLeftToRight =
     (first : Box Expr Global) (rest longer : Vec Link Global) (more : List Link) (env : Environment) (s t : State) (end : Ending) →
-    longer.items ≡ rest.items ++ more → value_of (Sum first rest) env s ≡ Stops end t → value_of (Sum first longer) env s ≡ Stops end t
+    longer.items ≡ rest.items ++ more → value_of (Chain first rest) env s ≡ Stops end t → value_of (Chain first longer) env s ≡ Stops end t

@@ -1,54 +1,96 @@
 -- The meaning of expressions, statements and programs (ISO 7185:1990, 6.7, 6.8, 6.10): operands from left to right,
--- every value of an undefined variable an error, every result outside integer an error.
+-- every value of an undefined variable an error, every result outside integer an error. A sign and a function come
+-- after their operand, an operator after its right one.
 -- It says nothing of code, of cells, or of what an implementation does where memory runs out.
-use Rattle.std.specs.Prelude.{ℕ, ◌+ℤ◌, ◌-ℤ◌, neg_ℤ, List, [], ◌∷◌, Option, Some, None, if◌then◌else◌, length, map, nat_lt, nat_eq, slice_get}
+use Rattle.std.specs.Prelude.{ℕ, ℤ, pos, ◌+ℤ◌, ◌-ℤ◌, ◌*ℤ◌, neg_ℤ, int_div, int_le, int_lt, Bool, ◌&&◌, ◌||◌, not, List, [], ◌∷◌, Option, Some, None, if◌then◌else◌, length, map, nat_lt, nat_eq, slice_get}
 use Rattle.typed_tree.specs.declared.tree.Tree.{Tree}
 use Rattle.typed_tree.specs.declared.tree.Block.{Block}
-use Rattle.typed_tree.specs.declared.tree.Sign.{Sign}
-use Rattle.typed_tree.specs.declared.tree.Sign.TheVariants.{Plus, Minus}
+use Rattle.std.specs.Int.{int_rem_euclid}
+use Rattle.std.specs.Ordering.{int_eq}
+use Rattle.typed_tree.specs.declared.tree.Monadic.{Monadic}
+use Rattle.typed_tree.specs.declared.tree.Monadic.TheVariants as monadic
+use Rattle.typed_tree.specs.declared.tree.Dyadic.{Dyadic}
+use Rattle.typed_tree.specs.declared.tree.Dyadic.TheVariants as dyadic
+use Rattle.typed_tree.specs.declared.tree.Relation.{Relation}
+use Rattle.typed_tree.specs.declared.tree.Relation.TheVariants as relation
+use Rattle.typed_tree.specs.declared.tree.Representation.{Representation}
+use Rattle.typed_tree.specs.declared.tree.Representation.TheVariants as representation
+use Rattle.typed_tree.specs.declared.tree.Width.{Width}
+use Rattle.typed_tree.specs.declared.tree.WriteParameter.{WriteParameter}
 use Rattle.typed_tree.specs.declared.tree.Expr.{Expr}
 use Rattle.typed_tree.specs.declared.tree.Link.{Link}
 use Rattle.typed_tree.specs.declared.tree.Expr.TheOpen.{Expr-F, Link-F}
-use Rattle.typed_tree.specs.declared.tree.Expr.TheOpen.Expr-F.{Constant, Variable, Signed, Sum}
+use Rattle.typed_tree.specs.declared.tree.Expr.TheOpen.Expr-F.{Constant, Variable, Monadic as MonadicOf, Chain}
 use Rattle.typed_tree.specs.declared.tree.Expr.TheFolds.{fold-Expr, fold-Link}
 use Rattle.typed_tree.specs.declared.tree.Stmt.{Stmt}
 use Rattle.typed_tree.specs.declared.tree.Stmt.TheOpen.{Stmt-F}
-use Rattle.typed_tree.specs.declared.tree.Stmt.TheOpen.Stmt-F.{Empty, Assign, Writeln, Compound}
+use Rattle.typed_tree.specs.declared.tree.Stmt.TheOpen.Stmt-F.{Empty, Assign, Write, Compound}
 use Rattle.typed_tree.specs.declared.tree.Stmt.TheFolds.{fold-Stmt}
 use Rattle.meaning.specs.declared.outcome.Ending.{Ending}
 use Rattle.meaning.specs.declared.outcome.Ending.TheVariants as ending
 use Rattle.meaning.specs.declared.store.Value.{Value}
 use Rattle.meaning.specs.declared.store.Value.TheVariants.{Number}
+use Rattle.meaning.specs.Integers.{is_integer_number, truth, is_true, is_odd, magnitude}
 use Rattle.meaning.specs.Store.{Environment}
-use Rattle.meaning.specs.Effect.{State, Reply, Gives, Stops, Action, ◌>>=◌, give, require, enter, place_of, fetch, store, write, is_integer, integer_text}
+use Rattle.meaning.specs.Effect.{State, Reply, Gives, Stops, Action, ◌>>=◌, give, require, enter, place_of, fetch, store, write, is_in, is_positive, text_of}
 
 -- what an expression does in an environment: it gives its value
 abbrev pub Evaluation : Type 0
 Evaluation = Environment → Action Value
 
--- what an operator of a sum does with the value to its left
+-- what an operator of a chain does with the value to its left
 abbrev pub Combination : Type 0
 Combination = Environment → Value → Action Value
 
--- a sign covers the whole first term
-abbrev pub signed : Sign → Value → Value
-signed Plus v = v
-signed Minus (Number n) = Number (neg_ℤ n)
+-- a result of type integer, or an error at the site (6.7.2.2)
+abbrev pub whole : ℕ → ℤ → Action Value
+whole overflow n = do
+  _ ← require (is_integer_number n) overflow
+  give (Number n)
 
--- a sum or a difference of whole numbers
-abbrev pub combined : Sign → Value → Value → Value
-combined Plus (Number a) (Number b) = Number (a +ℤ b)
-combined Minus (Number a) (Number b) = Number (a -ℤ b)
+-- an operation on one operand: a sign covers the whole first term (6.7.2.2), `not` (6.7.2.3), the functions abs and sqr
+-- (6.6.6.2) and odd (6.6.6.5)
+abbrev pub operated : Monadic → Value → Action Value
+operated monadic.Plus (Number n) = give (Number n)
+operated monadic.Minus (Number n) = give (Number (neg_ℤ n))
+operated monadic.Not (Number n) = give (Number (truth (not (is_true n))))
+operated monadic.Abs (Number n) = give (Number (magnitude n))
+operated (monadic.Sqr overflow) (Number n) = whole overflow (n *ℤ n)
+operated monadic.Odd (Number n) = give (Number (truth (is_odd n)))
 
--- the right operand, and then the result, which has to be an integer
+-- a relation of two ordinals (6.7.2.5)
+abbrev pub relates : Relation → ℤ → ℤ → Bool
+relates relation.Equal a b = int_eq a b
+relates relation.NotEqual a b = not (int_eq a b)
+relates relation.Less a b = int_lt a b
+relates relation.Greater a b = int_lt b a
+relates relation.LessOrEqual a b = int_le a b
+relates relation.GreaterOrEqual a b = int_le b a
+
+-- an operation on two operands: `div` cuts toward zero, and `mod` gives the remainder that is not negative (6.7.2.2);
+-- `and`, `or` (6.7.2.3)
+abbrev pub combined : Dyadic → Value → Value → Action Value
+combined (dyadic.Plus overflow) (Number a) (Number b) = whole overflow (a +ℤ b)
+combined (dyadic.Minus overflow) (Number a) (Number b) = whole overflow (a -ℤ b)
+combined (dyadic.Times overflow) (Number a) (Number b) = whole overflow (a *ℤ b)
+combined (dyadic.Div by_zero) (Number a) (Number b) = do
+  _ ← require (not (int_eq b (pos 0))) by_zero
+  give (Number (int_div a b))
+combined (dyadic.Mod by_zero_or_less) (Number a) (Number b) = do
+  _ ← require (int_le (pos 1) b) by_zero_or_less
+  give (Number (int_rem_euclid a b))
+combined dyadic.And (Number a) (Number b) = give (Number (truth (is_true a && is_true b)))
+combined dyadic.Or (Number a) (Number b) = give (Number (truth (is_true a || is_true b)))
+combined (dyadic.Relation r) (Number a) (Number b) = give (Number (truth (relates r a b)))
+
+-- the right operand, and then the operation
 abbrev pub link_step : Link-F Evaluation Combination → Combination
 link_step link env left = do
   _ ← enter link.number env
   right ← link.operand env
-  _ ← require (is_integer (combined link.operator left right)) link.overflow
-  give (combined link.operator left right)
+  combined link.operation left right
 
--- the operators of a sum, from left to right
+-- the operators of a chain, from left to right
 abbrev pub in_turn : List Combination → Combination
 in_turn [] env v = give v
 in_turn (link ∷ links) env v = do
@@ -62,11 +104,11 @@ value_step (Constant number value) env = do
 value_step (Variable access defined) env = do
   _ ← enter access.number env
   fetch (place_of env access.root) defined
-value_step (Signed number sign operand) env = do
+value_step (MonadicOf number operation operand) env = do
   _ ← enter number env
   v ← operand.value env
-  give (signed sign v)
-value_step (Sum first rest) env = do
+  operated operation v
+value_step (Chain first rest) env = do
   v ← first.value env
   in_turn rest.items env v
 
@@ -74,7 +116,7 @@ value_step (Sum first rest) env = do
 abbrev pub value_of : Expr → Evaluation
 value_of = fold-Expr Evaluation Combination value_step link_step
 
--- what an operator of a sum does, with its right operand
+-- what an operator of a chain does, with its right operand
 abbrev pub link_of : Link → Combination
 link_of = fold-Link Evaluation Combination value_step link_step
 
@@ -82,20 +124,36 @@ link_of = fold-Link Evaluation Combination value_step link_step
 abbrev pub Execution : Type 0
 Execution = Environment → Action (Unit {0})
 
--- the statements of a compound statement, one after another
+-- statements, or values that are written, one after another
 abbrev pub all_of : List Execution → Execution
 all_of [] env = give tt
 all_of (statement ∷ statements) env = do
   _ ← statement env
   all_of statements env
 
--- each value in turn is written before the next is evaluated, an integer in a width of 10
-abbrev pub each_written : List Evaluation → Execution
-each_written [] env = give tt
-each_written (value ∷ values) env = do
-  v ← value env
-  _ ← write (integer_text v 10)
-  each_written values env
+-- the width where none is given (6.9.3.1)
+abbrev pub default_width : Representation → ℤ
+default_width representation.Integer = pos 10
+default_width representation.Boolean = pos 5
+
+-- the width of a value: it has to be at least 1
+abbrev pub width_of : Option Width → Representation → Evaluation
+width_of None representation env = give (Number (default_width representation))
+width_of (Some width) representation env = do
+  w ← value_of width.value env
+  _ ← require (is_positive w) width.site
+  give w
+
+-- a value that is written: first it is evaluated, and then its width (6.9.3)
+abbrev pub parameter_of : WriteParameter → Execution
+parameter_of parameter env = do
+  v ← value_of parameter.value env
+  w ← width_of parameter.width parameter.representation env
+  write (text_of parameter.representation v w)
+
+-- a line end behind a writeln (6.9.4)
+abbrev pub line_ended : Bool → Action (Unit {0})
+line_ended ends_line = if ends_line then write (10 ∷ []) else give tt
 
 abbrev pub effect_step : Stmt-F Execution → Execution
 effect_step (Empty number) env = enter number env
@@ -103,12 +161,12 @@ effect_step (Assign number target fits value) env = do
   _ ← enter number env
   _ ← enter target.number env
   v ← value_of value env
-  _ ← require (is_integer v) fits
+  _ ← require (is_in fits.range v) fits.site
   store (place_of env target.root) v
-effect_step (Writeln number values) env = do
+effect_step (Write number parameters ends_line) env = do
   _ ← enter number env
-  _ ← each_written (map value_of values.items) env
-  write (10 ∷ [])
+  _ ← all_of (map parameter_of parameters.items) env
+  line_ended ends_line
 effect_step (Compound number statements) env = do
   _ ← enter number env
   all_of statements.items env

@@ -4,8 +4,9 @@ use Rattle.std.specs.Prelude.{◌≡◌, ℕ, pos, List, [], ◌∷◌, Option, 
 use Rattle.std.specs.BTreeMap.{BTreeMap, get}
 use Rattle.std.specs.declared.cmp.Ordering.{Ordering}
 use Rattle.std.specs.declared.alloc.AllocError.{AllocError}
-use Rattle.typed_tree.specs.declared.tree.Sign.{Sign}
+use Rattle.typed_tree.specs.declared.types.OrdinalRange.{OrdinalRange}
 use Rattle.meaning.specs.declared.outcome.Ending.{Ending}
+use Rattle.meaning.specs.declared.outcome.Ending.TheVariants as ending
 use Rattle.meaning.specs.declared.store.Place.{Place as KeptPlace}
 use Rattle.meaning.specs.declared.store.Value.{Value}
 use Rattle.meaning.specs.declared.store.Value.TheVariants.{Number}
@@ -13,8 +14,8 @@ use Rattle.meaning.specs.declared.work.Work.{Work}
 use Rattle.meaning.specs.declared.work.Work.TheVariants as work
 use Rattle.meaning.specs.declared.interpreter.Run.{Run}
 use Rattle.meaning.specs.Store.{Environment, Place, Store, stored}
-use Rattle.meaning.specs.Effect.{State, Reply, Stops, Action, ◌>>=◌, give, require, place_of, fetch, store, write, is_integer, integer_text}
-use Rattle.meaning.specs.Meaning.{Combination, ended, signed, combined, value_of, link_of, effect_of, all_of, each_written}
+use Rattle.meaning.specs.Effect.{State, Reply, Stops, Action, ◌>>=◌, give, stop, require, place_of, store, write, is_in, is_positive, text_of}
+use Rattle.meaning.specs.Meaning.{Combination, ended, operated, combined, value_of, link_of, effect_of, all_of, width_of, parameter_of}
 
 -- what is done with the operands, the topmost first, and the state
 abbrev pub Resumption : Type 0
@@ -34,26 +35,33 @@ below_top (v ∷ below) = below
 abbrev pub with_top : (Value → Resumption) → Resumption
 with_top next operands = next (top_of operands) (below_top operands)
 
--- a value, if it is of type integer
-abbrev pub checked : Value → Option Value
-checked v = if is_integer v then Some v else None
+-- goes on with the value of an action as the topmost operand
+abbrev pub giving : Action Value → Resumption → Resumption
+giving action next operands = action >>= λ v. next (v ∷ operands)
 
--- the sum or difference of the two topmost operands
-abbrev pub combining : Sign → ℕ → Resumption → Value → Value → Resumption
-combining operator overflow next right left below = do
-  _ ← require (is_integer (combined operator left right)) overflow
-  next (combined operator left right ∷ below)
+-- a value, or an error at a site
+abbrev pub answered : Result Value ℕ → Action Value
+answered (Ok v) = give v
+answered (Err site) = stop (ending.Error site)
 
--- the use of a variable, tested at a site
-abbrev pub using_variable : ℕ → ℕ → Environment → Resumption → Resumption
-using_variable root defined env next operands = do
-  v ← fetch (place_of env root) defined
-  next (v ∷ operands)
+-- a result is the value that an action gives, or the site of the error where it stops
+abbrev pub Answers : Action Value → Result Value ℕ → Type 0
+Answers action result = (s : State) → action s ≡ answered result s
 
--- the operators of a sum, from left to right, whose value so far is the topmost operand
+-- a value, if it lies in a range
+abbrev pub checked : OrdinalRange → Value → Option Value
+checked range v = if is_in range v then Some v else None
+
+-- a width, tested at a site
+abbrev pub positive : ℕ → Value → Action Value
+positive site w = do
+  _ ← require (is_positive w) site
+  give w
+
+-- the operators of a chain, from left to right, whose value so far is the topmost operand
 abbrev pub linking : Environment → List Combination → Resumption → Resumption
 linking env [] next operands = next operands
-linking env (link ∷ links) next operands = with_top (λ v below. link env v >>= λ w. linking env links next (w ∷ below)) operands
+linking env (link ∷ links) next operands = with_top (λ v. giving (link env v) (linking env links next)) operands
 
 -- a piece of work, and then the rest
 abbrev pub resumed : Environment → Work → Resumption → Resumption
@@ -63,20 +71,26 @@ resumed env (work.Statements statements) next operands = do
 resumed env (work.Statement statement) next operands = do
   _ ← effect_of statement.now env
   next operands
-resumed env (work.Writes values) next operands = do
-  _ ← each_written (map value_of values.now) env
+resumed env (work.Parameters parameters) next operands = do
+  _ ← all_of (map parameter_of parameters.now) env
+  next operands
+resumed env (work.Parameter parameter) next operands = do
+  _ ← parameter_of parameter.now env
+  next operands
+resumed env (work.Width parameter) next operands = giving (width_of parameter.now.width parameter.now.representation env) next operands
+resumed env (work.WidthTest site) next operands = with_top (λ w. giving (positive site w) next) operands
+resumed env (work.Write representation) next operands =
+    with_top (λ w rest. with_top (λ v below. write (text_of representation v w) >>= λ _. next below) rest) operands
+resumed env work.LineEnd next operands = do
   _ ← write (10 ∷ [])
   next operands
-resumed env work.Write next operands = with_top (λ v below. write (integer_text v 10) >>= λ _. next below) operands
 resumed env (work.Store root fits) next operands =
-    with_top (λ v below. require (is_integer v) fits >>= λ _. store (place_of env root) v >>= λ _. next below) operands
-resumed env (work.Value expression) next operands = do
-  v ← value_of expression.now env
-  next (v ∷ operands)
-resumed env (work.Signed sign) next operands = with_top (λ v below. next (signed sign v ∷ below)) operands
+    with_top (λ v below. require (is_in fits.range v) fits.site >>= λ _. store (place_of env root) v >>= λ _. next below) operands
+resumed env (work.Value expression) next operands = giving (value_of expression.now env) next operands
+resumed env (work.Monadic operation) next operands = with_top (λ v. giving (operated operation v) next) operands
 resumed env (work.Links links) next operands = linking env (map link_of links.now) next operands
-resumed env (work.Combine operator overflow) next operands =
-    with_top (λ right rest. with_top (λ left below. combining operator overflow next right left below) rest) operands
+resumed env (work.Combine operation) next operands =
+    with_top (λ right rest. with_top (λ left. giving (combined operation left right) next) rest) operands
 
 -- what is pending, the next first
 abbrev pub pending_of : Environment → List Work → Resumption

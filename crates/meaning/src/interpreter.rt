@@ -1,18 +1,21 @@
-ghost use Rattle.std.specs.Prelude.{◌≡◌, ◌+◌, ◌<◌, ◌≤◌, OnOk, IfOk, sum_by, [], ◌∷◌, ◌++◌, reverse, replicate};
-ghost use Rattle.meaning.specs.Effect.{integer_text};
+ghost use Rattle.std.specs.Prelude.{◌≡◌, ◌+◌, ◌<◌, OnOk, IfOk, sum_by, [], ◌∷◌, ◌++◌, reverse, if◌then◌else◌};
+ghost use Rattle.meaning.specs.Effect.{fetch, place_of};
 ghost use Rattle.meaning.specs.Weight.{weight_of};
-ghost use Rattle.meaning.specs.Pending.{Does, Finishes, resumed, using_variable, place_seen, top_of, below_top, checked};
-ghost use Rattle.meaning.specs.Meaning.{signed, combined, meaning};
+ghost use Rattle.meaning.specs.Pending.{Does, Finishes, answered, giving, resumed, place_seen, top_of, below_top};
+ghost use Rattle.meaning.specs.Meaning.{meaning};
 
+use crate::operations::{
+    combined_value, operated_value, positive_width, value_in, width_by_default,
+};
 use crate::outcome::{Ending, Outcome};
 use crate::store::{Ordinal, Place, Value};
+use crate::text::write_value;
 use crate::work::Work;
 use std::alloc::{AllocError, Global};
 use std::collections::BTreeMap;
-use typed_tree::tree::{Expr, Link, Sign, Stmt, Tree};
-
-/// The default total width of an integer that is written (ISO 7185:1990, 6.9.3.1).
-const INTEGER_WIDTH: usize = 10;
+use typed_tree::tree::{
+    Dyadic, Expr, Link, Monadic, RangeTest, Representation, Stmt, Tree, WriteParameter,
+};
 
 /// What a program writes and how it ends, from an input and for a number of turns: each start of a
 /// loop's body or of a routine's block uses one.
@@ -73,13 +76,17 @@ impl<'t> Run<'t> {
         match work {
             Work::Statements(statements) => self.statements(statements),
             Work::Statement(statement) => self.statement(statement),
-            Work::Writes(values) => self.writes(values),
-            Work::Write => self.write(),
+            Work::Parameters(parameters) => self.parameters(parameters),
+            Work::Parameter(parameter) => self.parameter(parameter),
+            Work::Width(parameter) => self.width(parameter),
+            Work::WidthTest { site } => self.width_test(site),
+            Work::Write(representation) => self.write(representation),
+            Work::LineEnd => self.line_end(),
             Work::Store { root, fits } => self.store(root, fits),
             Work::Value(expression) => self.value(expression),
-            Work::Signed(sign) => self.signed(sign),
+            Work::Monadic(operation) => self.monadic(operation),
             Work::Links(links) => self.links(links),
-            Work::Combine { operator, overflow } => self.combine(operator, overflow),
+            Work::Combine(operation) => self.combine(operation),
         }
     }
 }
@@ -106,62 +113,149 @@ impl<'t> Run<'t> {
         ensures does { Does ⟦<Place as Ord>⟧.cmp (λ env. resumed env (Work.Statement statement.entry)) self.old result self.new }
     {
         match statement {
-            Stmt::Empty { .. } => {}
+            Stmt::Empty { .. } => Ok(None),
             Stmt::Assign {
                 target,
                 fits,
                 value,
                 ..
-            } => {
-                self.pending.push(Work::Store {
-                    root: target.root,
-                    fits: *fits,
-                })?;
-                self.pending.push(Work::Value(value))?;
-            }
-            Stmt::Writeln { values, .. } => self.pending.push(Work::Writes(values))?,
-            Stmt::Compound { statements, .. } => self.pending.push(Work::Statements(statements))?,
+            } => self.begin_assign(target.root, *fits, value),
+            Stmt::Write {
+                parameters,
+                ends_line,
+                ..
+            } => self.begin_write(parameters, *ends_line),
+            Stmt::Compound { statements, .. } => self.begin_compound(statements),
         }
+    }
+
+    fn begin_assign(
+        &mut self,
+        root: u32,
+        fits: RangeTest,
+        value: &'t Expr,
+    ) -> Result<Option<Ending>, AllocError>
+        ensures pending { OnOk result (self.new.pending.items
+            ≡ self.old.pending.items ++ Work.Store root fits ∷ [] ++ Work.Value value.entry ∷ []) }
+        ensures weight { OnOk result (sum_by weight_of self.new.pending.items
+            ≡ sum_by weight_of self.old.pending.items + 1 + weight_of (Work.Value value.entry)) }
+        ensures same { self.new ≡ record self.old { pending = self.new.pending } }
+        ensures goes_on { IfOk result (λ ending. ending ≡ None) }
+    {
+        self.pending.push(Work::Store { root, fits })?;
+        self.pending.push(Work::Value(value))?;
         Ok(None)
     }
 
-    fn writes(&mut self, values: &'t [Expr]) -> Result<Option<Ending>, AllocError>
+    fn begin_write(
+        &mut self,
+        parameters: &'t [WriteParameter],
+        ends_line: bool,
+    ) -> Result<Option<Ending>, AllocError>
+        ensures pending { OnOk result (self.new.pending.items
+            ≡ self.old.pending.items ++ (if ends_line then Work.LineEnd ∷ [] else []) ++ Work.Parameters parameters.entry ∷ []) }
+        ensures weight { OnOk result (sum_by weight_of self.new.pending.items
+            < sum_by weight_of self.old.pending.items + 2 + weight_of (Work.Parameters parameters.entry)) }
+        ensures same { self.new ≡ record self.old { pending = self.new.pending } }
+        ensures goes_on { IfOk result (λ ending. ending ≡ None) }
+    {
+        if ends_line {
+            self.pending.push(Work::LineEnd)?;
+        }
+        self.pending.push(Work::Parameters(parameters))?;
+        Ok(None)
+    }
+
+    fn begin_compound(&mut self, statements: &'t [Stmt]) -> Result<Option<Ending>, AllocError>
+        ensures pending { OnOk result (self.new.pending.items
+            ≡ self.old.pending.items ++ Work.Statements statements.entry ∷ []) }
+        ensures weight { OnOk result (sum_by weight_of self.new.pending.items
+            ≡ sum_by weight_of self.old.pending.items + weight_of (Work.Statements statements.entry)) }
+        ensures same { self.new ≡ record self.old { pending = self.new.pending } }
+        ensures goes_on { IfOk result (λ ending. ending ≡ None) }
+    {
+        self.pending.push(Work::Statements(statements))?;
+        Ok(None)
+    }
+
+    fn parameters(&mut self, parameters: &'t [WriteParameter]) -> Result<Option<Ending>, AllocError>
         ensures fewer { OnOk result (
             sum_by weight_of self.new.pending.items
-            < sum_by weight_of self.old.pending.items + weight_of (Work.Writes values.entry)) }
-        ensures does { Does ⟦<Place as Ord>⟧.cmp (λ env. resumed env (Work.Writes values.entry)) self.old result self.new }
+            < sum_by weight_of self.old.pending.items + weight_of (Work.Parameters parameters.entry)) }
+        ensures does { Does ⟦<Place as Ord>⟧.cmp (λ env. resumed env (Work.Parameters parameters.entry)) self.old result self.new }
     {
-        match values.split_first() {
-            Some((first, rest)) => {
-                self.pending.push(Work::Writes(rest))?;
-                self.pending.push(Work::Write)?;
-                self.pending.push(Work::Value(first))?;
-            }
-            None => self.output.push(b'\n')?,
+        if let Some((first, rest)) = parameters.split_first() {
+            self.pending.push(Work::Parameters(rest))?;
+            self.pending.push(Work::Parameter(first))?;
         }
         Ok(None)
     }
 
-    fn write(&mut self) -> Result<Option<Ending>, AllocError>
-        ensures same { self.new.pending.items ≡ self.old.pending.items }
-        ensures does { Does ⟦<Place as Ord>⟧.cmp (λ env. resumed env (Work.Write)) self.old result self.new }
+    fn parameter(&mut self, parameter: &'t WriteParameter) -> Result<Option<Ending>, AllocError>
+        ensures fewer { OnOk result (
+            sum_by weight_of self.new.pending.items
+            < sum_by weight_of self.old.pending.items + weight_of (Work.Parameter parameter.entry)) }
+        ensures does { Does ⟦<Place as Ord>⟧.cmp (λ env. resumed env (Work.Parameter parameter.entry)) self.old result self.new }
     {
-        let value = self.popped();
-        write_integer(self.alloc, &mut self.output, value)?;
+        self.pending.push(Work::Write(parameter.representation))?;
+        self.pending.push(Work::Width(parameter))?;
+        self.pending.push(Work::Value(&parameter.value))?;
         Ok(None)
     }
 
-    fn store(&mut self, root: u32, fits: u32) -> Result<Option<Ending>, AllocError>
+    fn width(&mut self, parameter: &'t WriteParameter) -> Result<Option<Ending>, AllocError>
+        ensures fewer { OnOk result (
+            sum_by weight_of self.new.pending.items
+            < sum_by weight_of self.old.pending.items + weight_of (Work.Width parameter.entry)) }
+        ensures does { Does ⟦<Place as Ord>⟧.cmp (λ env. resumed env (Work.Width parameter.entry)) self.old result self.new }
+    {
+        match &parameter.width {
+            Some(width) => {
+                self.pending.push(Work::WidthTest { site: width.site })?;
+                self.pending.push(Work::Value(&width.value))?;
+                Ok(None)
+            }
+            None => self.go_on(Ok(width_by_default(parameter.representation))),
+        }
+    }
+
+    fn width_test(&mut self, site: u32) -> Result<Option<Ending>, AllocError>
+        ensures same { self.new.pending.items ≡ self.old.pending.items }
+        ensures does { Does ⟦<Place as Ord>⟧.cmp (λ env. resumed env (Work.WidthTest site)) self.old result self.new }
+    {
+        let width = self.popped();
+        self.go_on(positive_width(width, site))
+    }
+
+    fn write(&mut self, representation: Representation) -> Result<Option<Ending>, AllocError>
+        ensures same { self.new.pending.items ≡ self.old.pending.items }
+        ensures does { Does ⟦<Place as Ord>⟧.cmp (λ env. resumed env (Work.Write representation)) self.old result self.new }
+    {
+        let width = self.popped();
+        let value = self.popped();
+        write_value(self.alloc, &mut self.output, representation, value, width)?;
+        Ok(None)
+    }
+
+    fn line_end(&mut self) -> Result<Option<Ending>, AllocError>
+        ensures same { self.new.pending.items ≡ self.old.pending.items }
+        ensures does { Does ⟦<Place as Ord>⟧.cmp (λ env. resumed env (Work.LineEnd)) self.old result self.new }
+    {
+        self.output.push(b'\n')?;
+        Ok(None)
+    }
+
+    fn store(&mut self, root: u32, fits: RangeTest) -> Result<Option<Ending>, AllocError>
         ensures same { self.new.pending.items ≡ self.old.pending.items }
         ensures does { Does ⟦<Place as Ord>⟧.cmp (λ env. resumed env (Work.Store root fits)) self.old result self.new }
     {
-        match integer_value(self.popped()) {
+        match value_in(fits.range, self.popped()) {
             Some(value) => {
                 let place = self.place(root);
                 self.store.insert(place, value)?;
                 Ok(None)
             }
-            None => Ok(Some(Ending::Error(fits))),
+            None => Ok(Some(Ending::Error(fits.site))),
         }
     }
 }
@@ -175,35 +269,47 @@ impl<'t> Run<'t> {
         ensures does { Does ⟦<Place as Ord>⟧.cmp (λ env. resumed env (Work.Value expression.entry)) self.old result self.new }
     {
         match expression {
-            Expr::Constant { value, .. } => self.constant(*value),
+            Expr::Constant { value, .. } => self.go_on(Ok(Value::Number(Ordinal::new(*value)))),
             Expr::Variable { access, defined } => self.variable(access.root, *defined),
-            Expr::Signed { sign, operand, .. } => self.begin_signed(*sign, operand),
-            Expr::Sum { first, rest } => self.begin_sum(first, rest),
+            Expr::Monadic {
+                operation,
+                operand,
+                ..
+            } => self.begin_monadic(*operation, operand),
+            Expr::Chain { first, rest } => self.begin_chain(first, rest),
         }
     }
 
-    fn constant(&mut self, value: i32) -> Result<Option<Ending>, AllocError>
+    fn variable(&mut self, root: u32, defined: u32) -> Result<Option<Ending>, AllocError>
         ensures same { self.new.pending.items ≡ self.old.pending.items }
-        ensures does { Does ⟦<Place as Ord>⟧.cmp (λ env next operands. next (Value.Number value ∷ operands)) self.old result self.new }
+        ensures does { Does ⟦<Place as Ord>⟧.cmp (λ env. giving (fetch (place_of env root) defined)) self.old result self.new }
     {
-        self.values.push(Value::Number(Ordinal::new(value)))?;
-        Ok(None)
+        let value = self.store.get(&self.place(root)).copied();
+        self.go_on(value.ok_or(defined))
     }
 
-    fn begin_signed(&mut self, sign: Sign, operand: &'t Expr) -> Result<Option<Ending>, AllocError>
+    fn begin_monadic(
+        &mut self,
+        operation: Monadic,
+        operand: &'t Expr,
+    ) -> Result<Option<Ending>, AllocError>
         ensures pending { OnOk result (self.new.pending.items
-            ≡ self.old.pending.items ++ Work.Signed sign ∷ [] ++ Work.Value operand.entry ∷ []) }
+            ≡ self.old.pending.items ++ Work.Monadic operation ∷ [] ++ Work.Value operand.entry ∷ []) }
         ensures weight { OnOk result (sum_by weight_of self.new.pending.items
             ≡ sum_by weight_of self.old.pending.items + 1 + weight_of (Work.Value operand.entry)) }
         ensures same { self.new ≡ record self.old { pending = self.new.pending } }
         ensures goes_on { IfOk result (λ ending. ending ≡ None) }
     {
-        self.pending.push(Work::Signed(sign))?;
+        self.pending.push(Work::Monadic(operation))?;
         self.pending.push(Work::Value(operand))?;
         Ok(None)
     }
 
-    fn begin_sum(&mut self, first: &'t Expr, rest: &'t [Link]) -> Result<Option<Ending>, AllocError>
+    fn begin_chain(
+        &mut self,
+        first: &'t Expr,
+        rest: &'t [Link],
+    ) -> Result<Option<Ending>, AllocError>
         ensures pending { OnOk result (self.new.pending.items
             ≡ self.old.pending.items ++ Work.Links rest.entry ∷ [] ++ Work.Value first.entry ∷ []) }
         ensures weight { OnOk result (sum_by weight_of self.new.pending.items
@@ -216,26 +322,12 @@ impl<'t> Run<'t> {
         Ok(None)
     }
 
-    fn variable(&mut self, root: u32, defined: u32) -> Result<Option<Ending>, AllocError>
+    fn monadic(&mut self, operation: Monadic) -> Result<Option<Ending>, AllocError>
         ensures same { self.new.pending.items ≡ self.old.pending.items }
-        ensures does { Does ⟦<Place as Ord>⟧.cmp (using_variable root defined) self.old result self.new }
+        ensures does { Does ⟦<Place as Ord>⟧.cmp (λ env. resumed env (Work.Monadic operation)) self.old result self.new }
     {
-        match self.store.get(&self.place(root)).copied() {
-            Some(value) => {
-                self.values.push(value)?;
-                Ok(None)
-            }
-            None => Ok(Some(Ending::Error(defined))),
-        }
-    }
-
-    fn signed(&mut self, sign: Sign) -> Result<Option<Ending>, AllocError>
-        ensures same { self.new.pending.items ≡ self.old.pending.items }
-        ensures does { Does ⟦<Place as Ord>⟧.cmp (λ env. resumed env (Work.Signed sign)) self.old result self.new }
-    {
-        let value = signed_value(sign, self.popped());
-        self.values.push(value)?;
-        Ok(None)
+        let operand = self.popped();
+        self.go_on(operated_value(operation, operand))
     }
 
     fn links(&mut self, links: &'t [Link]) -> Result<Option<Ending>, AllocError>
@@ -246,27 +338,32 @@ impl<'t> Run<'t> {
     {
         if let Some((first, rest)) = links.split_first() {
             self.pending.push(Work::Links(rest))?;
-            self.pending.push(Work::Combine {
-                operator: first.operator,
-                overflow: first.overflow,
-            })?;
+            self.pending.push(Work::Combine(first.operation))?;
             self.pending.push(Work::Value(&first.operand))?;
         }
         Ok(None)
     }
 
-    fn combine(&mut self, operator: Sign, overflow: u32) -> Result<Option<Ending>, AllocError>
+    fn combine(&mut self, operation: Dyadic) -> Result<Option<Ending>, AllocError>
         ensures same { self.new.pending.items ≡ self.old.pending.items }
-        ensures does { Does ⟦<Place as Ord>⟧.cmp (λ env. resumed env (Work.Combine operator overflow)) self.old result self.new }
+        ensures does { Does ⟦<Place as Ord>⟧.cmp (λ env. resumed env (Work.Combine operation)) self.old result self.new }
     {
         let right = self.popped();
         let left = self.popped();
-        match combined_value(operator, left, right) {
-            Some(value) => {
+        self.go_on(combined_value(operation, left, right))
+    }
+
+    // Goes on with a value, or stops at the site of its error.
+    fn go_on(&mut self, value: Result<Value, u32>) -> Result<Option<Ending>, AllocError>
+        ensures same { self.new.pending.items ≡ self.old.pending.items }
+        ensures does { Does ⟦<Place as Ord>⟧.cmp (λ env. giving (answered value)) self.old result self.new }
+    {
+        match value {
+            Ok(value) => {
                 self.values.push(value)?;
                 Ok(None)
             }
-            None => Ok(Some(Ending::Error(overflow))),
+            Err(site) => Ok(Some(Ending::Error(site))),
         }
     }
 
@@ -290,59 +387,4 @@ impl<'t> Run<'t> {
             steps: Vec::new(self.alloc),
         }
     }
-}
-
-// A value, if it is of type integer.
-fn integer_value(value: Value) -> Option<Value>
-    ensures { result ≡ checked value }
-{
-    let Value::Number(number) = value;
-    if number.is_integer() {
-        Some(value)
-    } else {
-        None
-    }
-}
-
-// A value after its sign.
-fn signed_value(sign: Sign, value: Value) -> Value
-    ensures { result ≡ signed sign value }
-{
-    let Value::Number(number) = value;
-    match sign {
-        Sign::Plus => value,
-        Sign::Minus => Value::Number(number.negated()),
-    }
-}
-
-// A sum or a difference, if it is of type integer.
-fn combined_value(operator: Sign, left: Value, right: Value) -> Option<Value>
-    ensures { result ≡ checked (combined operator left right) }
-{
-    let Value::Number(left) = left;
-    let Value::Number(right) = right;
-    match operator {
-        Sign::Plus => left.plus(right).map(Value::Number),
-        Sign::Minus => left.minus(right).map(Value::Number),
-    }
-}
-
-// An integer is set right in its width and never cut.
-fn write_integer(alloc: Global, output: &mut Vec<u8>, value: Value) -> Result<(), AllocError>
-    ensures { OnOk result (output.new.items ≡ output.old.items ++ integer_text value 10) }
-{
-    let Value::Number(number) = value;
-    let digits = number.number().to_string(alloc)?;
-    indent(output, INTEGER_WIDTH.saturating_sub(digits.len()))?;
-    output.extend_from_slice(digits.as_bytes())
-}
-
-// Writes spaces.
-fn indent(output: &mut Vec<u8>, count: usize) -> Result<(), AllocError>
-    ensures { OnOk result (output.new.items ≡ output.old.items ++ replicate count 32) }
-{
-    for _space in 0..count {
-        output.push(b' ')?;
-    }
-    Ok(())
 }

@@ -1,5 +1,5 @@
 //! What holds of the meaning of every program. Each law is the contract of a function that does nothing.
-ghost use Rattle.meaning.specs.Laws.{TurnsExtendTheOutput, EndingsStay, SumsGoLeftToRight};
+ghost use Rattle.meaning.specs.Laws.{TurnsExtendTheOutput, EndingsStay, ChainsGoLeftToRight};
 
 /// With more turns the output only grows at its end.
 pub fn turns_extend_the_output()
@@ -11,7 +11,7 @@ pub fn endings_stay()
     ensures { EndingsStay }
 {}
 
-/// Where the beginning of a sum stops, the sum stops there, whatever stands to the right.
-pub fn sums_go_left_to_right()
-    ensures { SumsGoLeftToRight }
+/// Where the beginning of a chain of operators stops, the chain stops there, whatever stands to the right.
+pub fn chains_go_left_to_right()
+    ensures { ChainsGoLeftToRight }
 {}

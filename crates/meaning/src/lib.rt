@@ -4,8 +4,10 @@
 
 mod interpreter;
 pub mod laws;
+mod operations;
 pub mod outcome;
 pub mod store;
+mod text;
 mod work;
 
 pub use interpreter::interpret;

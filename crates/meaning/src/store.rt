@@ -1,5 +1,7 @@
-ghost use Rattle.std.specs.Prelude.{◌≡◌, ◌+ℤ◌, ◌-ℤ◌, ◌≤ℤ◌, ℤ, pos, neg_ℤ, if◌then◌else◌, Option};
-ghost use Rattle.meaning.specs.Integers.{integer_or_none, is_integer_number};
+ghost use Rattle.std.specs.Prelude.{◌≡◌, ◌≢◌, ◌+ℤ◌, ◌-ℤ◌, ◌*ℤ◌, ◌≤ℤ◌, ℤ, pos, neg_ℤ, int_div, int_le, int_lt, if◌then◌else◌, Option};
+ghost use Rattle.std.specs.Int.{int_rem_euclid};
+ghost use Rattle.std.specs.Ordering.{int_eq};
+ghost use Rattle.meaning.specs.Integers.{integer_or_none, is_integer_number, is_odd, is_true, is_within, magnitude, truth};
 
 use std::marker::Model;
 
@@ -88,6 +90,95 @@ impl Ordinal {
         ensures { result ≡ integer_or_none (self -ℤ other) }
     {
         integer(self.number - other.number)
+    }
+
+    /// The product, if it is of type integer.
+    pub fn times(self, other: Ordinal) -> Option<Ordinal>
+        ensures { result ≡ integer_or_none (self *ℤ other) }
+    {
+        integer(self.number * other.number)
+    }
+
+    /// The quotient, cut toward zero (6.7.2.2). The divisor isn't 0.
+    pub fn quotient(self, divisor: Ordinal) -> Ordinal
+        requires { divisor ≢ pos 0 }
+        ensures { result ≡ int_div self divisor }
+    {
+        Ordinal {
+            number: self.number / divisor.number,
+        }
+    }
+
+    /// The remainder that isn't negative (6.7.2.2). The divisor is at least 1.
+    pub fn modulus(self, divisor: Ordinal) -> Ordinal
+        requires { pos 1 ≤ℤ divisor }
+        ensures { result ≡ int_rem_euclid self divisor }
+    {
+        Ordinal {
+            number: self.number.rem_euclid(divisor.number),
+        }
+    }
+
+    /// The ordinal without its sign.
+    pub fn magnitude(self) -> Ordinal
+        ensures { result ≡ magnitude self }
+    {
+        if self.number < 0 {
+            self.negated()
+        } else {
+            self
+        }
+    }
+
+    /// Whether it is odd.
+    pub fn is_odd(self) -> bool
+        ensures { result ≡ is_odd self }
+    {
+        self.number.rem_euclid(2) == 1
+    }
+
+    /// The ordinal of a truth value: false is 0, true is 1 (6.4.2.2).
+    pub fn truth(holds: bool) -> Ordinal
+        ensures { result ≡ truth holds }
+    {
+        Ordinal {
+            number: i64::from(holds),
+        }
+    }
+
+    /// Its truth value: whether it isn't 0.
+    pub fn is_true(self) -> bool
+        ensures { result ≡ is_true self }
+    {
+        self.number != 0
+    }
+
+    /// Whether it lies within `first` to `last`.
+    pub fn is_within(self, first: i32, last: i32) -> bool
+        ensures { result ≡ is_within first last self }
+    {
+        i64::from(first) <= self.number && self.number <= i64::from(last)
+    }
+
+    /// Whether it is equal to another.
+    pub fn equals(self, other: Ordinal) -> bool
+        ensures { result ≡ int_eq self other }
+    {
+        self.number == other.number
+    }
+
+    /// Whether it is less than another.
+    pub fn is_less_than(self, other: Ordinal) -> bool
+        ensures { result ≡ int_lt self other }
+    {
+        self.number < other.number
+    }
+
+    /// Whether it is at most another.
+    pub fn is_at_most(self, other: Ordinal) -> bool
+        ensures { result ≡ int_le self other }
+    {
+        self.number <= other.number
     }
 }
 

@@ -1,4 +1,6 @@
-use typed_tree::tree::{Expr, Link, Sign, Stmt};
+use typed_tree::tree::{
+    Dyadic, Expr, Link, Monadic, RangeTest, Representation, Stmt, WriteParameter,
+};
 
 /// Work that a run has still to do. What it needs lies on the stack of values.
 #[derive(Clone, Copy, Debug)]
@@ -6,16 +8,23 @@ pub enum Work<'t> {
     /// The statements of a compound statement, one after another.
     Statements(&'t [Stmt]),
     Statement(&'t Stmt),
-    /// The values of a writeln in turn, and then the line end.
-    Writes(&'t [Expr]),
-    /// Writes the topmost value.
-    Write,
+    /// The parameters of a write, one after another.
+    Parameters(&'t [WriteParameter]),
+    Parameter(&'t WriteParameter),
+    /// The width of a parameter, whose value is topmost.
+    Width(&'t WriteParameter),
+    /// Tests the topmost value as a width.
+    WidthTest { site: u32 },
+    /// Writes a value, whose width is topmost, right above it.
+    Write(Representation),
+    LineEnd,
     /// Tests the topmost value and stores it.
-    Store { root: u32, fits: u32 },
+    Store { root: u32, fits: RangeTest },
     Value(&'t Expr),
-    Signed(Sign),
-    /// The operators of a sum whose value so far is topmost.
+    /// An operation on the topmost value.
+    Monadic(Monadic),
+    /// The operators of a chain whose value so far is topmost.
     Links(&'t [Link]),
-    /// The sum or difference of the two topmost values.
-    Combine { operator: Sign, overflow: u32 },
+    /// An operation on the two topmost values.
+    Combine(Dyadic),
 }

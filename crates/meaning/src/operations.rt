@@ -1,0 +1,121 @@
+ghost use Rattle.std.specs.Prelude.{◌≡◌, pos};
+ghost use Rattle.meaning.specs.Effect.{is_in, is_positive};
+ghost use Rattle.meaning.specs.Meaning.{combined, default_width, operated, relates, whole};
+ghost use Rattle.meaning.specs.Pending.{Answers, checked, positive};
+
+use crate::store::{Ordinal, Value};
+use typed_tree::tree::{Dyadic, Monadic, Relation, Representation};
+use typed_tree::types::OrdinalRange;
+
+// The default total widths (ISO 7185:1990, 6.9.3.1).
+const INTEGER_WIDTH: i32 = 10;
+
+const BOOLEAN_WIDTH: i32 = 5;
+
+/// The value of an operation on one operand, or the site of its error (ISO 7185:1990, 6.7.2, 6.6.6).
+pub fn operated_value(operation: Monadic, value: Value) -> Result<Value, u32>
+    ensures { Answers (operated operation value) result }
+{
+    let Value::Number(number) = value;
+    match operation {
+        Monadic::Plus => Ok(Value::Number(number)),
+        Monadic::Minus => Ok(Value::Number(number.negated())),
+        Monadic::Not => Ok(Value::Number(Ordinal::truth(!number.is_true()))),
+        Monadic::Abs => Ok(Value::Number(number.magnitude())),
+        Monadic::Sqr { overflow } => square_value(number, overflow),
+        Monadic::Odd => Ok(Value::Number(Ordinal::truth(number.is_odd()))),
+    }
+}
+
+fn square_value(number: Ordinal, overflow: u32) -> Result<Value, u32>
+    ensures { Answers (operated (Monadic.Sqr overflow) (Value.Number number)) result }
+{
+    number.times(number).map(Value::Number).ok_or(overflow)
+}
+
+/// The value of an operation on two operands, or the site of its error (ISO 7185:1990, 6.7.2).
+pub fn combined_value(operation: Dyadic, left: Value, right: Value) -> Result<Value, u32>
+    ensures { Answers (combined operation left right) result }
+{
+    let Value::Number(left) = left;
+    let Value::Number(right) = right;
+    match operation {
+        Dyadic::Plus { overflow } => left.plus(right).map(Value::Number).ok_or(overflow),
+        Dyadic::Minus { overflow } => left.minus(right).map(Value::Number).ok_or(overflow),
+        Dyadic::Times { overflow } => left.times(right).map(Value::Number).ok_or(overflow),
+        Dyadic::Div { by_zero } => quotient_value(left, right, by_zero),
+        Dyadic::Mod { by_zero_or_less } => modulus_value(left, right, by_zero_or_less),
+        Dyadic::And => Ok(Value::Number(Ordinal::truth(left.is_true() && right.is_true()))),
+        Dyadic::Or => Ok(Value::Number(Ordinal::truth(left.is_true() || right.is_true()))),
+        Dyadic::Relation(relation) => Ok(Value::Number(Ordinal::truth(is_related(
+            relation, left, right,
+        )))),
+    }
+}
+
+fn quotient_value(left: Ordinal, right: Ordinal, by_zero: u32) -> Result<Value, u32>
+    ensures { Answers (combined (Dyadic.Div by_zero) (Value.Number left) (Value.Number right)) result }
+{
+    if right.number() == 0 {
+        Err(by_zero)
+    } else {
+        Ok(Value::Number(left.quotient(right)))
+    }
+}
+
+fn modulus_value(left: Ordinal, right: Ordinal, by_zero_or_less: u32) -> Result<Value, u32>
+    ensures { Answers (combined (Dyadic.Mod by_zero_or_less) (Value.Number left) (Value.Number right)) result }
+{
+    if 1 <= right.number() {
+        Ok(Value::Number(left.modulus(right)))
+    } else {
+        Err(by_zero_or_less)
+    }
+}
+
+fn is_related(relation: Relation, left: Ordinal, right: Ordinal) -> bool
+    ensures { result ≡ relates relation left right }
+{
+    match relation {
+        Relation::Equal => left.equals(right),
+        Relation::NotEqual => !left.equals(right),
+        Relation::Less => left.is_less_than(right),
+        Relation::Greater => right.is_less_than(left),
+        Relation::LessOrEqual => left.is_at_most(right),
+        Relation::GreaterOrEqual => right.is_at_most(left),
+    }
+}
+
+/// The value, if it lies in the range of a type.
+pub fn value_in(range: OrdinalRange, value: Value) -> Option<Value>
+    ensures { result ≡ checked range value }
+{
+    let Value::Number(number) = value;
+    if number.is_integer() && number.is_within(range.first, range.last) {
+        Some(value)
+    } else {
+        None
+    }
+}
+
+/// A width that is at least 1, or the site of its test (ISO 7185:1990, 6.9.3.1).
+pub fn positive_width(width: Value, site: u32) -> Result<Value, u32>
+    ensures { Answers (positive site width) result }
+{
+    let Value::Number(number) = width;
+    if 1 <= number.number() {
+        Ok(width)
+    } else {
+        Err(site)
+    }
+}
+
+/// The width of a value for which none is given (ISO 7185:1990, 6.9.3.1).
+pub fn width_by_default(representation: Representation) -> Value
+    ensures { result ≡ Value.Number (default_width representation) }
+{
+    Value::Number(Ordinal::new(match representation {
+        Representation::Integer => INTEGER_WIDTH,
+        Representation::Boolean => BOOLEAN_WIDTH,
+    }))
+}
