@@ -5,5 +5,6 @@ pub mod Counting
 pub mod Ranged
 pub mod Known
 pub mod Sound
+pub mod SoundOperations
 pub mod SoundForms
 pub mod SoundProgram

@@ -1,53 +1,81 @@
--- Values that lie in ranges: what the operators and the test of a value make of them.
-use Rattle.std.proofs.Common.{arith, ◌≡◌, ℤ, neg_ℤ, ◌+ℤ◌, ◌-ℤ◌, true, false}
+-- Values that lie in ranges: what the tests of values and the operations make of them.
+use Rattle.std.proofs.Common.{arith, ◌≡◌, ℤ, pos, ◌≤ℤ◌, int_le, Bool, true, false, not, refl, subst}
 use Rattle.std.proofs.lemmas.Int.{ints}
-use Rattle.typed_tree.specs.declared.tree.Sign.{Sign}
-use Rattle.typed_tree.specs.declared.tree.Sign.TheVariants.{Plus, Minus}
-use Rattle.domain.specs.Interval.{Interval, HasMember, is_vacant, is_included, common, sum, difference, negated}
-use Rattle.domain.specs.Ranges.{included-has, common-has}
+use Rattle.std.proofs.lemmas.Bool.{and_parts, and_from}
+use Rattle.typed_tree.specs.declared.types.OrdinalRange.{OrdinalRange}
+use Rattle.domain.specs.Interval as domain
+use Rattle.domain.specs.Interval.{Interval, HasMember, has_number, is_vacant, common, truth_values}
+use Rattle.domain.specs.Ranges.{included-has, common-has, common-has_left, common-has_right, has-present}
 use Rattle.meaning.specs.declared.store.Value.{Value}
 use Rattle.meaning.specs.declared.store.Value.TheVariants.{Number}
-use Rattle.meaning.specs.Effect.{is_integer}
-use Rattle.meaning.specs.Meaning as meaning
+use Rattle.meaning.specs.Effect.{is_in}
+use Rattle.meaning.specs.Integers.{is_integer_number, is_within, truth, is_true}
 use Rattle.cert_checker.specs.State.{integer}
-use Rattle.cert_checker.specs.Walk as walk
+use Rattle.cert_checker.specs.Walk.{limits_of}
 use Rattle.cert_checker.specs.Holds.{IsIn}
 
 -- a range with a number isn't empty
 pub in-present : (range : Interval) (v : Value) → IsIn range v → is_vacant range ≡ false
-in-present range (Number n) inside = grind (arith, ints)
-
-sum-has : (a b : Interval) (x y : ℤ) → HasMember a x → HasMember b y → HasMember (sum a b) (x +ℤ y)
-sum-has a b x y left right = (grind (arith, ints), grind (arith, ints))
-
-difference-has : (a b : Interval) (x y : ℤ) → HasMember a x → HasMember b y → HasMember (difference a b) (x -ℤ y)
-difference-has a b x y left right = (grind (arith, ints), grind (arith, ints))
-
-negated-has : (a : Interval) (x : ℤ) → HasMember a x → HasMember (negated a) (neg_ℤ x)
-negated-has a x inside = (grind (arith, ints), grind (arith, ints))
-
-pub signed-in : (sign : Sign) (range : Interval) (v : Value) → IsIn range v → IsIn (walk.signed sign range) (meaning.signed sign v)
-signed-in Plus range v inside = inside
-signed-in Minus range (Number n) inside = negated-has range n inside
-
-pub combined-in : (operator : Sign) (a b : Interval) (v w : Value) → IsIn a v → IsIn b w → IsIn (walk.combined operator a b) (meaning.combined operator v w)
-combined-in Plus a b (Number x) (Number y) left right = sum-has a b x y left right
-combined-in Minus a b (Number x) (Number y) left right = difference-has a b x y left right
-
--- the test of a value tells whether it lies in the range of integer
-pub integer-in : (v : Value) → is_integer v ≡ true → IsIn integer v
-integer-in (Number n) passes = (grind (arith, ints), grind (arith, ints))
-
-pub in-integer : (v : Value) → IsIn integer v → is_integer v ≡ true
-in-integer (Number n) inside = grind (arith, ints)
-
--- a value of a range that lies in that of integer passes the test
-pub included-in : (range : Interval) (v : Value) → is_included range integer ≡ true → IsIn range v → is_integer v ≡ true
-included-in range (Number n) included inside = in-integer (Number n) (included-has range integer n included inside)
-
-pub common-in : (a b : Interval) (v : Value) → IsIn a v → IsIn b v → IsIn (common a b) v
-common-in a b (Number n) left right = common-has a b n left right
+in-present range (Number n) inside = has-present range n inside
 
 -- a constant is the one number of its range
 pub constant-in : (n : ℤ) → IsIn (record { first = n; last = n }) (Number n)
 constant-in n = (omega (arith, ints), omega (arith, ints))
+
+-- ---- truth values
+
+-- the meaning and the ranges number truth values alike
+same-truth : (b : Bool) → domain.truth b ≡ truth b
+same-truth true = refl
+same-truth false = refl
+
+pub truth-in : (range : Interval) (b : Bool) → HasMember range (domain.truth b) → HasMember range (truth b)
+truth-in range b inside = subst (HasMember range) (same-truth b) inside
+
+pub truth_values-has : (b : Bool) → HasMember truth_values (truth b)
+truth_values-has true = (omega (arith, ints), omega (arith, ints))
+truth_values-has false = (omega (arith, ints), omega (arith, ints))
+
+-- ---- tests
+
+-- the test of a number tells whether it lies in limits
+pub is_within-has : (first last n : ℤ) → is_within first last n ≡ true → HasMember (record { first = first; last = last }) n
+is_within-has first last n passes = (grind (arith, ints), grind (arith, ints))
+
+pub has-is_within : (first last n : ℤ) → HasMember (record { first = first; last = last }) n → is_within first last n ≡ true
+has-is_within first last n inside = grind (arith, ints)
+
+-- the test of a value for a type tells whether it lies in the limits of the type
+pub is_in-integer : (range : OrdinalRange) (v : Value) → is_in range v ≡ true → IsIn integer v
+is_in-integer range (Number n) passes =
+    is_within-has integer.first integer.last n (and_parts (is_integer_number n) (is_within range.first range.last n) passes).0
+
+pub is_in-limits : (range : OrdinalRange) (v : Value) → is_in range v ≡ true → IsIn (limits_of range) v
+is_in-limits range (Number n) passes =
+    let each = and_parts (is_integer_number n) (is_within range.first range.last n) passes in
+    common-has integer (record { first = range.first; last = range.last }) n
+    (is_within-has integer.first integer.last n each.0) (is_within-has range.first range.last n each.1)
+
+pub limits-is_in : (range : OrdinalRange) (v : Value) → IsIn (limits_of range) v → is_in range v ≡ true
+limits-is_in range (Number n) inside =
+    let own : Interval = record { first = range.first; last = range.last } in
+    and_from (is_integer_number n) (is_within range.first range.last n)
+    (has-is_within integer.first integer.last n (common-has_left integer own n inside))
+    (has-is_within range.first range.last n (common-has_right integer own n inside))
+
+pub included-in : (range limits : Interval) (v : Value) → domain.is_included range limits ≡ true → IsIn range v → IsIn limits v
+included-in range limits (Number n) included inside = included-has range limits n included inside
+
+pub common-in : (a b : Interval) (v : Value) → IsIn a v → IsIn b v → IsIn (common a b) v
+common-in a b (Number n) left right = common-has a b n left right
+
+-- each number of a range whose first is at least 1 is
+pub first-positive : (range : Interval) (n : ℤ) → int_le (pos 1) range.first ≡ true → HasMember range n → int_le (pos 1) n ≡ true
+first-positive range n first inside = grind (arith, ints)
+
+pub is-positive : (n : ℤ) → int_le (pos 1) n ≡ true → pos 1 ≤ℤ n
+is-positive n passes = grind (arith, ints)
+
+-- no number of a range without 0 is 0
+pub without-zero : (range : Interval) (n : ℤ) → not (has_number range (pos 0)) ≡ true → HasMember range n → is_true n ≡ true
+without-zero range n without inside = grind (arith, ints)

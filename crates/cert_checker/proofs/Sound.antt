@@ -2,19 +2,18 @@
 use Rattle.std.proofs.Common.{arith, ◌≡◌, ◌⊎◌, inl, inr, ◌∙◌, sym, refl, subst, ℕ, Bool, true, false, ◌||◌, List, [], ◌∷◌, ◌++◌, Option, Some, None}
 use Rattle.std.specs.List.{Contains}
 use Rattle.std.proofs.lemmas.List.Elements.{Contains-append_left, Contains-append_right, Contains-push_cases}
-use Rattle.domain.specs.Interval.{Interval, common, is_included}
+use Rattle.domain.specs.Interval.{Interval}
 use Rattle.meaning.specs.declared.outcome.Ending.{Ending}
 use Rattle.meaning.specs.declared.outcome.Ending.TheVariants.{Error}
 use Rattle.meaning.specs.declared.store.Value.{Value}
 use Rattle.meaning.specs.Store.{Environment, Store, stored}
 use Rattle.meaning.specs.Effect as effect
-use Rattle.meaning.specs.Effect.{Action, Reply, Visit, place_of, is_integer, and_then}
+use Rattle.meaning.specs.Effect.{Action, Reply, Visit, place_of, and_then}
 use Rattle.cert_checker.specs.State.{State, Dead, Live, integer, is_dead, is_defined, range_of, with_defined}
 use Rattle.cert_checker.specs.Walk as walk
 use Rattle.cert_checker.specs.Walk.{Entry, Walked, Walking, followed, left_open}
 use Rattle.cert_checker.specs.Holds.{IsIn}
 use Rattle.cert_checker.specs.Promise.{HoldsAt}
-use Rattle.cert_checker.proofs.Ranged.{integer-in, included-in, common-in}
 use Rattle.cert_checker.proofs.Known.{Apart, Knows, known-holds, read-in, defined-stored, made-known, used-known, assigned-known}
 
 -- each visit that was added in an environment meets its linked entry
@@ -88,18 +87,18 @@ pub sound-given : {A B C : Type 0} (env : Environment) (R : B → A → Type 0) 
 sound-given env R S f ties action walking one state s known = good-given env R S f ties (walking state) s.visited (action s) (one state s known)
 
 -- so does a piece of output
-good-written : (env : Environment) (bytes : List ℕ) (walked : Walked (Unit {0})) (before : List Visit) (reply : Reply (Unit {0}))
-    → Good env Any_value walked before reply → Good env Any_value walked before (and_then reply (λ done. effect.write bytes))
-good-written env bytes walked before (effect.Gives a s) good = good
-good-written env bytes walked before (effect.Stops e s) good = good
+good-written : {A B : Type 0} (env : Environment) (R : B → A → Type 0) (bytes : A → List ℕ) (walked : Walked B) (before : List Visit) (reply : Reply A)
+    → Good env R walked before reply → Good {A = Unit {0}} env Any_value walked before (and_then reply (λ a. effect.write (bytes a)))
+good-written env R bytes walked before (effect.Gives a s) good = (tt, good.1, good.2)
+good-written env R bytes walked before (effect.Stops e s) good = good
 
 -- ---- the pieces
 
 pub sound-give : {A B : Type 0} (env : Environment) (R : B → A → Type 0) (a : A) (b : B) → R b a → Sound env R (effect.give a) (walk.give b)
 sound-give env R a b tie state s known = (tie, known, λ visit inside. inl inside)
 
-pub sound-written : (env : Environment) (bytes : List ℕ) (action : Action (Unit {0})) (walking : Walking (Unit {0})) → Sound env Any_value action walking → Sound env Any_value (effect.◌>>=◌ action (λ done. effect.write bytes)) walking
-sound-written env bytes action walking one state s known = good-written env bytes (walking state) s.visited (action s) (one state s known)
+pub sound-written : {A B : Type 0} (env : Environment) (R : B → A → Type 0) (bytes : A → List ℕ) (action : Action A) (walking : Walking B) → Sound env R action walking → Sound {A = Unit {0}} env Any_value (effect.◌>>=◌ action (λ a. effect.write (bytes a))) walking
+sound-written env R bytes action walking one state s known = good-written env R bytes (walking state) s.visited (action s) (one state s known)
 
 pub sound-enter : (env : Environment) (number : ℕ) → Sound env Any_value (effect.enter number env) (walk.enter number)
 sound-enter env number state s known =
@@ -138,30 +137,33 @@ good-use env root site state s known (Some v) is =
 pub sound-use : (env : Environment) (root site : ℕ) → Sound env IsIn (effect.fetch (place_of env root) site) (walk.use_of root site)
 sound-use env root site state s known = good-use env root site state s known (stored s.store (place_of env root)) refl
 
--- a value that passes the test lies in what is left of its range
-abbrev pub Fits : Value → Interval → Unit {0} → Type 0
-Fits v range done = IsIn range v × IsIn integer v
+-- a value that passes a test lies in the range that passes
+abbrev pub Passes : Bool → Value → Interval → Unit {0} → Type 0
+Passes test v range done = IsIn range v × (test ≡ true)
 
-closed-passes : (env : Environment) (state : State) (store : Store) (range : Interval) (v : Value) → Knows env state store → IsIn range v → (is_dead state || is_included range integer) ≡ true → is_integer v ≡ true
-closed-passes env Dead store range v known inside closed = absurd known
-closed-passes env (Live facts) store range v known inside closed = included-in range v closed inside
+-- where a site is closed, no run comes or the test holds
+closed-passes : (env : Environment) (state : State) (store : Store) (closed test : Bool) → Knows env state store → (closed ≡ true → test ≡ true) → (is_dead state || closed) ≡ true → test ≡ true
+closed-passes env Dead store closed test known holds is = absurd known
+closed-passes env (Live facts) store closed test known holds is = holds is
 
-false_true : (b : Bool) → b ≡ false → b ≡ true → ⊥
-false_true b is isnt = cc
+false_true : ◌≡◌ {A = Bool} false true → ⊥
+false_true is = cc
 
-good-require : (env : Environment) (site : ℕ) (range : Interval) (v : Value) → IsIn range v → (state : State) (s : effect.State) → Knows env state s.store → (passes : Bool) → is_integer v ≡ passes → Good env (Fits v) (walk.within integer site range state) s.visited (effect.require passes site s)
-good-require env site range v inside state s known true is =
-    let whole : IsIn integer v = integer-in v is in
-    let left : IsIn (common range integer) v = common-in range integer v inside whole in
-    ((left, whole), made-known env (common range integer) state s.store v left known, λ visit old. inl old)
-good-require env site range v inside state s known false is = (
-  errs-open site (is_dead state || is_included range integer)
-      (λ closed. false_true (is_integer v) is (closed-passes env state s.store range v known inside closed)),
+good-tested : (env : Environment) (closed : Bool) (site : ℕ) (passed : Interval) (v : Value) (test : Bool) → (closed ≡ true → test ≡ true) → (test ≡ true → IsIn passed v)
+    → (state : State) (s : effect.State) → Knows env state s.store → Good env (Passes test v) (walk.tested closed site passed state) s.visited (effect.require test site s)
+good-tested env closed site passed v true holds lets state s known =
+    let inside : IsIn passed v = lets refl in
+    ((inside, refl), made-known env passed state s.store v inside known, λ visit old. inl old)
+good-tested env closed site passed v false holds lets state s known = (
+  errs-open site (is_dead state || closed)
+      (λ is. false_true (closed-passes env state s.store closed false known holds is)),
   λ visit old. inl old,
 )
 
-pub sound-require : (env : Environment) (site : ℕ) (range : Interval) (v : Value) → IsIn range v → Sound env (Fits v) (effect.require (is_integer v) site) (walk.within integer site range)
-sound-require env site range v inside state s known = good-require env site range v inside state s known (is_integer v) refl
+-- a test at a site: it holds where the site is closed, and what passes lies in the range that passes
+pub sound-tested : (env : Environment) (closed : Bool) (site : ℕ) (passed : Interval) (v : Value) (test : Bool) → (closed ≡ true → test ≡ true) → (test ≡ true → IsIn passed v)
+    → Sound env (Passes test v) (effect.require test site) (walk.tested closed site passed)
+sound-tested env closed site passed v test holds lets state s known = good-tested env closed site passed v test holds lets state s known
 
 pub sound-assign : (env : Environment) → Apart env → (root : ℕ) (range : Interval) (v : Value) → IsIn range v → IsIn integer v → Sound env Any_value (effect.store (place_of env root) v) (walk.assign root range)
 sound-assign env apart root range v inside whole state s known =

@@ -1,8 +1,11 @@
-use Rattle.std.proofs.Common.{rules, arith, ◌≡◌, ◌≤◌, Result, Ok, Err, IfOk, ℕ, ℤ, ◌+◌, List, [], ◌∷◌, ◌++◌, length, map, refl, sym, ap, ◌∙◌, subst, append_assoc, append-nil, ◌<◌, get_or, drop, drop-cons, add-one, suc, length-append}
+use Rattle.std.proofs.Common.{rules, arith, ◌≡◌, ◌≤◌, Result, Ok, Err, IfOk, Bool, Some, ℕ, ℤ, ◌+◌, List, [], ◌∷◌, ◌++◌, length, map, refl, sym, ap, ◌∙◌, subst, append_assoc, append-nil, ◌<◌, get_or, drop, drop-cons, add-one, suc, length-append}
 use Rattle.std.proofs.lemmas.List.{drop_all}
 use Rattle.typed_tree.specs.declared.tree.Access.{Access}
 use Rattle.typed_tree.specs.declared.tree.Block.{Block}
-use Rattle.typed_tree.specs.declared.tree.Sign.{Sign}
+use Rattle.typed_tree.specs.declared.tree.RangeTest.{RangeTest}
+use Rattle.typed_tree.specs.declared.tree.Width.{Width}
+use Rattle.typed_tree.specs.declared.tree.WriteParameter.{WriteParameter}
+use Rattle.typed_tree.specs.declared.tree.Monadic.{Monadic}
 use Rattle.typed_tree.specs.declared.tree.Expr.{Expr}
 use Rattle.typed_tree.specs.declared.tree.Link.{Link}
 use Rattle.typed_tree.specs.declared.tree.Expr.TheVariants as expr
@@ -16,8 +19,8 @@ use Rattle.std.specs.declared.alloc.Global.{Global}
 use Rattle.domain.specs.Interval.{Interval}
 use Rattle.cert_checker.specs.declared.walk.Walk.{Walk}
 use Rattle.cert_checker.specs.declared.state.State.{State as Kept}
-use Rattle.cert_checker.specs.State.{integer, start, with_value}
-use Rattle.cert_checker.specs.Walk.{Walked, Walking, ◌>>=◌, give, enter, use_of, within, signed, combined, in_turn, value_walk, link_walk, statement_walk, all_of, each_of, assign, begin, assignment, block_walk}
+use Rattle.cert_checker.specs.State.{start, with_value}
+use Rattle.cert_checker.specs.Walk.{Walked, Walking, ◌>>=◌, give, enter, use_of, within, positive, operated, combined, in_turn, value_walk, link_walk, width_walk, parameter_walk, statement_walk, all_of, assign, begin, limits_of, assignment, block_walk}
 use Rattle.cert_checker.specs.View.{viewed, Walks}
 
 -- ---- the walk, form by form
@@ -28,23 +31,23 @@ value-Constant number value = search (rules, the_lemmas)
 pub value-Variable : (access : Access) (defined : ℕ) → value_walk (expr.Variable access defined) ≡ (enter access.number >>= λ _. use_of access.root defined)
 value-Variable access defined = search (rules, the_lemmas)
 
-pub link-walks : (link : Link) → link_walk link ≡ (λ (left : Interval). enter link.number >>= λ _. (value_walk link.operand >>= λ right. within integer link.overflow (combined link.operator left right)))
+pub link-walks : (link : Link) → link_walk link ≡ (λ (left : Interval). enter link.number >>= λ _. (value_walk link.operand >>= combined link.operation left))
 link-walks link = search (rules, the_lemmas)
 
-pub value-Signed : (number : ℕ) (sign : Sign) (operand : Box Expr Global) → value_walk (expr.Signed number sign operand) ≡ (enter number >>= λ _. (value_walk operand.value >>= λ range. give (signed sign range)))
-value-Signed number sign operand = search (rules, the_lemmas)
+pub value-Monadic : (number : ℕ) (operation : Monadic) (operand : Box Expr Global) → value_walk (expr.Monadic number operation operand) ≡ (enter number >>= λ _. (value_walk operand.value >>= operated operation))
+value-Monadic number operation operand = search (rules, the_lemmas)
 
-pub value-Sum : (first : Box Expr Global) (rest : Vec Link Global) → value_walk (expr.Sum first rest) ≡ (value_walk first.value >>= in_turn (map link_walk rest.items))
-value-Sum first rest = search (rules, the_lemmas)
+pub value-Chain : (first : Box Expr Global) (rest : Vec Link Global) → value_walk (expr.Chain first rest) ≡ (value_walk first.value >>= in_turn (map link_walk rest.items))
+value-Chain first rest = search (rules, the_lemmas)
 
 pub statement-Empty : (number : ℕ) → statement_walk (stmt.Empty number) ≡ enter number
 statement-Empty number = search (rules, stmt_lemmas)
 
-pub statement-Assign : (number : ℕ) (target : Access) (fits : ℕ) (value : Expr) → statement_walk (stmt.Assign number target fits value) ≡ (enter number >>= λ _. assignment target fits value)
+pub statement-Assign : (number : ℕ) (target : Access) (fits : RangeTest) (value : Expr) → statement_walk (stmt.Assign number target fits value) ≡ (enter number >>= λ _. assignment target fits value)
 statement-Assign number target fits value = search (rules, stmt_lemmas)
 
-pub statement-Writeln : (number : ℕ) (values : Vec Expr Global) → statement_walk (stmt.Writeln number values) ≡ (enter number >>= λ _. each_of (map value_walk values.items))
-statement-Writeln number values = search (rules, stmt_lemmas)
+pub statement-Write : (number : ℕ) (parameters : Vec WriteParameter Global) (ends_line : Bool) → statement_walk (stmt.Write number parameters ends_line) ≡ (enter number >>= λ _. all_of (map parameter_walk parameters.items))
+statement-Write number parameters ends_line = search (rules, stmt_lemmas)
 
 pub statement-Compound : (number : ℕ) (statements : Vec Stmt Global) → statement_walk (stmt.Compound number statements) ≡ (enter number >>= λ _. all_of (map statement_walk statements.items))
 statement-Compound number statements = search (rules, stmt_lemmas)
@@ -80,22 +83,17 @@ turn-step items i link range result old mid new value inside is one two =
     subst (λ ls. Walks (in_turn (map link_walk ls) range) old new value) (sym (item-cut items i link inside is))
     (walks-then (link_walk link range) (in_turn (map link_walk (drop (i + 1) items))) old mid new result value one two)
 
-pub each-step : (items : List Expr) (i : ℕ) (item : Expr) (range : Interval) (old mid new : Walk) → i < length items → item ≡ get_or items i item → Walks (value_walk item) old mid range → Walks (each_of (map value_walk (drop (i + 1) items))) mid new tt → Walks (each_of (map value_walk (drop i items))) old new tt
-each-step items i item range old mid new inside is one two =
-    subst (λ ls. Walks (each_of (map value_walk ls)) old new tt) (sym (item-cut items i item inside is))
-    (walks-then (value_walk item) (λ _. each_of (map value_walk (drop (i + 1) items))) old mid new range tt one two)
+pub all-step : {X : Type 0} (walk : X → Walking (Unit {0})) (items : List X) (i : ℕ) (item : X) (old mid new : Walk) → i < length items → item ≡ get_or items i item → Walks (walk item) old mid tt → Walks (all_of (map walk (drop (i + 1) items))) mid new tt → Walks (all_of (map walk (drop i items))) old new tt
+all-step {X} walk items i item old mid new inside is one two =
+    subst (λ (ls : List X). Walks (all_of (map walk ls)) old new tt) (sym (item-cut items i item inside is))
+    (walks-then (walk item) (λ _. all_of (map walk (drop (i + 1) items))) old mid new tt tt one two)
 
-pub all-step : (items : List Stmt) (i : ℕ) (item : Stmt) (old mid new : Walk) → i < length items → item ≡ get_or items i item → Walks (statement_walk item) old mid tt → Walks (all_of (map statement_walk (drop (i + 1) items))) mid new tt → Walks (all_of (map statement_walk (drop i items))) old new tt
-all-step items i item old mid new inside is one two =
-    subst (λ ls. Walks (all_of (map statement_walk ls)) old new tt) (sym (item-cut items i item inside is))
-    (walks-then (statement_walk item) (λ _. all_of (map statement_walk (drop (i + 1) items))) old mid new tt tt one two)
-
--- an operator, its right operand and the test of the result
-pub link-step : (link : Link) (left right result : Interval) (old entered valued new : Walk) → Walks (enter link.number) old entered tt → Walks (value_walk link.operand) entered valued right → Walks (within integer link.overflow (combined link.operator left right)) valued new result → Walks (link_walk link left) old new result
+-- an operator, its right operand and the operation
+pub link-step : (link : Link) (left right result : Interval) (old entered valued new : Walk) → Walks (enter link.number) old entered tt → Walks (value_walk link.operand) entered valued right → Walks (combined link.operation left right) valued new result → Walks (link_walk link left) old new result
 link-step link left right result old entered valued new one two three =
     subst (λ (walk : Interval → Walking Interval). Walks (walk left) old new result) (sym (link-walks link))
-    (walks-then (enter link.number) (λ _. value_walk link.operand >>= λ r. within integer link.overflow (combined link.operator left r)) old entered new tt result one
-    (walks-then (value_walk link.operand) (λ r. within integer link.overflow (combined link.operator left r)) entered valued new right result two three))
+    (walks-then (enter link.number) (λ _. value_walk link.operand >>= combined link.operation left) old entered new tt result one
+    (walks-then (value_walk link.operand) (combined link.operation left) entered valued new right result two three))
 
 -- ---- the walk over a form that the checker has gone through
 
@@ -115,16 +113,15 @@ variable-done expression access defined range old mid new is entered used =
     along (value_walk expression) (enter access.number >>= λ _. use_of access.root defined) old new range (ap value_walk is ∙ value-Variable access defined)
     (walks-then (enter access.number) (λ _. use_of access.root defined) old mid new tt range entered used)
 
-pub signed-done : (expression : Expr) (number : ℕ) (sign : Sign) (operand : Box Expr Global) (inner : Expr) (range result : Interval) (old mid new : Walk) → expression ≡ expr.Signed number sign operand → inner ≡ operand.value → result ≡ signed sign range → Walks (enter number) old mid tt → Walks (value_walk inner) mid new range → Walks (value_walk expression) old new result
-signed-done expression number sign operand inner range result old mid new is inner_is result_is entered valued =
-    along (value_walk expression) (enter number >>= λ _. (value_walk operand.value >>= λ r. give (signed sign r))) old new result (ap value_walk is ∙ value-Signed number sign operand)
-    (walks-then (enter number) (λ _. value_walk operand.value >>= λ r. give (signed sign r)) old mid new tt result entered
-    (walks-then (value_walk operand.value) (λ r. give (signed sign r)) mid new new range result (subst (λ e. Walks (value_walk e) mid new range) inner_is valued)
-    (subst (λ r. Walks (give (signed sign range)) new new r) (sym result_is) (walks-give (signed sign range) new))))
+pub monadic-done : (expression : Expr) (number : ℕ) (operation : Monadic) (operand : Box Expr Global) (inner : Expr) (range result : Interval) (old entered valued new : Walk) → expression ≡ expr.Monadic number operation operand → inner ≡ operand.value → Walks (enter number) old entered tt → Walks (value_walk inner) entered valued range → Walks (operated operation range) valued new result → Walks (value_walk expression) old new result
+monadic-done expression number operation operand inner range result old entered valued new is inner_is one two three =
+    along (value_walk expression) (enter number >>= λ _. (value_walk operand.value >>= operated operation)) old new result (ap value_walk is ∙ value-Monadic number operation operand)
+    (walks-then (enter number) (λ _. value_walk operand.value >>= operated operation) old entered new tt result one
+    (walks-then (value_walk operand.value) (operated operation) entered valued new range result (subst (λ e. Walks (value_walk e) entered valued range) inner_is two) three))
 
-pub sum-begun : (expression : Expr) (first : Box Expr Global) (rest : Vec Link Global) (inner : Expr) (items : List Link) (range : Interval) (old mid : Walk) → expression ≡ expr.Sum first rest → inner ≡ first.value → items ≡ rest.items → Walks (value_walk inner) old mid range → (new : Walk) (value : Interval) → Walks (in_turn (map link_walk items) range) mid new value → Walks (value_walk expression) old new value
-sum-begun expression first rest inner items range old mid is inner_is items_are begun new value left =
-    along (value_walk expression) (value_walk first.value >>= in_turn (map link_walk rest.items)) old new value (ap value_walk is ∙ value-Sum first rest)
+pub chain-begun : (expression : Expr) (first : Box Expr Global) (rest : Vec Link Global) (inner : Expr) (items : List Link) (range : Interval) (old mid : Walk) → expression ≡ expr.Chain first rest → inner ≡ first.value → items ≡ rest.items → Walks (value_walk inner) old mid range → (new : Walk) (value : Interval) → Walks (in_turn (map link_walk items) range) mid new value → Walks (value_walk expression) old new value
+chain-begun expression first rest inner items range old mid is inner_is items_are begun new value left =
+    along (value_walk expression) (value_walk first.value >>= in_turn (map link_walk rest.items)) old new value (ap value_walk is ∙ value-Chain first rest)
     (walks-then (value_walk first.value) (in_turn (map link_walk rest.items)) old mid new range value (subst (λ e. Walks (value_walk e) old mid range) inner_is begun)
     (subst (λ ls. Walks (in_turn (map link_walk ls) range) mid new value) items_are left))
 
@@ -132,27 +129,24 @@ sum-begun expression first rest inner items range old mid is inner_is items_are 
 pub turn-end : (items : List Link) (i : ℕ) (range : Interval) (old : Walk) → length items ≤ i → Walks (in_turn (map link_walk (drop i items)) range) old old range
 turn-end items i range old past = subst (λ ls. Walks (in_turn (map link_walk ls) range) old old range) (sym (drop-past items i past)) (walks-give range old)
 
-pub each-end : (items : List Expr) (i : ℕ) (old : Walk) → length items ≤ i → Walks (each_of (map value_walk (drop i items))) old old tt
-each-end items i old past = subst (λ ls. Walks (each_of (map value_walk ls)) old old tt) (sym (drop-past items i past)) (walks-give tt old)
-
-pub all-end : (items : List Stmt) (i : ℕ) (old : Walk) → length items ≤ i → Walks (all_of (map statement_walk (drop i items))) old old tt
-all-end items i old past = subst (λ ls. Walks (all_of (map statement_walk ls)) old old tt) (sym (drop-past items i past)) (walks-give tt old)
+pub all-end : {X : Type 0} (walk : X → Walking (Unit {0})) (items : List X) (i : ℕ) (old : Walk) → length items ≤ i → Walks (all_of (map walk (drop i items))) old old tt
+all-end {X} walk items i old past = subst (λ (ls : List X). Walks (all_of (map walk ls)) old old tt) (sym (drop-past items i past)) (walks-give tt old)
 
 -- a fact of each value that may be answered
 pub if_ok-map : {T E : Type 0} (r : Result T E) (P Q : T → Type 0) → ((x : T) → P x → Q x) → IfOk r P → IfOk r Q
 if_ok-map (Ok x) P Q step holds = step x holds
 if_ok-map (Err e) P Q step holds = tt
 
-pub assign-done : (statement : Stmt) (number : ℕ) (target : Access) (fits : ℕ) (value : Expr) (old mid new : Walk) → statement ≡ stmt.Assign number target fits value → Walks (enter number) old mid tt → Walks (assignment target fits value) mid new tt → Walks (statement_walk statement) old new tt
+pub assign-done : (statement : Stmt) (number : ℕ) (target : Access) (fits : RangeTest) (value : Expr) (old mid new : Walk) → statement ≡ stmt.Assign number target fits value → Walks (enter number) old mid tt → Walks (assignment target fits value) mid new tt → Walks (statement_walk statement) old new tt
 assign-done statement number target fits value old mid new is entered assigned =
     along (statement_walk statement) (enter number >>= λ _. assignment target fits value) old new tt (ap statement_walk is ∙ statement-Assign number target fits value)
     (walks-then (enter number) (λ _. assignment target fits value) old mid new tt tt entered assigned)
 
-pub writeln-done : (statement : Stmt) (number : ℕ) (values : Vec Expr Global) (items : List Expr) (old mid new : Walk) → statement ≡ stmt.Writeln number values → items ≡ values.items → Walks (enter number) old mid tt → Walks (each_of (map value_walk items)) mid new tt → Walks (statement_walk statement) old new tt
-writeln-done statement number values items old mid new is items_are entered written =
-    along (statement_walk statement) (enter number >>= λ _. each_of (map value_walk values.items)) old new tt (ap statement_walk is ∙ statement-Writeln number values)
-    (walks-then (enter number) (λ _. each_of (map value_walk values.items)) old mid new tt tt entered
-    (subst (λ vs. Walks (each_of (map value_walk vs)) mid new tt) items_are written))
+pub write-done : (statement : Stmt) (number : ℕ) (parameters : Vec WriteParameter Global) (ends_line : Bool) (items : List WriteParameter) (old mid new : Walk) → statement ≡ stmt.Write number parameters ends_line → items ≡ parameters.items → Walks (enter number) old mid tt → Walks (all_of (map parameter_walk items)) mid new tt → Walks (statement_walk statement) old new tt
+write-done statement number parameters ends_line items old mid new is items_are entered written =
+    along (statement_walk statement) (enter number >>= λ _. all_of (map parameter_walk parameters.items)) old new tt (ap statement_walk is ∙ statement-Write number parameters ends_line)
+    (walks-then (enter number) (λ _. all_of (map parameter_walk parameters.items)) old mid new tt tt entered
+    (subst (λ vs. Walks (all_of (map parameter_walk vs)) mid new tt) items_are written))
 
 pub compound-begun : (statement : Stmt) (number : ℕ) (statements : Vec Stmt Global) (items : List Stmt) (old mid : Walk) → statement ≡ stmt.Compound number statements → items ≡ statements.items → Walks (enter number) old mid tt → (new : Walk) → Walks (all_of (map statement_walk items)) mid new tt → Walks (statement_walk statement) old new tt
 compound-begun statement number statements items old mid is items_are entered new left =
@@ -169,11 +163,13 @@ pub assign-walks : (root : ℕ) (range : Interval) (old : Walk) (state : Kept) �
 assign-walks root range old state is =
     record { value_is = refl; state_is = is; open_is = sym (append-nil old.open_ids.items); visits_are = omega arith; unbroken = refl }
 
-pub assignment-done : (target : Access) (fits : ℕ) (value : Expr) (range fitting : Interval) (old entered valued tested new : Walk) → Walks (enter target.number) old entered tt → Walks (value_walk value) entered valued range → Walks (within integer fits range) valued tested fitting → Walks (assign target.root fitting) tested new tt → Walks (assignment target fits value) old new tt
-assignment-done target fits value range fitting old entered valued tested new one two three four =
-    walks-then (enter target.number) (λ _. value_walk value >>= λ r. (within integer fits r >>= λ f. assign target.root f)) old entered new tt tt one
-    (walks-then (value_walk value) (λ r. within integer fits r >>= λ f. assign target.root f) entered valued new range tt two
-    (walks-then (within integer fits range) (λ f. assign target.root f) valued tested new fitting tt three four))
+pub assignment-done : (target : Access) (fits : RangeTest) (value : Expr) (limits range fitting : Interval) (old entered valued tested new : Walk) → limits ≡ limits_of fits.range → Walks (enter target.number) old entered tt → Walks (value_walk value) entered valued range → Walks (within limits fits.site range) valued tested fitting → Walks (assign target.root fitting) tested new tt → Walks (assignment target fits value) old new tt
+assignment-done target fits value limits range fitting old entered valued tested new is one two three four =
+    let test = within (limits_of fits.range) fits.site in
+    walks-then (enter target.number) (λ _. value_walk value >>= λ r. (test r >>= λ f. assign target.root f)) old entered new tt tt one
+    (walks-then (value_walk value) (λ r. test r >>= λ f. assign target.root f) entered valued new range tt two
+    (walks-then (test range) (λ f. assign target.root f) valued tested new fitting tt
+    (subst (λ l. Walks (within l fits.site range) valued tested fitting) is three) four))
 
 pub block-done : (variables : ℕ) (block : Block) (old new : Walk) (first : Kept) → viewed first ≡ start variables → Walks (statement_walk block.body) (record { state = first; open_ids = old.open_ids; visits = old.visits }) new tt → Walks (block_walk variables block) old new tt
 block-done variables block old new first first_is walked =
@@ -182,10 +178,8 @@ block-done variables block old new first first_is walked =
     (record { value_is = refl; state_is = first_is; open_is = sym (append-nil old.open_ids.items); visits_are = omega arith; unbroken = refl })
     walked
 
-pub blocks-step : (variables : ℕ) (items : List Block) (i : ℕ) (item : Block) (old mid new : Walk) → i < length items → item ≡ get_or items i item → Walks (block_walk variables item) old mid tt → Walks (all_of (map (block_walk variables) (drop (i + 1) items))) mid new tt → Walks (all_of (map (block_walk variables) (drop i items))) old new tt
-blocks-step variables items i item old mid new inside is one two =
-    subst (λ ls. Walks (all_of (map (block_walk variables) ls)) old new tt) (sym (item-cut items i item inside is))
-    (walks-then (block_walk variables item) (λ _. all_of (map (block_walk variables) (drop (i + 1) items))) old mid new tt tt one two)
-
-pub blocks-end : (variables : ℕ) (items : List Block) (i : ℕ) (old : Walk) → length items ≤ i → Walks (all_of (map (block_walk variables) (drop i items))) old old tt
-blocks-end variables items i old past = subst (λ ls. Walks (all_of (map (block_walk variables) ls)) old old tt) (sym (drop-past items i past)) (walks-give tt old)
+-- a width that is there
+pub width-done : (width : Width) (range passed : Interval) (old mid new : Walk) → Walks (value_walk width.value) old mid range → Walks (positive width.site range) mid new passed → Walks (width_walk (Some width)) old new tt
+width-done width range passed old mid new one two =
+    walks-then (value_walk width.value) (λ r. positive width.site r >>= λ _. give tt) old mid new range tt one
+    (walks-then (positive width.site range) (λ _. give tt) mid new new passed tt two (walks-give tt new))

@@ -1,7 +1,5 @@
 ghost use Rattle.std.specs.Prelude.{◌≡◌, ℕ, [], map, IfOk};
-ghost use Rattle.cert_checker.specs.Walk.{enter, use_of, within, signed, combined, value_walk, each_of, assignment, statement_walk, block_walk, program_walk};
-ghost use Rattle.domain.specs.Interval.{held};
-ghost use Rattle.cert_checker.specs.State.{integer};
+ghost use Rattle.cert_checker.specs.Walk.{enter, use_of, tested, within, positive, divisor, operated, combined, value_walk, width_walk, parameter_walk, all_of, limits_of, assignment, statement_walk, block_walk, program_walk};
 ghost use Rattle.cert_checker.specs.Entries.{entries};
 ghost use Rattle.cert_checker.specs.View.{Walks};
 
@@ -11,7 +9,10 @@ use crate::visits::Visits;
 use domain::Domain;
 use domain::interval::Interval;
 use std::alloc::Global;
-use typed_tree::tree::{Access, Block, Expr, Link, Sign, Stmt, Tree};
+use typed_tree::tree::{
+    Access, Block, Dyadic, Expr, Monadic, RangeTest, Stmt, Tree, Width, WriteParameter,
+};
+use typed_tree::types::OrdinalRange;
 
 /// A walk over the statements of a program, in the order in which they are run.
 #[derive(Debug, Drop)]
@@ -75,7 +76,7 @@ impl Walk {
                 value,
                 ..
             } => self.assignment(*target, *fits, value),
-            Stmt::Writeln { values, .. } => self.values(values),
+            Stmt::Write { parameters, .. } => self.parameters(parameters),
             Stmt::Compound { statements, .. } => {
                 for statement in statements {
                     self.statement(statement)?;
@@ -85,24 +86,51 @@ impl Walk {
         }
     }
 
-    /// Every type is integer: the value has to lie in its range.
-    fn assignment(&mut self, target: Access, fits: u32, value: &Expr) -> Result<(), CheckFault>
+    /// The value has to lie in the range of the target's type.
+    fn assignment(
+        &mut self,
+        target: Access,
+        fits: RangeTest,
+        value: &Expr,
+    ) -> Result<(), CheckFault>
         ensures { IfOk result (λ _. Walks (assignment target fits value.now) self.old self.new tt) }
     {
         self.enter()?;
         let range = self.expression(value)?;
-        let fitting = self.test(range, Interval::INTEGER, fits)?;
+        let fitting = self.within(range, limits(fits.range), fits.site)?;
         self.state.assign(target.root, fitting);
         Ok(())
     }
 
-    fn values(&mut self, values: &[Expr]) -> Result<(), CheckFault>
-        ensures { IfOk result (λ _. Walks (each_of (map value_walk values.now)) self.old self.new tt) }
+    fn parameters(&mut self, parameters: &[WriteParameter]) -> Result<(), CheckFault>
+        ensures { IfOk result (λ _. Walks (all_of (map parameter_walk parameters.now)) self.old self.new tt) }
     {
-        for value in values {
-            self.expression(value)?;
+        for parameter in parameters {
+            self.parameter(parameter)?;
         }
         Ok(())
+    }
+
+    /// A value that is written, and then its width.
+    fn parameter(&mut self, parameter: &WriteParameter) -> Result<(), CheckFault>
+        ensures { IfOk result (λ _. Walks (parameter_walk parameter.now) self.old self.new tt) }
+    {
+        self.expression(&parameter.value)?;
+        self.width(&parameter.width)
+    }
+
+    /// The width of a value that is written: it has to be at least 1.
+    fn width(&mut self, width: &Option<Width>) -> Result<(), CheckFault>
+        ensures { IfOk result (λ _. Walks (width_walk width.now) self.old self.new tt) }
+    {
+        match width {
+            None => Ok(()),
+            Some(width) => {
+                let range = self.expression(&width.value)?;
+                self.positive(range, width.site)?;
+                Ok(())
+            }
+        }
     }
 
     /// The range of an expression's value.
@@ -118,17 +146,21 @@ impl Walk {
                 self.enter()?;
                 self.variable(*access, *defined)
             }
-            Expr::Signed { sign, operand, .. } => {
+            Expr::Monadic {
+                operation,
+                operand,
+                ..
+            } => {
                 self.enter()?;
                 let range = self.expression(operand)?;
-                Ok(signed(*sign, range))
+                self.operated(*operation, range)
             }
-            Expr::Sum { first, rest } => {
+            Expr::Chain { first, rest } => {
                 let mut range = self.expression(first)?;
                 for link in rest {
                     self.enter()?;
                     let right = self.expression(&link.operand)?;
-                    range = self.result(range, link, right)?;
+                    range = self.combined(link.operation, range, right)?;
                 }
                 Ok(range)
             }
@@ -148,28 +180,86 @@ impl Walk {
         Ok(range)
     }
 
-    /// The result of an operator, which has to be an integer.
-    fn result(
-        &mut self,
-        left: Interval,
-        link: &Link,
-        right: Interval,
-    ) -> Result<Interval, CheckFault>
-        ensures { IfOk result (λ range.
-            Walks (within integer link.now.overflow (combined link.now.operator left right)) self.old self.new range) }
+    /// The range of what an operation gives for a number of a range.
+    fn operated(&mut self, operation: Monadic, range: Interval) -> Result<Interval, CheckFault>
+        ensures { IfOk result (λ given. Walks (operated operation range) self.old self.new given) }
     {
-        let range = combined(link.operator, left, right);
-        self.test(range, Interval::INTEGER, link.overflow)
+        match operation {
+            Monadic::Plus => Ok(range),
+            Monadic::Minus => Ok(range.negate()),
+            Monadic::Not => Ok(range.complement()),
+            Monadic::Abs => Ok(range.absolute()),
+            Monadic::Sqr { overflow } => self.within(range.square(), Interval::INTEGER, overflow),
+            Monadic::Odd => Ok(Interval::TRUTH_VALUES),
+        }
     }
 
-    /// The part of a value's range that the test at a site lets through.
-    fn test(&mut self, range: Interval, limits: Interval, site: u32) -> Result<Interval, CheckFault>
+    /// The range of what an operation gives for a number of each of two ranges.
+    fn combined(
+        &mut self,
+        operation: Dyadic,
+        left: Interval,
+        right: Interval,
+    ) -> Result<Interval, CheckFault>
+        ensures { IfOk result (λ given. Walks (combined operation left right) self.old self.new given) }
+    {
+        match operation {
+            Dyadic::Plus { overflow } => {
+                self.within(left.add(&right), Interval::INTEGER, overflow)
+            }
+            Dyadic::Minus { overflow } => {
+                self.within(left.subtract(&right), Interval::INTEGER, overflow)
+            }
+            Dyadic::Times { overflow } => {
+                self.within(left.multiply(&right), Interval::INTEGER, overflow)
+            }
+            Dyadic::Div { by_zero } => {
+                let divisor = self.divisor(right, by_zero)?;
+                Ok(left.divide(&divisor))
+            }
+            Dyadic::Mod { by_zero_or_less } => {
+                let divisor = self.positive(right, by_zero_or_less)?;
+                Ok(left.remainder(&divisor))
+            }
+            Dyadic::And => Ok(left.both(&right)),
+            Dyadic::Or => Ok(left.either(&right)),
+            Dyadic::Relation(_) => Ok(Interval::TRUTH_VALUES),
+        }
+    }
+
+    /// A value that has to lie in limits.
+    fn within(
+        &mut self,
+        range: Interval,
+        limits: Interval,
+        site: u32,
+    ) -> Result<Interval, CheckFault>
         ensures { IfOk result (λ passed. Walks (within limits site range) self.old self.new passed) }
     {
-        if !self.state.is_dead() && !range.leq(&limits) {
+        self.test(range.leq(&limits), site, range.meet(&limits))
+    }
+
+    /// A number that has to be at least 1.
+    fn positive(&mut self, range: Interval, site: u32) -> Result<Interval, CheckFault>
+        ensures { IfOk result (λ passed. Walks (positive site range) self.old self.new passed) }
+    {
+        self.test(1 <= range.first(), site, range.at_least(1))
+    }
+
+    /// A divisor, which may not be 0.
+    fn divisor(&mut self, range: Interval, site: u32) -> Result<Interval, CheckFault>
+        ensures { IfOk result (λ passed. Walks (divisor site range) self.old self.new passed) }
+    {
+        self.test(!range.has(0), site, range.without_zero_end())
+    }
+
+    /// The test of a value at a site: what passes lies in a range, and it is closed where the value surely passes.
+    fn test(&mut self, closed: bool, site: u32, passed: Interval) -> Result<Interval, CheckFault>
+        ensures { IfOk result (λ value. Walks (tested closed site passed) self.old self.new value) }
+    {
+        if !self.state.is_dead() && !closed {
             self.open_ids.push(site)?;
         }
-        let passed = range.meet(&limits);
         self.state.made(passed);
         Ok(passed)
     }
@@ -187,22 +277,9 @@ impl Walk {
     }
 }
 
-/// The range of a signed term.
-fn signed(sign: Sign, range: Interval) -> Interval
-    ensures { result ≡ signed sign range }
+/// The values of a type, which are integers.
+fn limits(range: OrdinalRange) -> Interval
+    ensures { result ≡ limits_of range }
 {
-    match sign {
-        Sign::Plus => range,
-        Sign::Minus => range.negate(),
-    }
-}
-
-/// The range of a sum or a difference.
-fn combined(operator: Sign, left: Interval, right: Interval) -> Interval
-    ensures { result ≡ held (combined operator left right) }
-{
-    match operator {
-        Sign::Plus => left.add(&right),
-        Sign::Minus => left.subtract(&right),
-    }
+    Interval::INTEGER.meet(&Interval::between(range.first, range.last))
 }

@@ -1,6 +1,6 @@
-use Rattle.cert_checker.proofs.Steps.{empty-done, assign-done, writeln-done, compound-begun, all-step, all-end, if_ok-map}
+use Rattle.cert_checker.proofs.Steps.{empty-done, assign-done, write-done, compound-begun, all-step, all-end, if_ok-map}
 use Rattle.std.proofs.Common.{map}
-use Rattle.cert_checker.specs.Walk.{assignment, each_of, value_walk}
+use Rattle.cert_checker.specs.Walk.{assignment, all_of, parameter_walk, statement_walk}
 use Rattle.cert_checker.specs.View.{Walks}
 use Rattle.cert_checker.proofs.walk.Walk.+statement.Goals as goal
 
@@ -16,12 +16,12 @@ returns-in-Assign t c =
     c.in-Assign.is (c.in_ok-enter.ensures c.in-Assign.number) assigned)
     c.assignment.ensures
 
-pub returns-in-Writeln : goal.returns-in-Writeln
-returns-in-Writeln t c =
-    if_ok-map c.values.result (λ _. Walks (each_of (map value_walk c.deref.result.now)) c.enter.new.self c.values.new.self tt) _
-    (λ _ written. writeln-done c.args.statement.now c.in-Writeln.number c.in-Writeln.values c.deref.result.now c.args.self.now c.enter.new.self c.values.new.self
-    c.in-Writeln.is c.deref.ensures.value (c.in_ok-enter.ensures c.in-Writeln.number) written)
-    c.values.ensures
+pub returns-in-Write : goal.returns-in-Write
+returns-in-Write t c =
+    if_ok-map c.parameters.result (λ _. Walks (all_of (map parameter_walk c.deref.result.now)) c.enter.new.self c.parameters.new.self tt) _
+    (λ _ written. write-done c.args.statement.now c.in-Write.number c.in-Write.parameters c.in-Write.ends_line c.deref.result.now c.args.self.now c.enter.new.self c.parameters.new.self
+    c.in-Write.is c.deref.ensures.value (c.in_ok-enter.ensures c.in-Write.number) written)
+    c.parameters.ensures
 
 pub loop-statement-init : goal.loop-statement-init
 loop-statement-init t c =
@@ -31,10 +31,10 @@ loop-statement-init t c =
 pub loop-statement-preserved : goal.loop-statement-preserved
 loop-statement-preserved t c = λ new left.
     c.loop-statement.invariant new
-    (all-step c.deref-statement-items.result.now c.loop-statement.statement-index c.statement-item.result c.loop-statement.self c.statement.new.self new
+    (all-step statement_walk c.deref-statement-items.result.now c.loop-statement.statement-index c.statement-item.result c.loop-statement.self c.statement.new.self new
     c.loop-statement-test.true c.statement-item.is c.in_ok-statement-in-Compound.ensures left)
 
 pub returns-after-loop-statement : goal.returns-after-loop-statement
 returns-after-loop-statement t c =
     c.loop-statement.invariant c.loop-statement.self
-    (all-end c.deref-statement-items.result.now c.loop-statement.statement-index c.loop-statement.self c.loop-statement-test.false)
+    (all-end statement_walk c.deref-statement-items.result.now c.loop-statement.statement-index c.loop-statement.self c.loop-statement-test.false)
