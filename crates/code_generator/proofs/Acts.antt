@@ -1,17 +1,15 @@
 -- What each instruction does to a store whose topmost cells are known, in the program's own frame.
-use Rattle.std.proofs.Common.{◌≡◌, ℕ, ◌+◌, ◌-◌, ◌<◌, ◌≤◌, List, [], ◌∷◌, ◌++◌, length, take, drop, Some, None, Ok, Err, ap, ◌∙◌, arith, append_assoc, length-append, true}
-use Rattle.std.specs.Prelude.{slice_get, slice_set, ℤ, neg_ℤ, ◌+ℤ◌, ◌-ℤ◌, int_le, ◌&&◌, if◌then◌else◌}
-use Rattle.std.specs.Int.{w32, int_wrapping_add, int_wrapping_sub, int_wrapping_neg}
-use Rattle.std.specs.Int.RustNames.{FitsSigned}
+use Rattle.std.proofs.Common.{◌≡◌, ℕ, ◌+◌, ◌-◌, ◌<◌, ◌≤◌, List, [], ◌∷◌, ◌++◌, length, take, drop, Some, None, Ok, Err, ap, ◌∙◌, arith, append_assoc, length-append, Bool, true}
+use Rattle.std.specs.Prelude.{slice_get, slice_set, ℤ, pos, ◌+ℤ◌, ◌-ℤ◌, ◌*ℤ◌, int_le, ◌&&◌, if◌then◌else◌}
+use Rattle.std.specs.Int.{w32, int_wrapping_div, int_rem_euclid}
 use Rattle.std.specs.List.{list_all}
-use Rattle.std.proofs.lemmas.Int.{ints, int_wrap_fits, wrapping_add_is, wrapping_sub_is, wrapping_neg_is}
 use Rattle.std.proofs.lemmas.Bool.{lt-ltb, le-leb}
 use Rattle.std.proofs.Math.Seq.{get_or-append_seam, take-append_seam, drop-append_seam}
 use Rattle.std.proofs.lemmas.Option.{slice_get-get_or}
 use Rattle.stack_machine.specs.declared.cell.Cell.{Cell}
 use Rattle.stack_machine.specs.declared.cell.Cell.TheVariants.{Undefined, Number}
-use Rattle.stack_machine.specs.declared.stop.MachineFault.TheVariants.{Underflow, OutOfBounds}
-use Rattle.stack_machine.specs.Frames.{Frames, ◌>>=◌, unless_fault, has, has_room_after, number, number_at, popped, pushed, in_use, variable, cell_at, load_constant, load, store, two_numbers, on_two, negate, top_two, is_integer, is_defined, top_is_in_range, top_is_defined, sum_is_integer, difference_is_integer}
+use Rattle.stack_machine.specs.declared.stop.MachineFault.TheVariants.{Underflow, OutOfBounds, WrongDivisor}
+use Rattle.stack_machine.specs.Frames.{Frames, Attempt, ◌>>=◌, unless_fault, has, has_room_after, number, number_at, popped, pushed, in_use, variable, cell_at, load_constant, load, store, two_numbers, on_one, on_two, divide, modulo, top_two, is_integer, is_true, is_defined, top_is_in_range, top_is_not_zero, top_is_defined, sum_is_integer, difference_is_integer, product_is_integer, square_is_integer}
 
 -- the element behind the first ones
 pub slice_get_seam : {A : Type 0} (below : List A) (a : A) (above : List A) → slice_get (below ++ a ∷ above) (length below) ≡ Some a
@@ -25,25 +23,6 @@ length_two below a b = omega (arith, length-append below (a ∷ []), length-appe
 
 pub length_one : {A : Type 0} (below : List A) (a : A) → length (below ++ a ∷ []) ≡ length below + 1
 length_one below a = omega (arith, length-append below (a ∷ []))
-
--- a number of the type integer
-pub record Fits (n : ℤ) : Type 0 where
-  pub is : is_integer n ≡ true
-
-pub fits_signed : (n : ℤ) → Fits n → FitsSigned w32 n
-fits_signed n h = let e = h.is in grind (arith, ints)
-
-pub fits_negated : (n : ℤ) → Fits n → Fits (neg_ℤ n)
-fits_negated n h = let e = h.is in record { is = grind (arith, ints) }
-
-pub negated_is : (n : ℤ) → Fits n → int_wrapping_neg w32 n ≡ neg_ℤ n
-negated_is n h = wrapping_neg_is w32 n (fits_signed n h) ∙ int_wrap_fits w32 (neg_ℤ n) (fits_signed (neg_ℤ n) (fits_negated n h))
-
-pub sum_is : (a b : ℤ) → Fits a → Fits b → Fits (a +ℤ b) → int_wrapping_add w32 a b ≡ a +ℤ b
-sum_is a b f g h = wrapping_add_is w32 a b (fits_signed a f) (fits_signed b g) ∙ int_wrap_fits w32 (a +ℤ b) (fits_signed (a +ℤ b) h)
-
-pub difference_is : (a b : ℤ) → Fits a → Fits b → Fits (a -ℤ b) → int_wrapping_sub w32 a b ≡ a -ℤ b
-difference_is a b f g h = wrapping_sub_is w32 a b (fits_signed a f) (fits_signed b g) ∙ int_wrap_fits w32 (a -ℤ b) (fits_signed (a -ℤ b) h)
 
 module _ (limit size : ℕ) where
   -- the program's frame with these cells
@@ -95,19 +74,30 @@ module _ (limit size : ℕ) where
         ∙ ap (λ n. Ok (list_all is_defined (drop n cells))) e
         ∙ ap (λ cs. Ok (list_all is_defined cs)) (drop-append_seam below (cell ∷ []))
 
-    pub negates : (n : ℤ) → length below < limit → negate (framed (below ++ Number n ∷ [])) ≡ Ok (framed (below ++ Number (int_wrapping_neg w32 n) ∷ []))
-    negates n room =
+    -- a number gives way to another
+    pub on_one_is : (f : ℤ → ℤ) (n : ℤ) → length below < limit → on_one f (framed (below ++ Number n ∷ [])) ≡ Ok (framed (below ++ Number (f n) ∷ []))
+    on_one_is f n room =
         let s = framed (below ++ Number n ∷ []) in
-        ap (λ r. r >>= λ _. has_room_after 1 s >>= λ _. number_at 1 s >>= λ v. Ok (pushed (Number (int_wrapping_neg w32 v)) (popped 1 s))) (has_one (Number n))
-        ∙ ap (λ r. r >>= λ _. number_at 1 s >>= λ v. Ok (pushed (Number (int_wrapping_neg w32 v)) (popped 1 s))) (has_room 1 (below ++ Number n ∷ []) (omega (arith, length_one below (Number n))))
-        ∙ ap (λ o. number o >>= λ v. Ok (pushed (Number (int_wrapping_neg w32 v)) (popped 1 s))) (top_at (Number n))
-        ∙ ap (λ cs. Ok (framed (cs ++ Number (int_wrapping_neg w32 n) ∷ []))) (one_popped (Number n))
+        ap (λ r. r >>= λ _. has_room_after 1 s >>= λ _. number_at 1 s >>= λ v. Ok (pushed (Number (f v)) (popped 1 s))) (has_one (Number n))
+        ∙ ap (λ r. r >>= λ _. number_at 1 s >>= λ v. Ok (pushed (Number (f v)) (popped 1 s))) (has_room 1 (below ++ Number n ∷ []) (omega (arith, length_one below (Number n))))
+        ∙ ap (λ o. number o >>= λ v. Ok (pushed (Number (f v)) (popped 1 s))) (top_at (Number n))
+        ∙ ap (λ cs. Ok (framed (cs ++ Number (f n) ∷ []))) (one_popped (Number n))
+
+    -- a test of the number at the top
+    top_tests : (test : ℤ → Bool) (n : ℤ) → (has 1 (framed (below ++ Number n ∷ [])) >>= λ _. number_at 1 (framed (below ++ Number n ∷ [])) >>= λ v. Ok (test v)) ≡ Ok (test n)
+    top_tests test n =
+        let s = framed (below ++ Number n ∷ []) in
+        ap (λ r. r >>= λ _. number_at 1 s >>= λ v. Ok (test v)) (has_one (Number n))
+        ∙ ap (λ o. number o >>= λ v. Ok (test v)) (top_at (Number n))
 
     pub is_in_range : (low high n : ℤ) → top_is_in_range low high (framed (below ++ Number n ∷ [])) ≡ Ok (int_le low n && int_le n high)
-    is_in_range low high n =
-        let s = framed (below ++ Number n ∷ []) in
-        ap (λ r. r >>= λ _. number_at 1 s >>= λ v. Ok (int_le low v && int_le v high)) (has_one (Number n))
-        ∙ ap (λ o. number o >>= λ v. Ok (int_le low v && int_le v high)) (top_at (Number n))
+    is_in_range low high n = top_tests (λ v. int_le low v && int_le v high) n
+
+    pub is_not_zero : (n : ℤ) → top_is_not_zero (framed (below ++ Number n ∷ [])) ≡ Ok (is_true n)
+    is_not_zero n = top_tests is_true n
+
+    pub squares : (n : ℤ) → square_is_integer (framed (below ++ Number n ∷ [])) ≡ Ok (is_integer (n *ℤ n))
+    squares n = top_tests (λ v. is_integer (v *ℤ v)) n
 
     pub stores : (cell : Cell) (offset : ℕ) → offset < length below → store 0 offset (framed (below ++ cell ∷ [])) ≡ Ok (framed (slice_set below offset cell))
     stores cell offset h =
@@ -154,10 +144,31 @@ module _ (limit size : ℕ) where
       pub differs : difference_is_integer (framed two) ≡ Ok (is_integer (a -ℤ b))
       differs = ap (λ r. r >>= λ ns. Ok (is_integer (ns.0 -ℤ ns.1))) top_is
 
+      pub multiplies : product_is_integer (framed two) ≡ Ok (is_integer (a *ℤ b))
+      multiplies = ap (λ r. r >>= λ ns. Ok (is_integer (ns.0 *ℤ ns.1))) top_is
+
+      -- the topmost two numbers are there, and there is room for a third
+      two_give : {A : Type 0} (next : ℤ × ℤ → Attempt A) → length below < limit → (has 2 (framed two) >>= λ _. has_room_after 2 (framed two) >>= λ _. two_numbers (framed two) >>= next) ≡ next (a, b)
+      two_give next room =
+          let s = framed two in
+          ap (λ r. r >>= λ _. has_room_after 2 s >>= λ _. two_numbers s >>= next) has_two
+          ∙ ap (λ r. r >>= λ _. two_numbers s >>= next) (has_room 2 two (omega (arith, length_two below (Number a) (Number b))))
+          ∙ ap (λ r. r >>= next) numbers_are
+
       pub on_two_is : (f : ℤ → ℤ → ℤ) → length below < limit → on_two f (framed two) ≡ Ok (framed (below ++ Number (f a b) ∷ []))
       on_two_is f room =
-          let s = framed two in
-          ap (λ r. r >>= λ _. has_room_after 2 s >>= λ _. two_numbers s >>= λ ns. Ok (pushed (Number (f ns.0 ns.1)) (popped 2 s))) has_two
-          ∙ ap (λ r. r >>= λ _. two_numbers s >>= λ ns. Ok (pushed (Number (f ns.0 ns.1)) (popped 2 s))) (has_room 2 two (omega (arith, length_two below (Number a) (Number b))))
-          ∙ ap (λ r. r >>= λ ns. Ok (pushed (Number (f ns.0 ns.1)) (popped 2 s))) numbers_are
+          two_give (λ ns. Ok (pushed (Number (f ns.0 ns.1)) (popped 2 (framed two)))) room
           ∙ ap (λ cs. Ok (framed (cs ++ Number (f a b) ∷ []))) two_popped
+
+      -- two numbers give way to a third, unless the divisor is wrong
+      divisor_is : (test : ℤ → Bool) (f : ℤ → ℤ → ℤ) → length below < limit → test b ≡ true → (has 2 (framed two) >>= λ _. has_room_after 2 (framed two) >>= λ _. two_numbers (framed two) >>= λ ns. unless_fault (test ns.1) WrongDivisor >>= λ _. Ok (pushed (Number (f ns.0 ns.1)) (popped 2 (framed two)))) ≡ Ok (framed (below ++ Number (f a b) ∷ []))
+      divisor_is test f room good =
+          two_give (λ ns. unless_fault (test ns.1) WrongDivisor >>= λ _. Ok (pushed (Number (f ns.0 ns.1)) (popped 2 (framed two)))) room
+          ∙ ap (λ t. unless_fault t WrongDivisor >>= λ _. Ok (pushed (Number (f a b)) (popped 2 (framed two)))) good
+          ∙ ap (λ cs. Ok (framed (cs ++ Number (f a b) ∷ []))) two_popped
+
+      pub divides : length below < limit → is_true b ≡ true → divide (framed two) ≡ Ok (framed (below ++ Number (int_wrapping_div w32 a b) ∷ []))
+      divides room good = divisor_is is_true (int_wrapping_div w32) room good
+
+      pub leaves : length below < limit → int_le (pos 1) b ≡ true → modulo (framed two) ≡ Ok (framed (below ++ Number (int_rem_euclid a b) ∷ []))
+      leaves room good = divisor_is (int_le (pos 1)) int_rem_euclid room good

@@ -13,7 +13,7 @@ use Rattle.stack_machine.specs.declared.cell.Cell.{Cell}
 use Rattle.stack_machine.specs.declared.cell.Cell.TheVariants.{Undefined, Number}
 use Rattle.stack_machine.specs.declared.stop.MachineFault.TheVariants.{OutOfBounds}
 use Rattle.stack_machine.specs.Frames.{◌>>=◌, number, address_of, base}
-use Rattle.code_generator.proofs.Acts.{Fits}
+use Rattle.code_generator.proofs.Numbers.{Fits}
 
 -- what a cell holds for a scalar
 abbrev pub cell_of : Option Value → Cell

@@ -1,25 +1,28 @@
 -- How many cells an evaluation needs at once is no more than its code has instructions, nor than the count that a full
 -- store is judged by.
-use Rattle.std.proofs.Common.{◌≡◌, ℕ, ◌+◌, ◌≤◌, max, List, [], ◌∷◌, ◌++◌, length, map, refl, sym, subst, arith, length-append}
+use Rattle.std.proofs.Common.{◌≡◌, ℕ, ◌+◌, ◌≤◌, max, List, [], ◌∷◌, ◌++◌, length, map, Option, Some, None, sym, subst, arith, length-append}
 use Rattle.std.specs.Prelude.{fold, sum, sum_by}
 use Rattle.std.specs.List.{flat_map}
 use Rattle.std.proofs.lemmas.List.Sums.{sum_by-cons}
 use Rattle.pcode_assembler.specs.declared.instr.Instr.{Instr}
-use Rattle.typed_tree.specs.declared.tree.Sign.{Sign}
-use Rattle.typed_tree.specs.declared.tree.Sign.TheVariants.{Plus, Minus}
+use Rattle.typed_tree.specs.declared.tree.Dyadic.{Dyadic}
+use Rattle.typed_tree.specs.declared.tree.Dyadic.TheVariants as dyadic
+use Rattle.typed_tree.specs.declared.tree.Representation.{Representation}
+use Rattle.typed_tree.specs.declared.tree.Width.{Width}
+use Rattle.typed_tree.specs.declared.tree.WriteParameter.{WriteParameter}
 use Rattle.typed_tree.specs.declared.tree.Expr.{Expr}
 use Rattle.typed_tree.specs.declared.tree.Link.{Link}
 use Rattle.typed_tree.specs.declared.tree.Expr.TheOpen.{Expr-F, Link-F}
-use Rattle.typed_tree.specs.declared.tree.Expr.TheOpen.Expr-F.{Constant, Variable, Signed, Sum}
+use Rattle.typed_tree.specs.declared.tree.Expr.TheOpen.Expr-F.{Constant, Variable, Monadic as MonadicOf, Chain}
 use Rattle.typed_tree.specs.declared.tree.Expr.TheViews.{roll-Expr, roll-Link}
 use Rattle.typed_tree.specs.declared.tree.Expr.TheFolds.{fold-Link, map-Expr, map-Link, fold-roll-Expr, fold-roll-Link, ind-Expr}
 use Rattle.typed_tree.specs.declared.tree.Stmt.{Stmt}
 use Rattle.typed_tree.specs.declared.tree.Stmt.TheOpen.{Stmt-F}
-use Rattle.typed_tree.specs.declared.tree.Stmt.TheOpen.Stmt-F.{Empty, Assign, Writeln, Compound}
+use Rattle.typed_tree.specs.declared.tree.Stmt.TheOpen.Stmt-F.{Empty, Assign, Write, Compound}
 use Rattle.typed_tree.specs.declared.tree.Stmt.TheViews.{roll-Stmt}
 use Rattle.typed_tree.specs.declared.tree.Stmt.TheFolds.{map-Stmt, fold-roll-Stmt, ind-Stmt}
-use Rattle.code_generator.specs.Code.{joined, sign_code, operation_code, expr_code, link_code, expr_step, link_step, expr_depth, link_depth, expr_depth_step, link_depth_step, value_depth, write_code, stmt_code, stmt_step, stmt_depth, stmt_depth_step}
-use Rattle.code_generator.specs.Need.{expr_need, expr_need_step, link_need_step, stmt_need, stmt_need_step}
+use Rattle.code_generator.specs.Code.{joined, monadic_code, dyadic_code, expr_code, link_code, expr_step, link_step, expr_depth, link_depth, expr_depth_step, link_depth_step, width_depth, width_code, parameter_depth, parameter_code, write_instr, line_end_code, stmt_code, stmt_step, stmt_depth, stmt_depth_step}
+use Rattle.code_generator.specs.Need.{expr_need, expr_need_step, link_need_step, width_need, parameter_need, stmt_need, stmt_need_step}
 
 -- a depth is within the length of some code and within a need
 pub record Within (depth : ℕ) (code : List Instr) (need : ℕ) : Type 0 where
@@ -70,46 +73,86 @@ rolled_link : (x : Link-F Expr Link) → Within (link_depth_step (map-Link Expr 
 rolled_link x =
     same_within _ _ _ _ _ _ (fold-roll-Link ℕ ℕ expr_depth_step link_depth_step x) (fold-roll-Link (List Instr) (List Instr) expr_step link_step x) (fold-roll-Link ℕ ℕ expr_need_step link_need_step x)
 
-length-operation_code : (sign : Sign) (overflow : ℕ) → length (operation_code sign overflow) ≡ 2
-length-operation_code Plus overflow = refl
-length-operation_code Minus overflow = refl
+-- each operation on two operands has an instruction
+dyadic_has_one : (operation : Dyadic) → 1 ≤ length (dyadic_code operation)
+dyadic_has_one (dyadic.Plus overflow) = omega arith
+dyadic_has_one (dyadic.Minus overflow) = omega arith
+dyadic_has_one (dyadic.Times overflow) = omega arith
+dyadic_has_one (dyadic.Div by_zero) = omega arith
+dyadic_has_one (dyadic.Mod by_zero_or_less) = omega arith
+dyadic_has_one dyadic.And = omega arith
+dyadic_has_one dyadic.Or = omega arith
+dyadic_has_one (dyadic.Relation r) = omega arith
 
 expr_layer : (y : Expr-F ((e : Expr) × ExprWithin e) ((l : Link) × LinkWithin l)) → ExprWithin (roll-Expr (map-Expr ((e : Expr) × ExprWithin e) ((l : Link) × LinkWithin l) Expr Link (λ e. e.0) (λ l. l.0) y))
 expr_layer (Constant number n) = rolled_expr (Constant number n) (record { code_is = omega arith; need_is = omega arith })
 expr_layer (Variable access defined) = rolled_expr (Variable access defined) (record { code_is = omega arith; need_is = omega arith })
-expr_layer (Signed number sign operand) =
+expr_layer (MonadicOf number operation operand) =
     let a = operand.value.1.code_is in let b = operand.value.1.need_is in
-    rolled_expr (map-Expr ((e : Expr) × ExprWithin e) ((l : Link) × LinkWithin l) Expr Link (λ e. e.0) (λ l. l.0) (Signed number sign operand)) (record { code_is = omega (arith, length-append (expr_code operand.value.0) (sign_code sign)); need_is = omega arith })
-expr_layer (Sum first rest) =
-    rolled_expr (map-Expr ((e : Expr) × ExprWithin e) ((l : Link) × LinkWithin l) Expr Link (λ e. e.0) (λ l. l.0) (Sum first rest)) (row_within link_depth link_code link_need rest.items (expr_depth first.value.0) (expr_code first.value.0) (expr_need first.value.0) first.value.1)
+    rolled_expr (map-Expr ((e : Expr) × ExprWithin e) ((l : Link) × LinkWithin l) Expr Link (λ e. e.0) (λ l. l.0) (MonadicOf number operation operand)) (record { code_is = omega (arith, length-append (expr_code operand.value.0) (monadic_code operation)); need_is = omega arith })
+expr_layer (Chain first rest) =
+    rolled_expr (map-Expr ((e : Expr) × ExprWithin e) ((l : Link) × LinkWithin l) Expr Link (λ e. e.0) (λ l. l.0) (Chain first rest)) (row_within link_depth link_code link_need rest.items (expr_depth first.value.0) (expr_code first.value.0) (expr_need first.value.0) first.value.1)
 
 link_layer : (y : Link-F ((e : Expr) × ExprWithin e) ((l : Link) × LinkWithin l)) → LinkWithin (roll-Link (map-Link ((e : Expr) × ExprWithin e) ((l : Link) × LinkWithin l) Expr Link (λ e. e.0) (λ l. l.0) y))
 link_layer y =
     let a = y.operand.1.code_is in let b = y.operand.1.need_is in
-    rolled_link (map-Link ((e : Expr) × ExprWithin e) ((l : Link) × LinkWithin l) Expr Link (λ e. e.0) (λ l. l.0) y) (record { code_is = omega (arith, length-append (expr_code y.operand.0) (operation_code y.operator y.overflow), length-operation_code y.operator y.overflow); need_is = omega arith })
+    rolled_link (map-Link ((e : Expr) × ExprWithin e) ((l : Link) × LinkWithin l) Expr Link (λ e. e.0) (λ l. l.0) y) (record { code_is = omega (arith, length-append (expr_code y.operand.0) (dyadic_code y.operation), dyadic_has_one y.operation); need_is = omega arith })
 
 pub expr_within : (e : Expr) → ExprWithin e
 expr_within =
     ind-Expr ExprWithin LinkWithin (λ x y is. subst (λ z. ExprWithin (roll-Expr z)) is (expr_layer y)) (λ x y is. subst (λ z. LinkWithin (roll-Link z)) is (link_layer y))
 
--- the values of a writeln
-values_within : (es : List Expr) (depth : ℕ) (first : List Instr) (need : ℕ) → 2 ≤ need → Within depth first need → Within (fold max depth (map value_depth es)) (first ++ flat_map write_code es) (need + sum_by expr_need es)
-values_within [] depth first need h w =
-    let a = w.code_is in let b = w.need_is in record { code_is = omega (arith, length-append first []); need_is = omega arith }
-values_within (e ∷ es) depth first need h w =
-    let a = w.code_is in let b = w.need_is in
-    let v = expr_within e in
-    let a' = v.code_is in let b' = v.need_is in
-    let rest = flat_map write_code es in
-    let needs = sum_by expr_need es in
-    let both = length-append first (write_code e) in
-    let one : length (write_code e) ≡ length (expr_code e) + 2 = length-append (expr_code e) _ in
-    let w' : Within (max depth (value_depth e)) (first ++ write_code e) (need + expr_need e) = record { code_is = omega arith; need_is = omega arith } in
-    let r = values_within es (max depth (value_depth e)) (first ++ write_code e) (need + expr_need e) (omega arith) w' in
-    let p = r.code_is in let q = r.need_is in
-    let all = sum_by-cons expr_need e es in
+-- a width, beside the value that is written in it
+record WidthWithin (width : Option Width) (representation : Representation) : Type 0 where
+  code_is : width_depth width ≤ length (width_code width representation)
+  need_is : width_depth width ≤ width_need width + 1
+  has_one : 1 ≤ length (width_code width representation)
+
+width_within : (width : Option Width) (representation : Representation) → WidthWithin width representation
+width_within None representation = record { code_is = omega arith; need_is = omega arith; has_one = omega arith }
+width_within (Some width) representation =
+    let v = expr_within width.value in
+    let a = v.code_is in let b = v.need_is in
     record {
-      code_is = omega (arith, length-append (first ++ write_code e) rest, length-append first (write_code e ++ rest), length-append (write_code e) rest);
+      code_is = omega (arith, length-append {A = Instr});
+      need_is = omega arith;
+      has_one = omega (arith, length-append {A = Instr});
+    }
+
+-- a value that is written, and its width
+record ParameterWithin (p : WriteParameter) : Type 0 where
+  code_is : parameter_depth p ≤ length (parameter_code p)
+  need_is : parameter_depth p ≤ parameter_need p + 2
+
+parameter_within : (p : WriteParameter) → ParameterWithin p
+parameter_within p =
+    let v = expr_within p.value in
+    let a = v.code_is in let b = v.need_is in
+    let w = width_within p.width p.representation in
+    let a' = w.code_is in let b' = w.need_is in let c' = w.has_one in
+    let writing = width_code p.width p.representation ++ (write_instr p.representation ∷ []) in
+    record {
+      code_is = omega (arith, length-append (expr_code p.value) writing, length-append (width_code p.width p.representation) (write_instr p.representation ∷ []));
+      need_is = omega arith;
+    }
+
+-- the values of a write
+parameters_within : (ps : List WriteParameter) (depth : ℕ) (first : List Instr) (need : ℕ) → 2 ≤ need → Within depth first need → Within (fold max depth (map parameter_depth ps)) (first ++ flat_map parameter_code ps) (need + sum_by parameter_need ps)
+parameters_within [] depth first need h w =
+    let a = w.code_is in let b = w.need_is in record { code_is = omega (arith, length-append first []); need_is = omega arith }
+parameters_within (p ∷ ps) depth first need h w =
+    let a = w.code_is in let b = w.need_is in
+    let v = parameter_within p in
+    let a' = v.code_is in let b' = v.need_is in
+    let rest = flat_map parameter_code ps in
+    let needs = sum_by parameter_need ps in
+    let both = length-append first (parameter_code p) in
+    let w' : Within (max depth (parameter_depth p)) (first ++ parameter_code p) (need + parameter_need p) = record { code_is = omega arith; need_is = omega arith } in
+    let r = parameters_within ps (max depth (parameter_depth p)) (first ++ parameter_code p) (need + parameter_need p) (omega arith) w' in
+    let u = r.code_is in let q = r.need_is in
+    let all = sum_by-cons parameter_need p ps in
+    record {
+      code_is = omega (arith, length-append (first ++ parameter_code p) rest, length-append first (parameter_code p ++ rest), length-append (parameter_code p) rest);
       need_is = omega arith;
     }
 
@@ -126,11 +169,11 @@ stmt_layer (Assign number target fits value) =
     let v = expr_within value in
     let a = v.code_is in let b = v.need_is in
     rolled_stmt (Assign number target fits value) (record { code_is = omega (arith, length-append {A = Instr}); need_is = omega arith })
-stmt_layer (Writeln number values) =
+stmt_layer (Write number parameters ends_line) =
     let none : Within 0 [] 8 = record { code_is = omega arith; need_is = omega arith } in
-    let w = values_within values.items 0 [] 8 (omega arith) none in
+    let w = parameters_within parameters.items 0 [] 8 (omega arith) none in
     let a = w.code_is in let b = w.need_is in
-    rolled_stmt (Writeln number values) (record { code_is = omega (arith, length-append {A = Instr}); need_is = b })
+    rolled_stmt (Write number parameters ends_line) (record { code_is = omega (arith, length-append (flat_map parameter_code parameters.items) (line_end_code ends_line)); need_is = b })
 stmt_layer (Compound number statements) =
     let none : Within 0 [] 8 = record { code_is = omega arith; need_is = omega arith } in
     rolled_stmt (map-Stmt ((s : Stmt) × StmtWithin s) Stmt (λ s. s.0) (Compound number statements)) (row_within stmt_depth stmt_code stmt_need statements.items 0 [] 8 none)

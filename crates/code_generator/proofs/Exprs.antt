@@ -1,18 +1,27 @@
 -- The code of an expression leaves its value on top, or stops as the expression does.
 use Rattle.std.proofs.Common.{◌≡◌, ℕ, zero, suc, ◌+◌, ◌<◌, ◌≤◌, max, List, [], ◌∷◌, ◌++◌, length, map, Option, Some, None, Ok, Err, refl, sym, ap, ◌∙◌, subst, arith, length-append, Bool, true, false}
-use Rattle.std.specs.Prelude.{slice_get, ℤ, pos, neg_ℤ, ◌+ℤ◌, ◌-ℤ◌, int_le, nat_lt, ◌&&◌, if◌then◌else◌, fold}
+use Rattle.std.specs.Prelude.{slice_get, ℤ, pos, neg_ℤ, ◌+ℤ◌, ◌-ℤ◌, ◌*ℤ◌, int_le, int_lt, int_div, unsigned_abs, nat_lt, not, ◌&&◌, ◌||◌, fold}
+use Rattle.std.specs.Int.{w32, cast_signed, int_rem_euclid, int_wrapping_add, int_wrapping_sub, int_wrapping_mul, int_wrapping_div, int_wrapping_neg}
+use Rattle.std.specs.Ordering.{int_eq}
 use Rattle.std.proofs.lemmas.Bool.{ltb-true, and_parts}
 use Rattle.pcode_assembler.specs.declared.code.Site.{Site as Plain}
 use Rattle.pcode_assembler.specs.declared.instr.Instr.{Instr}
 use Rattle.pcode_assembler.specs.declared.instr.Instr.TheVariants as instr
 use Rattle.typed_tree.specs.declared.tree.Tree.{Tree}
 use Rattle.typed_tree.specs.declared.tree.Access.{Access}
-use Rattle.typed_tree.specs.declared.tree.Sign.{Sign}
-use Rattle.typed_tree.specs.declared.tree.Sign.TheVariants.{Plus, Minus}
+use Rattle.typed_tree.specs.declared.tree.Monadic.{Monadic}
+use Rattle.typed_tree.specs.declared.tree.Monadic.TheVariants as monadic
+use Rattle.typed_tree.specs.declared.tree.Dyadic.{Dyadic}
+use Rattle.typed_tree.specs.declared.tree.Dyadic.TheVariants as dyadic
+use Rattle.typed_tree.specs.declared.tree.Relation.{Relation}
+use Rattle.typed_tree.specs.declared.tree.Relation.TheVariants as relation
+use Rattle.typed_tree.specs.declared.tree.Representation.{Representation}
+use Rattle.typed_tree.specs.declared.tree.Representation.TheVariants as representation
+use Rattle.typed_tree.specs.declared.tree.Width.{Width}
 use Rattle.typed_tree.specs.declared.tree.Expr.{Expr}
 use Rattle.typed_tree.specs.declared.tree.Link.{Link}
 use Rattle.typed_tree.specs.declared.tree.Expr.TheOpen.{Expr-F, Link-F}
-use Rattle.typed_tree.specs.declared.tree.Expr.TheOpen.Expr-F.{Constant, Variable, Signed, Sum}
+use Rattle.typed_tree.specs.declared.tree.Expr.TheOpen.Expr-F.{Constant, Variable, Monadic as MonadicOf, Chain}
 use Rattle.typed_tree.specs.declared.tree.Expr.TheViews.{roll-Expr, roll-Link}
 use Rattle.typed_tree.specs.declared.tree.Expr.TheFolds.{fold-Expr, fold-Link, map-Expr, map-Link, fold-roll-Expr, fold-roll-Link, ind-Expr}
 use Rattle.meaning.specs.declared.outcome.Ending.{Ending}
@@ -23,8 +32,9 @@ use Rattle.meaning.specs.Store as meant
 use Rattle.meaning.specs.Store.{Environment, stored}
 use Rattle.meaning.specs.Effect as effect
 use Rattle.meaning.specs.Effect.{Reply, Gives, Action, ◌>>=◌, place_of, fetched, require, give}
-use Rattle.meaning.specs.Meaning.{Evaluation, Combination, value_of, value_step, combined, signed, in_turn}
+use Rattle.meaning.specs.Meaning.{Evaluation, Combination, value_of, link_of, value_step, operated, combined, relates, in_turn, width_of}
 use Rattle.meaning.specs.Meaning as meaning
+use Rattle.meaning.specs.Integers.{magnitude, truth}
 use Rattle.stack_machine.specs.declared.stop.Stop.{Stop}
 use Rattle.stack_machine.specs.declared.stop.Stop.TheVariants as stop
 use Rattle.stack_machine.specs.declared.cell.Cell.{Cell}
@@ -32,14 +42,15 @@ use Rattle.stack_machine.specs.declared.cell.Cell.TheVariants.{Undefined, Number
 use Rattle.stack_machine.specs.Frames as frames
 use Rattle.stack_machine.specs.Frames.{Attempt}
 use Rattle.stack_machine.specs.Machine.{State, obeyed, and_then, checked, with_frames, error_of}
-use Rattle.code_generator.specs.Code.{joined, operand, variable_offset, sign_code, operation_code, variable_code, expr_code, link_code, expr_step, link_step, expr_depth, link_depth, expr_depth_step, link_depth_step}
+use Rattle.code_generator.specs.Code.{joined, operand, variable_offset, monadic_code, dyadic_code, relation_instr, variable_code, width_code, check_positive, expr_code, link_code, expr_step, link_step, expr_depth, link_depth, expr_depth_step, link_depth_step, width_depth}
 use Rattle.code_generator.specs.Follows.{StopsAs}
 use Rattle.code_generator.specs.Tables.{site_table, in_plain_numbers}
-use Rattle.typed_tree.specs.WellFormed.{all_hold, expr_is_well_formed, link_is_well_formed, is_well_formed_expr, is_well_formed_link}
+use Rattle.typed_tree.specs.WellFormed.{all_hold, monadic_is_well_formed, dyadic_is_well_formed, expr_is_well_formed, link_is_well_formed, is_well_formed_expr, is_well_formed_link, is_well_formed_width}
 use Rattle.code_generator.proofs.Reach.{HasAt, has_front, has_back, Comes, Stops, comes_on, comes_nowhere, comes_by, stops_on, stops_by}
 use Rattle.code_generator.proofs.Alike.{cell_of, HasFit, Alike, cell_within, alike_above}
 use Rattle.code_generator.proofs.ProgramWorld.{program_world, program_linked, program_lies, ShowsProgram}
-use Rattle.code_generator.proofs.Acts.{Fits, framed, length_one, pushes, loads, defines, negates, sums, differs, on_two_is, negated_is, sum_is, difference_is, fits_negated}
+use Rattle.code_generator.proofs.Acts.{framed, length_one, pushes, loads, defines, on_one_is, is_in_range, is_not_zero, squares, sums, differs, multiplies, on_two_is, divides, leaves}
+use Rattle.code_generator.proofs.Numbers.{Fits, sum_is, difference_is, product_is, fits_negated, negated_is, fits_magnitude, magnitude_is, fits_quotient, quotient_is, fits_remainder, fits_truth, same_truth, same_test, same_positive}
 
 -- an element of a table, and of the table that was made from it
 pub found_at : {A B : Type 0} (f : A → B) (xs : List A) (i : ℕ) → i < length xs → (x : A) × (slice_get xs i ≡ Some x) × (slice_get (map f xs) i ≡ Some (f x))
@@ -55,14 +66,6 @@ operand_is n h = omega arith
 pub start_within : (d : ℕ) (ds : List ℕ) → d ≤ fold max d ds
 start_within d [] = omega arith
 start_within d (e ∷ ds) = let r = start_within (max d e) ds in omega arith
-
--- both tests of a number are the same
-pub same_test : (n : ℤ) → effect.is_integer (value.Number n) ≡ frames.is_integer n
-same_test n = both (int_le (neg_ℤ (pos 2147483647)) n)
-  where
-    both : (b : Bool) → (if b then int_le n (pos 2147483647) else false) ≡ (b && int_le n (pos 2147483647))
-    both true = refl
-    both false = refl
 
 -- a run of some code of the program, in an environment, with what stays as it is while an expression is evaluated
 module _ (tree : Tree) (code : List Instr) (variables limit size : ℕ) (input : List ℕ) (env : Environment) (few : variables ≤ 4294967291) (shows : ShowsProgram variables env) where
@@ -165,74 +168,142 @@ module _ (tree : Tree) (code : List Instr) (variables limit size : ℕ) (input :
         let e : place + 1 + 1 ≡ place + 2 = omega arith in
         subst (λ o. Evaluates (at cells place output) cells (place + 2) (fetched o defined s')) (sym held) (subst (λ q. Evaluates (at cells place output) cells q (fetched (stored store p) defined s')) e whole)
 
-    -- a sign
-    sign_runs : (sign : Sign) (place : ℕ) (cells : List Cell) (n : ℤ) (s : effect.State) → HasAt code place (sign_code sign) → 4 ≤ length cells → length cells < limit → Fits n → Still s → Evaluates (at (cells ++ Number n ∷ []) place output) cells (place + length (sign_code sign)) (give (signed sign (value.Number n)) s)
-    sign_runs Plus place cells n s has linked room fit still =
-        let e : place ≡ place + 0 = omega arith in
-        (subst (λ p. Comes plain_sites code (at (cells ++ Number n ∷ []) place output) (at (cells ++ Number n ∷ []) p output)) e (comes_nowhere plain_sites code (at (cells ++ Number n ∷ []) place output)), fit, still, room)
-    sign_runs Minus place cells n s has linked room fit still =
-        let negated = negates limit size cells linked n room ∙ ap (λ v. Ok (framed limit size (cells ++ Number v ∷ []))) (negated_is n fit) in
-        (acts instr.Negate (cells ++ Number n ∷ []) (cells ++ Number (neg_ℤ n) ∷ []) place output _ has.0 refl negated, fits_negated n fit, still, room)
+    -- an operation that is never in error: the instruction leaves a number, which is the one that is meant
+    given_runs : (apply : Instr) (place : ℕ) (stack cells : List Cell) (c d : ℤ) (s : effect.State) (attempt : Attempt frames.Frames) → slice_get code place ≡ Some apply → obeyed plain_sites apply (at stack (place + 1) output) ≡ and_then attempt (with_frames (at stack (place + 1) output)) → attempt ≡ Ok (framed limit size (cells ++ Number d ∷ [])) → d ≡ c → Fits c → length cells < limit → Still s → Evaluates (at stack place output) cells (place + 1) (give (value.Number c) s)
+    given_runs apply place stack cells c d s attempt has rule does same fit room still =
+        (acts apply stack (cells ++ Number c ∷ []) place output attempt has rule (does ∙ ap (λ v. Ok (framed limit size (cells ++ Number v ∷ []))) same), fit, still, room)
 
-    signed_runs : (number : ℕ) (sign : Sign) (c : List Instr) (depth : ℕ) (well : Bool) (v : Evaluation) → RunsAs c depth well v → RunsAs (c ++ sign_code sign) depth well (λ e. effect.enter number e >>= λ _. v e >>= λ w. give (signed sign w))
-    signed_runs number sign c depth well v runs place cells s has good alike room still =
+    -- a test of the number on top, which stays there
+    tested_runs : (check : Instr) (site place : ℕ) (cells : List Cell) (n : ℤ) (s : effect.State) (holds : Attempt Bool) (good : Bool) → slice_get code place ≡ Some check → obeyed plain_sites check (at (cells ++ Number n ∷ []) (place + 1) output) ≡ checked plain_sites site (at (cells ++ Number n ∷ []) (place + 1) output) holds → holds ≡ Ok good → site < length tree.sites.items → length cells < limit → Fits n → Still s → Evaluates (at (cells ++ Number n ∷ []) place output) cells (place + 1) (effect.and_then (require good site s) (λ _. give (value.Number n)))
+    tested_runs check site place cells n s holds true has rule e h room fit still =
+        (passes check (cells ++ Number n ∷ []) place site output holds has rule e, fit, still, room)
+    tested_runs check site place cells n s holds false has rule e h room fit still =
+        (refuses check (cells ++ Number n ∷ []) place site output holds h has rule e, still)
+
+    -- an operation behind a check of its result or of its operand
+    checked_runs : (check apply : Instr) (site place : ℕ) (stack cells : List Cell) (c d : ℤ) (s : effect.State) (holds : Attempt Bool) (attempt : Attempt frames.Frames) (good : Bool) → slice_get code place ≡ Some check → slice_get code (place + 1) ≡ Some apply → obeyed plain_sites check (at stack (place + 1) output) ≡ checked plain_sites site (at stack (place + 1) output) holds → obeyed plain_sites apply (at stack (place + 1 + 1) output) ≡ and_then attempt (with_frames (at stack (place + 1 + 1) output)) → holds ≡ Ok good → (good ≡ true → (attempt ≡ Ok (framed limit size (cells ++ Number d ∷ []))) × (d ≡ c) × Fits c) → site < length tree.sites.items → length cells < limit → Still s → Evaluates (at stack place output) cells (place + 2) (effect.and_then (require good site s) (λ _. give (value.Number c)))
+    checked_runs check apply site place stack cells c d s holds attempt true has has' rule rule' e does h room still =
+        let d' = does refl in
+        let l = passes check stack place site output holds has rule e in
+        let m = given_runs apply (place + 1) stack cells c d s attempt has' rule' d'.0 d'.1 d'.2 room still in
+        let p : place + 1 + 1 ≡ place + 2 = omega arith in
+        subst (λ q. Evaluates (at stack place output) cells q (give (value.Number c) s)) p (evaluates_on _ _ cells (place + 1 + 1) (give (value.Number c) s) l m)
+    checked_runs check apply site place stack cells c d s holds attempt false has has' rule rule' e does h room still =
+        (refuses check stack place site output holds h has rule e, still)
+
+    -- a result that is checked to be of type integer
+    result_runs : (check apply : Instr) (overflow place : ℕ) (stack cells : List Cell) (c d : ℤ) (s : effect.State) (holds : Attempt Bool) (attempt : Attempt frames.Frames) → slice_get code place ≡ Some check → slice_get code (place + 1) ≡ Some apply → obeyed plain_sites check (at stack (place + 1) output) ≡ checked plain_sites overflow (at stack (place + 1) output) holds → obeyed plain_sites apply (at stack (place + 1 + 1) output) ≡ and_then attempt (with_frames (at stack (place + 1 + 1) output)) → holds ≡ Ok (frames.is_integer c) → attempt ≡ Ok (framed limit size (cells ++ Number d ∷ [])) → (Fits c → d ≡ c) → overflow < length tree.sites.items → length cells < limit → Still s → Evaluates (at stack place output) cells (place + 2) (meaning.whole overflow c s)
+    result_runs check apply overflow place stack cells c d s holds attempt has has' rule rule' e does same h room still =
+        subst (λ t. Evaluates (at stack place output) cells (place + 2) (effect.and_then (require t overflow s) (λ _. give (value.Number c)))) (sym (same_test c))
+        (checked_runs check apply overflow place stack cells c d s holds attempt (frames.is_integer c) has has' rule rule' e (λ good. let fit : Fits c = record { is = good } in (does, same fit, fit)) h room still)
+
+    -- one number gives way to another
+    module _ (place : ℕ) (cells : List Cell) (n : ℤ) (s : effect.State) (linked : 4 ≤ length cells) (room : length cells < limit) (fit : Fits n) (still : Still s) where
+      abbrev one : List Cell
+      one = cells ++ Number n ∷ []
+
+      one_given : (apply : Instr) (f : ℤ → ℤ) (c : ℤ) → slice_get code place ≡ Some apply → obeyed plain_sites apply (at one (place + 1) output) ≡ and_then (frames.on_one f (framed limit size one)) (with_frames (at one (place + 1) output)) → f n ≡ c → Fits c → Evaluates (at one place output) cells (place + 1) (give (value.Number c) s)
+      one_given apply f c has rule same fit' =
+          given_runs apply place one cells c (f n) s (frames.on_one f (framed limit size one)) has rule (on_one_is limit size cells linked f n room) same fit' room still
+
+      truth_given : (apply : Instr) (test : ℤ → Bool) → slice_get code place ≡ Some apply → obeyed plain_sites apply (at one (place + 1) output) ≡ and_then (frames.on_one (λ v. frames.truth (test v)) (framed limit size one)) (with_frames (at one (place + 1) output)) → Evaluates (at one place output) cells (place + 1) (give (value.Number (truth (test n))) s)
+      truth_given apply test has rule =
+          one_given apply (λ v. frames.truth (test v)) (truth (test n)) has rule (same_truth (test n)) (subst Fits (same_truth (test n)) (fits_truth (test n)))
+
+      operated_runs : (operation : Monadic) → HasAt code place (monadic_code operation) → monadic_is_well_formed variables (length tree.sites.items) operation ≡ true → Evaluates (at one place output) cells (place + length (monadic_code operation)) (operated operation (value.Number n) s)
+      operated_runs monadic.Plus has well =
+          let e : place ≡ place + 0 = omega arith in
+          (subst (λ p. Comes plain_sites code (at one place output) (at one p output)) e (comes_nowhere plain_sites code (at one place output)), fit, still, room)
+      operated_runs monadic.Minus has well =
+          one_given instr.Negate (int_wrapping_neg w32) (neg_ℤ n) has.0 refl (negated_is n fit) (fits_negated n fit)
+      operated_runs monadic.Not has well = truth_given instr.Complement (λ v. not (frames.is_true v)) has.0 refl
+      operated_runs monadic.Abs has well =
+          one_given instr.Absolute (λ v. cast_signed w32 (unsigned_abs v)) (magnitude n) has.0 refl (magnitude_is n fit) (fits_magnitude n fit)
+      operated_runs (monadic.Sqr overflow) has well =
+          result_runs (instr.CheckSquare overflow) instr.Square overflow place one cells (n *ℤ n) (int_wrapping_mul w32 n n) s _ _ has.0 has.1.0 refl refl (squares limit size cells linked n) (on_one_is limit size cells linked (λ v. int_wrapping_mul w32 v v) n room) (product_is n n fit fit) (ltb-true overflow (length tree.sites.items) well) room still
+      operated_runs monadic.Odd has well = truth_given instr.Odd frames.is_odd has.0 refl
+
+    -- an operation on one operand
+    monadic_runs : (number : ℕ) (operation : Monadic) (c : List Instr) (depth : ℕ) (well : Bool) (v : Evaluation) → RunsAs c depth well v → RunsAs (c ++ monadic_code operation) depth (monadic_is_well_formed variables (length tree.sites.items) operation && well) (λ e. effect.enter number e >>= λ _. v e >>= operated operation)
+    monadic_runs number operation c depth well v runs place cells s has good alike room still =
         let s' : effect.State = record s { visited = s.visited ++ record { number = number; environment = env; store = s.store } ∷ [] } in
         let still' : Still s' = record { store_is = still.store_is; output_is = still.output_is } in
+        let parts = and_parts (monadic_is_well_formed variables (length tree.sites.items) operation) well good in
         let linked = program_linked variables store cells alike in
-        let e : place + length c + length (sign_code sign) ≡ place + length (c ++ sign_code sign) = omega (arith, length-append c (sign_code sign)) in
-        let rest = has_back code place c (sign_code sign) has in
-        subst (λ p. Evaluates (at cells place output) cells p (effect.and_then (v env s') (λ w. give (signed sign w)))) e
-        (then_evaluates (at cells place output) cells cells (place + length c) (place + length c + length (sign_code sign)) (v env s') (λ w. give (signed sign w)) (runs place cells s' (has_front code place c (sign_code sign) has) good alike room still') (λ n s2 fit still2 room2. sign_runs sign (place + length c) cells n s2 rest (omega arith) room2 fit still2))
+        let e : place + length c + length (monadic_code operation) ≡ place + length (c ++ monadic_code operation) = omega (arith, length-append c (monadic_code operation)) in
+        let rest = has_back code place c (monadic_code operation) has in
+        subst (λ p. Evaluates (at cells place output) cells p (effect.and_then (v env s') (operated operation))) e
+        (then_evaluates (at cells place output) cells cells (place + length c) (place + length c + length (monadic_code operation)) (v env s') (operated operation) (runs place cells s' (has_front code place c (monadic_code operation) has) parts.1 alike room still') (λ n s2 fit still2 room2. operated_runs (place + length c) cells n s2 (omega arith) room2 fit still2 operation rest parts.0))
 
-    -- a result that is checked
-    result_runs : (check apply : Instr) (overflow place : ℕ) (cells : List Cell) (a b c : ℤ) (s : effect.State) (holds : Attempt Bool) (attempt : Attempt frames.Frames) (good : Bool) → slice_get code place ≡ Some check → slice_get code (place + 1) ≡ Some apply → obeyed plain_sites check (at ((cells ++ Number a ∷ []) ++ Number b ∷ []) (place + 1) output) ≡ checked plain_sites overflow (at ((cells ++ Number a ∷ []) ++ Number b ∷ []) (place + 1) output) holds → obeyed plain_sites apply (at ((cells ++ Number a ∷ []) ++ Number b ∷ []) (place + 1 + 1) output) ≡ and_then attempt (with_frames (at ((cells ++ Number a ∷ []) ++ Number b ∷ []) (place + 1 + 1) output)) → holds ≡ Ok good → frames.is_integer c ≡ good → (Fits c → attempt ≡ Ok (framed limit size (cells ++ Number c ∷ []))) → overflow < length tree.sites.items → length cells < limit → Still s → Evaluates (at ((cells ++ Number a ∷ []) ++ Number b ∷ []) place output) cells (place + 2) (effect.and_then (require good overflow s) (λ _. give (value.Number c)))
-    result_runs check apply overflow place cells a b c s holds attempt true has has' rule rule' e f does h room still =
-        let two = (cells ++ Number a ∷ []) ++ Number b ∷ [] in
-        let fit : Fits c = record { is = f } in
-        let l = passes check two place overflow output holds has rule e in
-        let m = acts apply two (cells ++ Number c ∷ []) (place + 1) output attempt has' rule' (does fit) in
-        let p : place + 1 + 1 ≡ place + 2 = omega arith in
-        (subst (λ q. Comes plain_sites code (at two place output) (at (cells ++ Number c ∷ []) q output)) p (comes_on plain_sites code _ _ _ l m), fit, still, room)
-    result_runs check apply overflow place cells a b c s holds attempt false has has' rule rule' e f does h room still =
-        (refuses check ((cells ++ Number a ∷ []) ++ Number b ∷ []) place overflow output holds h has rule e, still)
+    -- two numbers give way to a third
+    module _ (place : ℕ) (cells : List Cell) (a b : ℤ) (s : effect.State) (linked : 4 ≤ length cells) (room : length cells < limit) (fit : Fits a) (fit' : Fits b) (still : Still s) where
+      abbrev two : List Cell
+      two = (cells ++ Number a ∷ []) ++ Number b ∷ []
 
-    operator_runs : (op : Sign) (overflow place : ℕ) (cells : List Cell) (a b : ℤ) (s : effect.State) → HasAt code place (operation_code op overflow) → overflow < length tree.sites.items → 4 ≤ length cells → length cells < limit → Fits a → Fits b → Still s → Evaluates (at ((cells ++ Number a ∷ []) ++ Number b ∷ []) place output) cells (place + length (operation_code op overflow)) (effect.and_then (require (effect.is_integer (combined op (value.Number a) (value.Number b))) overflow s) (λ _. give (combined op (value.Number a) (value.Number b))))
-    operator_runs Plus overflow place cells a b s has h linked room f g still =
-        let c = a +ℤ b in
-        subst (λ t. Evaluates (at ((cells ++ Number a ∷ []) ++ Number b ∷ []) place output) cells (place + 2) (effect.and_then (require t overflow s) (λ _. give (value.Number c)))) (sym (same_test c))
-        (result_runs (instr.CheckSum overflow) instr.Add overflow place cells a b c s _ _ (frames.is_integer c) has.0 has.1.0 refl refl (sums limit size cells linked a b) refl (λ fit. on_two_is limit size cells linked a b _ room ∙ ap (λ v. Ok (framed limit size (cells ++ Number v ∷ []))) (sum_is a b f g fit)) h room still)
-    operator_runs Minus overflow place cells a b s has h linked room f g still =
-        let c = a -ℤ b in
-        subst (λ t. Evaluates (at ((cells ++ Number a ∷ []) ++ Number b ∷ []) place output) cells (place + 2) (effect.and_then (require t overflow s) (λ _. give (value.Number c)))) (sym (same_test c))
-        (result_runs (instr.CheckDifference overflow) instr.Subtract overflow place cells a b c s _ _ (frames.is_integer c) has.0 has.1.0 refl refl (differs limit size cells linked a b) refl (λ fit. on_two_is limit size cells linked a b _ room ∙ ap (λ v. Ok (framed limit size (cells ++ Number v ∷ []))) (difference_is a b f g fit)) h room still)
+      -- the divisor stands above the dividend and the links
+      above : 4 ≤ length (cells ++ Number a ∷ [])
+      above = omega (arith, length_one cells (Number a))
+
+      truths_given : (apply : Instr) (test : ℤ → ℤ → Bool) → slice_get code place ≡ Some apply → obeyed plain_sites apply (at two (place + 1) output) ≡ and_then (frames.on_two (λ x y. frames.truth (test x y)) (framed limit size two)) (with_frames (at two (place + 1) output)) → Evaluates (at two place output) cells (place + 1) (give (value.Number (truth (test a b))) s)
+      truths_given apply test has rule =
+          given_runs apply place two cells (truth (test a b)) (frames.truth (test a b)) s (frames.on_two (λ x y. frames.truth (test x y)) (framed limit size two)) has rule (on_two_is limit size cells linked a b (λ x y. frames.truth (test x y)) room) (same_truth (test a b)) (subst Fits (same_truth (test a b)) (fits_truth (test a b))) room still
+
+      relation_runs : (r : Relation) → slice_get code place ≡ Some (relation_instr r) → Evaluates (at two place output) cells (place + 1) (give (value.Number (truth (relates r a b))) s)
+      relation_runs relation.Equal has = truths_given instr.Equal int_eq has refl
+      relation_runs relation.NotEqual has = truths_given instr.NotEqual (λ x y. not (int_eq x y)) has refl
+      relation_runs relation.Less has = truths_given instr.Less int_lt has refl
+      relation_runs relation.Greater has = truths_given instr.Greater (λ x y. int_lt y x) has refl
+      relation_runs relation.LessOrEqual has = truths_given instr.LessOrEqual int_le has refl
+      relation_runs relation.GreaterOrEqual has = truths_given instr.GreaterOrEqual (λ x y. int_le y x) has refl
+
+      -- a quotient, whose divisor is not zero
+      quotient_runs : (site : ℕ) → slice_get code place ≡ Some (instr.CheckZero site) → slice_get code (place + 1) ≡ Some instr.Divide → site < length tree.sites.items → Evaluates (at two place output) cells (place + 2) (combined (dyadic.Div site) (value.Number a) (value.Number b) s)
+      quotient_runs site has has' h =
+          checked_runs (instr.CheckZero site) instr.Divide site place two cells (int_div a b) (int_wrapping_div w32 a b) s _ _ (frames.is_true b) has has' refl refl (is_not_zero limit size (cells ++ Number a ∷ []) above b) (λ good. (divides limit size cells linked a b room good, quotient_is a b fit, fits_quotient a b fit)) h room still
+
+      -- a remainder, whose divisor is positive
+      remainder_runs : (site : ℕ) → slice_get code place ≡ Some (check_positive site) → slice_get code (place + 1) ≡ Some instr.Modulo → site < length tree.sites.items → Evaluates (at two place output) cells (place + 2) (combined (dyadic.Mod site) (value.Number a) (value.Number b) s)
+      remainder_runs site has has' h =
+          checked_runs (check_positive site) instr.Modulo site place two cells (int_rem_euclid a b) (int_rem_euclid a b) s _ _ (int_le (pos 1) b) has has' refl refl (is_in_range limit size (cells ++ Number a ∷ []) above (pos 1) (pos 2147483647) b ∙ ap Ok (same_positive b fit')) (λ good. (leaves limit size cells linked a b room good, refl, fits_remainder a b fit' good)) h room still
+
+      combined_runs : (operation : Dyadic) → HasAt code place (dyadic_code operation) → dyadic_is_well_formed variables (length tree.sites.items) operation ≡ true → Evaluates (at two place output) cells (place + length (dyadic_code operation)) (combined operation (value.Number a) (value.Number b) s)
+      combined_runs (dyadic.Plus overflow) has well =
+          result_runs (instr.CheckSum overflow) instr.Add overflow place two cells (a +ℤ b) (int_wrapping_add w32 a b) s _ _ has.0 has.1.0 refl refl (sums limit size cells linked a b) (on_two_is limit size cells linked a b (int_wrapping_add w32) room) (sum_is a b fit fit') (ltb-true overflow (length tree.sites.items) well) room still
+      combined_runs (dyadic.Minus overflow) has well =
+          result_runs (instr.CheckDifference overflow) instr.Subtract overflow place two cells (a -ℤ b) (int_wrapping_sub w32 a b) s _ _ has.0 has.1.0 refl refl (differs limit size cells linked a b) (on_two_is limit size cells linked a b (int_wrapping_sub w32) room) (difference_is a b fit fit') (ltb-true overflow (length tree.sites.items) well) room still
+      combined_runs (dyadic.Times overflow) has well =
+          result_runs (instr.CheckProduct overflow) instr.Multiply overflow place two cells (a *ℤ b) (int_wrapping_mul w32 a b) s _ _ has.0 has.1.0 refl refl (multiplies limit size cells linked a b) (on_two_is limit size cells linked a b (int_wrapping_mul w32) room) (product_is a b fit fit') (ltb-true overflow (length tree.sites.items) well) room still
+      combined_runs (dyadic.Div by_zero) has well =
+          quotient_runs by_zero has.0 has.1.0 (ltb-true by_zero (length tree.sites.items) well)
+      combined_runs (dyadic.Mod by_zero_or_less) has well =
+          remainder_runs by_zero_or_less has.0 has.1.0 (ltb-true by_zero_or_less (length tree.sites.items) well)
+      combined_runs dyadic.And has well = truths_given instr.Both (λ x y. frames.is_true x && frames.is_true y) has.0 refl
+      combined_runs dyadic.Or has well = truths_given instr.Either (λ x y. frames.is_true x || frames.is_true y) has.0 refl
+      combined_runs (dyadic.Relation r) has well = relation_runs r has.0
 
     -- an operator and its right operand
-    link_runs : (number overflow : ℕ) (op : Sign) (c : List Instr) (depth : ℕ) (well : Bool) (v : Evaluation) → RunsAs c depth well v → CombinesAs (c ++ operation_code op overflow) (depth + 1) (nat_lt overflow (length tree.sites.items) && well) (meaning.link_step (record { number = number; operator = op; overflow = overflow; operand = v }))
-    link_runs number overflow op c depth well v runs place cells a s has good alike room fit still =
+    link_runs : (number : ℕ) (operation : Dyadic) (c : List Instr) (depth : ℕ) (well : Bool) (v : Evaluation) → RunsAs c depth well v → CombinesAs (c ++ dyadic_code operation) (depth + 1) (dyadic_is_well_formed variables (length tree.sites.items) operation && well) (meaning.link_step (record { number = number; operation = operation; operand = v }))
+    link_runs number operation c depth well v runs place cells a s has good alike room fit still =
         let s' : effect.State = record s { visited = s.visited ++ record { number = number; environment = env; store = s.store } ∷ [] } in
         let still' : Still s' = record { store_is = still.store_is; output_is = still.output_is } in
-        let parts = and_parts _ _ good in
-        let site_within = ltb-true overflow (length tree.sites.items) parts.0 in
+        let parts = and_parts (dyadic_is_well_formed variables (length tree.sites.items) operation) well good in
         let linked = program_linked variables store cells alike in
         let one = length_one cells (Number a) in
-        let e : place + length c + length (operation_code op overflow) ≡ place + length (c ++ operation_code op overflow) = omega (arith, length-append c (operation_code op overflow)) in
-        let rest = has_back code place c (operation_code op overflow) has in
-        let next : Value → Action Value = λ right. require (effect.is_integer (combined op (value.Number a) right)) overflow >>= λ _. give (combined op (value.Number a) right) in
+        let e : place + length c + length (dyadic_code operation) ≡ place + length (c ++ dyadic_code operation) = omega (arith, length-append c (dyadic_code operation)) in
+        let rest = has_back code place c (dyadic_code operation) has in
+        let next : Value → Action Value = combined operation (value.Number a) in
         subst (λ p. Evaluates (at (cells ++ Number a ∷ []) place output) cells p (effect.and_then (v env s') next)) e
-        (then_evaluates (at (cells ++ Number a ∷ []) place output) (cells ++ Number a ∷ []) cells (place + length c) (place + length c + length (operation_code op overflow)) (v env s') next (runs place (cells ++ Number a ∷ []) s' (has_front code place c (operation_code op overflow) has) parts.1 (alike_above (program_world variables) store cells (Number a ∷ []) alike) (omega arith) still') (λ n s2 fit2 still2 room2. operator_runs op overflow (place + length c) cells a n s2 rest site_within (omega arith) (omega arith) fit fit2 still2))
+        (then_evaluates (at (cells ++ Number a ∷ []) place output) (cells ++ Number a ∷ []) cells (place + length c) (place + length c + length (dyadic_code operation)) (v env s') next (runs place (cells ++ Number a ∷ []) s' (has_front code place c (dyadic_code operation) has) parts.1 (alike_above (program_world variables) store cells (Number a ∷ []) alike) (omega arith) still') (λ n s2 fit2 still2 room2. combined_runs (place + length c) cells a n s2 (omega arith) (omega arith) fit fit2 still2 operation rest parts.0))
 
     -- what is shown of an expression, and of an operator and its right operand
     abbrev pub ExprRuns : Expr → Type 0
     ExprRuns e = RunsAs (expr_code e) (expr_depth e) (is_well_formed_expr variables (length tree.sites.items) e) (value_of e)
 
-    abbrev combination_of : Link → Combination
-    combination_of = fold-Link Evaluation Combination value_step meaning.link_step
-
     abbrev LinkRuns : Link → Type 0
-    LinkRuns l = CombinesAs (link_code l) (link_depth l) (is_well_formed_link variables (length tree.sites.items) l) (combination_of l)
+    LinkRuns l = CombinesAs (link_code l) (link_depth l) (is_well_formed_link variables (length tree.sites.items) l) (link_of l)
 
-    -- the operators of a sum, from left to right
-    links_run : (links : List ((l : Link) × LinkRuns l)) (depth place : ℕ) (cells : List Cell) (a : ℤ) (s : effect.State) → HasAt code place (joined (map link_code (map (λ l. l.0) links))) → all_hold (map (is_well_formed_link variables (length tree.sites.items)) (map (λ l. l.0) links)) ≡ true → Alike (program_world variables) store cells → length cells + fold max depth (map link_depth (map (λ l. l.0) links)) ≤ limit → length cells < limit → Fits a → Still s → Evaluates (at (cells ++ Number a ∷ []) place output) cells (place + length (joined (map link_code (map (λ l. l.0) links)))) (in_turn (map combination_of (map (λ l. l.0) links)) env (value.Number a) s)
+    -- the operators of a chain, from left to right
+    links_run : (links : List ((l : Link) × LinkRuns l)) (depth place : ℕ) (cells : List Cell) (a : ℤ) (s : effect.State) → HasAt code place (joined (map link_code (map (λ l. l.0) links))) → all_hold (map (is_well_formed_link variables (length tree.sites.items)) (map (λ l. l.0) links)) ≡ true → Alike (program_world variables) store cells → length cells + fold max depth (map link_depth (map (λ l. l.0) links)) ≤ limit → length cells < limit → Fits a → Still s → Evaluates (at (cells ++ Number a ∷ []) place output) cells (place + length (joined (map link_code (map (λ l. l.0) links)))) (in_turn (map link_of (map (λ l. l.0) links)) env (value.Number a) s)
     links_run [] depth place cells a s has good alike deep room fit still =
         let e : place ≡ place + 0 = omega arith in
         (subst (λ p. Comes plain_sites code (at (cells ++ Number a ∷ []) place output) (at (cells ++ Number a ∷ []) p output)) e (comes_nowhere plain_sites code (at (cells ++ Number a ∷ []) place output)), fit, still, room)
@@ -241,17 +312,17 @@ module _ (tree : Tree) (code : List Instr) (variables limit size : ℕ) (input :
         let rest = joined (map link_code (map (λ k. k.0) links)) in
         let d = start_within (max depth (link_depth l.0)) (map link_depth (map (λ k. k.0) links)) in
         let e : place + length c + length rest ≡ place + length (c ++ rest) = omega (arith, length-append c rest) in
-        subst (λ p. Evaluates (at (cells ++ Number a ∷ []) place output) cells p (effect.and_then (combination_of l.0 env (value.Number a) s) (λ w. in_turn (map combination_of (map (λ k. k.0) links)) env w))) e
-        (then_evaluates _ cells cells (place + length c) (place + length c + length rest) (combination_of l.0 env (value.Number a) s) (λ w. in_turn (map combination_of (map (λ k. k.0) links)) env w) (l.1 place cells a s (has_front code place c rest has) (and_parts _ _ good).0 alike (omega arith) fit still) (λ n s2 fit2 still2 room2. links_run links (max depth (link_depth l.0)) (place + length c) cells n s2 (has_back code place c rest has) (and_parts _ _ good).1 alike deep room fit2 still2))
+        subst (λ p. Evaluates (at (cells ++ Number a ∷ []) place output) cells p (effect.and_then (link_of l.0 env (value.Number a) s) (λ w. in_turn (map link_of (map (λ k. k.0) links)) env w))) e
+        (then_evaluates _ cells cells (place + length c) (place + length c + length rest) (link_of l.0 env (value.Number a) s) (λ w. in_turn (map link_of (map (λ k. k.0) links)) env w) (l.1 place cells a s (has_front code place c rest has) (and_parts _ _ good).0 alike (omega arith) fit still) (λ n s2 fit2 still2 room2. links_run links (max depth (link_depth l.0)) (place + length c) cells n s2 (has_back code place c rest has) (and_parts _ _ good).1 alike deep room fit2 still2))
 
-    sum_runs : (first : (e : Expr) × ExprRuns e) (links : List ((l : Link) × LinkRuns l)) → RunsAs (expr_code first.0 ++ joined (map link_code (map (λ l. l.0) links))) (fold max (expr_depth first.0) (map link_depth (map (λ l. l.0) links))) (is_well_formed_expr variables (length tree.sites.items) first.0 && all_hold (map (is_well_formed_link variables (length tree.sites.items)) (map (λ l. l.0) links))) (λ e. value_of first.0 e >>= λ v. in_turn (map combination_of (map (λ l. l.0) links)) e v)
-    sum_runs first links place cells s has good alike deep still =
+    chain_runs : (first : (e : Expr) × ExprRuns e) (links : List ((l : Link) × LinkRuns l)) → RunsAs (expr_code first.0 ++ joined (map link_code (map (λ l. l.0) links))) (fold max (expr_depth first.0) (map link_depth (map (λ l. l.0) links))) (is_well_formed_expr variables (length tree.sites.items) first.0 && all_hold (map (is_well_formed_link variables (length tree.sites.items)) (map (λ l. l.0) links))) (λ e. value_of first.0 e >>= λ v. in_turn (map link_of (map (λ l. l.0) links)) e v)
+    chain_runs first links place cells s has good alike deep still =
         let c = expr_code first.0 in
         let rest = joined (map link_code (map (λ k. k.0) links)) in
         let d = start_within (expr_depth first.0) (map link_depth (map (λ k. k.0) links)) in
         let e : place + length c + length rest ≡ place + length (c ++ rest) = omega (arith, length-append c rest) in
-        subst (λ p. Evaluates (at cells place output) cells p (effect.and_then (value_of first.0 env s) (λ w. in_turn (map combination_of (map (λ k. k.0) links)) env w))) e
-        (then_evaluates _ cells cells (place + length c) (place + length c + length rest) (value_of first.0 env s) (λ w. in_turn (map combination_of (map (λ k. k.0) links)) env w) (first.1 place cells s (has_front code place c rest has) (and_parts _ _ good).0 alike (omega arith) still) (λ n s2 fit2 still2 room2. links_run links (expr_depth first.0) (place + length c) cells n s2 (has_back code place c rest has) (and_parts _ _ good).1 alike deep room2 fit2 still2))
+        subst (λ p. Evaluates (at cells place output) cells p (effect.and_then (value_of first.0 env s) (λ w. in_turn (map link_of (map (λ k. k.0) links)) env w))) e
+        (then_evaluates _ cells cells (place + length c) (place + length c + length rest) (value_of first.0 env s) (λ w. in_turn (map link_of (map (λ k. k.0) links)) env w) (first.1 place cells s (has_front code place c rest has) (and_parts _ _ good).0 alike (omega arith) still) (λ n s2 fit2 still2 room2. links_run links (expr_depth first.0) (place + length c) cells n s2 (has_back code place c rest has) (and_parts _ _ good).1 alike deep room2 fit2 still2))
 
     same_runs : (c c' : List Instr) (d d' : ℕ) (w w' : Bool) (v v' : Evaluation) → c ≡ c' → d ≡ d' → w ≡ w' → v ≡ v' → RunsAs c' d' w' v' → RunsAs c d w v
     same_runs c c' d d' w w' v v' p q r t runs =
@@ -267,27 +338,43 @@ module _ (tree : Tree) (code : List Instr) (variables limit size : ℕ) (input :
     abbrev is_link_step : Link-F Bool Bool → Bool
     is_link_step = link_is_well_formed variables (length tree.sites.items)
 
-    rolled_expr : (x : Expr-F Expr Link) → RunsAs (expr_step (map-Expr Expr Link (List Instr) (List Instr) expr_code link_code x)) (expr_depth_step (map-Expr Expr Link ℕ ℕ expr_depth link_depth x)) (is_step (map-Expr Expr Link Bool Bool (fold-Expr Bool Bool is_step is_link_step) (fold-Link Bool Bool is_step is_link_step) x)) (value_step (map-Expr Expr Link Evaluation Combination value_of combination_of x)) → ExprRuns (roll-Expr x)
+    rolled_expr : (x : Expr-F Expr Link) → RunsAs (expr_step (map-Expr Expr Link (List Instr) (List Instr) expr_code link_code x)) (expr_depth_step (map-Expr Expr Link ℕ ℕ expr_depth link_depth x)) (is_step (map-Expr Expr Link Bool Bool (fold-Expr Bool Bool is_step is_link_step) (fold-Link Bool Bool is_step is_link_step) x)) (value_step (map-Expr Expr Link Evaluation Combination value_of link_of x)) → ExprRuns (roll-Expr x)
     rolled_expr x =
         same_runs _ _ _ _ _ _ _ _ (fold-roll-Expr (List Instr) (List Instr) expr_step link_step x) (fold-roll-Expr ℕ ℕ expr_depth_step link_depth_step x) (fold-roll-Expr Bool Bool is_step is_link_step x) (fold-roll-Expr Evaluation Combination value_step meaning.link_step x)
 
-    rolled_link : (x : Link-F Expr Link) → CombinesAs (link_step (map-Link Expr Link (List Instr) (List Instr) expr_code link_code x)) (link_depth_step (map-Link Expr Link ℕ ℕ expr_depth link_depth x)) (is_link_step (map-Link Expr Link Bool Bool (fold-Expr Bool Bool is_step is_link_step) (fold-Link Bool Bool is_step is_link_step) x)) (meaning.link_step (map-Link Expr Link Evaluation Combination value_of combination_of x)) → LinkRuns (roll-Link x)
+    rolled_link : (x : Link-F Expr Link) → CombinesAs (link_step (map-Link Expr Link (List Instr) (List Instr) expr_code link_code x)) (link_depth_step (map-Link Expr Link ℕ ℕ expr_depth link_depth x)) (is_link_step (map-Link Expr Link Bool Bool (fold-Expr Bool Bool is_step is_link_step) (fold-Link Bool Bool is_step is_link_step) x)) (meaning.link_step (map-Link Expr Link Evaluation Combination value_of link_of x)) → LinkRuns (roll-Link x)
     rolled_link x =
         same_combines _ _ _ _ _ _ _ _ (fold-roll-Link (List Instr) (List Instr) expr_step link_step x) (fold-roll-Link ℕ ℕ expr_depth_step link_depth_step x) (fold-roll-Link Bool Bool is_step is_link_step x) (fold-roll-Link Evaluation Combination value_step meaning.link_step x)
 
     expr_layer : (y : Expr-F ((e : Expr) × ExprRuns e) ((l : Link) × LinkRuns l)) → ExprRuns (roll-Expr (map-Expr ((e : Expr) × ExprRuns e) ((l : Link) × LinkRuns l) Expr Link (λ e. e.0) (λ l. l.0) y))
     expr_layer (Constant number n) = rolled_expr (Constant number n) (constant_runs number n)
     expr_layer (Variable access defined) = rolled_expr (Variable access defined) (variable_runs access defined)
-    expr_layer (Signed number sign operand) =
-        rolled_expr (Signed number sign (record { ptr = operand.ptr; alloc = operand.alloc; value = operand.value.0 })) (signed_runs number sign (expr_code operand.value.0) (expr_depth operand.value.0) (is_well_formed_expr variables (length tree.sites.items) operand.value.0) (value_of operand.value.0) operand.value.1)
-    expr_layer (Sum first rest) =
-        rolled_expr (map-Expr ((e : Expr) × ExprRuns e) ((l : Link) × LinkRuns l) Expr Link (λ e. e.0) (λ l. l.0) (Sum first rest)) (sum_runs first.value rest.items)
+    expr_layer (MonadicOf number operation operand) =
+        rolled_expr (MonadicOf number operation (record { ptr = operand.ptr; alloc = operand.alloc; value = operand.value.0 })) (monadic_runs number operation (expr_code operand.value.0) (expr_depth operand.value.0) (is_well_formed_expr variables (length tree.sites.items) operand.value.0) (value_of operand.value.0) operand.value.1)
+    expr_layer (Chain first rest) =
+        rolled_expr (map-Expr ((e : Expr) × ExprRuns e) ((l : Link) × LinkRuns l) Expr Link (λ e. e.0) (λ l. l.0) (Chain first rest)) (chain_runs first.value rest.items)
 
     link_layer : (y : Link-F ((e : Expr) × ExprRuns e) ((l : Link) × LinkRuns l)) → LinkRuns (roll-Link (map-Link ((e : Expr) × ExprRuns e) ((l : Link) × LinkRuns l) Expr Link (λ e. e.0) (λ l. l.0) y))
     link_layer y =
-        rolled_link (map-Link ((e : Expr) × ExprRuns e) ((l : Link) × LinkRuns l) Expr Link (λ e. e.0) (λ l. l.0) y) (link_runs y.number y.overflow y.operator (expr_code y.operand.0) (expr_depth y.operand.0) (is_well_formed_expr variables (length tree.sites.items) y.operand.0) (value_of y.operand.0) y.operand.1)
+        rolled_link (map-Link ((e : Expr) × ExprRuns e) ((l : Link) × LinkRuns l) Expr Link (λ e. e.0) (λ l. l.0) y) (link_runs y.number y.operation (expr_code y.operand.0) (expr_depth y.operand.0) (is_well_formed_expr variables (length tree.sites.items) y.operand.0) (value_of y.operand.0) y.operand.1)
 
     -- the code of an expression leaves its value on top, or stops as the expression does
     pub expr_runs : (e : Expr) → ExprRuns e
     expr_runs =
         ind-Expr ExprRuns LinkRuns (λ x y is. subst (λ z. ExprRuns (roll-Expr z)) is (expr_layer y)) (λ x y is. subst (λ z. LinkRuns (roll-Link z)) is (link_layer y))
+
+    -- the code of a width leaves it on top, or stops as the width does
+    pub width_runs : (width : Option Width) (representation : Representation) → RunsAs (width_code width representation) (width_depth width) (is_well_formed_width variables (length tree.sites.items) width) (width_of width representation)
+    width_runs None representation.Integer place cells s has good alike room still =
+        (acts (instr.LoadConstant (pos 10)) cells _ place output _ has.0 refl (pushes limit size cells (pos 10) (omega arith)), record { is = refl }, still, omega arith)
+    width_runs None representation.Boolean place cells s has good alike room still =
+        (acts (instr.LoadConstant (pos 5)) cells _ place output _ has.0 refl (pushes limit size cells (pos 5) (omega arith)), record { is = refl }, still, omega arith)
+    width_runs (Some width) representation place cells s has good alike room still =
+        let c = expr_code width.value in
+        let check = check_positive width.site in
+        let parts = and_parts (nat_lt width.site (length tree.sites.items)) (is_well_formed_expr variables (length tree.sites.items) width.value) good in
+        let linked = program_linked variables store cells alike in
+        let e : place + length c + 1 ≡ place + length (c ++ check ∷ []) = omega (arith, length-append c (check ∷ [])) in
+        let next : Value → Action Value = λ w. require (effect.is_positive w) width.site >>= λ _. give w in
+        subst (λ p. Evaluates (at cells place output) cells p (effect.and_then (value_of width.value env s) next)) e
+        (then_evaluates (at cells place output) cells cells (place + length c) (place + length c + 1) (value_of width.value env s) next (expr_runs width.value place cells s (has_front code place c (check ∷ []) has) parts.1 alike room still) (λ n s2 fit still2 room2. tested_runs check width.site (place + length c) cells n s2 _ (int_le (pos 1) n) (has_back code place c (check ∷ []) has).0 refl (is_in_range limit size cells (omega arith) (pos 1) (pos 2147483647) n ∙ ap Ok (same_positive n fit)) (ltb-true width.site (length tree.sites.items) parts.0) room2 fit still2))

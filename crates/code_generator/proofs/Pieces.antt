@@ -6,26 +6,25 @@ use Rattle.std.specs.Global.{Vec, Box}
 use Rattle.pcode_assembler.specs.declared.instr.Instr.{Instr}
 use Rattle.typed_tree.specs.declared.tree.Expr.{Expr}
 use Rattle.typed_tree.specs.declared.tree.Link.{Link}
-use Rattle.typed_tree.specs.declared.tree.Expr.TheVariants.{Sum, rolls-Sum, Signed, rolls-Signed}
-use Rattle.typed_tree.specs.declared.tree.Sign.{Sign}
-use Rattle.typed_tree.specs.declared.tree.Sign.TheVariants.{Plus, Minus}
-use Rattle.typed_tree.specs.declared.tree.Expr.TheOpen.Expr-F.{Sum as Sum-layer, Signed as Signed-layer}
+use Rattle.typed_tree.specs.declared.tree.Expr.TheVariants.{Chain, rolls-Chain, Monadic as MonadicOf, rolls-Monadic}
+use Rattle.typed_tree.specs.declared.tree.Monadic.{Monadic}
+use Rattle.typed_tree.specs.declared.tree.Expr.TheOpen.Expr-F.{Chain as Chain-layer, Monadic as Monadic-layer}
 use Rattle.typed_tree.specs.declared.tree.Expr.TheFolds.{fold-roll-Expr, fold_out-Link}
 use Rattle.typed_tree.specs.declared.tree.Stmt.{Stmt}
 use Rattle.typed_tree.specs.declared.tree.Stmt.TheVariants.{Compound, rolls-Compound}
 use Rattle.typed_tree.specs.declared.tree.Stmt.TheOpen.Stmt-F.{Compound as Compound-layer}
 use Rattle.typed_tree.specs.declared.tree.Stmt.TheFolds.{fold-roll-Stmt}
-use Rattle.code_generator.specs.Code.{joined, operation_code, sign_code, expr_step, link_step, expr_code, link_code, stmt_step, stmt_code}
+use Rattle.code_generator.specs.Code.{joined, dyadic_code, monadic_code, expr_step, link_step, expr_code, link_code, stmt_step, stmt_code}
 
 -- the pieces of a list, one for each element
 pub joined-map : {X : Type 0} (piece_of : X → List Instr) (xs : List X) → joined (map piece_of xs) ≡ flat_map piece_of xs
 joined-map piece_of [] = refl
 joined-map piece_of (x ∷ xs) = ap (λ rest. piece_of x ++ rest) (joined-map piece_of xs)
 
--- a sum: its first operand, and each of its links
-pub expr_code-Sum : (first : Box Expr) (rest : Vec Link) → expr_code (Sum first rest) ≡ expr_code first.value ++ flat_map link_code rest.items
-expr_code-Sum first rest =
-    ap expr_code (sym (rolls-Sum first rest)) ∙ fold-roll-Expr (List Instr) (List Instr) expr_step link_step (Sum-layer first rest) ∙ ap (λ p. expr_code first.value ++ p) (joined-map link_code rest.items)
+-- a chain: its first operand, and each of its links
+pub expr_code-Chain : (first : Box Expr) (rest : Vec Link) → expr_code (Chain first rest) ≡ expr_code first.value ++ flat_map link_code rest.items
+expr_code-Chain first rest =
+    ap expr_code (sym (rolls-Chain first rest)) ∙ fold-roll-Expr (List Instr) (List Instr) expr_step link_step (Chain-layer first rest) ∙ ap (λ p. expr_code first.value ++ p) (joined-map link_code rest.items)
 
 -- a compound statement: each of its statements
 pub stmt_code-Compound : (number : ℕ) (statements : Vec Stmt) → stmt_code (Compound number statements) ≡ flat_map stmt_code statements.items
@@ -37,22 +36,17 @@ pub joined_at_end : {X : Type 0} (piece_of : X → List Instr) (code start : Lis
 joined_at_end piece_of code start xs ys i e h same =
     e ∙ ap (λ zs. start ++ flat_map piece_of zs) (take_all i xs h ∙ same)
 
--- a signed operand
-pub expr_code-Signed : (number : ℕ) (sign : Sign) (operand : Box Expr) → expr_code (Signed number sign operand) ≡ expr_code operand.value ++ sign_code sign
-expr_code-Signed number sign operand =
-    ap expr_code (sym (rolls-Signed number sign operand)) ∙ fold-roll-Expr (List Instr) (List Instr) expr_step link_step (Signed-layer number sign operand)
+-- an operation on one operand
+pub expr_code-Monadic : (number : ℕ) (operation : Monadic) (operand : Box Expr) → expr_code (MonadicOf number operation operand) ≡ expr_code operand.value ++ monadic_code operation
+expr_code-Monadic number operation operand =
+    ap expr_code (sym (rolls-Monadic number operation operand)) ∙ fold-roll-Expr (List Instr) (List Instr) expr_step link_step (Monadic-layer number operation operand)
 
--- an operator has two instructions
-length-operation_code : (sign : Sign) (overflow : ℕ) → length (operation_code sign overflow) ≡ 2
-length-operation_code Plus overflow = refl
-length-operation_code Minus overflow = refl
-
-pub length-link_code : (link : Link) → length (link_code link) ≡ length (expr_code link.operand) + 2
+pub length-link_code : (link : Link) → length (link_code link) ≡ length (expr_code link.operand) + length (dyadic_code link.operation)
 length-link_code link =
-    ap length (fold_out-Link (List Instr) (List Instr) expr_step link_step link) ∙ length-append (expr_code link.operand) (operation_code link.operator link.overflow) ∙ ap (λ n. length (expr_code link.operand) + n) (length-operation_code link.operator link.overflow)
+    ap length (fold_out-Link (List Instr) (List Instr) expr_step link_step link) ∙ length-append (expr_code link.operand) (dyadic_code link.operation)
 
 -- how many instructions the first links have, and one more
-pub length-links_more : (links : List Link) (i : ℕ) (link : Link) → i < length links → link ≡ get_or links i link → length (flat_map link_code (take (i + 1) links)) ≡ length (flat_map link_code (take i links)) + (length (expr_code link.operand) + 2)
+pub length-links_more : (links : List Link) (i : ℕ) (link : Link) → i < length links → link ≡ get_or links i link → length (flat_map link_code (take (i + 1) links)) ≡ length (flat_map link_code (take i links)) + (length (expr_code link.operand) + length (dyadic_code link.operation))
 length-links_more links i link h e =
     ap (λ ls. length (flat_map link_code ls)) (take_more links i link h) ∙ ap length (sym (flat_map_more link_code [] (take i links) (get_or links i link))) ∙ length-append (flat_map link_code (take i links)) (link_code (get_or links i link)) ∙ ap (λ l. length (flat_map link_code (take i links)) + length (link_code l)) (sym e) ∙ ap (λ n. length (flat_map link_code (take i links)) + n) (length-link_code link)
 

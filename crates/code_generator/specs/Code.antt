@@ -1,21 +1,30 @@
 -- The code of a typed tree: of an expression (ISO 7185:1990, 6.7), of a statement (6.8) and of a program (6.10), as
 -- functions of the tree. It does not say what the code does: that is for the machine to say.
-use Rattle.std.specs.Prelude.{ℕ, pos, neg_ℤ, ◌+◌, max, min, List, [], ◌∷◌, ◌++◌, Option, Some, None, length, map, slice_get, fold}
+use Rattle.std.specs.Prelude.{ℕ, pos, ◌+◌, max, min, Bool, true, false, List, [], ◌∷◌, ◌++◌, Option, Some, None, length, map, slice_get, fold}
 use Rattle.std.specs.List.{flat_map}
 use Rattle.pcode_assembler.specs.declared.instr.Instr.{Instr}
 use Rattle.pcode_assembler.specs.declared.instr.Instr.TheVariants as instr
 use Rattle.typed_tree.specs.declared.tree.Tree.{Tree}
 use Rattle.typed_tree.specs.declared.tree.Block.{Block}
-use Rattle.typed_tree.specs.declared.tree.Sign.{Sign}
-use Rattle.typed_tree.specs.declared.tree.Sign.TheVariants.{Plus, Minus}
+use Rattle.typed_tree.specs.declared.tree.Monadic.{Monadic}
+use Rattle.typed_tree.specs.declared.tree.Monadic.TheVariants as monadic
+use Rattle.typed_tree.specs.declared.tree.Dyadic.{Dyadic}
+use Rattle.typed_tree.specs.declared.tree.Dyadic.TheVariants as dyadic
+use Rattle.typed_tree.specs.declared.tree.Relation.{Relation}
+use Rattle.typed_tree.specs.declared.tree.Relation.TheVariants as relation
+use Rattle.typed_tree.specs.declared.tree.RangeTest.{RangeTest}
+use Rattle.typed_tree.specs.declared.tree.Representation.{Representation}
+use Rattle.typed_tree.specs.declared.tree.Representation.TheVariants as representation
+use Rattle.typed_tree.specs.declared.tree.Width.{Width}
+use Rattle.typed_tree.specs.declared.tree.WriteParameter.{WriteParameter}
 use Rattle.typed_tree.specs.declared.tree.Expr.{Expr}
 use Rattle.typed_tree.specs.declared.tree.Link.{Link}
 use Rattle.typed_tree.specs.declared.tree.Expr.TheOpen.{Expr-F, Link-F}
-use Rattle.typed_tree.specs.declared.tree.Expr.TheOpen.Expr-F.{Constant, Variable, Signed, Sum}
+use Rattle.typed_tree.specs.declared.tree.Expr.TheOpen.Expr-F.{Constant, Variable, Monadic as MonadicOf, Chain}
 use Rattle.typed_tree.specs.declared.tree.Expr.TheFolds.{fold-Expr, fold-Link}
 use Rattle.typed_tree.specs.declared.tree.Stmt.{Stmt}
 use Rattle.typed_tree.specs.declared.tree.Stmt.TheOpen.{Stmt-F}
-use Rattle.typed_tree.specs.declared.tree.Stmt.TheOpen.Stmt-F.{Empty, Assign, Writeln, Compound}
+use Rattle.typed_tree.specs.declared.tree.Stmt.TheOpen.Stmt-F.{Empty, Assign, Write, Compound}
 use Rattle.typed_tree.specs.declared.tree.Stmt.TheFolds.{fold-Stmt}
 
 -- the pieces one after another
@@ -34,15 +43,37 @@ operand n = min n 4294967295
 abbrev pub variable_offset : ℕ → ℕ
 variable_offset root = operand (root + 4)
 
--- what a sign does to the value before it
-abbrev pub sign_code : Sign → List Instr
-sign_code Plus = []
-sign_code Minus = instr.Negate ∷ []
+-- what an operation does to the value before it, checked
+abbrev pub monadic_code : Monadic → List Instr
+monadic_code monadic.Plus = []
+monadic_code monadic.Minus = instr.Negate ∷ []
+monadic_code monadic.Not = instr.Complement ∷ []
+monadic_code monadic.Abs = instr.Absolute ∷ []
+monadic_code (monadic.Sqr overflow) = instr.CheckSquare overflow ∷ instr.Square ∷ []
+monadic_code monadic.Odd = instr.Odd ∷ []
 
--- what an operator does to the two values before it, checked
-abbrev pub operation_code : Sign → ℕ → List Instr
-operation_code Plus overflow = instr.CheckSum overflow ∷ instr.Add ∷ []
-operation_code Minus overflow = instr.CheckDifference overflow ∷ instr.Subtract ∷ []
+abbrev pub relation_instr : Relation → Instr
+relation_instr relation.Equal = instr.Equal
+relation_instr relation.NotEqual = instr.NotEqual
+relation_instr relation.Less = instr.Less
+relation_instr relation.Greater = instr.Greater
+relation_instr relation.LessOrEqual = instr.LessOrEqual
+relation_instr relation.GreaterOrEqual = instr.GreaterOrEqual
+
+-- a check that a number is at least 1
+abbrev pub check_positive : ℕ → Instr
+check_positive site = instr.CheckRange site (pos 1) (pos 2147483647)
+
+-- what an operation does to the two values before it, checked
+abbrev pub dyadic_code : Dyadic → List Instr
+dyadic_code (dyadic.Plus overflow) = instr.CheckSum overflow ∷ instr.Add ∷ []
+dyadic_code (dyadic.Minus overflow) = instr.CheckDifference overflow ∷ instr.Subtract ∷ []
+dyadic_code (dyadic.Times overflow) = instr.CheckProduct overflow ∷ instr.Multiply ∷ []
+dyadic_code (dyadic.Div by_zero) = instr.CheckZero by_zero ∷ instr.Divide ∷ []
+dyadic_code (dyadic.Mod by_zero_or_less) = check_positive by_zero_or_less ∷ instr.Modulo ∷ []
+dyadic_code dyadic.And = instr.Both ∷ []
+dyadic_code dyadic.Or = instr.Either ∷ []
+dyadic_code (dyadic.Relation r) = relation_instr r ∷ []
 
 -- the value of a variable, checked
 abbrev pub variable_code : ℕ → ℕ → List Instr
@@ -51,11 +82,11 @@ variable_code root defined = instr.Load 0 (variable_offset root) ∷ instr.Check
 abbrev pub expr_step : Expr-F (List Instr) (List Instr) → List Instr
 expr_step (Constant number value) = instr.LoadConstant value ∷ []
 expr_step (Variable access defined) = variable_code access.root defined
-expr_step (Signed number sign operand) = operand.value ++ sign_code sign
-expr_step (Sum first rest) = first.value ++ joined rest.items
+expr_step (MonadicOf number operation operand) = operand.value ++ monadic_code operation
+expr_step (Chain first rest) = first.value ++ joined rest.items
 
 abbrev pub link_step : Link-F (List Instr) (List Instr) → List Instr
-link_step link = link.operand ++ operation_code link.operator link.overflow
+link_step link = link.operand ++ dyadic_code link.operation
 
 -- the code of an expression, which pushes its value
 abbrev pub expr_code : Expr → List Instr
@@ -66,22 +97,43 @@ abbrev pub link_code : Link → List Instr
 link_code = fold-Link (List Instr) (List Instr) expr_step link_step
 
 -- the code of an assignment: the value, its check, and the store
-abbrev pub assign_code : ℕ → ℕ → Expr → List Instr
+abbrev pub assign_code : ℕ → RangeTest → Expr → List Instr
 assign_code root fits value =
-    expr_code value ++ (instr.CheckRange fits (neg_ℤ (pos 2147483647)) (pos 2147483647) ∷ instr.Store 0 (variable_offset root) ∷ [])
+    expr_code value ++ (instr.CheckRange fits.site fits.range.first fits.range.last ∷ instr.Store 0 (variable_offset root) ∷ [])
 
--- the code that writes a value in a width of 10
-abbrev pub write_code : Expr → List Instr
-write_code value = expr_code value ++ (instr.LoadConstant (pos 10) ∷ instr.WriteInteger ∷ [])
+-- the width of a value that has none
+abbrev pub default_width : Representation → Instr
+default_width representation.Integer = instr.LoadConstant (pos 10)
+default_width representation.Boolean = instr.LoadConstant (pos 5)
 
--- the code of a writeln: each value in turn, and a line end
-abbrev pub writeln_code : List Expr → List Instr
-writeln_code values = flat_map write_code values ++ (instr.WriteLine ∷ [])
+-- the code of a width, checked
+abbrev pub width_code : Option Width → Representation → List Instr
+width_code None representation = default_width representation ∷ []
+width_code (Some width) representation = expr_code width.value ++ (check_positive width.site ∷ [])
+
+-- what writes a value, its width on top
+abbrev pub write_instr : Representation → Instr
+write_instr representation.Integer = instr.WriteInteger
+write_instr representation.Boolean = instr.WriteBoolean
+
+-- the code that writes a value
+abbrev pub parameter_code : WriteParameter → List Instr
+parameter_code parameter =
+    expr_code parameter.value ++ (width_code parameter.width parameter.representation ++ (write_instr parameter.representation ∷ []))
+
+-- a line end behind a writeln
+abbrev pub line_end_code : Bool → List Instr
+line_end_code true = instr.WriteLine ∷ []
+line_end_code false = []
+
+-- the code of a write or writeln: each value in turn
+abbrev pub write_code : List WriteParameter → Bool → List Instr
+write_code parameters ends_line = flat_map parameter_code parameters ++ line_end_code ends_line
 
 abbrev pub stmt_step : Stmt-F (List Instr) → List Instr
 stmt_step (Empty number) = []
 stmt_step (Assign number target fits value) = assign_code target.root fits value
-stmt_step (Writeln number values) = writeln_code values.items
+stmt_step (Write number parameters ends_line) = write_code parameters.items ends_line
 stmt_step (Compound number statements) = joined statements.items
 
 -- the code of a statement
@@ -91,8 +143,8 @@ stmt_code = fold-Stmt (List Instr) stmt_step
 abbrev pub expr_depth_step : Expr-F ℕ ℕ → ℕ
 expr_depth_step (Constant number value) = 1
 expr_depth_step (Variable access defined) = 1
-expr_depth_step (Signed number sign operand) = operand.value
-expr_depth_step (Sum first rest) = fold max first.value rest.items
+expr_depth_step (MonadicOf number operation operand) = operand.value
+expr_depth_step (Chain first rest) = fold max first.value rest.items
 
 abbrev pub link_depth_step : Link-F ℕ ℕ → ℕ
 link_depth_step link = link.operand + 1
@@ -105,14 +157,18 @@ expr_depth = fold-Expr ℕ ℕ expr_depth_step link_depth_step
 abbrev pub link_depth : Link → ℕ
 link_depth = fold-Link ℕ ℕ expr_depth_step link_depth_step
 
--- the same of a value that is written, beside its width
-abbrev pub value_depth : Expr → ℕ
-value_depth value = max (expr_depth value) 2
+abbrev pub width_depth : Option Width → ℕ
+width_depth None = 1
+width_depth (Some width) = expr_depth width.value
+
+-- the same of a value that is written: beside it, its width is evaluated
+abbrev pub parameter_depth : WriteParameter → ℕ
+parameter_depth parameter = max (expr_depth parameter.value) (width_depth parameter.width + 1)
 
 abbrev pub stmt_depth_step : Stmt-F ℕ → ℕ
 stmt_depth_step (Empty number) = 0
 stmt_depth_step (Assign number target fits value) = expr_depth value
-stmt_depth_step (Writeln number values) = greatest (map value_depth values.items)
+stmt_depth_step (Write number parameters ends_line) = greatest (map parameter_depth parameters.items)
 stmt_depth_step (Compound number statements) = greatest statements.items
 
 -- how many cells the evaluation of a statement needs at once

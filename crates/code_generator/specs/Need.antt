@@ -4,16 +4,18 @@
 use Rattle.std.specs.Prelude.{ℕ, ◌+◌, Option, Some, None, length, sum, sum_by, slice_get}
 use Rattle.typed_tree.specs.declared.tree.Tree.{Tree}
 use Rattle.typed_tree.specs.declared.tree.Block.{Block}
+use Rattle.typed_tree.specs.declared.tree.Width.{Width}
+use Rattle.typed_tree.specs.declared.tree.WriteParameter.{WriteParameter}
 use Rattle.typed_tree.specs.declared.tree.Expr.{Expr}
 use Rattle.typed_tree.specs.declared.tree.Expr.TheOpen.{Expr-F, Link-F}
-use Rattle.typed_tree.specs.declared.tree.Expr.TheOpen.Expr-F.{Constant, Variable, Signed, Sum}
+use Rattle.typed_tree.specs.declared.tree.Expr.TheOpen.Expr-F.{Constant, Variable, Monadic as MonadicOf, Chain}
 use Rattle.typed_tree.specs.declared.tree.Expr.TheFolds.{fold-Expr}
 use Rattle.typed_tree.specs.declared.tree.Stmt.{Stmt}
 use Rattle.typed_tree.specs.declared.tree.Stmt.TheOpen.{Stmt-F}
-use Rattle.typed_tree.specs.declared.tree.Stmt.TheOpen.Stmt-F.{Empty, Assign, Writeln, Compound}
+use Rattle.typed_tree.specs.declared.tree.Stmt.TheOpen.Stmt-F.{Empty, Assign, Write, Compound}
 use Rattle.typed_tree.specs.declared.tree.Stmt.TheFolds.{fold-Stmt}
 
--- an expression whose value is an integer, which has one cell
+-- an expression whose value is an ordinal, which has one cell
 abbrev pub one_value : ℕ
 one_value = 8 + 1
 
@@ -21,8 +23,8 @@ one_value = 8 + 1
 abbrev pub expr_need_step : Expr-F ℕ ℕ → ℕ
 expr_need_step (Constant number value) = one_value
 expr_need_step (Variable access defined) = one_value
-expr_need_step (Signed number sign operand) = one_value + operand.value
-expr_need_step (Sum first rest) = first.value + sum rest.items
+expr_need_step (MonadicOf number operation operand) = one_value + operand.value
+expr_need_step (Chain first rest) = first.value + sum rest.items
 
 abbrev pub link_need_step : Link-F ℕ ℕ → ℕ
 link_need_step link = one_value + link.operand
@@ -30,11 +32,18 @@ link_need_step link = one_value + link.operand
 abbrev pub expr_need : Expr → ℕ
 expr_need = fold-Expr ℕ ℕ expr_need_step link_need_step
 
+abbrev pub width_need : Option Width → ℕ
+width_need None = 0
+width_need (Some width) = expr_need width.value
+
+abbrev pub parameter_need : WriteParameter → ℕ
+parameter_need parameter = expr_need parameter.value + width_need parameter.width
+
 -- a statement, which has no value, and what is in it; the target of an assignment is an expression
 abbrev pub stmt_need_step : Stmt-F ℕ → ℕ
 stmt_need_step (Empty number) = 8
 stmt_need_step (Assign number target fits value) = 8 + one_value + expr_need value
-stmt_need_step (Writeln number values) = 8 + sum_by expr_need values.items
+stmt_need_step (Write number parameters ends_line) = 8 + sum_by parameter_need parameters.items
 stmt_need_step (Compound number statements) = 8 + sum statements.items
 
 abbrev pub stmt_need : Stmt → ℕ
@@ -44,6 +53,6 @@ abbrev pub body_need : Option Block → ℕ
 body_need None = 0
 body_need (Some block) = stmt_need block.body
 
--- the program's block; each of its variables is an integer and has one cell
+-- the program's block; each of its variables is an ordinal and has one cell
 abbrev pub program_need : Tree → ℕ
 program_need tree = 8 + length tree.variables.items + body_need (slice_get tree.blocks.items 0)

@@ -1,7 +1,7 @@
 ghost use Rattle.std.specs.Prelude.{◌≡◌, map};
-ghost use Rattle.code_generator.specs.Code.{expr_depth, greatest, operand, stmt_depth, value_depth};
+ghost use Rattle.code_generator.specs.Code.{expr_depth, greatest, operand, parameter_depth, stmt_depth, width_depth};
 
-use typed_tree::tree::{Expr, Stmt};
+use typed_tree::tree::{Expr, Stmt, WriteParameter};
 
 /// How many cells the evaluation of the statement needs at once, or the greatest operand.
 pub fn needed_by(stmt: &Stmt) -> u32
@@ -10,7 +10,7 @@ pub fn needed_by(stmt: &Stmt) -> u32
     match stmt {
         Stmt::Empty { .. } => 0,
         Stmt::Assign { value, .. } => needed_by_expr(value),
-        Stmt::Writeln { values, .. } => needed_by_values(values.as_slice()),
+        Stmt::Write { parameters, .. } => needed_by_parameters(parameters.as_slice()),
         Stmt::Compound { statements, .. } => {
             let mut depth = 0;
             for statement in statements {
@@ -21,15 +21,33 @@ pub fn needed_by(stmt: &Stmt) -> u32
     }
 }
 
-/// The same of the values of a writeln: each is written beside its width.
-fn needed_by_values(values: &[Expr]) -> u32
-    ensures { result ≡ operand (greatest (map value_depth values.now)) }
+/// The same of the values of a write or writeln.
+fn needed_by_parameters(parameters: &[WriteParameter]) -> u32
+    ensures { result ≡ operand (greatest (map parameter_depth parameters.now)) }
 {
     let mut depth = 0;
-    for value in values {
-        depth = depth.max(needed_by_expr(value).max(2));
+    for parameter in parameters {
+        depth = depth.max(needed_by_parameter(parameter));
     }
     depth
+}
+
+/// The same of a value that is written: its width is evaluated beside it.
+fn needed_by_parameter(parameter: &WriteParameter) -> u32
+    ensures { result ≡ operand (parameter_depth parameter.now) }
+{
+    let width = needed_by_width(parameter).saturating_add(1);
+    needed_by_expr(&parameter.value).max(width)
+}
+
+/// The same of the width alone.
+fn needed_by_width(parameter: &WriteParameter) -> u32
+    ensures { result ≡ operand (width_depth parameter.now.width) }
+{
+    match &parameter.width {
+        None => 1,
+        Some(width) => needed_by_expr(&width.value),
+    }
 }
 
 /// How many cells the evaluation of the expression needs at once, that of its value among them.
@@ -38,8 +56,8 @@ pub fn needed_by_expr(expr: &Expr) -> u32
 {
     match expr {
         Expr::Constant { .. } | Expr::Variable { .. } => 1,
-        Expr::Signed { operand, .. } => needed_by_expr(operand),
-        Expr::Sum { first, rest } => {
+        Expr::Monadic { operand, .. } => needed_by_expr(operand),
+        Expr::Chain { first, rest } => {
             let mut depth = needed_by_expr(first);
             for link in rest {
                 depth = depth.max(needed_by_expr(&link.operand).saturating_add(1));

@@ -1,15 +1,20 @@
 ghost use Rattle.std.specs.Prelude.{◌≡◌, [], ◌∷◌, ◌++◌, OnOk};
-ghost use Rattle.code_generator.specs.Code.{assign_code, expr_code, operation_code, sign_code, stmt_code, variable_code, variable_offset, writeln_code};
+ghost use Rattle.code_generator.specs.Code.{assign_code, check_positive, default_width, dyadic_code, expr_code, line_end_code, monadic_code, parameter_code, relation_instr, stmt_code, variable_code, variable_offset, width_code, write_code, write_instr};
 
 use pcode_assembler::instr::Instr;
 use std::alloc::AllocError;
-use typed_tree::tree::{Access, Expr, Sign, Stmt};
+use typed_tree::tree::{
+    Access, Dyadic, Expr, Monadic, RangeTest, Relation, Representation, Stmt, WriteParameter,
+};
 
-/// The greatest value of the type integer (ISO 7185:1990, 6.4.2.2); the least is its negation.
+/// The greatest value of the type integer (ISO 7185:1990, 6.4.2.2).
 const MAXINT: i32 = 2147483647;
 
 /// The total width of an integer that is written without one.
-const WIDTH: i32 = 10;
+const INTEGER_WIDTH: i32 = 10;
+
+/// The total width of a Boolean that is written without one.
+const BOOLEAN_WIDTH: i32 = 5;
 
 /// How many cells a frame has before its variables.
 const LINKS: u32 = 4;
@@ -26,7 +31,11 @@ pub fn emit_stmt(code: &mut Vec<Instr>, stmt: &Stmt) -> Result<(), AllocError>
             value,
             ..
         } => emit_assign(code, *target, *fits, value),
-        Stmt::Writeln { values, .. } => emit_writeln(code, values.as_slice()),
+        Stmt::Write {
+            parameters,
+            ends_line,
+            ..
+        } => emit_write(code, parameters.as_slice(), *ends_line),
         Stmt::Compound { statements, .. } => {
             for statement in statements {
                 emit_stmt(code, statement)?;
@@ -40,7 +49,7 @@ pub fn emit_stmt(code: &mut Vec<Instr>, stmt: &Stmt) -> Result<(), AllocError>
 fn emit_assign(
     code: &mut Vec<Instr>,
     target: Access,
-    fits: u32,
+    fits: RangeTest,
     value: &Expr,
 ) -> Result<(), AllocError>
     ensures { OnOk result (code.new.items ≡ code.old.items ++ assign_code target.root fits value.now) }
@@ -50,24 +59,82 @@ fn emit_assign(
     put(
         code,
         Instr::CheckRange {
-            site: fits,
-            low: -MAXINT,
-            high: MAXINT,
+            site: fits.site,
+            low: fits.range.first,
+            high: fits.range.last,
         },
     )?;
     put(code, Instr::Store { level: 0, offset })
 }
 
-/// Each value with its width, and a line end.
-fn emit_writeln(code: &mut Vec<Instr>, values: &[Expr]) -> Result<(), AllocError>
-    ensures { OnOk result (code.new.items ≡ code.old.items ++ writeln_code values.now) }
+/// Each value that is written, and a line end behind a writeln.
+fn emit_write(
+    code: &mut Vec<Instr>,
+    parameters: &[WriteParameter],
+    ends_line: bool,
+) -> Result<(), AllocError>
+    ensures { OnOk result (code.new.items ≡ code.old.items ++ write_code parameters.now ends_line) }
 {
-    for value in values {
-        emit_expr(code, value)?;
-        put(code, Instr::LoadConstant { value: WIDTH })?;
-        put(code, Instr::WriteInteger)?;
+    for parameter in parameters {
+        emit_parameter(code, parameter)?;
     }
-    put(code, Instr::WriteLine)
+    emit_line_end(code, ends_line)
+}
+
+/// A value that is written: it, its width, and the output of both.
+fn emit_parameter(code: &mut Vec<Instr>, parameter: &WriteParameter) -> Result<(), AllocError>
+    ensures { OnOk result (code.new.items ≡ code.old.items ++ parameter_code parameter.now) }
+{
+    emit_expr(code, &parameter.value)?;
+    emit_width(code, parameter)?;
+    put(code, output_of(parameter.representation))
+}
+
+/// The width of a value that is written, checked, or the default one.
+fn emit_width(code: &mut Vec<Instr>, parameter: &WriteParameter) -> Result<(), AllocError>
+    ensures { OnOk result (code.new.items ≡ code.old.items ++ width_code parameter.now.width parameter.now.representation) }
+{
+    match &parameter.width {
+        None => put(code, width_without(parameter.representation)),
+        Some(width) => {
+            emit_expr(code, &width.value)?;
+            put(code, positive_at(width.site))
+        }
+    }
+}
+
+/// A line end behind a writeln.
+fn emit_line_end(code: &mut Vec<Instr>, ends_line: bool) -> Result<(), AllocError>
+    ensures { OnOk result (code.new.items ≡ code.old.items ++ line_end_code ends_line) }
+{
+    if ends_line {
+        put(code, Instr::WriteLine)?;
+    }
+    Ok(())
+}
+
+/// The width of a value that is written without one.
+fn width_without(representation: Representation) -> Instr
+    ensures { result ≡ default_width representation }
+{
+    match representation {
+        Representation::Integer => Instr::LoadConstant {
+            value: INTEGER_WIDTH,
+        },
+        Representation::Boolean => Instr::LoadConstant {
+            value: BOOLEAN_WIDTH,
+        },
+    }
+}
+
+/// What writes a value, its width on top.
+fn output_of(representation: Representation) -> Instr
+    ensures { result ≡ write_instr representation }
+{
+    match representation {
+        Representation::Integer => Instr::WriteInteger,
+        Representation::Boolean => Instr::WriteBoolean,
+    }
 }
 
 /// The instructions of an expression: its value is pushed.
@@ -77,15 +144,19 @@ pub fn emit_expr(code: &mut Vec<Instr>, expr: &Expr) -> Result<(), AllocError>
     match expr {
         Expr::Constant { value, .. } => put(code, Instr::LoadConstant { value: *value }),
         Expr::Variable { access, defined } => emit_variable(code, *access, *defined),
-        Expr::Signed { sign, operand, .. } => {
+        Expr::Monadic {
+            operation,
+            operand,
+            ..
+        } => {
             emit_expr(code, operand)?;
-            emit_sign(code, *sign)
+            emit_monadic(code, *operation)
         }
-        Expr::Sum { first, rest } => {
+        Expr::Chain { first, rest } => {
             emit_expr(code, first)?;
             for link in rest {
                 emit_expr(code, &link.operand)?;
-                emit_operation(code, link.operator, link.overflow)?;
+                emit_dyadic(code, link.operation)?;
             }
             Ok(())
         }
@@ -107,29 +178,76 @@ fn emit_variable(code: &mut Vec<Instr>, access: Access, defined: u32) -> Result<
     )
 }
 
-/// What a sign does to the value before it.
-fn emit_sign(code: &mut Vec<Instr>, sign: Sign) -> Result<(), AllocError>
-    ensures { OnOk result (code.new.items ≡ code.old.items ++ sign_code sign) }
+/// What an operation does to the value before it, checked.
+fn emit_monadic(code: &mut Vec<Instr>, operation: Monadic) -> Result<(), AllocError>
+    ensures { OnOk result (code.new.items ≡ code.old.items ++ monadic_code operation) }
 {
-    match sign {
-        Sign::Plus => Ok(()),
-        Sign::Minus => put(code, Instr::Negate),
+    match operation {
+        Monadic::Plus => Ok(()),
+        Monadic::Minus => put(code, Instr::Negate),
+        Monadic::Not => put(code, Instr::Complement),
+        Monadic::Abs => put(code, Instr::Absolute),
+        Monadic::Sqr { overflow } => put_checked(
+            code,
+            Instr::CheckSquare { site: overflow },
+            Instr::Square,
+        ),
+        Monadic::Odd => put(code, Instr::Odd),
     }
 }
 
-/// What an operator does to the two values before it, checked.
-fn emit_operation(code: &mut Vec<Instr>, operator: Sign, overflow: u32) -> Result<(), AllocError>
-    ensures { OnOk result (code.new.items ≡ code.old.items ++ operation_code operator overflow) }
+/// What an operation does to the two values before it, checked.
+fn emit_dyadic(code: &mut Vec<Instr>, operation: Dyadic) -> Result<(), AllocError>
+    ensures { OnOk result (code.new.items ≡ code.old.items ++ dyadic_code operation) }
 {
-    match operator {
-        Sign::Plus => {
-            put(code, Instr::CheckSum { site: overflow })?;
-            put(code, Instr::Add)
+    match operation {
+        Dyadic::Plus { overflow } => {
+            put_checked(code, Instr::CheckSum { site: overflow }, Instr::Add)
         }
-        Sign::Minus => {
-            put(code, Instr::CheckDifference { site: overflow })?;
-            put(code, Instr::Subtract)
+        Dyadic::Minus { overflow } => put_checked(
+            code,
+            Instr::CheckDifference { site: overflow },
+            Instr::Subtract,
+        ),
+        Dyadic::Times { overflow } => put_checked(
+            code,
+            Instr::CheckProduct { site: overflow },
+            Instr::Multiply,
+        ),
+        Dyadic::Div { by_zero } => {
+            put_checked(code, Instr::CheckZero { site: by_zero }, Instr::Divide)
         }
+        Dyadic::Mod { by_zero_or_less } => {
+            put_checked(code, positive_at(by_zero_or_less), Instr::Modulo)
+        }
+        Dyadic::And => put(code, Instr::Both),
+        Dyadic::Or => put(code, Instr::Either),
+        Dyadic::Relation(relation) => put(code, comparison_of(relation)),
+    }
+}
+
+/// What compares the two values before it.
+fn comparison_of(relation: Relation) -> Instr
+    ensures { result ≡ relation_instr relation }
+{
+    match relation {
+        Relation::Equal => Instr::Equal,
+        Relation::NotEqual => Instr::NotEqual,
+        Relation::Less => Instr::Less,
+        Relation::Greater => Instr::Greater,
+        Relation::LessOrEqual => Instr::LessOrEqual,
+        Relation::GreaterOrEqual => Instr::GreaterOrEqual,
+    }
+}
+
+/// A check that the number on top is at least 1.
+fn positive_at(site: u32) -> Instr
+    ensures { result ≡ check_positive site }
+{
+    Instr::CheckRange {
+        site,
+        low: 1,
+        high: MAXINT,
     }
 }
 
@@ -138,6 +256,14 @@ fn offset_of(access: Access) -> u32
     ensures { result ≡ variable_offset access.root }
 {
     access.root.saturating_add(LINKS)
+}
+
+/// A check, and the instruction that it is for.
+fn put_checked(code: &mut Vec<Instr>, check: Instr, instr: Instr) -> Result<(), AllocError>
+    ensures { OnOk result (code.new.items ≡ code.old.items ++ check ∷ instr ∷ []) }
+{
+    put(code, check)?;
+    put(code, instr)
 }
 
 /// One more instruction.

@@ -1,8 +1,8 @@
 ghost use Rattle.std.specs.Prelude.{◌≡◌, length};
 ghost use Rattle.std.specs.List.{flat_map};
-ghost use Rattle.code_generator.specs.Code.{expr_code, operand, program_code, sign_code, stmt_code, write_code};
+ghost use Rattle.code_generator.specs.Code.{dyadic_code, expr_code, line_end_code, monadic_code, operand, parameter_code, program_code, stmt_code, width_code};
 
-use typed_tree::tree::{Expr, Sign, Stmt, Tree};
+use typed_tree::tree::{Dyadic, Expr, Monadic, Stmt, Tree, WriteParameter};
 
 /// How many instructions the program has, or the greatest operand.
 pub fn program_size(tree: &Tree) -> u32
@@ -21,7 +21,11 @@ fn stmt_size(stmt: &Stmt) -> u32
     match stmt {
         Stmt::Empty { .. } => 0,
         Stmt::Assign { value, .. } => expr_size(value).saturating_add(2),
-        Stmt::Writeln { values, .. } => values_size(values.as_slice()).saturating_add(1),
+        Stmt::Write {
+            parameters,
+            ends_line,
+            ..
+        } => parameters_size(parameters.as_slice()).saturating_add(line_end_size(*ends_line)),
         Stmt::Compound { statements, .. } => {
             let mut size = 0u32;
             for statement in statements {
@@ -32,15 +36,41 @@ fn stmt_size(stmt: &Stmt) -> u32
     }
 }
 
-/// The same of the values of a writeln.
-fn values_size(values: &[Expr]) -> u32
-    ensures { result ≡ operand (length (flat_map write_code values.now)) }
+/// The same of the values of a write or writeln.
+fn parameters_size(parameters: &[WriteParameter]) -> u32
+    ensures { result ≡ operand (length (flat_map parameter_code parameters.now)) }
 {
     let mut size = 0u32;
-    for value in values {
-        size = size.saturating_add(expr_size(value).saturating_add(2));
+    for parameter in parameters {
+        size = size.saturating_add(parameter_size(parameter));
     }
     size
+}
+
+/// The same of a value that is written, and its width.
+fn parameter_size(parameter: &WriteParameter) -> u32
+    ensures { result ≡ operand (length (parameter_code parameter.now)) }
+{
+    expr_size(&parameter.value)
+        .saturating_add(width_size(parameter))
+        .saturating_add(1)
+}
+
+/// The same of the width alone.
+fn width_size(parameter: &WriteParameter) -> u32
+    ensures { result ≡ operand (length (width_code parameter.now.width parameter.now.representation)) }
+{
+    match &parameter.width {
+        None => 1,
+        Some(width) => expr_size(&width.value).saturating_add(1),
+    }
+}
+
+/// How many instructions end the line behind a writeln.
+fn line_end_size(ends_line: bool) -> u32
+    ensures { result ≡ length (line_end_code ends_line) }
+{
+    u32::from(ends_line)
 }
 
 /// How many instructions the expression has, or the greatest operand.
@@ -50,23 +80,43 @@ fn expr_size(expr: &Expr) -> u32
     match expr {
         Expr::Constant { .. } => 1,
         Expr::Variable { .. } => 2,
-        Expr::Signed { sign, operand, .. } => expr_size(operand).saturating_add(sign_size(*sign)),
-        Expr::Sum { first, rest } => {
+        Expr::Monadic {
+            operation,
+            operand,
+            ..
+        } => expr_size(operand).saturating_add(monadic_size(*operation)),
+        Expr::Chain { first, rest } => {
             let mut size = expr_size(first);
             for link in rest {
-                size = size.saturating_add(expr_size(&link.operand).saturating_add(2));
+                let operand = expr_size(&link.operand);
+                size = size.saturating_add(operand.saturating_add(dyadic_size(link.operation)));
             }
             size
         }
     }
 }
 
-/// How many instructions a sign has.
-fn sign_size(sign: Sign) -> u32
-    ensures { result ≡ length (sign_code sign) }
+/// How many instructions an operation on one operand has.
+fn monadic_size(operation: Monadic) -> u32
+    ensures { result ≡ length (monadic_code operation) }
 {
-    match sign {
-        Sign::Plus => 0,
-        Sign::Minus => 1,
+    match operation {
+        Monadic::Plus => 0,
+        Monadic::Minus | Monadic::Not | Monadic::Abs | Monadic::Odd => 1,
+        Monadic::Sqr { .. } => 2,
+    }
+}
+
+/// How many instructions an operation on two operands has.
+fn dyadic_size(operation: Dyadic) -> u32
+    ensures { result ≡ length (dyadic_code operation) }
+{
+    match operation {
+        Dyadic::Plus { .. }
+        | Dyadic::Minus { .. }
+        | Dyadic::Times { .. }
+        | Dyadic::Div { .. }
+        | Dyadic::Mod { .. } => 2,
+        Dyadic::And | Dyadic::Or | Dyadic::Relation(_) => 1,
     }
 }
