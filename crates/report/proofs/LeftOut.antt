@@ -11,7 +11,7 @@ use Rattle.stack_machine.specs.declared.stop.MachineFault.{MachineFault}
 use Rattle.stack_machine.specs.declared.stop.MachineFault.TheVariants.{OutOfBounds}
 use Rattle.stack_machine.specs.Frames as frames
 use Rattle.stack_machine.specs.Frames.{Frames, Attempt}
-use Rattle.stack_machine.specs.Machine.{State, Next, and_then, error_of, checked, with_frame, with_frames, number_written, acted, obeyed, taken}
+use Rattle.stack_machine.specs.Machine.{State, Next, and_then, error_of, checked, with_frame, with_frames, number_written, truth_written, acted, obeyed, taken}
 use Rattle.stack_machine.specs.Run.{Outcome, outcome_of, steps, first_state, run_of}
 use Rattle.check_remover.specs.Strip.{stays, moved, moved_place, strip_by}
 
@@ -49,12 +49,16 @@ acted-at i place m = and_then-at place (frames.acted i m.frames) (with_frames (a
 pub obeyed-at : (sites : List Site) (i : Instr) (place : ℕ) (m : State) → obeyed sites i (at place m) ≡ placed place (obeyed sites i m)
 obeyed-at sites (instr.Enter variables evaluation) place m = with_frame-at place m (frames.entered variables evaluation m.frames)
 obeyed-at sites instr.WriteInteger place m = and_then-at place (frames.top_two m.frames) (number_written (at place m)) (number_written m) (λ numbers. refl)
+obeyed-at sites instr.WriteBoolean place m = and_then-at place (frames.top_two m.frames) (truth_written (at place m)) (truth_written m) (λ numbers. refl)
 obeyed-at sites instr.WriteLine place m = refl
 obeyed-at sites instr.Stop place m = refl
 obeyed-at sites (instr.CheckRange site low high) place m = checked-at sites site place m (frames.top_is_in_range low high m.frames)
+obeyed-at sites (instr.CheckZero site) place m = checked-at sites site place m (frames.top_is_not_zero m.frames)
 obeyed-at sites (instr.CheckDefined site count) place m = checked-at sites site place m (frames.top_is_defined count m.frames)
 obeyed-at sites (instr.CheckSum site) place m = checked-at sites site place m (frames.sum_is_integer m.frames)
 obeyed-at sites (instr.CheckDifference site) place m = checked-at sites site place m (frames.difference_is_integer m.frames)
+obeyed-at sites (instr.CheckProduct site) place m = checked-at sites site place m (frames.product_is_integer m.frames)
+obeyed-at sites (instr.CheckSquare site) place m = checked-at sites site place m (frames.square_is_integer m.frames)
 obeyed-at sites i place m = acted-at i place m
 
 -- an instruction that jumps isn't built yet, so it does the same wherever it jumps to
@@ -144,9 +148,9 @@ left_out-passes sites is_open (instr.CheckRange site low high) m h = checked-pas
 left_out-passes sites is_open (instr.CheckDefined site count) m h = checked-passes sites is_open site m (frames.top_is_defined count m.frames) h
 left_out-passes sites is_open (instr.CheckSum site) m h = checked-passes sites is_open site m (frames.sum_is_integer m.frames) h
 left_out-passes sites is_open (instr.CheckDifference site) m h = checked-passes sites is_open site m (frames.difference_is_integer m.frames) h
-left_out-passes sites is_open (instr.CheckZero site) m h = not_built sites is_open m
-left_out-passes sites is_open (instr.CheckProduct site) m h = not_built sites is_open m
-left_out-passes sites is_open (instr.CheckSquare site) m h = not_built sites is_open m
+left_out-passes sites is_open (instr.CheckZero site) m h = checked-passes sites is_open site m (frames.top_is_not_zero m.frames) h
+left_out-passes sites is_open (instr.CheckProduct site) m h = checked-passes sites is_open site m (frames.product_is_integer m.frames) h
+left_out-passes sites is_open (instr.CheckSquare site) m h = checked-passes sites is_open site m (frames.square_is_integer m.frames) h
 left_out-passes sites is_open (instr.CheckMembers site) m h = not_built sites is_open m
 left_out-passes sites is_open (instr.CheckSet site low high) m h = not_built sites is_open m
 left_out-passes sites is_open (instr.Fail site) m h = not_built sites is_open m

@@ -26,7 +26,7 @@ impl Numbers {
     }
 }
 
-const PIECES: [&str; 28] = [
+const PIECES: [&str; 44] = [
     "program ",
     "p",
     "(output)",
@@ -55,12 +55,28 @@ const PIECES: [&str; 28] = [
     "goto ",
     "(*",
     "^",
+    "*",
+    " div ",
+    " mod ",
+    " and ",
+    " or ",
+    " not ",
+    "=",
+    "<>",
+    "<",
+    ">=",
+    "true",
+    "write",
+    "sqr(",
+    ": 1",
+    "Boolean",
+    "odd",
 ];
 
 fn text_of_pieces(alloc: Global, numbers: &mut Numbers) -> Result<Vec<u8>, AllocError> {
     let mut text = Vec::new(alloc);
     for _ in 0..numbers.below(30) {
-        let piece = PIECES[numbers.below(28)];
+        let piece = PIECES[numbers.below(44)];
         text.extend_from_slice(piece.as_bytes())?;
     }
     Ok(text)
@@ -98,9 +114,12 @@ fn any_text_is_answered(rt: HostRuntime) -> Result<(), Fail> {
     Ok(())
 }
 
-// A program of a few assignments and writings over three variables.
+// A program of a few assignments and writings over three integers and two Booleans.
 fn program(alloc: Global, numbers: &mut Numbers) -> Result<Vec<u8>, AllocError> {
-    let mut text = Vec::from_slice(alloc, b"program p(output); var a, b, c: integer; begin ")?;
+    let mut text = Vec::from_slice(
+        alloc,
+        b"program p(output); var a, b, c: integer; d, e: Boolean; begin a := 3; d := true; ",
+    )?;
     for _ in 0..numbers.below(8) {
         statement(numbers, &mut text)?;
         text.extend_from_slice(b"; ")?;
@@ -110,45 +129,130 @@ fn program(alloc: Global, numbers: &mut Numbers) -> Result<Vec<u8>, AllocError> 
 }
 
 fn statement(numbers: &mut Numbers, text: &mut Vec<u8>) -> Result<(), AllocError> {
-    match numbers.below(4) {
+    match numbers.below(7) {
         0 => {
             text.extend_from_slice(b"writeln(")?;
-            sum(numbers, text)?;
+            integer(numbers, text, 2)?;
+            width(numbers, text)?;
             text.extend_from_slice(b")")
         }
         1 => text.extend_from_slice(b"writeln"),
-        _ => {
-            variable(numbers, text)?;
+        2 => {
+            text.extend_from_slice(b"write(")?;
+            boolean(numbers, text, 2)?;
+            width(numbers, text)?;
+            text.extend_from_slice(b", a)")
+        }
+        3 | 4 => {
+            text.push(b'd' + numbers.below(2) as u8)?;
             text.extend_from_slice(b" := ")?;
-            sum(numbers, text)
+            boolean(numbers, text, 2)
+        }
+        _ => {
+            text.push(b'a' + numbers.below(3) as u8)?;
+            text.extend_from_slice(b" := ")?;
+            integer(numbers, text, 2)
         }
     }
 }
 
-fn sum(numbers: &mut Numbers, text: &mut Vec<u8>) -> Result<(), AllocError> {
-    if numbers.below(3) == 0 {
-        text.extend_from_slice(b"-")?;
+fn width(numbers: &mut Numbers, text: &mut Vec<u8>) -> Result<(), AllocError> {
+    match numbers.below(6) {
+        0 => text.extend_from_slice(b":3"),
+        1 => text.extend_from_slice(b":a"),
+        2 => text.extend_from_slice(b":b - 1"),
+        _ => Ok(()),
     }
-    operand(numbers, text)?;
-    for _ in 0..numbers.below(3) {
-        text.extend_from_slice(if numbers.below(2) == 0 { b"+" } else { b"-" })?;
-        operand(numbers, text)?;
-    }
-    Ok(())
 }
 
-fn operand(numbers: &mut Numbers, text: &mut Vec<u8>) -> Result<(), AllocError> {
-    match numbers.below(5) {
+const SUMS: [&str; 6] = [" + ", " - ", " * ", " div ", " mod ", " - "];
+
+const RELATIONS: [&str; 6] = [" = ", " <> ", " < ", " > ", " <= ", " >= "];
+
+const LOGICAL: [&str; 2] = [" and ", " or "];
+
+// An expression of type integer, so many operators deep.
+fn integer(numbers: &mut Numbers, text: &mut Vec<u8>, depth: usize) -> Result<(), AllocError> {
+    if depth == 0 {
+        return number(numbers, text);
+    }
+    match numbers.below(8) {
+        0 => number(numbers, text),
+        1 => {
+            text.extend_from_slice(b"abs(")?;
+            integer(numbers, text, depth - 1)?;
+            text.extend_from_slice(b")")
+        }
+        2 => {
+            text.extend_from_slice(b"sqr(")?;
+            integer(numbers, text, depth - 1)?;
+            text.extend_from_slice(b")")
+        }
+        3 => {
+            text.extend_from_slice(b"(-")?;
+            integer(numbers, text, depth - 1)?;
+            text.extend_from_slice(b")")
+        }
+        _ => {
+            text.extend_from_slice(b"(")?;
+            integer(numbers, text, depth - 1)?;
+            text.extend_from_slice(SUMS[numbers.below(6)].as_bytes())?;
+            integer(numbers, text, depth - 1)?;
+            text.extend_from_slice(b")")
+        }
+    }
+}
+
+// An expression of type Boolean, so many operators deep.
+fn boolean(numbers: &mut Numbers, text: &mut Vec<u8>, depth: usize) -> Result<(), AllocError> {
+    if depth == 0 {
+        return truth(numbers, text);
+    }
+    match numbers.below(6) {
+        0 => truth(numbers, text),
+        1 => {
+            text.extend_from_slice(b"not ")?;
+            boolean(numbers, text, depth - 1)
+        }
+        2 => {
+            text.extend_from_slice(b"(")?;
+            boolean(numbers, text, depth - 1)?;
+            text.extend_from_slice(LOGICAL[numbers.below(2)].as_bytes())?;
+            boolean(numbers, text, depth - 1)?;
+            text.extend_from_slice(b")")
+        }
+        3 => {
+            text.extend_from_slice(b"odd(")?;
+            integer(numbers, text, depth - 1)?;
+            text.extend_from_slice(b")")
+        }
+        _ => {
+            text.extend_from_slice(b"(")?;
+            integer(numbers, text, depth - 1)?;
+            text.extend_from_slice(RELATIONS[numbers.below(6)].as_bytes())?;
+            integer(numbers, text, depth - 1)?;
+            text.extend_from_slice(b")")
+        }
+    }
+}
+
+fn number(numbers: &mut Numbers, text: &mut Vec<u8>) -> Result<(), AllocError> {
+    match numbers.below(8) {
         0 => text.extend_from_slice(b"maxint"),
         1 => text.extend_from_slice(b"1"),
-        2 => text.extend_from_slice(b"(2-3)"),
-        _ => variable(numbers, text),
+        2 => text.extend_from_slice(b"(2 - 3)"),
+        3 => text.extend_from_slice(b"46341"),
+        4 | 5 => text.extend_from_slice(b"a"),
+        _ => Ok(text.push(b'a' + numbers.below(3) as u8)?),
     }
 }
 
-fn variable(numbers: &mut Numbers, text: &mut Vec<u8>) -> Result<(), AllocError> {
-    text.push(b'a' + numbers.below(3) as u8)?;
-    Ok(())
+fn truth(numbers: &mut Numbers, text: &mut Vec<u8>) -> Result<(), AllocError> {
+    match numbers.below(4) {
+        0 => text.extend_from_slice(b"false"),
+        1 => text.extend_from_slice(b"e"),
+        _ => text.extend_from_slice(b"d"),
+    }
 }
 
 #[test]

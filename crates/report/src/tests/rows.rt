@@ -6,7 +6,7 @@ use stack_machine::stop::{InputFault, MachineFault};
 // A source, what is told of it, what it writes, the line of its stop, and the status.
 type Row = (&'static str, &'static str, &'static str, &'static str, u8);
 
-const ROWS: [Row; 9] = [
+const ROWS: [Row; 23] = [
     (
         "program p(output); var x, y: integer; begin x := 7; y := x - 10; writeln(x + y, -x) end.",
         "",
@@ -64,6 +64,104 @@ const ROWS: [Row; 9] = [
         "1:73: error: overflow\n",
         4,
     ),
+    (
+        "program p(output); begin writeln(-7 div 2, -7 mod 2, (-7) mod 2) end.",
+        "",
+        "        -3        -1         1\n",
+        "",
+        0,
+    ),
+    (
+        "program p(output); begin write(true:2, 5:1) end.",
+        "",
+        "tr5",
+        "",
+        0,
+    ),
+    (
+        "program p(output); begin write(5:0) end.",
+        "1:34: possible error: width\n",
+        "",
+        "1:34: error: width\n",
+        4,
+    ),
+    (
+        "program p(output); var x: integer; begin x := 3; writeln(10 div x, 10 mod x) end.",
+        "",
+        "         3         1\n",
+        "",
+        0,
+    ),
+    (
+        "program p(output); var x: integer; begin x := 0; writeln(10 div x) end.",
+        "1:61: possible error: division by zero\n",
+        "",
+        "1:61: error: division by zero\n",
+        4,
+    ),
+    (
+        "program p(output); var x: integer; begin x := -1; writeln(5 mod x) end.",
+        "1:61: possible error: mod by zero or less\n",
+        "",
+        "1:61: error: mod by zero or less\n",
+        4,
+    ),
+    (
+        "program p(output); var b: Boolean; begin b := 1 < 2; writeln(b, not b, b and (2 < 1), b or (2 < 1)) end.",
+        "",
+        " truefalsefalse true\n",
+        "",
+        0,
+    ),
+    (
+        "program p(output); var z: integer; begin z := 0; writeln((1 > 2) and (1 div z = 1)) end.",
+        "1:73: possible error: division by zero\n",
+        "",
+        "1:73: error: division by zero\n",
+        4,
+    ),
+    (
+        "program p(output); begin writeln(sqr(-46340), abs(-7), odd(-3), odd(4)) end.",
+        "",
+        "2147395600         7 truefalse\n",
+        "",
+        0,
+    ),
+    (
+        "program p(output); var x: integer; begin x := 46341; writeln(sqr(x)) end.",
+        "1:62: possible error: overflow\n",
+        "",
+        "1:62: error: overflow\n",
+        4,
+    ),
+    (
+        "program p(output); var x: integer; begin x := -46341; writeln(x * x) end.",
+        "1:65: possible error: overflow\n",
+        "",
+        "1:65: error: overflow\n",
+        4,
+    ),
+    (
+        "program p(output); var true: integer; begin true := 5; writeln(true:1) end.",
+        "",
+        "5\n",
+        "",
+        0,
+    ),
+    (
+        "program p(output); var w: integer; begin w := 3; write(7:w, false:w + 5, -12:1); writeln end.",
+        "",
+        "  7   false-12\n",
+        "",
+        0,
+    ),
+    (
+        "program p(output); begin writeln(2 + 3 * 4:1, 7 - 2 - 1:2, 1 = 1:4, (1 < 2) = (2 < 1):5) end.",
+        "",
+        "14 4truefalse\n",
+        "",
+        0,
+    ),
 ];
 
 #[test]
@@ -87,7 +185,14 @@ fn rows_run_as_the_rules_say(rt: HostRuntime) -> Result<(), Fail> {
 fn each_entry_is_visited_once(rt: HostRuntime) -> Result<(), Fail> {
     let alloc = rt.alloc();
     // Of the first row: 4 statements, 2 targets, 6 factors, 2 operators and 1 sign.
-    let rows = [(ROWS[0].0, 15), ("program p; begin end.", 2)];
+    let rows = [
+        (ROWS[0].0, 15),
+        ("program p; begin end.", 2),
+        // 2 statements, 2 values and 1 width.
+        ("program p(output); begin write(1:2, true) end.", 5),
+        // 2 statements, and `not`, `odd`, a sign and a number.
+        ("program p(output); begin write(not odd(-1)) end.", 6),
+    ];
     for (source, visits) in rows {
         let compiled = compile(alloc, source.as_bytes(), None)?;
         assert_eq!(rt; compiled.verdict.visits, visits, "{source}");
@@ -110,7 +215,81 @@ fn refusals_stand_at_their_places(rt: HostRuntime) -> Result<(), Fail> {
         ("program p; begin '' end.", "1:18: refused L4\n"),
         ("program p; begin 99999999999a", "1:18: refused L5\n"),
         ("program p; begin '\u{7}' end.", "1:19: refused L8\n"),
-        ("program p; begin x := 1 < 2 end.", "1:25: refused P1\n"),
+        (
+            "program p; var x: integer; begin x := 1 < 2 < 3 end.",
+            "1:45: refused P1\n",
+        ),
+        (
+            "program p(output); begin write(1:2:3) end.",
+            "1:35: refused P1\n",
+        ),
+        (
+            "program p(output); begin write() end.",
+            "1:32: refused P1\n",
+        ),
+        (
+            "program p; var b: Boolean; begin b := 1 end.",
+            "1:36: refused K1\n",
+        ),
+        (
+            "program p; var x: integer; begin x := true end.",
+            "1:36: refused K1\n",
+        ),
+        (
+            "program p; var b: Boolean; begin b := not 1 end.",
+            "1:39: refused K1\n",
+        ),
+        (
+            "program p; var x: integer; begin x := -true end.",
+            "1:39: refused K1\n",
+        ),
+        (
+            "program p; var b: Boolean; begin b := 1 and true end.",
+            "1:41: refused K1\n",
+        ),
+        (
+            "program p; var b: Boolean; begin b := 1 = true end.",
+            "1:41: refused K1\n",
+        ),
+        (
+            "program p; var x: integer; begin x := 1 + true end.",
+            "1:41: refused K1\n",
+        ),
+        (
+            "program p; var x: integer; begin x := abs(true) end.",
+            "1:43: refused K1\n",
+        ),
+        (
+            "program p(output); begin write(1:true) end.",
+            "1:34: refused K1\n",
+        ),
+        (
+            "program p(output); begin write(integer) end.",
+            "1:32: refused K1\n",
+        ),
+        (
+            "program p; var x: integer; begin x := abs(1, 2) end.",
+            "1:39: refused K3\n",
+        ),
+        (
+            "program p; var x: integer; begin x := abs(1:2) end.",
+            "1:39: refused K3\n",
+        ),
+        (
+            "program p; var x: integer; begin x := abs end.",
+            "1:39: refused K3\n",
+        ),
+        ("program p(output); begin write end.", "1:26: refused K3\n"),
+        (
+            "program p(output); begin write(output) end.",
+            "1:26: refused K3\n",
+        ),
+        ("program p; begin abs(1) end.", "1:18: refused K3\n"),
+        ("program p; begin write(1) end.", "1:18: refused K8\n"),
+        (
+            "program p; var x: integer; begin x := maxint(1) end.",
+            "1:39: refused K1\n",
+        ),
         ("program p; begin nil end.", "1:18: refused P3\n"),
         (
             "program p; var a, a: integer; begin end.",
