@@ -1,0 +1,1 @@
+program p; var b: Boolean; begin b := 1 end.

@@ -1,0 +1,1 @@
+program p; begin odd(1) end.

@@ -1,0 +1,1 @@
+program p; var x: integer; begin x := abs(1:2) end.

@@ -1,0 +1,1 @@
+program p(output); begin write(output) end.

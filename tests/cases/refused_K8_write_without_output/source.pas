@@ -1,0 +1,1 @@
+program p; begin write(1) end.

@@ -1,0 +1,1 @@
+program p(output); begin write(true:2, 5:1) end.
