@@ -47,7 +47,7 @@ impl Model for Ordinal {
 
 impl Ordinal {
     /// The ordinal of a number.
-    pub fn new(number: i32) -> Ordinal
+    pub(crate) fn new(number: i32) -> Ordinal
         ensures { result ≡ number }
     {
         Ordinal {
@@ -56,14 +56,14 @@ impl Ordinal {
     }
 
     /// Its number.
-    pub fn number(self) -> i64
+    pub(crate) fn number(self) -> i64
         ensures { result ≡ self }
     {
         self.number
     }
 
     /// The ordinal with the other sign.
-    pub fn negated(self) -> Ordinal
+    pub(crate) fn negated(self) -> Ordinal
         ensures { result ≡ neg_ℤ self }
     {
         Ordinal {
@@ -72,35 +72,35 @@ impl Ordinal {
     }
 
     /// Whether it is of type integer: -2147483647 to 2147483647 (ISO 7185:1990, 6.4.2.2).
-    pub fn is_integer(self) -> bool
+    pub(crate) fn is_integer(self) -> bool
         ensures { result ≡ is_integer_number self }
     {
         -2_147_483_647 <= self.number && self.number <= 2_147_483_647
     }
 
     /// The sum, if it is of type integer.
-    pub fn plus(self, other: Ordinal) -> Option<Ordinal>
+    pub(crate) fn plus(self, other: Ordinal) -> Option<Ordinal>
         ensures { result ≡ integer_or_none (self +ℤ other) }
     {
         integer(self.number + other.number)
     }
 
     /// The difference, if it is of type integer.
-    pub fn minus(self, other: Ordinal) -> Option<Ordinal>
+    pub(crate) fn minus(self, other: Ordinal) -> Option<Ordinal>
         ensures { result ≡ integer_or_none (self -ℤ other) }
     {
         integer(self.number - other.number)
     }
 
     /// The product, if it is of type integer.
-    pub fn times(self, other: Ordinal) -> Option<Ordinal>
+    pub(crate) fn times(self, other: Ordinal) -> Option<Ordinal>
         ensures { result ≡ integer_or_none (self *ℤ other) }
     {
         integer(self.number * other.number)
     }
 
     /// The quotient, cut toward zero (6.7.2.2). The divisor isn't 0.
-    pub fn quotient(self, divisor: Ordinal) -> Ordinal
+    pub(crate) fn quotient(self, divisor: Ordinal) -> Ordinal
         requires { divisor ≢ pos 0 }
         ensures { result ≡ int_div self divisor }
     {
@@ -110,7 +110,7 @@ impl Ordinal {
     }
 
     /// The remainder that isn't negative (6.7.2.2). The divisor is at least 1.
-    pub fn modulus(self, divisor: Ordinal) -> Ordinal
+    pub(crate) fn modulus(self, divisor: Ordinal) -> Ordinal
         requires { pos 1 ≤ℤ divisor }
         ensures { result ≡ int_rem_euclid self divisor }
     {
@@ -120,7 +120,7 @@ impl Ordinal {
     }
 
     /// The ordinal without its sign.
-    pub fn magnitude(self) -> Ordinal
+    pub(crate) fn magnitude(self) -> Ordinal
         ensures { result ≡ magnitude self }
     {
         if self.number < 0 {
@@ -131,14 +131,14 @@ impl Ordinal {
     }
 
     /// Whether it is odd.
-    pub fn is_odd(self) -> bool
+    pub(crate) fn is_odd(self) -> bool
         ensures { result ≡ is_odd self }
     {
         self.number.rem_euclid(2) == 1
     }
 
     /// The ordinal of a truth value: false is 0, true is 1 (6.4.2.2).
-    pub fn truth(holds: bool) -> Ordinal
+    pub(crate) fn truth(holds: bool) -> Ordinal
         ensures { result ≡ truth holds }
     {
         Ordinal {
@@ -147,35 +147,35 @@ impl Ordinal {
     }
 
     /// Its truth value: whether it isn't 0.
-    pub fn is_true(self) -> bool
+    pub(crate) fn is_true(self) -> bool
         ensures { result ≡ is_true self }
     {
         self.number != 0
     }
 
     /// Whether it lies within `first` to `last`.
-    pub fn is_within(self, first: i32, last: i32) -> bool
+    pub(crate) fn is_within(self, first: i32, last: i32) -> bool
         ensures { result ≡ is_within first last self }
     {
         i64::from(first) <= self.number && self.number <= i64::from(last)
     }
 
     /// Whether it is equal to another.
-    pub fn equals(self, other: Ordinal) -> bool
+    pub(crate) fn equals(self, other: Ordinal) -> bool
         ensures { result ≡ int_eq self other }
     {
         self.number == other.number
     }
 
     /// Whether it is less than another.
-    pub fn is_less_than(self, other: Ordinal) -> bool
+    pub(crate) fn is_less_than(self, other: Ordinal) -> bool
         ensures { result ≡ int_lt self other }
     {
         self.number < other.number
     }
 
     /// Whether it is at most another.
-    pub fn is_at_most(self, other: Ordinal) -> bool
+    pub(crate) fn is_at_most(self, other: Ordinal) -> bool
         ensures { result ≡ int_le self other }
     {
         self.number <= other.number
