@@ -236,6 +236,7 @@ fn a_width_is_entered_behind_its_value(rt: HostRuntime) -> Result<(), Fail> {
     let Stmt::Compound { statements, .. } = &tree.blocks[0].body else {
         panic!(rt; "no compound");
     };
+    assert_eq!(rt; statements.len(), 1);
     let Stmt::Write {
         number: 1,
         parameters,
@@ -244,6 +245,7 @@ fn a_width_is_entered_behind_its_value(rt: HostRuntime) -> Result<(), Fail> {
     else {
         panic!(rt; "no write");
     };
+    assert_eq!(rt; parameters.len(), 1);
     assert_eq!(rt; parameters[0].representation, Representation::Boolean);
     let Expr::Monadic {
         number: 2,
@@ -395,6 +397,7 @@ fn required_names_may_be_redefined(rt: HostRuntime) -> Result<(), Fail> {
     let Stmt::Compound { statements, .. } = &tree.blocks[0].body else {
         panic!(rt; "no compound");
     };
+    assert_eq!(rt; statements.len(), 1);
     let Stmt::Assign {
         number: 1,
         target,
