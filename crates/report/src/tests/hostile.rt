@@ -132,26 +132,26 @@ fn statement(numbers: &mut Numbers, text: &mut Vec<u8>) -> Result<(), AllocError
     match numbers.below(7) {
         0 => {
             text.extend_from_slice(b"writeln(")?;
-            integer(numbers, text, 2)?;
+            integer(numbers, text)?;
             width(numbers, text)?;
             text.extend_from_slice(b")")
         }
         1 => text.extend_from_slice(b"writeln"),
         2 => {
             text.extend_from_slice(b"write(")?;
-            boolean(numbers, text, 2)?;
+            boolean(numbers, text)?;
             width(numbers, text)?;
             text.extend_from_slice(b", a)")
         }
         3 | 4 => {
             text.push(b'd' + numbers.below(2) as u8)?;
             text.extend_from_slice(b" := ")?;
-            boolean(numbers, text, 2)
+            boolean(numbers, text)
         }
         _ => {
             text.push(b'a' + numbers.below(3) as u8)?;
             text.extend_from_slice(b" := ")?;
-            integer(numbers, text, 2)
+            integer(numbers, text)
         }
     }
 }
@@ -171,66 +171,119 @@ const RELATIONS: [&str; 6] = [" = ", " <> ", " < ", " > ", " <= ", " >= "];
 
 const LOGICAL: [&str; 2] = [" and ", " or "];
 
-// An expression of type integer, so many operators deep.
-fn integer(numbers: &mut Numbers, text: &mut Vec<u8>, depth: usize) -> Result<(), AllocError> {
-    if depth == 0 {
-        return number(numbers, text);
-    }
+// An expression of type integer, of one operator at most.
+fn shallow(numbers: &mut Numbers, text: &mut Vec<u8>) -> Result<(), AllocError> {
     match numbers.below(8) {
         0 => number(numbers, text),
         1 => {
             text.extend_from_slice(b"abs(")?;
-            integer(numbers, text, depth - 1)?;
+            number(numbers, text)?;
             text.extend_from_slice(b")")
         }
         2 => {
             text.extend_from_slice(b"sqr(")?;
-            integer(numbers, text, depth - 1)?;
+            number(numbers, text)?;
             text.extend_from_slice(b")")
         }
         3 => {
             text.extend_from_slice(b"(-")?;
-            integer(numbers, text, depth - 1)?;
+            number(numbers, text)?;
             text.extend_from_slice(b")")
         }
         _ => {
             text.extend_from_slice(b"(")?;
-            integer(numbers, text, depth - 1)?;
+            number(numbers, text)?;
             text.extend_from_slice(SUMS[numbers.below(6)].as_bytes())?;
-            integer(numbers, text, depth - 1)?;
+            number(numbers, text)?;
             text.extend_from_slice(b")")
         }
     }
 }
 
-// An expression of type Boolean, so many operators deep.
-fn boolean(numbers: &mut Numbers, text: &mut Vec<u8>, depth: usize) -> Result<(), AllocError> {
-    if depth == 0 {
-        return truth(numbers, text);
-    }
-    match numbers.below(6) {
-        0 => truth(numbers, text),
+// An expression of type integer, of one or two operators.
+fn integer(numbers: &mut Numbers, text: &mut Vec<u8>) -> Result<(), AllocError> {
+    match numbers.below(8) {
+        0 => number(numbers, text),
         1 => {
-            text.extend_from_slice(b"not ")?;
-            boolean(numbers, text, depth - 1)
+            text.extend_from_slice(b"abs(")?;
+            shallow(numbers, text)?;
+            text.extend_from_slice(b")")
         }
         2 => {
-            text.extend_from_slice(b"(")?;
-            boolean(numbers, text, depth - 1)?;
-            text.extend_from_slice(LOGICAL[numbers.below(2)].as_bytes())?;
-            boolean(numbers, text, depth - 1)?;
+            text.extend_from_slice(b"sqr(")?;
+            shallow(numbers, text)?;
             text.extend_from_slice(b")")
         }
         3 => {
-            text.extend_from_slice(b"odd(")?;
-            integer(numbers, text, depth - 1)?;
+            text.extend_from_slice(b"(-")?;
+            shallow(numbers, text)?;
             text.extend_from_slice(b")")
         }
         _ => {
             text.extend_from_slice(b"(")?;
-            integer(numbers, text, depth - 1)?;
+            shallow(numbers, text)?;
+            text.extend_from_slice(SUMS[numbers.below(6)].as_bytes())?;
+            shallow(numbers, text)?;
+            text.extend_from_slice(b")")
+        }
+    }
+}
+
+// An expression of type Boolean, of one operator at most.
+fn shallow_truth(numbers: &mut Numbers, text: &mut Vec<u8>) -> Result<(), AllocError> {
+    match numbers.below(6) {
+        0 => truth(numbers, text),
+        1 => {
+            text.extend_from_slice(b"not ")?;
+            truth(numbers, text)
+        }
+        2 => {
+            text.extend_from_slice(b"(")?;
+            truth(numbers, text)?;
+            text.extend_from_slice(LOGICAL[numbers.below(2)].as_bytes())?;
+            truth(numbers, text)?;
+            text.extend_from_slice(b")")
+        }
+        3 => {
+            text.extend_from_slice(b"odd(")?;
+            shallow(numbers, text)?;
+            text.extend_from_slice(b")")
+        }
+        _ => {
+            text.extend_from_slice(b"(")?;
+            shallow(numbers, text)?;
             text.extend_from_slice(RELATIONS[numbers.below(6)].as_bytes())?;
-            integer(numbers, text, depth - 1)?;
+            shallow(numbers, text)?;
+            text.extend_from_slice(b")")
+        }
+    }
+}
+
+// An expression of type Boolean, of one or two operators.
+fn boolean(numbers: &mut Numbers, text: &mut Vec<u8>) -> Result<(), AllocError> {
+    match numbers.below(6) {
+        0 => truth(numbers, text),
+        1 => {
+            text.extend_from_slice(b"not ")?;
+            shallow_truth(numbers, text)
+        }
+        2 => {
+            text.extend_from_slice(b"(")?;
+            shallow_truth(numbers, text)?;
+            text.extend_from_slice(LOGICAL[numbers.below(2)].as_bytes())?;
+            shallow_truth(numbers, text)?;
+            text.extend_from_slice(b")")
+        }
+        3 => {
+            text.extend_from_slice(b"odd(")?;
+            shallow(numbers, text)?;
+            text.extend_from_slice(b")")
+        }
+        _ => {
+            text.extend_from_slice(b"(")?;
+            shallow(numbers, text)?;
+            text.extend_from_slice(RELATIONS[numbers.below(6)].as_bytes())?;
+            shallow(numbers, text)?;
             text.extend_from_slice(b")")
         }
     }
