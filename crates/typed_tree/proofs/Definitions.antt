@@ -15,14 +15,15 @@ use Rattle.parser.specs.declared.tree.Name.{Name}
 use Rattle.parser.specs.declared.tree.VariableGroup.{VariableGroup}
 use Rattle.parser.specs.declared.tree.TypeDenoter.{TypeDenoter}
 use Rattle.parser.specs.declared.tree.TypeDenoter.TheVariants as denoter
-use Rattle.typed_tree.specs.declared.types.TypeId.{TypeId}
+use Rattle.types.specs.declared.form.TypeId.{TypeId}
 use Rattle.typed_tree.specs.declared.tree.Variable.{Variable as DeclaredVariable}
-use Rattle.typed_tree.specs.declared.denotation.Denotation.{Denotation}
-use Rattle.typed_tree.specs.declared.denotation.Denotation.TheVariants as denotes
-use Rattle.typed_tree.specs.declared.denotation.ScopeFault.TheVariants as fault
+use Rattle.scopes.specs.declared.denotation.Denotation.{Denotation}
+use Rattle.scopes.specs.declared.denotation.Denotation.TheVariants as denotes
+use Rattle.scopes.specs.declared.fault.ScopeFault.TheVariants as fault
 use Rattle.typed_tree.specs.Names.{Definition, folded, same_name, required, looked_up, or_outer, type_named, denoter_type, typed_names, definitions, defined_names, denoted, AreDistinct}
-use Rattle.typed_tree.specs.Scopes.{Region, decided, found}
-use Rattle.typed_tree.specs.Regions.{said, is_defined, roots_from, Opens, OpensRequired, Defines, Passes, DenotesType, PassesGroups}
+use Rattle.scopes.specs.Scopes.{said, Region, decided, found}
+use Rattle.scopes.specs.Growth.{is_defined, Opens, Defines}
+use Rattle.typed_tree.specs.Regions.{roots_from, OpensRequired, Passes, DenotesType, PassesGroups}
 use Rattle.typed_tree.specs.Typing.{type_denoted, declared}
 use Rattle.typed_tree.proofs.Regions.{same_text, same_self}
 
@@ -85,77 +86,76 @@ looked_up-known (d ∷ ds) name = by (same_name d.0 name) (pointwise nat_eq (fol
     by false true h r = absurd (true≢false (sym h))
     by false false h r = r
 
-module _ {S : Type 0} where
-  -- the innermost region holds these definitions, and they are of different names
-  pub record Holds (names : List (List ℕ)) (outer : List (Region S)) (ds : List Definition) (regions : List (Region S)) : Type 0 where
-    pub region : Region S
-    pub last : regions ≡ outer ++ region ∷ []
-    pub says : (name : List ℕ) → said region (folded name) ≡ told (looked_up ds name) (known names (folded name))
-    pub distinct : AllPairs Apart ds
+-- the innermost region holds these definitions, and they are of different names
+pub record Holds (names : List (List ℕ)) (outer : List Region) (ds : List Definition) (regions : List Region) : Type 0 where
+  pub region : Region
+  pub last : regions ≡ outer ++ region ∷ []
+  pub says : (name : List ℕ) → said region (folded name) ≡ told (looked_up ds name) (known names (folded name))
+  pub distinct : AllPairs Apart ds
 
-  pub last_same : (xs ys : List (Region S)) (x y : Region S) → xs ++ x ∷ [] ≡ ys ++ y ∷ [] → (xs ≡ ys) × (x ≡ y)
-  last_same [] [] x y h = (refl, cc)
-  last_same [] (z ∷ zs) x y h = absurd (omega (arith, ap length h, length-append zs (y ∷ [])))
-  last_same (z ∷ zs) [] x y h = absurd (omega (arith, ap length h, length-append zs (x ∷ [])))
-  last_same (z ∷ zs) (w ∷ ws) x y h =
-      let rest : zs ++ x ∷ [] ≡ ws ++ y ∷ [] = cc in
-      let first : z ≡ w = cc in
-      let r = last_same zs ws x y rest in (cc (first, r.0), r.1)
+pub last_same : (xs ys : List Region) (x y : Region) → xs ++ x ∷ [] ≡ ys ++ y ∷ [] → (xs ≡ ys) × (x ≡ y)
+last_same [] [] x y h = (refl, cc)
+last_same [] (z ∷ zs) x y h = absurd (omega (arith, ap length h, length-append zs (y ∷ [])))
+last_same (z ∷ zs) [] x y h = absurd (omega (arith, ap length h, length-append zs (x ∷ [])))
+last_same (z ∷ zs) (w ∷ ws) x y h =
+    let rest : zs ++ x ∷ [] ≡ ws ++ y ∷ [] = cc in
+    let first : z ≡ w = cc in
+    let r = last_same zs ws x y rest in (cc (first, r.0), r.1)
 
-  -- a region that opens holds no definition
-  pub opens_holds : (names : List (List ℕ)) (old new : List (Region S)) → Opens names old new → Holds names old [] new
-  opens_holds names old new h = record {
-    region = h.region;
-    last = h.last;
-    says = λ name. h.says (folded name);
-    distinct = λ i j d less within. absurd (omega arith);
-  }
+-- a region that opens holds no definition
+pub opens_holds : (names : List (List ℕ)) (old new : List Region) → Opens names old new → Holds names old [] new
+opens_holds names old new h = record {
+  region = h.region;
+  last = h.last;
+  says = λ name. h.says (folded name);
+  distinct = λ i j d less within. absurd (omega arith);
+}
 
-  module _ (names : List (List ℕ)) (outer : List (Region S)) where
-    -- and one more
-    defines_holds : (ds : List Definition) (d : Definition) (old new : List (Region S)) → Holds names outer ds old → Defines (folded d.0) d.1 old new → Holds names outer (ds ++ d ∷ []) new
-    defines_holds ds d old new h p =
-        let same = last_same outer p.outer h.region p.before (sym h.last ∙ p.was_last) in
-        let before : (name : List ℕ) → said p.before (folded name) ≡ told (looked_up ds name) (known names (folded name)) =
-        λ name. ap (λ r. said r (folded name)) (sym same.1) ∙ h.says name in
-        let fresh : looked_up ds d.0 ≡ None = unlooked (looked_up ds d.0) (list_any (pointwise nat_eq (folded d.0)) names) (ap is_defined (sym (before d.0)) ∙ p.undefined) in
-        record {
-          region = p.after;
-          last = p.last ∙ ap (λ l. l ++ p.after ∷ []) (sym same.0);
-          says = λ name.
-              p.says (folded name)
-              ∙ ap (λ o. if pointwise nat_eq (folded name) (folded d.0) then Some (Some d.1) else o) (before name)
-              ∙ by name fresh (pointwise nat_eq (folded name) (folded d.0)) refl
-              ∙ sym (ap (λ o. told o (known names (folded name))) (looked_up-append ds (d ∷ []) name));
-          distinct = all_pairs_push Apart ds d h.distinct (λ k e within. none_alike ds d.0 fresh k e within);
-        }
-      where
-        unlooked : (o : Option Denotation) (b : Bool) → is_defined (told o (if b then Some None else None)) ≡ false → o ≡ None
-        unlooked None b t = refl
-        unlooked (Some x) b t = absurd (true≢false t)
+module _ (names : List (List ℕ)) (outer : List Region) where
+  -- and one more
+  defines_holds : (ds : List Definition) (d : Definition) (old new : List Region) → Holds names outer ds old → Defines (folded d.0) d.1 old new → Holds names outer (ds ++ d ∷ []) new
+  defines_holds ds d old new h p =
+      let same = last_same outer p.outer h.region p.before (sym h.last ∙ p.was_last) in
+      let before : (name : List ℕ) → said p.before (folded name) ≡ told (looked_up ds name) (known names (folded name)) =
+      λ name. ap (λ r. said r (folded name)) (sym same.1) ∙ h.says name in
+      let fresh : looked_up ds d.0 ≡ None = unlooked (looked_up ds d.0) (list_any (pointwise nat_eq (folded d.0)) names) (ap is_defined (sym (before d.0)) ∙ p.undefined) in
+      record {
+        region = p.after;
+        last = p.last ∙ ap (λ l. l ++ p.after ∷ []) (sym same.0);
+        says = λ name.
+            p.says (folded name)
+            ∙ ap (λ o. if pointwise nat_eq (folded name) (folded d.0) then Some (Some d.1) else o) (before name)
+            ∙ by name fresh (pointwise nat_eq (folded name) (folded d.0)) refl
+            ∙ sym (ap (λ o. told o (known names (folded name))) (looked_up-append ds (d ∷ []) name));
+        distinct = all_pairs_push Apart ds d h.distinct (λ k e within. none_alike ds d.0 fresh k e within);
+      }
+    where
+      unlooked : (o : Option Denotation) (b : Bool) → is_defined (told o (if b then Some None else None)) ≡ false → o ≡ None
+      unlooked None b t = refl
+      unlooked (Some x) b t = absurd (true≢false t)
 
-        kept : (o : Option Denotation) (rest : Option (Option Denotation)) → told o rest ≡ told (or_outer o None) rest
-        kept None rest = refl
-        kept (Some x) rest = refl
+      kept : (o : Option Denotation) (rest : Option (Option Denotation)) → told o rest ≡ told (or_outer o None) rest
+      kept None rest = refl
+      kept (Some x) rest = refl
 
-        by : (name : List ℕ) → looked_up ds d.0 ≡ None → (b : Bool) → pointwise nat_eq (folded name) (folded d.0) ≡ b
-            → (if b then Some (Some d.1) else told (looked_up ds name) (known names (folded name)))
-            ≡ told (or_outer (looked_up ds name) (looked_up (d ∷ []) name)) (known names (folded name))
-        by name fresh true t =
-            let here : same_name d.0 name ≡ true = turned (folded d.0) (folded name) ∙ t in
-            let none : looked_up ds name ≡ None = looked_up-same ds name d.0 (same_text _ _ t) ∙ fresh in
-            ap (λ c. told (or_outer None (if c then Some d.1 else None)) (known names (folded name))) (sym here)
-            ∙ ap (λ o. told (or_outer o (looked_up (d ∷ []) name)) (known names (folded name))) (sym none)
-        by name fresh false t =
-            let here : same_name d.0 name ≡ false = turned (folded d.0) (folded name) ∙ t in
-            kept (looked_up ds name) (known names (folded name))
-            ∙ ap (λ c. told (or_outer (looked_up ds name) (if c then Some d.1 else None)) (known names (folded name))) (sym here)
+      by : (name : List ℕ) → looked_up ds d.0 ≡ None → (b : Bool) → pointwise nat_eq (folded name) (folded d.0) ≡ b
+          → (if b then Some (Some d.1) else told (looked_up ds name) (known names (folded name)))
+          ≡ told (or_outer (looked_up ds name) (looked_up (d ∷ []) name)) (known names (folded name))
+      by name fresh true t =
+          let here : same_name d.0 name ≡ true = turned (folded d.0) (folded name) ∙ t in
+          let none : looked_up ds name ≡ None = looked_up-same ds name d.0 (same_text _ _ t) ∙ fresh in
+          ap (λ c. told (or_outer None (if c then Some d.1 else None)) (known names (folded name))) (sym here)
+          ∙ ap (λ o. told (or_outer o (looked_up (d ∷ []) name)) (known names (folded name))) (sym none)
+      by name fresh false t =
+          let here : same_name d.0 name ≡ false = turned (folded d.0) (folded name) ∙ t in
+          kept (looked_up ds name) (known names (folded name))
+          ∙ ap (λ c. told (or_outer (looked_up ds name) (if c then Some d.1 else None)) (known names (folded name))) (sym here)
 
-    -- and more
-    pub passes_holds : (ds es : List Definition) (old new : List (Region S)) → Holds names outer ds old → Passes es old new → Holds names outer (ds ++ es) new
-    passes_holds ds [] old new h p = subst (λ l. Holds names outer l new) (sym (append-nil ds)) (subst (Holds names outer ds) (sym p) h)
-    passes_holds ds (e ∷ es) old new h p =
-        subst (λ l. Holds names outer l new) (append_assoc ds (e ∷ []) es) (passes_holds (ds ++ e ∷ []) es p.0 new (defines_holds ds e old p.0 h p.1) p.2)
+  -- and more
+  pub passes_holds : (ds es : List Definition) (old new : List Region) → Holds names outer ds old → Passes es old new → Holds names outer (ds ++ es) new
+  passes_holds ds [] old new h p = subst (λ l. Holds names outer l new) (sym (append-nil ds)) (subst (Holds names outer ds) (sym p) h)
+  passes_holds ds (e ∷ es) old new h p =
+      subst (λ l. Holds names outer l new) (append_assoc ds (e ∷ []) es) (passes_holds (ds ++ e ∷ []) es p.0 new (defines_holds ds e old p.0 h p.1) p.2)
 
 -- definitions that are of apart type
 abbrev pub Typeless : List Definition → Type 0
@@ -241,9 +241,9 @@ IsTypeBeside names (denoter.Name name) =
 abbrev pub names_of : List VariableGroup → List Name
 names_of groups = flat_map (λ group. group.names.items) groups
 
-module _ {S : Type 0} (names : List (List ℕ)) (round : Region S) (says_required : (name : List ℕ) → said round (folded name) ≡ told (looked_up required name) None) where
+module _ (names : List (List ℕ)) (round : Region) (says_required : (name : List ℕ) → said round (folded name) ≡ told (looked_up required name) None) where
   -- the innermost region is asked first, and then that of the required identifiers
-  pub found_is : (ds : List Definition) (regions : List (Region S)) → Holds names (round ∷ []) ds regions → (name : List ℕ)
+  pub found_is : (ds : List Definition) (regions : List Region) → Holds names (round ∷ []) ds regions → (name : List ℕ)
       → found regions (folded name) ≡ decided (told (looked_up ds name) (known names (folded name))) (decided (told (looked_up required name) None) (Err fault.NotDeclared))
   found_is ds regions h name =
       ap (λ l. found l (folded name)) h.last
@@ -251,7 +251,7 @@ module _ {S : Type 0} (names : List (List ℕ)) (round : Region S) (says_require
       ∙ ap (λ o. decided o (decided (told (looked_up required name) None) (Err fault.NotDeclared))) (h.says name)
 
   -- a type that is found is a required one
-  pub denotes_type : (ds : List Definition) (regions : List (Region S)) → Holds names (round ∷ []) ds regions → Typeless ds
+  pub denotes_type : (ds : List Definition) (regions : List Region) → Holds names (round ∷ []) ds regions → Typeless ds
       → (d : TypeDenoter) (t : TypeId) → DenotesType regions d t → IsTypeBeside names d × (t ≡ denoter_type d)
   denotes_type ds regions h apart (denoter.Name name) t is =
       let n = name.text.now in
@@ -260,12 +260,12 @@ module _ {S : Type 0} (names : List (List ℕ)) (round : Region S) (says_require
       ((r.0, r.1 ∙ ap (λ u. Some (denotes.TypeName u)) same), same)
 
   -- what groups leave
-  pub record GroupsHold (gs : List VariableGroup) (ds : List Definition) (vs : List DeclaredVariable) (new : List (Region S)) (ws : List DeclaredVariable) : Type 0 where
+  pub record GroupsHold (gs : List VariableGroup) (ds : List Definition) (vs : List DeclaredVariable) (new : List Region) (ws : List DeclaredVariable) : Type 0 where
     pub holds : Holds names (round ∷ []) (ds ++ typed_roots (length vs) (typed_of gs)) new
     pub variables : ws ≡ vs ++ map declared (typed_of gs)
     pub types : All (λ group. IsTypeBeside names group.denoter) gs
 
-  pub groups_hold : (gs : List VariableGroup) (ds : List Definition) (old new : List (Region S)) (vs ws : List DeclaredVariable)
+  pub groups_hold : (gs : List VariableGroup) (ds : List Definition) (old new : List Region) (vs ws : List DeclaredVariable)
       → Holds names (round ∷ []) ds old → Typeless ds → PassesGroups gs old vs new ws → GroupsHold gs ds vs new ws
   groups_hold [] ds old new vs ws h apart p = record {
     holds = subst (λ l. Holds names (round ∷ []) l new) (sym (append-nil ds)) (subst (Holds names (round ∷ []) ds) (sym p.0) h);
@@ -344,7 +344,7 @@ distinct_names ds names same apart = λ i j d less within.
     ap (λ (t : List ℕ). same_name t (get_or names j d).text.now) (sym (text i)) ∙ ap (same_name (get_or ds i e).0) (sym (text j)) ∙ apart i j e less (omega arith)
 
 -- what the resolver's calls leave of a program's declarations
-pub record AreDeclared {S : Type 0} (program : Program) (has_output : Bool) (variables : List DeclaredVariable) (regions : List (Region S)) : Type 0 where
+pub record AreDeclared (program : Program) (has_output : Bool) (variables : List DeclaredVariable) (regions : List Region) : Type 0 where
   pub parameters : All (λ name. folded name.text.now ≡ codes "output") program.parameters.items
   pub output : has_output ≡ nat_lt 0 (length program.parameters.items)
   pub distinct : AreDistinct (defined_names program)
@@ -352,61 +352,60 @@ pub record AreDeclared {S : Type 0} (program : Program) (has_output : Bool) (var
   pub variables_are : variables ≡ map declared (typed_names program)
   pub found_are : (name : List ℕ) → found regions (folded name) ≡ ok_or (denoted program name) fault.NotDeclared
 
-module _ {S : Type 0} where
-  module _ (program : Program) (has_output : Bool) (variables : List DeclaredVariable) (regions : List (Region S)) (declares : AreDeclared program has_output variables regions) where
-    -- what is found is what the name denotes
-    pub denotes_found : (name : List ℕ) (d : Denotation) → found regions (folded name) ≡ Ok d → denoted program name ≡ Some d
-    denotes_found name d is = by (denoted program name) (sym (declares.found_are name) ∙ is)
-      where
-        by : (o : Option Denotation) → ok_or o fault.NotDeclared ≡ Ok d → o ≡ Some d
-        by None t = cc
-        by (Some x) t = cc
-
-    -- and the other way round
-    pub found_denoted : (name : List ℕ) (d : Denotation) → denoted program name ≡ Some d → found regions (folded name) ≡ Ok d
-    found_denoted name d is = declares.found_are name ∙ ap (λ o. ok_or o fault.NotDeclared) is
-
-    -- there is output where there is a parameter
-    pub output_parameter : has_output ≡ true → 0 < length program.parameters.items
-    output_parameter is = grind (arith, nat_tests, sym declares.output ∙ is)
-
-  -- the calls that open the regions and pass the declarations, one after another
-  pub are_declared : (program : Program) (has_output : Bool) (variables : List DeclaredVariable) (parameters : List Name) (groups : List VariableGroup) (none required_round opened with_parameters regions : List (Region S))
-      → none ≡ [] → parameters ≡ program.parameters.items → groups ≡ program.block.variables.items
-      → OpensRequired none required_round
-      → Opens (map (λ name. folded name.text.now) (defined_names program)) required_round opened
-      → All (λ name. folded name.text.now ≡ codes "output") parameters
-      → Passes (outputs parameters) opened with_parameters
-      → has_output ≡ nat_lt 0 (length parameters)
-      → PassesGroups groups with_parameters [] regions variables
-      → AreDeclared program has_output variables regions
-  are_declared program has_output variables parameters groups none r1 r2 r3 r4 start same same_groups a b only_output c output d =
-      let names = map (λ name. folded name.text.now) (defined_names program) in
-      let outer : Holds [] none required r1 = passes_holds [] none [] required a.0 r1 (opens_holds [] none a.0 a.1) a.2 in
-      let round = outer.region in
-      let only : r1 ≡ round ∷ [] = outer.last ∙ ap (λ l. l ++ round ∷ []) start in
-      let inner : Holds names (round ∷ []) [] r2 = subst (λ l. Holds names l [] r2) only (opens_holds names r1 r2 b) in
-      let half : Holds names (round ∷ []) (outputs program.parameters.items) r3 = passes_holds names (round ∷ []) [] (outputs program.parameters.items) r2 r3 inner (subst (λ l. Passes (outputs l) r2 r3) same c) in
-      let whole = groups_hold names round outer.says program.block.variables.items (outputs program.parameters.items) r3 r4 [] variables half (typeless-outputs program.parameters.items) (subst (λ l. PassesGroups l r3 [] r4 variables) same_groups d) in
-      let all : (name : List ℕ) → is_some (looked_up (definitions program) name) ≡ list_any (pointwise nat_eq (folded name)) names =
-      λ name. looked_up-known (definitions program) name ∙ ap (list_any (pointwise nat_eq (folded name))) (texts_of folded program) in
-      record {
-        parameters = subst (All (λ name. folded name.text.now ≡ codes "output")) same only_output;
-        output = output ∙ ap (λ (l : List Name). nat_lt 0 (length l)) same;
-        distinct = distinct_names (definitions program) (defined_names program) (texts_of (λ t. t) program) whole.holds.distinct;
-        types = λ k g within. type_is all (get_or program.block.variables.items k g).denoter (whole.types k g within);
-        variables_are = whole.variables;
-        found_are = λ name.
-            found_is names round outer.says (definitions program) r4 whole.holds name
-            ∙ denoted_found (looked_up (definitions program) name) (list_any (pointwise nat_eq (folded name)) names) (looked_up required name) (all name);
-      }
+module _ (program : Program) (has_output : Bool) (variables : List DeclaredVariable) (regions : List Region) (declares : AreDeclared program has_output variables regions) where
+  -- what is found is what the name denotes
+  pub denotes_found : (name : List ℕ) (d : Denotation) → found regions (folded name) ≡ Ok d → denoted program name ≡ Some d
+  denotes_found name d is = by (denoted program name) (sym (declares.found_are name) ∙ is)
     where
-      nothing : (o : Option Denotation) (b : Bool) → is_some o ≡ b → b ≡ false → o ≡ None
-      nothing None b t u = refl
-      nothing (Some x) b t u = absurd (true≢false (t ∙ u))
+      by : (o : Option Denotation) → ok_or o fault.NotDeclared ≡ Ok d → o ≡ Some d
+      by None t = cc
+      by (Some x) t = cc
 
-      type_is : ((name : List ℕ) → is_some (looked_up (definitions program) name) ≡ list_any (pointwise nat_eq (folded name)) (map (λ name. folded name.text.now) (defined_names program)))
-          → (t : TypeDenoter) → IsTypeBeside (map (λ name. folded name.text.now) (defined_names program)) t → type_denoted program t ≡ Some (denotes.TypeName (denoter_type t))
-      type_is all (denoter.Name name) h =
-          let n = name.text.now in
-          ap (λ o. or_outer (option_map (λ d. denotes.Output) o) (looked_up required n)) (nothing (looked_up (definitions program) n) _ (all n) h.0) ∙ h.1
+  -- and the other way round
+  pub found_denoted : (name : List ℕ) (d : Denotation) → denoted program name ≡ Some d → found regions (folded name) ≡ Ok d
+  found_denoted name d is = declares.found_are name ∙ ap (λ o. ok_or o fault.NotDeclared) is
+
+  -- there is output where there is a parameter
+  pub output_parameter : has_output ≡ true → 0 < length program.parameters.items
+  output_parameter is = grind (arith, nat_tests, sym declares.output ∙ is)
+
+-- the calls that open the regions and pass the declarations, one after another
+pub are_declared : (program : Program) (has_output : Bool) (variables : List DeclaredVariable) (parameters : List Name) (groups : List VariableGroup) (none required_round opened with_parameters regions : List Region)
+    → none ≡ [] → parameters ≡ program.parameters.items → groups ≡ program.block.variables.items
+    → OpensRequired none required_round
+    → Opens (map (λ name. folded name.text.now) (defined_names program)) required_round opened
+    → All (λ name. folded name.text.now ≡ codes "output") parameters
+    → Passes (outputs parameters) opened with_parameters
+    → has_output ≡ nat_lt 0 (length parameters)
+    → PassesGroups groups with_parameters [] regions variables
+    → AreDeclared program has_output variables regions
+are_declared program has_output variables parameters groups none r1 r2 r3 r4 start same same_groups a b only_output c output d =
+    let names = map (λ name. folded name.text.now) (defined_names program) in
+    let outer : Holds [] none required r1 = passes_holds [] none [] required a.0 r1 (opens_holds [] none a.0 a.1) a.2 in
+    let round = outer.region in
+    let only : r1 ≡ round ∷ [] = outer.last ∙ ap (λ l. l ++ round ∷ []) start in
+    let inner : Holds names (round ∷ []) [] r2 = subst (λ l. Holds names l [] r2) only (opens_holds names r1 r2 b) in
+    let half : Holds names (round ∷ []) (outputs program.parameters.items) r3 = passes_holds names (round ∷ []) [] (outputs program.parameters.items) r2 r3 inner (subst (λ l. Passes (outputs l) r2 r3) same c) in
+    let whole = groups_hold names round outer.says program.block.variables.items (outputs program.parameters.items) r3 r4 [] variables half (typeless-outputs program.parameters.items) (subst (λ l. PassesGroups l r3 [] r4 variables) same_groups d) in
+    let all : (name : List ℕ) → is_some (looked_up (definitions program) name) ≡ list_any (pointwise nat_eq (folded name)) names =
+    λ name. looked_up-known (definitions program) name ∙ ap (list_any (pointwise nat_eq (folded name))) (texts_of folded program) in
+    record {
+      parameters = subst (All (λ name. folded name.text.now ≡ codes "output")) same only_output;
+      output = output ∙ ap (λ (l : List Name). nat_lt 0 (length l)) same;
+      distinct = distinct_names (definitions program) (defined_names program) (texts_of (λ t. t) program) whole.holds.distinct;
+      types = λ k g within. type_is all (get_or program.block.variables.items k g).denoter (whole.types k g within);
+      variables_are = whole.variables;
+      found_are = λ name.
+          found_is names round outer.says (definitions program) r4 whole.holds name
+          ∙ denoted_found (looked_up (definitions program) name) (list_any (pointwise nat_eq (folded name)) names) (looked_up required name) (all name);
+    }
+  where
+    nothing : (o : Option Denotation) (b : Bool) → is_some o ≡ b → b ≡ false → o ≡ None
+    nothing None b t u = refl
+    nothing (Some x) b t u = absurd (true≢false (t ∙ u))
+
+    type_is : ((name : List ℕ) → is_some (looked_up (definitions program) name) ≡ list_any (pointwise nat_eq (folded name)) (map (λ name. folded name.text.now) (defined_names program)))
+        → (t : TypeDenoter) → IsTypeBeside (map (λ name. folded name.text.now) (defined_names program)) t → type_denoted program t ≡ Some (denotes.TypeName (denoter_type t))
+    type_is all (denoter.Name name) h =
+        let n = name.text.now in
+        ap (λ o. or_outer (option_map (λ d. denotes.Output) o) (looked_up required n)) (nothing (looked_up (definitions program) n) _ (all n) h.0) ∙ h.1

@@ -1,5 +1,5 @@
 -- Expressions whose first token has one more site: it stands behind that token's own, and before all others.
-use Rattle.std.proofs.Common.{◌≡◌, ℕ, ◌+◌, ◌<◌, ◌≤◌, ◌⊎◌, inl, inr, Bool, true, false, nat_lt, if◌then◌else◌, List, [], ◌∷◌, ◌++◌, map, length, drop, Option, Some, None, IsTrue, Box, Vec, append_assoc, append-nil, length-append, refl, sym, ap, subst, ◌∙◌, arith}
+use Rattle.std.proofs.Common.{◌≡◌, ℕ, ◌+◌, ◌<◌, ◌≤◌, inr, Bool, true, false, nat_lt, if◌then◌else◌, List, [], ◌∷◌, ◌++◌, map, length, drop, Some, Box, Vec, append_assoc, append-nil, length-append, refl, sym, ap, subst, ◌∙◌, arith}
 use Rattle.std.specs.List.{range_with_len, flat_map}
 use Rattle.std.specs.declared.alloc.Global.{Global}
 use Rattle.std.proofs.Math.Seq.{drop-append_seam, drop-length}
@@ -15,28 +15,27 @@ use Rattle.parser.specs.declared.tree.Expr.TheVariants as syntax
 use Rattle.parser.specs.declared.tree.Expr.TheOpen as syntax_layer
 use Rattle.parser.specs.declared.tree.Expr.TheViews.{roll-Expr as roll-SyntaxExpr, out-Expr as out-SyntaxExpr, roll-out-Expr as roll-out-SyntaxExpr}
 use Rattle.parser.specs.declared.tree.Expr.TheFolds.{map-Expr as map-SyntaxExpr, fold-Actual as fold-SyntaxActual, fold-Link as fold-SyntaxLink, fold-roll-Expr as fold-roll-SyntaxExpr, ind-Expr as ind-SyntaxExpr}
-use Rattle.typed_tree.specs.declared.denotation.Denotation.TheVariants as denotes
-use Rattle.typed_tree.specs.declared.denotation.RequiredFunction.{RequiredFunction}
+use Rattle.scopes.specs.declared.denotation.Denotation.TheVariants as denotes
+use Rattle.scopes.specs.declared.denotation.RequiredFunction.{RequiredFunction}
 use Rattle.typed_tree.specs.declared.expressions.Typed.{Typed}
 use Rattle.typed_tree.specs.declared.expressions.TypedLinks.{TypedLinks}
 use Rattle.typed_tree.specs.declared.resolver.Resolver.{Resolver}
 use Rattle.typed_tree.specs.declared.site.Site.{Site}
 use Rattle.typed_tree.specs.declared.site.SiteKind.{SiteKind}
-use Rattle.typed_tree.specs.declared.types.TypeId.{TypeId}
+use Rattle.types.specs.declared.form.TypeId.{TypeId}
 use Rattle.typed_tree.specs.declared.tree.Monadic.{Monadic}
 use Rattle.typed_tree.specs.declared.tree.Expr.{Expr}
-use Rattle.typed_tree.specs.Ids.{AreInOrder}
 use Rattle.typed_tree.specs.Names.{integer}
 use Rattle.typed_tree.specs.Entries.{Tested, inserted, monadic_sites, entries_of_expression, sites_of_expression}
 use Rattle.typed_tree.specs.WellFormed.{is_well_formed_expr}
-use Rattle.typed_tree.specs.Typing.{Denotes, Stands, is_of, function_type, type_of, types_expression, is_function, name_stands, function_stands, expression_stands, actual_stands, link_stands, stands_in_expression, leading_step, leading, led_stands}
-use Rattle.typed_tree.specs.Resolved.{Knows, tested, Adds, AddsNothing, types_typed, types_argument, types_typed_links, stands_in_link, stands_in_actual, entries_of_link, sites_of_link, IsChainOf, IsMonadicOf, TellsFunction, MakesTyped, MakesNamed, MakesArgument, MakesLinks, MakesLed}
+use Rattle.typed_tree.specs.Typing.{Denotes, Stands, function_type, is_function, name_stands, function_stands, expression_stands, actual_stands, link_stands, stands_in_expression, leading_step, leading, led_stands}
+use Rattle.typed_tree.specs.Resolved.{tested, Adds, AddsNothing, types_typed, types_argument, types_typed_links, stands_in_link, stands_in_actual, entries_of_link, sites_of_link, IsChainOf, IsMonadicOf, TellsFunction, MakesTyped, MakesNamed, MakesArgument, MakesLinks, MakesLed}
 use Rattle.typed_tree.specs.Refusing.{KnowsAll, PassesMost, RefusesTyped, RefusesArgument, RefusesLinks, RefusesLed}
-use Rattle.typed_tree.proofs.FormedLemmas.{and_true, lt_true}
+use Rattle.typed_tree.proofs.FormedLemmas.{lt_true}
 use Rattle.typed_tree.proofs.TypingEquations.{stands-Name, stands-Call, stands-Chain, leading-Number, leading-Name, leading-Call, leading-Parenthesized, leading-Not, leading-Signed, leading-Chain}
 use Rattle.typed_tree.proofs.Measures.{Measure, typed_measured, inserted_count}
 use Rattle.typed_tree.proofs.ResolvedPieces.{range_joins, adds_then, adds_as, knows_later}
-use Rattle.typed_tree.proofs.ResolvedExpressions.{is_of_only, typed-Name, typed-Call, name_made, monadic_entries, monadic_tests, called_typed, chain_entries, chain_tests, chain_typed}
+use Rattle.typed_tree.proofs.ResolvedExpressions.{typed-Name, typed-Call, monadic_entries, monadic_tests, called_typed, chain_entries, chain_tests, chain_typed}
 use Rattle.typed_tree.proofs.Refusals.{site_count, knows_all_known, knows_all_later, passes_more, passes_after, passes_after_made}
 use Rattle.typed_tree.proofs.RefusedExpressions.{called, chained, same_id}
 

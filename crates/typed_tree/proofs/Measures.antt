@@ -14,10 +14,10 @@ use Rattle.parser.specs.declared.tree.Actual.{Actual as SyntaxActual}
 use Rattle.parser.specs.declared.tree.Expr.TheOpen as syntax
 use Rattle.parser.specs.declared.tree.Expr.TheViews.{roll-Expr as roll-SyntaxExpr, roll-Link as roll-SyntaxLink, roll-Actual as roll-SyntaxActual, out-Link as out-SyntaxLink}
 use Rattle.parser.specs.declared.tree.Expr.TheFolds.{map-Expr as map-SyntaxExpr, map-Link as map-SyntaxLink, map-Actual as map-SyntaxActual, fold-roll-Expr as fold-roll-SyntaxExpr, fold-roll-Link as fold-roll-SyntaxLink, fold-roll-Actual as fold-roll-SyntaxActual, ind-Expr as ind-SyntaxExpr}
-use Rattle.typed_tree.specs.declared.denotation.Denotation.{Denotation}
-use Rattle.typed_tree.specs.declared.denotation.Denotation.TheVariants as denotes
-use Rattle.typed_tree.specs.declared.denotation.RequiredFunction.{RequiredFunction}
-use Rattle.typed_tree.specs.declared.denotation.RequiredFunction.TheVariants as function
+use Rattle.scopes.specs.declared.denotation.Denotation.{Denotation}
+use Rattle.scopes.specs.declared.denotation.Denotation.TheVariants as denotes
+use Rattle.scopes.specs.declared.denotation.RequiredFunction.{RequiredFunction}
+use Rattle.scopes.specs.declared.denotation.RequiredFunction.TheVariants as function
 use Rattle.typed_tree.specs.declared.expressions.Typed.{Typed}
 use Rattle.typed_tree.specs.declared.tree.Monadic.{Monadic}
 use Rattle.typed_tree.specs.declared.tree.Monadic.TheVariants as monadic

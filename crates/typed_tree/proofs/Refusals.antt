@@ -5,13 +5,13 @@ use Rattle.std.specs.Result.{IsErrAnd}
 use Rattle.std.specs.List.{flat_map}
 use Rattle.std.proofs.lemmas.Grind.{flat_map-append}
 use Rattle.std.proofs.lemmas.List.{length-map, take-append-drop, drop_more}
-use Rattle.typed_tree.specs.declared.denotation.Denotation.{Denotation}
-use Rattle.typed_tree.specs.declared.denotation.ScopeFault.TheVariants as fault
+use Rattle.scopes.specs.declared.denotation.Denotation.{Denotation}
+use Rattle.scopes.specs.declared.fault.ScopeFault.TheVariants as fault
 use Rattle.typed_tree.specs.declared.fault.TypeFault.{TypeFault}
 use Rattle.typed_tree.specs.declared.fault.TypeFault.TheVariants.{Memory}
 use Rattle.typed_tree.specs.declared.resolver.Resolver.{Resolver}
 use Rattle.typed_tree.specs.Names.{folded}
-use Rattle.typed_tree.specs.Scopes.{found}
+use Rattle.scopes.specs.Scopes.{found}
 use Rattle.typed_tree.specs.Entries.{Tested}
 use Rattle.typed_tree.specs.WellFormed.{all_hold}
 use Rattle.typed_tree.specs.Typing.{Denotes, Stands, all_match}
@@ -53,7 +53,7 @@ knows_all_known r names k = λ name d is. only_found (names name) d (sym (k.foun
 
 pub knows_all_later : (a b : Resolver) (e : List ℕ) (t : List Tested) (s : List Stands) (names : Denotes) → Adds a b e t s → KnowsAll a names → KnowsAll b names
 knows_all_later a b e t s names added k = record {
-  found_are = λ name. ap (λ sc. found sc.blocks.items (folded name)) added.scopes ∙ k.found_are name;
+  found_are = λ name. ap (λ sc. found sc (folded name)) added.scopes ∙ k.found_are name;
   variables = λ name root type_id is. subst (λ vs. root < length vs.items) (sym added.variables) (k.variables name root type_id is);
 }
 

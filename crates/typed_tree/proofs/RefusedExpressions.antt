@@ -1,5 +1,5 @@
 -- Expressions that a resolver refuses, from what it refuses of their parts.
-use Rattle.std.proofs.Common.{◌≡◌, ℕ, ℤ, pos, ◌+◌, ◌<◌, ◌≤◌, ◌⊎◌, inl, inr, Bool, true, false, ◌&&◌, List, [], ◌∷◌, ◌++◌, map, length, get_or, take, drop, Option, Some, None, Ok, Box, Vec, length-append, refl, sym, ap, subst, ◌∙◌, arith}
+use Rattle.std.proofs.Common.{◌≡◌, ℕ, ℤ, pos, ◌+◌, ◌<◌, ◌≤◌, inl, Bool, true, false, ◌&&◌, List, [], ◌∷◌, ◌++◌, map, length, get_or, take, drop, Option, Some, None, Ok, Box, Vec, length-append, refl, sym, ap, subst, ◌∙◌, arith}
 use Rattle.std.specs.List.{flat_map}
 use Rattle.std.specs.declared.alloc.Global.{Global}
 use Rattle.std.proofs.lemmas.List.{map-append}
@@ -14,14 +14,14 @@ use Rattle.parser.specs.declared.tree.Expr.TheVariants as syntax
 use Rattle.parser.specs.declared.tree.Expr.TheViews.{out-Link as out-SyntaxLink, out-Actual as out-SyntaxActual}
 use Rattle.parser.specs.declared.tree.Link.{Link as SyntaxLink}
 use Rattle.parser.specs.declared.tree.Actual.{Actual as SyntaxActual}
-use Rattle.typed_tree.specs.declared.denotation.Denotation.{Denotation}
-use Rattle.typed_tree.specs.declared.denotation.Denotation.TheVariants as denotes
-use Rattle.typed_tree.specs.declared.denotation.RequiredFunction.{RequiredFunction}
-use Rattle.typed_tree.specs.declared.denotation.RequiredFunction.TheVariants as function
+use Rattle.scopes.specs.declared.denotation.Denotation.{Denotation}
+use Rattle.scopes.specs.declared.denotation.Denotation.TheVariants as denotes
+use Rattle.scopes.specs.declared.denotation.RequiredFunction.{RequiredFunction}
+use Rattle.scopes.specs.declared.denotation.RequiredFunction.TheVariants as function
 use Rattle.typed_tree.specs.declared.expressions.Typed.{Typed}
 use Rattle.typed_tree.specs.declared.expressions.TypedLinks.{TypedLinks}
 use Rattle.typed_tree.specs.declared.resolver.Resolver.{Resolver}
-use Rattle.typed_tree.specs.declared.types.TypeId.{TypeId}
+use Rattle.types.specs.declared.form.TypeId.{TypeId}
 use Rattle.typed_tree.specs.declared.tree.Monadic.{Monadic}
 use Rattle.typed_tree.specs.declared.tree.Expr.{Expr}
 use Rattle.typed_tree.specs.declared.tree.Link.{Link}
@@ -30,18 +30,19 @@ use Rattle.typed_tree.specs.declared.tree.Expr.TheOpen.Expr-F.{Constant, Variabl
 use Rattle.typed_tree.specs.declared.tree.Expr.TheViews.{out-Expr, out-Link}
 use Rattle.typed_tree.specs.declared.tree.Expr.TheFolds.{map-Expr, fold_out-Expr, fold_out-Link}
 use Rattle.typed_tree.specs.Names.{folded, integer, boolean}
-use Rattle.typed_tree.specs.Scopes.{found}
+use Rattle.scopes.specs.Scopes.{found}
 use Rattle.typed_tree.specs.Entries.{Tested, monadic_sites, dyadic_sites, entries_of_expression, sites_of_expression}
 use Rattle.typed_tree.specs.WellFormed.{all_hold, monadic_is_well_formed, dyadic_is_well_formed, expr_is_well_formed, link_is_well_formed, is_well_formed_expr, is_well_formed_link}
-use Rattle.typed_tree.specs.Typing.{Denotes, Stands, all_match, is_of, result_if, only, chain_type, dyadic_type, function_type, type_of, type_of_name, type_of_call, is_constant, is_variable, is_named, is_monadic, is_not, is_sign, is_function, is_called, is_dyadic, is_chain, types_expression, function_stands, operator_stands, stands_in_expression}
-use Rattle.typed_tree.specs.Resolved.{Knows, Adds, AddsNothing, types_typed, types_operand, types_not, types_signed, types_called, types_argument, types_named, types_typed_link, types_typed_links, types_link, types_actual, type_of_actual, link_type_of, holds_of, is_integer_type, stands_in_link, entries_of_link, sites_of_link, IsOnly, IsNotOne, TellsFunction, MakesTyped, MakesLinks}
-use Rattle.typed_tree.specs.Refusing.{KnowsAll, PassesMost, Refuses, RefusesAsTyped, RefusesConstant, RefusesNamed, RefusesTyped, RefusesOperand, RefusesNot, RefusesSigned, RefusesCalled, RefusesArgument, RefusesLink, RefusesLinks, IsNoFunction}
+use Rattle.typed_tree.specs.Typing.{Denotes, Stands, all_match, is_of, result_if, only, chain_type, dyadic_type, function_type, type_of, type_of_name, type_of_call, is_constant, is_variable, is_named, is_monadic, is_function, is_called, is_dyadic, is_chain, types_expression, function_stands, operator_stands, stands_in_expression}
+use Rattle.typed_tree.specs.Resolved.{Adds, AddsNothing, types_typed, types_operand, types_not, types_signed, types_called, types_argument, types_named, types_typed_links, types_link, types_actual, type_of_actual, link_type_of, holds_of, is_integer_type, stands_in_link, entries_of_link, sites_of_link, IsOnly, IsNotOne, TellsFunction, MakesTyped, MakesLinks}
+use Rattle.typed_tree.specs.Refusing.{KnowsAll, PassesMost, RefusesAsTyped, RefusesConstant, RefusesNamed, RefusesTyped, RefusesOperand, RefusesNot, RefusesSigned, RefusesCalled, RefusesArgument, RefusesLink, RefusesLinks, IsNoFunction}
 use Rattle.typed_tree.proofs.FormedLemmas.{and_true, both_true}
 use Rattle.typed_tree.proofs.TypingEquations.{types-Link, type-Link, types-Actual, type-Actual, types-Actual-wide}
-use Rattle.typed_tree.proofs.ResolvedExpressions.{is_of_itself, is_of_only, is_of_this, typed-Number, typed-Name, typed-Call, typed-Parenthesized, typed-Not, typed-Signed, typed-Chain, chain_type-push}
+use Rattle.typed_tree.proofs.TypesTold.{is_of_only, is_of_this}
+use Rattle.typed_tree.proofs.ResolvedExpressions.{typed-Number, typed-Name, typed-Call, typed-Parenthesized, typed-Not, typed-Signed, typed-Chain}
 use Rattle.typed_tree.proofs.Measures.{layer_entries, layer_sites, entries-out, sites-out, link_entries-out, link_sites-out, function_sites, operator_sites, measure_row, typed_measured, link_measured}
 use Rattle.typed_tree.proofs.ResolvedPieces.{knows_later}
-use Rattle.typed_tree.proofs.Refusals.{knows_all_known, knows_all_later, passes_more, passes_after, passes_after_made, refuses_as, refuses_from, Parted, parted, around, count_around}
+use Rattle.typed_tree.proofs.Refusals.{knows_all_known, knows_all_later, passes_more, passes_after, passes_after_made, refuses_as, refuses_from, parted, around, count_around}
 
 -- ---- types
 
@@ -165,7 +166,7 @@ constant_refused a m value n none is refused =
     refuses_from is_well_formed_expr entries_of_expression sites_of_expression a m (λ names e. is_constant n (out-Expr e)) none (subst (RefusesConstant m) is refused)
 
 -- a name of a constant
-pub named_constant_refused : (a m : Resolver) (name : Name) (value : ℤ) (id : TypeId) → found a.scopes.blocks.items (folded name.text.now) ≡ Ok (denotes.Constant value id) → AddsNothing a m → RefusesConstant m value → RefusesNamed a name
+pub named_constant_refused : (a m : Resolver) (name : Name) (value : ℤ) (id : TypeId) → found a.scopes (folded name.text.now) ≡ Ok (denotes.Constant value id) → AddsNothing a m → RefusesConstant m value → RefusesNamed a name
 named_constant_refused a m name value id is none refused = λ names k t typed v n w.
     let parts = and_true (is_named (names name.text.now) (out-Expr t.expression)) (is_of t.type_id (type_of_name (names name.text.now))) typed in
     constant_refused a m value value none refl refused names k t.expression
@@ -178,7 +179,7 @@ single root (MonadicOf n o operand) h = absurd cc
 single root (Chain first rest) h = absurd cc
 
 -- a name of a variable: the resolver has it, and it has an entry and a site
-pub named_variable_refused : (a : Resolver) (name : Name) (root : ℕ) (id : TypeId) → found a.scopes.blocks.items (folded name.text.now) ≡ Ok (denotes.Variable root id) → (root < length a.variables.items → PassesMost a 1 1) → RefusesNamed a name
+pub named_variable_refused : (a : Resolver) (name : Name) (root : ℕ) (id : TypeId) → found a.scopes (folded name.text.now) ≡ Ok (denotes.Variable root id) → (root < length a.variables.items → PassesMost a 1 1) → RefusesNamed a name
 named_variable_refused a name root id is full = λ names k t typed v n w.
     let d = knows_all_known a names k name.text.now (denotes.Variable root id) is in
     let parts = and_true (is_named (names name.text.now) (out-Expr t.expression)) (is_of t.type_id (type_of_name (names name.text.now))) typed in

@@ -6,11 +6,11 @@ use Rattle.std.proofs.lemmas.Bool.Decides.{nat_tests}
 use Rattle.parser.specs.declared.tree.Program.{Program}
 use Rattle.parser.specs.declared.tree.Name.{Name}
 use Rattle.parser.specs.declared.tree.Stmt.{Stmt as SyntaxStmt}
-use Rattle.typed_tree.specs.declared.denotation.Denotation.{Denotation}
-use Rattle.typed_tree.specs.declared.denotation.Denotation.TheVariants as denotes
+use Rattle.scopes.specs.declared.denotation.Denotation.{Denotation}
+use Rattle.scopes.specs.declared.denotation.Denotation.TheVariants as denotes
 use Rattle.typed_tree.specs.declared.resolver.Resolver.{Resolver}
-use Rattle.typed_tree.specs.declared.types.TypeId.{TypeId}
-use Rattle.typed_tree.specs.declared.scopes.Scopes.{Scopes}
+use Rattle.types.specs.declared.form.TypeId.{TypeId}
+use Rattle.scopes.specs.Scopes.{Region}
 use Rattle.typed_tree.specs.declared.tree.Variable.{Variable as DeclaredVariable}
 use Rattle.std.specs.declared.alloc.Global.{Global}
 use Rattle.std.specs.declared.vec.Vec.{Vec}
@@ -81,16 +81,16 @@ below-denoted program name root t h = by (looked_up (definitions program) name) 
     by (Some x) is q = all name root t (is ∙ q)
 
 -- a resolver that begins with what the declarations left
-pub declared_in : (program : Program) (r : Resolver) (has_output : Bool) (variables : Vec DeclaredVariable Global) (scopes : Scopes)
+pub declared_in : (program : Program) (r : Resolver) (has_output : Bool) (variables : Vec DeclaredVariable Global) (scopes : List Region)
     → r.has_output ≡ has_output → r.variables ≡ variables → r.scopes ≡ scopes
-    → AreDeclared program has_output variables.items scopes.blocks.items → AreDeclared program r.has_output r.variables.items r.scopes.blocks.items
+    → AreDeclared program has_output variables.items scopes → AreDeclared program r.has_output r.variables.items r.scopes
 declared_in program r has_output variables scopes output_is variables_are scopes_are d =
-    subst (λ b. AreDeclared program b r.variables.items r.scopes.blocks.items) (sym output_is)
-    (subst (λ (v : Vec DeclaredVariable Global). AreDeclared program has_output v.items r.scopes.blocks.items) (sym variables_are)
-    (subst (λ (s : Scopes). AreDeclared program has_output variables.items s.blocks.items) (sym scopes_are) d))
+    subst (λ b. AreDeclared program b r.variables.items r.scopes) (sym output_is)
+    (subst (λ (v : Vec DeclaredVariable Global). AreDeclared program has_output v.items r.scopes) (sym variables_are)
+    (subst (λ (s : List Region). AreDeclared program has_output variables.items s) (sym scopes_are) d))
 
 -- a resolver knows all names of a program whose declarations were passed
-pub knows_all_declared : (program : Program) (r : Resolver) (has_output : Bool) → AreDeclared program has_output r.variables.items r.scopes.blocks.items → KnowsAll r (denoted program)
+pub knows_all_declared : (program : Program) (r : Resolver) (has_output : Bool) → AreDeclared program has_output r.variables.items r.scopes → KnowsAll r (denoted program)
 knows_all_declared program r has_output declares = record {
   found_are = declares.found_are;
   variables = λ name root t is.

@@ -1,5 +1,5 @@
 -- Statements that a resolver refuses, from what it refuses of their parts.
-use Rattle.std.proofs.Common.{◌≡◌, ℕ, ◌+◌, ◌<◌, ◌≤◌, ◌≢◌, ◌⊎◌, inl, inr, Bool, true, false, ◌&&◌, ◌==◌, nat_eq, nat_lt, List, [], ◌∷◌, ◌++◌, map, length, get_or, take, Option, Some, None, Ok, IsTrue, Vec, length-append, refl, sym, ap, subst, ◌∙◌, arith}
+use Rattle.std.proofs.Common.{◌≡◌, ℕ, ◌+◌, ◌<◌, ◌≤◌, ◌≢◌, ◌⊎◌, inl, inr, Bool, true, false, ◌&&◌, ◌==◌, nat_eq, nat_lt, List, [], ◌∷◌, map, length, get_or, take, Option, Some, None, Ok, IsTrue, Vec, length-append, refl, sym, ap, subst, ◌∙◌, arith}
 use Rattle.std.specs.List.{flat_map, list_all}
 use Rattle.std.specs.declared.alloc.Global.{Global}
 use Rattle.std.proofs.lemmas.List.Elements.{All-cons}
@@ -11,34 +11,33 @@ use Rattle.parser.specs.declared.tree.Actual.{Actual as SyntaxActual}
 use Rattle.parser.specs.declared.tree.Expr.TheViews.{out-Actual as out-SyntaxActual}
 use Rattle.parser.specs.declared.tree.Stmt.{Stmt as SyntaxStmt}
 use Rattle.parser.specs.declared.tree.Stmt.TheVariants as syntax_stmt
-use Rattle.typed_tree.specs.declared.denotation.Denotation.{Denotation}
-use Rattle.typed_tree.specs.declared.denotation.Denotation.TheVariants as denotes
-use Rattle.typed_tree.specs.declared.denotation.RequiredProcedure.{RequiredProcedure}
-use Rattle.typed_tree.specs.declared.denotation.RequiredProcedure.TheVariants as procedure
+use Rattle.scopes.specs.declared.denotation.Denotation.{Denotation}
+use Rattle.scopes.specs.declared.denotation.Denotation.TheVariants as denotes
+use Rattle.scopes.specs.declared.denotation.RequiredProcedure.{RequiredProcedure}
+use Rattle.scopes.specs.declared.denotation.RequiredProcedure.TheVariants as procedure
 use Rattle.typed_tree.specs.declared.expressions.Typed.{Typed}
 use Rattle.typed_tree.specs.declared.resolver.Resolver.{Resolver}
 use Rattle.typed_tree.specs.declared.site.SiteKind.TheVariants as kind
-use Rattle.typed_tree.specs.declared.types.OrdinalRange.{OrdinalRange}
-use Rattle.typed_tree.specs.declared.types.TypeId.{TypeId}
+use Rattle.types.specs.declared.form.OrdinalRange.{OrdinalRange}
+use Rattle.types.specs.declared.form.TypeId.{TypeId}
 use Rattle.typed_tree.specs.declared.tree.Representation.{Representation}
 use Rattle.typed_tree.specs.declared.tree.Representation.TheVariants as representation
 use Rattle.typed_tree.specs.declared.tree.Width.{Width}
 use Rattle.typed_tree.specs.declared.tree.WriteParameter.{WriteParameter}
-use Rattle.typed_tree.specs.declared.tree.Expr.{Expr}
 use Rattle.typed_tree.specs.declared.tree.Stmt.{Stmt}
 use Rattle.typed_tree.specs.declared.tree.Stmt.TheOpen.{Stmt-F}
 use Rattle.typed_tree.specs.declared.tree.Stmt.TheOpen.Stmt-F.{Empty, Assign, Write, Compound}
 use Rattle.typed_tree.specs.declared.tree.Stmt.TheViews.{out-Stmt}
 use Rattle.typed_tree.specs.declared.tree.Stmt.TheFolds.{map-Stmt, fold_out-Stmt}
 use Rattle.typed_tree.specs.Names.{folded, integer, boolean}
-use Rattle.typed_tree.specs.Scopes.{found}
-use Rattle.typed_tree.specs.Entries.{Tested, inserted, entries_of_expression, entries_of_width, entries_of_parameter, entries_of_statement, sites_of_expression, sites_of_width, sites_of_parameter, sites_of_statement}
-use Rattle.typed_tree.specs.WellFormed.{all_hold, stmt_is_well_formed, is_well_formed_expr, is_well_formed_test, is_well_formed_width, is_well_formed_parameter, is_well_formed_stmt}
-use Rattle.typed_tree.specs.Typing.{Denotes, all_match, is_of, type_of, values_of_type, is_test, is_target, is_write, is_written_as, is_width, is_assignment, is_call, is_compound, parameters_of, first_place, types_expression, types_parameter, types_statement, stands_in_expression, stands_in_statement, writes_nothing}
-use Rattle.typed_tree.specs.Resolved.{Knows, Adds, AddsNothing, TellsParameters, types_typed, MakesTyped, MakesLed, MakesStatements, is_write_of, AreSilent}
-use Rattle.typed_tree.specs.Refusing.{KnowsAll, PassesMost, Refuses, IsUnknown, AreNoParameters, RefusesTyped, RefusesLed, RefusesWidth, RefusesParameter, RefusesParameters, RefusesAsStatement, RefusesAssignment, RefusesWrite, RefusesCall, RefusesStatement, RefusesStatements, RefusesCompound}
+use Rattle.scopes.specs.Scopes.{found}
+use Rattle.typed_tree.specs.Entries.{Tested, entries_of_expression, entries_of_width, entries_of_parameter, entries_of_statement, sites_of_expression, sites_of_width, sites_of_parameter, sites_of_statement}
+use Rattle.typed_tree.specs.WellFormed.{stmt_is_well_formed, is_well_formed_expr, is_well_formed_test, is_well_formed_width, is_well_formed_stmt}
+use Rattle.typed_tree.specs.Typing.{Denotes, all_match, is_of, type_of, values_of_type, is_test, is_target, is_write, is_written_as, is_width, is_assignment, is_call, is_compound, parameters_of, types_expression, types_parameter, types_statement, stands_in_expression, stands_in_statement, writes_nothing}
+use Rattle.typed_tree.specs.Resolved.{Adds, AddsNothing, TellsParameters, MakesTyped, MakesLed, MakesStatements, is_write_of, AreSilent}
+use Rattle.typed_tree.specs.Refusing.{KnowsAll, PassesMost, IsUnknown, AreNoParameters, RefusesTyped, RefusesLed, RefusesWidth, RefusesParameter, RefusesParameters, RefusesAsStatement, RefusesAssignment, RefusesWrite, RefusesCall, RefusesStatement, RefusesStatements, RefusesCompound}
 use Rattle.typed_tree.proofs.FormedLemmas.{and_true, both_true}
-use Rattle.typed_tree.proofs.TypesTold.{type_told, one_type, other_type}
+use Rattle.typed_tree.proofs.TypesTold.{is_of_only, one_type, other_type}
 use Rattle.typed_tree.proofs.StatementEquations.{silent-Call, silent-Compound, types-Assign, types-Call, types-Compound}
 use Rattle.typed_tree.proofs.ResolvedPieces.{adds_then, output_kept}
 use Rattle.typed_tree.proofs.ResolvedStatements.{call_is}
@@ -119,7 +118,7 @@ module _ (a : Resolver) (written : SyntaxActual) where
   parameter_type_refused b t made none = λ names k p typed v ids w.
       let made_typed = and_true (types_expression names value_of t.expression) (is_of t.type_id (type_of names value_of)) (made names (knows_all_known a names k)).0 in
       not_both (is_written_as (type_of names value_of) p.representation)
-      (ap (λ o. is_written_as o p.representation) (type_told t.type_id (type_of names value_of) made_typed.1) ∙ none p.representation)
+      (ap (λ o. is_written_as o p.representation) (is_of_only t.type_id (type_of names value_of) made_typed.1) ∙ none p.representation)
       (and_true (is_written_as (type_of names value_of) p.representation) (types_expression names value_of p.value && is_width names width_of p.width) typed).0
 
   pub parameter_width_refused : (b : Resolver) (t : Typed) (width : SyntaxExpr) → width_of ≡ Some width → MakesTyped a b value_of t → RefusesWidth b width → RefusesParameter a written
@@ -163,7 +162,7 @@ adds_before_value a b c d e becomes n m site entered none accessed taken =
     (adds_then c d e (m ∷ []) [] [] ((kind.Subrange, site) ∷ []) [] ((kind.Subrange, becomes) ∷ []) accessed taken))
 
 -- a variable that the program lacks, or an access that is one entry too many
-pub access_refused : (a b c : Resolver) (name : Name) (value : SyntaxExpr) (root : ℕ) (type_id : TypeId) (n : ℕ) → Adds a b (n ∷ []) [] [] → found b.scopes.blocks.items (folded name.text.now) ≡ Ok (denotes.Variable root type_id) → AddsNothing b c
+pub access_refused : (a b c : Resolver) (name : Name) (value : SyntaxExpr) (root : ℕ) (type_id : TypeId) (n : ℕ) → Adds a b (n ∷ []) [] [] → found b.scopes (folded name.text.now) ≡ Ok (denotes.Variable root type_id) → AddsNothing b c
     → (length c.variables.items ≤ root) ⊎ (4000000 ≤ c.entries) → RefusesAssignment a name value
 access_refused a b c name value root type_id n entered is none full = λ names k t typed v ids w.
     let later = knows_all_later a b (n ∷ []) [] [] names entered k in
@@ -178,7 +177,7 @@ access_refused a b c name value root type_id n entered is none full = λ names k
     by names v ids within full (Compound number statements) h w = cc
 
 -- a value that doesn't fit its target
-pub mismatch_refused : (a b e f : Resolver) (name : Name) (becomes : Place) (value : SyntaxExpr) (root : ℕ) (type_id : TypeId) (n m site : ℕ) (t : Typed) → Adds a b (n ∷ []) [] [] → found b.scopes.blocks.items (folded name.text.now) ≡ Ok (denotes.Variable root type_id)
+pub mismatch_refused : (a b e f : Resolver) (name : Name) (becomes : Place) (value : SyntaxExpr) (root : ℕ) (type_id : TypeId) (n m site : ℕ) (t : Typed) → Adds a b (n ∷ []) [] [] → found b.scopes (folded name.text.now) ≡ Ok (denotes.Variable root type_id)
     → Adds a e (n ∷ m ∷ []) ((kind.Subrange, site) ∷ []) ((kind.Subrange, becomes) ∷ []) → MakesTyped e f value t → (t.type_id ≢ type_id) ⊎ (values_of_type type_id ≡ None) → RefusesAssignment a name value
 mismatch_refused a b e f name becomes value root type_id n m site t entered is before made wrong =
     target_refused a name value (λ names k target range.
@@ -266,13 +265,13 @@ parameters_refused a b c p actuals written n entered none tells refused = λ out
         (refused names (knows_all_later a c (n ∷ []) [] [] names all k) parameters.items (subst (λ ws. all_match (map (types_parameter names) ws) parameters.items ≡ true) same typed) v ids w)
     by names k v ids (Compound number statements) h w = cc
 
-pub call_refused : (a b : Resolver) (name : Name) (actuals : List SyntaxActual) (p : RequiredProcedure) → found a.scopes.blocks.items (folded name.text.now) ≡ Ok (denotes.Procedure p) → AddsNothing a b → RefusesWrite b p actuals → RefusesCall a name actuals
+pub call_refused : (a b : Resolver) (name : Name) (actuals : List SyntaxActual) (p : RequiredProcedure) → found a.scopes (folded name.text.now) ≡ Ok (denotes.Procedure p) → AddsNothing a b → RefusesWrite b p actuals → RefusesCall a name actuals
 call_refused a b name actuals p is none refused = λ output.
     let later = refuses_from is_well_formed_stmt entries_of_statement sites_of_statement a b (λ names s. is_write_of names p (parameters_of names actuals) (out-Stmt s)) none (refused (none.output ∙ output)) in
     λ names k t typed v ids w. later names k t (sym (call_is names name actuals p (out-Stmt t) (knows_all_known a names k name.text.now (denotes.Procedure p) is)) ∙ typed) v ids w
 
 -- a name that denotes no procedure
-pub uncalled_refused : (a : Resolver) (name : Name) (actuals : List SyntaxActual) (d : Denotation) → found a.scopes.blocks.items (folded name.text.now) ≡ Ok d → ((written : List SyntaxActual) (ends_line : Bool) → is_write (Some d) written ends_line ≡ false) → RefusesCall a name actuals
+pub uncalled_refused : (a : Resolver) (name : Name) (actuals : List SyntaxActual) (d : Denotation) → found a.scopes (folded name.text.now) ≡ Ok d → ((written : List SyntaxActual) (ends_line : Bool) → is_write (Some d) written ends_line ≡ false) → RefusesCall a name actuals
 uncalled_refused a name actuals d is none = λ output names k t typed v ids w.
     not_both (is_call names name actuals (out-Stmt t)) (by names (knows_all_known a names k name.text.now d is) (out-Stmt t)) typed
   where

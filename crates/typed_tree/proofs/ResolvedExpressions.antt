@@ -1,8 +1,7 @@
 -- Expressions that a resolver makes, from what it made of their parts.
-use Rattle.std.proofs.Common.{◌≡◌, ℕ, ℤ, pos, Bool, true, false, ◌&&◌, nat_eq, List, [], ◌∷◌, ◌++◌, map, length, Option, Some, None, Ok, IsTrue, Box, Vec, append-nil, refl, sym, ap, subst, ◌∙◌, arith}
+use Rattle.std.proofs.Common.{◌≡◌, ℕ, ℤ, pos, Bool, true, ◌&&◌, List, [], ◌∷◌, ◌++◌, map, Option, Some, None, Ok, Box, Vec, append-nil, refl, sym, ap, subst, ◌∙◌}
 use Rattle.std.specs.List.{flat_map}
 use Rattle.std.specs.declared.alloc.Global.{Global}
-use Rattle.std.proofs.lemmas.Bool.{eqb-true, eq-eqb}
 use Rattle.std.proofs.lemmas.List.{map-append}
 use Rattle.lexer.specs.declared.place.Place.{Place}
 use Rattle.parser.specs.declared.tree.Name.{Name}
@@ -13,44 +12,29 @@ use Rattle.parser.specs.declared.tree.Expr.TheVariants as syntax
 use Rattle.parser.specs.declared.tree.Expr.TheViews.{out-Link as out-SyntaxLink, out-Actual as out-SyntaxActual}
 use Rattle.parser.specs.declared.tree.Link.{Link as SyntaxLink}
 use Rattle.parser.specs.declared.tree.Actual.{Actual as SyntaxActual}
-use Rattle.typed_tree.specs.declared.denotation.Denotation.{Denotation}
-use Rattle.typed_tree.specs.declared.denotation.Denotation.TheVariants as denotes
-use Rattle.typed_tree.specs.declared.denotation.RequiredFunction.{RequiredFunction}
-use Rattle.typed_tree.specs.declared.denotation.RequiredFunction.TheVariants as function
+use Rattle.scopes.specs.declared.denotation.Denotation.TheVariants as denotes
+use Rattle.scopes.specs.declared.denotation.RequiredFunction.{RequiredFunction}
 use Rattle.typed_tree.specs.declared.expressions.Typed.{Typed}
 use Rattle.typed_tree.specs.declared.expressions.TypedLinks.{TypedLinks}
 use Rattle.typed_tree.specs.declared.resolver.Resolver.{Resolver}
-use Rattle.typed_tree.specs.declared.site.SiteKind.TheVariants as kind
-use Rattle.typed_tree.specs.declared.types.TypeId.{TypeId}
+use Rattle.types.specs.declared.form.TypeId.{TypeId}
 use Rattle.typed_tree.specs.declared.tree.Monadic.{Monadic}
 use Rattle.typed_tree.specs.declared.tree.Monadic.TheVariants as monadic
-use Rattle.typed_tree.specs.declared.tree.Access.{Access}
 use Rattle.typed_tree.specs.declared.tree.Expr.{Expr}
 use Rattle.typed_tree.specs.declared.tree.Expr.TheOpen as layer
 use Rattle.typed_tree.specs.declared.tree.Expr.TheVariants as tree
 use Rattle.typed_tree.specs.declared.tree.Expr.TheViews.{out-Expr, roll-Link, out-roll-Link}
 use Rattle.typed_tree.specs.declared.tree.Link.{Link}
-use Rattle.typed_tree.specs.Names.{folded, integer, boolean}
-use Rattle.typed_tree.specs.Scopes.{found}
+use Rattle.typed_tree.specs.Names.{folded, integer}
+use Rattle.scopes.specs.Scopes.{found}
 use Rattle.typed_tree.specs.Entries.{Tested, monadic_sites, dyadic_sites, entries_of_expression, sites_of_expression}
 use Rattle.typed_tree.specs.WellFormed.{all_hold, monadic_is_well_formed, is_well_formed_expr, is_well_formed_link}
-use Rattle.typed_tree.specs.Typing.{Denotes, Stands, all_match, is_of, result_if, only, chain_type, dyadic_type, function_type, type_of, type_of_name, type_of_call, is_constant, is_named, is_monadic, is_not, is_sign, is_function, is_called, is_dyadic, is_chain, types_expression, name_stands, function_stands, operator_stands, stands_in_expression}
-use Rattle.typed_tree.specs.Resolved.{Knows, Adds, AddsNothing, Makes, types_typed, types_operand, types_not, types_signed, types_called, types_argument, types_named, types_typed_link, types_typed_links, types_link, types_actual, type_of_actual, link_type_of, holds_of, is_integer_type, stands_in_link, stands_in_actual, entries_of_link, sites_of_link, IsOnly, IsChainOf, IsMonadicOf, TellsFunction, MakesConstant, MakesNamed, MakesTyped, MakesOperand, MakesNot, MakesSigned, MakesCalled, MakesArgument, MakesLink, MakesLinks}
+use Rattle.typed_tree.specs.Typing.{Denotes, Stands, all_match, is_of, result_if, only, chain_type, dyadic_type, function_type, type_of, type_of_name, type_of_call, is_constant, is_named, is_monadic, is_sign, is_function, is_called, is_dyadic, is_chain, types_expression, name_stands, function_stands, operator_stands, stands_in_expression}
+use Rattle.typed_tree.specs.Resolved.{Adds, AddsNothing, Makes, types_typed, types_operand, types_not, types_signed, types_called, types_argument, types_named, types_typed_links, types_link, types_actual, type_of_actual, link_type_of, holds_of, is_integer_type, stands_in_link, stands_in_actual, entries_of_link, sites_of_link, IsOnly, IsChainOf, IsMonadicOf, TellsFunction, MakesConstant, MakesNamed, MakesTyped, MakesOperand, MakesNot, MakesSigned, MakesCalled, MakesArgument, MakesLink, MakesLinks}
 use Rattle.typed_tree.proofs.FormedLemmas.{and_true, both_true, monadic-formed, chain-formed}
-use Rattle.typed_tree.proofs.TypingEquations.{entries-Variable, entries-Monadic, entries-Chain, entries-Link, sites-Variable, sites-Monadic, sites-Chain, sites-Link, types-Number, types-Name, types-Call, types-Parenthesized, types-Not, types-Signed, types-Chain, types-Link, types-Actual, type-Number, type-Name, type-Call, type-Parenthesized, type-Not, type-Signed, type-Chain, type-Link, type-Actual, stands-Number, stands-Name, stands-Call, stands-Parenthesized, stands-Not, stands-Signed, stands-Chain, stands-Link, stands-Actual}
+use Rattle.typed_tree.proofs.TypingEquations.{entries-Monadic, entries-Chain, entries-Link, sites-Monadic, sites-Chain, sites-Link, types-Number, types-Name, types-Call, types-Parenthesized, types-Not, types-Signed, types-Chain, types-Link, types-Actual, type-Number, type-Name, type-Call, type-Parenthesized, type-Not, type-Signed, type-Chain, type-Link, type-Actual, stands-Number, stands-Name, stands-Call, stands-Parenthesized, stands-Not, stands-Signed, stands-Chain, stands-Link, stands-Actual}
+use Rattle.typed_tree.proofs.TypesTold.{is_of_itself, is_of_only, is_of_this}
 use Rattle.typed_tree.proofs.ResolvedPieces.{adds_then, adds_as, knows_later, makes_as, makes_from, all_match-push, pushed}
-
--- ---- types
-
-pub is_of_itself : (id : TypeId) → is_of id (Some id) ≡ true
-is_of_itself id = eq-eqb id.index id.index refl
-
-pub is_of_only : (id : TypeId) (o : Option TypeId) → is_of id o ≡ true → o ≡ Some id
-is_of_only id None h = absurd cc
-is_of_only id (Some other) h = ap (λ n. Some (record { index = n })) (sym (eqb-true id.index other.index h))
-
-pub is_of_this : (id : TypeId) (o : Option TypeId) → o ≡ Some id → is_of id o ≡ true
-is_of_this id o is = ap (is_of id) is ∙ is_of_itself id
 
 -- ---- an expression with its type, form by form
 
@@ -88,7 +72,7 @@ module _ (a m b : Resolver) where
       (subst (λ x. MakesConstant m b x e) is made)
 
   -- a name of a constant
-  pub named_constant : (name : Name) (value : ℤ) (id : TypeId) (e : Expr) → found a.scopes.blocks.items (folded name.text.now) ≡ Ok (denotes.Constant value id) → AddsNothing a m → MakesConstant m b value e → MakesNamed a b name (record { expression = e; type_id = id })
+  pub named_constant : (name : Name) (value : ℤ) (id : TypeId) (e : Expr) → found a.scopes (folded name.text.now) ≡ Ok (denotes.Constant value id) → AddsNothing a m → MakesConstant m b value e → MakesNamed a b name (record { expression = e; type_id = id })
   named_constant name value id e is none made =
       makes_as a b (λ names. is_constant value (out-Expr e)) (λ names. types_named names name (record { expression = e; type_id = id })) (entries_of_expression e) (entries_of_expression e) (sites_of_expression e) (sites_of_expression e) (λ names. []) (λ names. name_stands (names name.text.now) name.place)
       (λ names known h.

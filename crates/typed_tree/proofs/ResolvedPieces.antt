@@ -3,11 +3,11 @@ use Rattle.std.proofs.Common.{◌≡◌, ℕ, zero, suc, ◌+◌, Bool, true, fa
 use Rattle.std.specs.List.{range_with_len, flat_map}
 use Rattle.std.proofs.lemmas.Grind.{flat_map-append}
 use Rattle.std.proofs.lemmas.List.{map-append, take_more, take_all}
-use Rattle.typed_tree.specs.declared.denotation.Denotation.{Denotation}
-use Rattle.typed_tree.specs.declared.denotation.ScopeFault.{ScopeFault}
+use Rattle.scopes.specs.declared.denotation.Denotation.{Denotation}
+use Rattle.scopes.specs.declared.fault.ScopeFault.{ScopeFault}
 use Rattle.typed_tree.specs.declared.resolver.Resolver.{Resolver}
 use Rattle.typed_tree.specs.Names.{folded}
-use Rattle.typed_tree.specs.Scopes.{found}
+use Rattle.scopes.specs.Scopes.{found}
 use Rattle.typed_tree.specs.Entries.{Tested}
 use Rattle.typed_tree.specs.Typing.{Denotes, Stands, all_match}
 use Rattle.typed_tree.specs.Resolved.{Knows, placed, tested, Adds, AddsNothing, Makes, MakesRow}
@@ -60,7 +60,7 @@ adds_as a b e f t u s r p q o h =
 -- a reading of the names agrees later too
 pub knows_later : (a b : Resolver) (e : List ℕ) (t : List Tested) (s : List Stands) (names : Denotes) → Adds a b e t s → Knows a names → Knows b names
 knows_later a b e t s names added known = λ name d is.
-    known name d (ap (λ sc. found sc.blocks.items (folded name)) (sym added.scopes) ∙ is)
+    known name d (ap (λ sc. found sc (folded name)) (sym added.scopes) ∙ is)
 
 -- what is known where a call gave a value
 pub if_ok : {A E : Type 0} (r : Result A E) (P Q : A → Type 0) → ((x : A) → P x → Q x) → IfOk r P → IfOk r Q
@@ -92,7 +92,7 @@ told (Err fault) = None
 -- what was made leaves alone whether there is output
 pub output_kept : (a b : Resolver) (typed : Denotes → Bool) (e : List ℕ) (t : List Tested) (s : Denotes → List Stands) → Makes a b typed e t s → b.has_output ≡ a.has_output
 unfolding told
-output_kept a b typed e t s made = (made (λ name. told (found a.scopes.blocks.items (folded name))) (λ name d is. ap told is)).1.output
+output_kept a b typed e t s made = (made (λ name. told (found a.scopes (folded name))) (λ name d is. ap told is)).1.output
 
 -- ---- rows of pieces
 

@@ -9,8 +9,8 @@ use Rattle.typed_tree.specs.declared.tree.Stmt.{Stmt}
 use Rattle.typed_tree.specs.declared.tree.Stmt.TheOpen as stmt_layer
 use Rattle.typed_tree.specs.declared.tree.Stmt.TheViews.{out-Stmt}
 use Rattle.typed_tree.specs.declared.tree.Tree.{Tree}
-use Rattle.typed_tree.specs.declared.types.TypeForm.TheVariants.{Integer, Boolean}
-use Rattle.typed_tree.specs.declared.denotation.Denotation.TheVariants as denotes
+use Rattle.types.specs.Types.{required_forms}
+use Rattle.scopes.specs.declared.denotation.Denotation.TheVariants as denotes
 use Rattle.typed_tree.specs.Ids.{AreInOrder}
 use Rattle.typed_tree.specs.WellFormed.{IsWellFormed}
 use Rattle.typed_tree.specs.Entries.{entries_of, entries_of_statement, sites_of, sites_of_statement}
@@ -43,7 +43,7 @@ pub record Begins (program : Program) (r : Resolver) : Type 0 where
 
 module _ (program : Program) (tree : Tree) (old new : Resolver) (body : Stmt) (written : List SyntaxStmt) where
   pub typed_program : Begins program old → MakesCompound old new written body → (old.has_output ≡ false → AreSilent written) → written ≡ program.block.statements.items → tree.blocks.items ≡ record { body = body; end = program.block.end } ∷ [] → tree.variables ≡ new.variables → tree.sites ≡ new.sites
-      → tree.points.items ≡ [] → tree.types.forms.items ≡ Integer ∷ Boolean ∷ [] → IsWellFormed tree → IsTyped program tree
+      → tree.points.items ≡ [] → tree.types.forms.items ≡ required_forms → IsWellFormed tree → IsTyped program tree
   typed_program begins made_of silent_of same blocks variables sites points forms well =
       let made = subst (λ ss. MakesCompound old new ss body) same made_of in
       let silent = λ (none : old.has_output ≡ false). subst AreSilent same (silent_of none) in

@@ -14,33 +14,29 @@ use Rattle.parser.specs.declared.tree.Actual.{Actual as SyntaxActual}
 use Rattle.parser.specs.declared.tree.Expr.TheViews.{out-Actual as out-SyntaxActual}
 use Rattle.parser.specs.declared.tree.Stmt.{Stmt as SyntaxStmt}
 use Rattle.parser.specs.declared.tree.Stmt.TheVariants as syntax_stmt
-use Rattle.typed_tree.specs.declared.denotation.Denotation.TheVariants as denotes
-use Rattle.typed_tree.specs.declared.denotation.RequiredProcedure.{RequiredProcedure}
-use Rattle.typed_tree.specs.declared.denotation.RequiredProcedure.TheVariants as procedure
+use Rattle.scopes.specs.declared.denotation.Denotation.TheVariants as denotes
+use Rattle.scopes.specs.declared.denotation.RequiredProcedure.{RequiredProcedure}
 use Rattle.typed_tree.specs.declared.expressions.Typed.{Typed}
 use Rattle.typed_tree.specs.declared.resolver.Resolver.{Resolver}
 use Rattle.typed_tree.specs.declared.site.SiteKind.TheVariants as kind
-use Rattle.typed_tree.specs.declared.types.OrdinalRange.{OrdinalRange}
-use Rattle.typed_tree.specs.declared.types.TypeId.{TypeId}
+use Rattle.types.specs.declared.form.OrdinalRange.{OrdinalRange}
+use Rattle.types.specs.declared.form.TypeId.{TypeId}
 use Rattle.typed_tree.specs.declared.tree.Access.{Access}
 use Rattle.typed_tree.specs.declared.tree.RangeTest.{RangeTest}
-use Rattle.typed_tree.specs.declared.tree.Representation.{Representation}
-use Rattle.typed_tree.specs.declared.tree.Representation.TheVariants as representation
 use Rattle.typed_tree.specs.declared.tree.Width.{Width}
 use Rattle.typed_tree.specs.declared.tree.WriteParameter.{WriteParameter}
-use Rattle.typed_tree.specs.declared.tree.Expr.{Expr}
 use Rattle.typed_tree.specs.declared.tree.Stmt.{Stmt}
 use Rattle.typed_tree.specs.declared.tree.Stmt.TheOpen as stmt_layer
 use Rattle.typed_tree.specs.declared.tree.Stmt.TheVariants as stmt
 use Rattle.typed_tree.specs.declared.tree.Stmt.TheViews.{out-Stmt}
-use Rattle.typed_tree.specs.Names.{folded, integer, boolean}
-use Rattle.typed_tree.specs.Scopes.{found}
-use Rattle.typed_tree.specs.Entries.{Tested, entries_of_expression, entries_of_width, entries_of_parameter, entries_of_statement, inserted, sites_of_expression, sites_of_width, sites_of_parameter, sites_of_statement}
-use Rattle.typed_tree.specs.Typing.{Denotes, Stands, all_match, same_type, is_of, type_of, values_of_type, first_place, is_test, is_target, is_write, is_written_as, is_width, is_assignment, is_call, is_compound, parameters_of, types_expression, types_parameter, types_statement, width_stands, stands_in_expression, stands_in_parameter, stands_in_statement, writes_nothing}
-use Rattle.typed_tree.specs.Resolved.{Knows, Adds, AddsNothing, Makes, TellsParameters, types_typed, MakesTyped, MakesLed, MakesWidth, MakesParameter, MakesParameters, MakesAssignment, MakesCall, MakesWrite, is_write_of, MakesStatement, MakesStatements, MakesCompound, AreSilent}
+use Rattle.typed_tree.specs.Names.{folded, integer}
+use Rattle.scopes.specs.Scopes.{found}
+use Rattle.typed_tree.specs.Entries.{entries_of_expression, entries_of_width, entries_of_parameter, entries_of_statement, inserted, sites_of_expression, sites_of_width, sites_of_parameter, sites_of_statement}
+use Rattle.typed_tree.specs.Typing.{Denotes, all_match, is_of, type_of, values_of_type, first_place, is_test, is_target, is_write, is_written_as, is_width, is_assignment, is_call, is_compound, parameters_of, types_expression, types_parameter, types_statement, width_stands, stands_in_expression, stands_in_parameter, stands_in_statement, writes_nothing}
+use Rattle.typed_tree.specs.Resolved.{Adds, AddsNothing, Makes, TellsParameters, MakesTyped, MakesLed, MakesWidth, MakesParameter, MakesParameters, MakesAssignment, MakesCall, MakesWrite, is_write_of, MakesStatement, MakesStatements, MakesCompound, AreSilent}
 use Rattle.typed_tree.proofs.FormedLemmas.{and_true, both_true}
 use Rattle.typed_tree.proofs.StatementEquations.{entries-Assign, entries-Write, entries-Compound, sites-Assign, sites-Write, sites-Compound, silent-Compound, types-Assign, types-Call, types-Compound, stands-Assign, stands-Call, stands-Compound}
-use Rattle.typed_tree.proofs.TypesTold.{type_told, is_of_itself}
+use Rattle.typed_tree.proofs.TypesTold.{is_of_only, is_of_itself}
 use Rattle.typed_tree.proofs.ResolvedPieces.{adds_nothing, adds_then, adds_as, knows_later, makes_from, taken_more}
 
 same_number : (n : ℕ) → nat_eq n n ≡ true
@@ -93,7 +89,7 @@ parameter_made a b c written t parameter made value fits width = λ names known.
     let k = made names known in
     let typed = and_true (types_expression names actual.value t.expression) (is_of t.type_id (type_of names actual.value)) k.0 in
     let l = width names (knows_later a b (entries_of_expression t.expression) (sites_of_expression t.expression) (stands_in_expression names actual.value) names k.1 known) in (
-      both_true _ _ (ap (λ o. is_written_as o parameter.representation) (type_told t.type_id (type_of names actual.value) typed.1) ∙ fits)
+      both_true _ _ (ap (λ o. is_written_as o parameter.representation) (is_of_only t.type_id (type_of names actual.value) typed.1) ∙ fits)
           (both_true _ _ (subst (λ e. types_expression names actual.value e ≡ true) (sym value) typed.0) l.0),
       adds_as a c (entries_of_expression t.expression ++ entries_of_width parameter.width) (entries_of_parameter parameter) (sites_of_expression t.expression ++ sites_of_width parameter.width) (sites_of_parameter parameter)
           (stands_in_parameter names written) (stands_in_parameter names written)
@@ -128,7 +124,7 @@ call_is names name actuals p (stmt_layer.Empty n) is = refl
 call_is names name actuals p (stmt_layer.Assign n t f e) is = refl
 call_is names name actuals p (stmt_layer.Compound n v) is = refl
 
-pub call_made : (a b c : Resolver) (name : Name) (actuals : List SyntaxActual) (p : RequiredProcedure) (s : Stmt) → found a.scopes.blocks.items (folded name.text.now) ≡ Ok (denotes.Procedure p) → AddsNothing a b → MakesWrite b c p actuals s → MakesCall a c name actuals s
+pub call_made : (a b c : Resolver) (name : Name) (actuals : List SyntaxActual) (p : RequiredProcedure) (s : Stmt) → found a.scopes (folded name.text.now) ≡ Ok (denotes.Procedure p) → AddsNothing a b → MakesWrite b c p actuals s → MakesCall a c name actuals s
 call_made a b c name actuals p s is none made = λ names known.
     let k = makes_from (λ names. is_write_of names p (parameters_of names actuals) (out-Stmt s)) (entries_of_statement s) (sites_of_statement s) (λ names. flat_map (stands_in_parameter names) (parameters_of names actuals)) a b c none made names known in
     (call_is names name actuals p (out-Stmt s) (known name.text.now (denotes.Procedure p) is) ∙ k.0, k.1)
@@ -146,7 +142,7 @@ target_fits root target type_id range value same of values =
     (ap (λ o. is_test o range) values ∙ both_true _ _ (same_int range.first) (same_int range.last)))
 
 pub assignment_made : (a b c d e f : Resolver) (name : Name) (becomes : Place) (value : SyntaxExpr) (root : ℕ) (type_id : TypeId) (n : ℕ) (target : Access) (fits : RangeTest) (t : Typed) → Adds a b (n ∷ []) [] [] → AddsNothing b c
-    → found b.scopes.blocks.items (folded name.text.now) ≡ Ok (denotes.Variable root type_id) → target.root ≡ root → Adds c d (target.number ∷ []) [] []
+    → found b.scopes (folded name.text.now) ≡ Ok (denotes.Variable root type_id) → target.root ≡ root → Adds c d (target.number ∷ []) [] []
     → Adds d e [] ((kind.Subrange, fits.site) ∷ []) ((kind.Subrange, becomes) ∷ []) → MakesTyped e f value t → t.type_id ≡ type_id → values_of_type type_id ≡ Some fits.range
     → MakesAssignment a f name becomes value (stmt.Assign n target fits t.expression)
 assignment_made a b c d e f name becomes value root type_id n target fits t entered none is same accessed taken made of values = λ names known.
@@ -160,7 +156,7 @@ assignment_made a b c d e f name becomes value root type_id n target fits t ente
     let k = made names there in
     let typed = and_true (types_expression names value v) (is_of t.type_id (type_of names value)) k.0 in
     let denotes_root = here name.text.now (denotes.Variable root type_id) is in
-    let told = type_told t.type_id (type_of names value) typed.1 ∙ ap (λ x. Some x) of in (
+    let told = is_of_only t.type_id (type_of names value) typed.1 ∙ ap (λ x. Some x) of in (
       ap (is_assignment names name value) (stmt.outs-Assign n target fits v)
           ∙ both_true _ _ (ap (λ o. is_target o target.root fits.range (type_of names value)) denotes_root ∙ target_fits root target.root type_id fits.range (type_of names value) same told values) typed.0,
       adds_as a f (n ∷ target.number ∷ entries) (entries_of_statement s) ((kind.Subrange, fits.site) ∷ sites) (sites_of_statement s) ((kind.Subrange, becomes) ∷ stands) ((kind.Subrange, becomes) ∷ stands)

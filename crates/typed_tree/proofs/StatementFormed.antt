@@ -1,13 +1,13 @@
 -- Well formed statements, form by form.
-use Rattle.std.proofs.Common.{◌≡◌, ℕ, pos, ◌<◌, Bool, true, ◌&&◌, Option, Some, None, [], ◌∷◌, map, refl, ap, sym, subst, ◌∙◌}
+use Rattle.std.proofs.Common.{◌≡◌, ℕ, pos, ◌<◌, Bool, true, ◌&&◌, Option, Some, None, map, refl, ap, sym, subst, ◌∙◌}
 use Rattle.std.specs.Prelude.{neg_ℤ, slice_get}
 use Rattle.std.proofs.Common.{Vec}
 use Rattle.std.specs.declared.alloc.Global.{Global}
-use Rattle.typed_tree.specs.declared.types.TypeId.{TypeId}
-use Rattle.typed_tree.specs.declared.types.OrdinalRange.{OrdinalRange}
-use Rattle.typed_tree.specs.declared.types.TypeForm.{TypeForm}
-use Rattle.typed_tree.specs.declared.types.TypeForm.TheVariants.{Integer, Boolean}
-use Rattle.typed_tree.specs.Types.{range_at}
+use Rattle.types.specs.declared.form.TypeId.{TypeId}
+use Rattle.types.specs.declared.form.OrdinalRange.{OrdinalRange}
+use Rattle.types.specs.declared.form.TypeForm.{TypeForm}
+use Rattle.types.specs.declared.form.TypeForm.TheVariants.{Integer, Boolean}
+use Rattle.types.specs.Types.{range_at, required_forms}
 use Rattle.typed_tree.specs.declared.tree.Access.{Access}
 use Rattle.typed_tree.specs.declared.tree.RangeTest.{RangeTest}
 use Rattle.typed_tree.specs.declared.tree.Width.{Width}
@@ -52,4 +52,4 @@ module _ (v n : ℕ) where
 
   -- the values of a type are integers
   pub test-formed : (test : RangeTest) (type_id : TypeId) → test.site < n → values_of_type type_id ≡ Some test.range → is_well_formed_test v n test ≡ true
-  test-formed test type_id a is = both_true _ _ (lt_true test.site n a) (ranges-whole (slice_get (Integer ∷ Boolean ∷ []) type_id.index) test.range is)
+  test-formed test type_id a is = both_true _ _ (lt_true test.site n a) (ranges-whole (slice_get required_forms type_id.index) test.range is)

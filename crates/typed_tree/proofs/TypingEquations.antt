@@ -1,5 +1,5 @@
 -- The folds over expressions, form by form: the entries and sites of typed ones, and the types and sites of written ones.
-use Rattle.std.proofs.Common.{◌≡◌, ℕ, ℤ, pos, Bool, ◌&&◌, List, [], ◌∷◌, ◌++◌, map, length, drop, Option, Some, None, sym, ap, ◌∙◌}
+use Rattle.std.proofs.Common.{◌≡◌, ℕ, ℤ, pos, Bool, ◌&&◌, List, [], ◌∷◌, ◌++◌, map, Option, Some, None, sym, ap, ◌∙◌}
 use Rattle.std.specs.List.{flat_map}
 use Rattle.std.proofs.Common.{Box, Vec}
 use Rattle.std.specs.declared.alloc.Global.{Global}
@@ -14,7 +14,7 @@ use Rattle.parser.specs.declared.tree.Expr.TheVariants as syntax
 use Rattle.parser.specs.declared.tree.Expr.TheOpen as syntax_layer
 use Rattle.parser.specs.declared.tree.Expr.TheViews.{roll-Expr as roll-SyntaxExpr, out-Link as out-SyntaxLink, out-Actual as out-SyntaxActual}
 use Rattle.parser.specs.declared.tree.Expr.TheFolds.{map-Expr as map-SyntaxExpr, map-Actual as map-SyntaxActual, fold-Actual as fold-SyntaxActual, fold-Link as fold-SyntaxLink, fold-roll-Expr as fold-roll-SyntaxExpr, fold_out-Link as fold_out-SyntaxLink, fold_out-Actual as fold_out-SyntaxActual}
-use Rattle.typed_tree.specs.declared.types.TypeId.{TypeId}
+use Rattle.types.specs.declared.form.TypeId.{TypeId}
 use Rattle.typed_tree.specs.declared.site.SiteKind.TheVariants as kind
 use Rattle.typed_tree.specs.declared.tree.Monadic.{Monadic}
 use Rattle.typed_tree.specs.declared.tree.Access.{Access}
@@ -26,7 +26,7 @@ use Rattle.typed_tree.specs.declared.tree.Expr.TheViews.{out-Expr, out-Link, rol
 use Rattle.typed_tree.specs.declared.tree.Expr.TheFolds.{fold-roll-Expr, fold-roll-Link}
 use Rattle.typed_tree.specs.Names.{integer, boolean}
 use Rattle.typed_tree.specs.Entries.{Tested, monadic_sites, dyadic_sites, expression_entries, link_entries, entries_of_expression, expression_sites, link_sites, sites_of_expression}
-use Rattle.typed_tree.specs.Typing.{Denotes, Stands, is_of, result_if, only, without_width, chain_type, dyadic_type, type_of_name, type_of_call, type_step, actual_type, link_type, type_of, is_constant, is_named, is_monadic, is_not, is_sign, is_called, is_dyadic, is_chain, expression_step, actual_step, link_step, types_expression, expression_stands, actual_stands, link_stands, name_stands, function_stands, operator_stands, stands_in_expression, leading_step, leading, led_stands}
+use Rattle.typed_tree.specs.Typing.{Denotes, Stands, is_of, result_if, only, chain_type, dyadic_type, type_of_name, type_of_call, type_step, actual_type, link_type, type_of, is_constant, is_named, is_monadic, is_not, is_sign, is_called, is_dyadic, is_chain, expression_step, actual_step, link_step, types_expression, expression_stands, actual_stands, link_stands, name_stands, function_stands, operator_stands, stands_in_expression, leading_step, leading}
 use Rattle.typed_tree.specs.Resolved.{types_link, types_actual, type_of_actual, link_type_of, stands_in_link, stands_in_actual, entries_of_link, sites_of_link}
 
 -- ---- the numbers of entries and the sites of typed trees

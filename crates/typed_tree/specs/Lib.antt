@@ -1,5 +1,3 @@
-pub mod Types
-pub mod Scopes
 pub mod Sites
 pub mod Ids
 pub mod Names

@@ -8,11 +8,11 @@ use Rattle.parser.specs.declared.tree.Program.{Program}
 use Rattle.parser.specs.declared.tree.Name.{Name}
 use Rattle.parser.specs.declared.tree.TypeDenoter.{TypeDenoter}
 use Rattle.parser.specs.declared.tree.TypeDenoter.TheVariants as denoter
-use Rattle.typed_tree.specs.declared.types.TypeId.{TypeId}
-use Rattle.typed_tree.specs.declared.denotation.Denotation.{Denotation}
-use Rattle.typed_tree.specs.declared.denotation.Denotation.TheVariants.{TypeName, Constant, Variable, Procedure, Function, Output}
-use Rattle.typed_tree.specs.declared.denotation.RequiredProcedure.TheVariants.{Write, Writeln}
-use Rattle.typed_tree.specs.declared.denotation.RequiredFunction.TheVariants.{Abs, Sqr, Odd}
+use Rattle.types.specs.declared.form.TypeId.{TypeId}
+use Rattle.scopes.specs.declared.denotation.Denotation.{Denotation}
+use Rattle.scopes.specs.declared.denotation.Denotation.TheVariants.{TypeName, Constant, Variable, Procedure, Function, Output}
+use Rattle.scopes.specs.declared.denotation.RequiredProcedure.TheVariants.{Write, Writeln}
+use Rattle.scopes.specs.declared.denotation.RequiredFunction.TheVariants.{Abs, Sqr, Odd}
 
 -- a small letter for a capital one
 abbrev pub small : ℕ → ℕ

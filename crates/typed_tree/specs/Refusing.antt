@@ -1,7 +1,7 @@
 -- Which pieces of a program a resolver refuses, where memory didn't run out: those that have no typing by the names that
 -- its scopes hold, and those whose typings have too many entries or sites (ISO 7185:1990, 6.2.2, 6.4.2.2, 6.7, 6.8).
 -- It says nothing of which fault is told, nor of its place.
-use Rattle.std.specs.Prelude.{◌≡◌, ℕ, ℤ, ◌+◌, ◌<◌, ◌⊎◌, Bool, true, false, IsTrue, List, Option, Some, None, map, flat_map, length, ok_or}
+use Rattle.std.specs.Prelude.{◌≡◌, ℕ, ℤ, ◌+◌, ◌<◌, ◌⊎◌, Bool, true, false, IsTrue, List, Some, None, map, flat_map, length, ok_or}
 use Rattle.parser.specs.declared.tree.Name.{Name}
 use Rattle.parser.specs.declared.tree.Expr.{Expr as SyntaxExpr}
 use Rattle.parser.specs.declared.tree.Expr.TheViews.{out-Actual as out-SyntaxActual}
@@ -9,14 +9,14 @@ use Rattle.parser.specs.declared.tree.Actual.{Actual as SyntaxActual}
 use Rattle.parser.specs.declared.tree.Sign.{Sign}
 use Rattle.parser.specs.declared.tree.Link.{Link as SyntaxLink}
 use Rattle.parser.specs.declared.tree.Stmt.{Stmt as SyntaxStmt}
-use Rattle.typed_tree.specs.declared.denotation.Denotation.TheVariants as denotes
-use Rattle.typed_tree.specs.declared.denotation.ScopeFault.TheVariants as fault
-use Rattle.typed_tree.specs.declared.denotation.RequiredFunction.{RequiredFunction}
-use Rattle.typed_tree.specs.declared.denotation.RequiredProcedure.{RequiredProcedure}
+use Rattle.scopes.specs.declared.denotation.Denotation.TheVariants as denotes
+use Rattle.scopes.specs.declared.fault.ScopeFault.TheVariants as fault
+use Rattle.scopes.specs.declared.denotation.RequiredFunction.{RequiredFunction}
+use Rattle.scopes.specs.declared.denotation.RequiredProcedure.{RequiredProcedure}
 use Rattle.typed_tree.specs.declared.expressions.Typed.{Typed}
 use Rattle.typed_tree.specs.declared.expressions.TypedLinks.{TypedLinks}
 use Rattle.typed_tree.specs.declared.site.SiteKind.{SiteKind}
-use Rattle.typed_tree.specs.declared.types.TypeId.{TypeId}
+use Rattle.types.specs.declared.form.TypeId.{TypeId}
 use Rattle.typed_tree.specs.declared.tree.Link.{Link}
 use Rattle.typed_tree.specs.declared.tree.Width.{Width}
 use Rattle.typed_tree.specs.declared.tree.WriteParameter.{WriteParameter}
@@ -25,7 +25,7 @@ use Rattle.typed_tree.specs.declared.tree.Expr.{Expr}
 use Rattle.typed_tree.specs.declared.tree.Expr.TheViews.{out-Expr}
 use Rattle.typed_tree.specs.declared.tree.Stmt.{Stmt}
 use Rattle.typed_tree.specs.declared.tree.Stmt.TheViews.{out-Stmt}
-use Rattle.typed_tree.specs.Scopes.{found}
+use Rattle.scopes.specs.Scopes.{found}
 use Rattle.typed_tree.specs.Names.{folded}
 use Rattle.typed_tree.specs.Entries.{Tested, inserted, entries_of_expression, entries_of_width, entries_of_parameter, entries_of_statement, sites_of_expression, sites_of_width, sites_of_parameter, sites_of_statement}
 use Rattle.typed_tree.specs.WellFormed.{all_hold, is_well_formed_expr, is_well_formed_link, is_well_formed_width, is_well_formed_parameter, is_well_formed_stmt}
@@ -34,7 +34,7 @@ use Rattle.typed_tree.specs.Resolved.{entries_of_link, sites_of_link, types_type
 
 -- what a resolver's scopes find is exactly what the names denote, and it has each variable that they denote
 pub record KnowsAll (r : Resolver) (names : Denotes) : Type 0 where
-  pub found_are : (name : List ℕ) → found r.scopes.blocks.items (folded name) ≡ ok_or (names name) fault.NotDeclared
+  pub found_are : (name : List ℕ) → found r.scopes (folded name) ≡ ok_or (names name) fault.NotDeclared
   pub variables : (name : List ℕ) (root : ℕ) (type_id : TypeId) → names name ≡ Some (denotes.Variable root type_id) → root < length r.variables.items
 
 -- so many more entries, or so many more sites, are too many

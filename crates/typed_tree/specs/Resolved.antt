@@ -8,24 +8,23 @@ use Rattle.parser.specs.declared.tree.Name.{Name}
 use Rattle.parser.specs.declared.tree.Expr.{Expr as SyntaxExpr}
 use Rattle.std.specs.declared.alloc.Global.{Global}
 use Rattle.std.specs.declared.boxed.Box.{Box}
-use Rattle.std.specs.declared.vec.Vec.{Vec}
 use Rattle.parser.specs.declared.tree.Sign.{Sign}
 use Rattle.parser.specs.declared.tree.Expr.TheFolds.{fold-Link as fold-SyntaxLink, fold-Actual as fold-SyntaxActual}
 use Rattle.parser.specs.declared.tree.Expr.TheViews.{out-Actual as out-SyntaxActual}
 use Rattle.parser.specs.declared.tree.Link.{Link as SyntaxLink}
 use Rattle.parser.specs.declared.tree.Actual.{Actual as SyntaxActual}
 use Rattle.parser.specs.declared.tree.Stmt.{Stmt as SyntaxStmt}
-use Rattle.typed_tree.specs.declared.denotation.Denotation.{Denotation}
-use Rattle.typed_tree.specs.declared.denotation.Denotation.TheVariants as denotes
-use Rattle.typed_tree.specs.declared.denotation.RequiredFunction.{RequiredFunction}
-use Rattle.typed_tree.specs.declared.denotation.RequiredProcedure.{RequiredProcedure}
+use Rattle.scopes.specs.declared.denotation.Denotation.{Denotation}
+use Rattle.scopes.specs.declared.denotation.Denotation.TheVariants as denotes
+use Rattle.scopes.specs.declared.denotation.RequiredFunction.{RequiredFunction}
+use Rattle.scopes.specs.declared.denotation.RequiredProcedure.{RequiredProcedure}
 use Rattle.typed_tree.specs.declared.expressions.Typed.{Typed}
 use Rattle.typed_tree.specs.declared.expressions.TypedLinks.{TypedLinks}
 use Rattle.typed_tree.specs.declared.resolver.Resolver.{Resolver}
 use Rattle.typed_tree.specs.declared.site.Site.{Site}
 use Rattle.typed_tree.specs.declared.site.SiteKind.{SiteKind}
 use Rattle.typed_tree.specs.declared.site.SiteKind.TheVariants as kind
-use Rattle.typed_tree.specs.declared.types.TypeId.{TypeId}
+use Rattle.types.specs.declared.form.TypeId.{TypeId}
 use Rattle.typed_tree.specs.declared.tree.Monadic.{Monadic}
 use Rattle.typed_tree.specs.declared.tree.Width.{Width}
 use Rattle.typed_tree.specs.declared.tree.WriteParameter.{WriteParameter}
@@ -38,14 +37,14 @@ use Rattle.typed_tree.specs.declared.tree.Stmt.{Stmt}
 use Rattle.typed_tree.specs.declared.tree.Stmt.TheOpen.{Stmt-F}
 use Rattle.typed_tree.specs.declared.tree.Stmt.TheOpen.Stmt-F.{Write}
 use Rattle.typed_tree.specs.declared.tree.Stmt.TheViews.{out-Stmt}
-use Rattle.typed_tree.specs.Scopes.{found}
+use Rattle.scopes.specs.Scopes.{found}
 use Rattle.typed_tree.specs.Names.{folded, integer, boolean}
 use Rattle.typed_tree.specs.Entries.{Tested, expression_entries, link_entries, entries_of_expression, entries_of_width, entries_of_parameter, entries_of_statement, expression_sites, link_sites, inserted, sites_of_expression, sites_of_width, sites_of_parameter, sites_of_statement}
 use Rattle.typed_tree.specs.Typing.{Denotes, Stands, all_match, is_of, result_if, only, chain_type, type_of, type_of_name, type_of_call, type_step, actual_type, link_type, is_constant, is_named, is_monadic, is_not, is_sign, is_called, expression_step, actual_step, link_step, types_expression, types_statement, types_parameter, is_assignment, is_write, is_width, is_call, is_compound, is_file_actual, parameters_of, expression_stands, actual_stands, link_stands, name_stands, function_stands, led_stands, width_stands, stands_in_expression, stands_in_parameter, stands_in_statement, writes_nothing}
 
 -- a reading of the names agrees with a resolver's scopes
 abbrev pub Knows : Resolver → Denotes → Type 0
-Knows r names = (name : List ℕ) (d : Denotation) → found r.scopes.blocks.items (folded name) ≡ Ok d → names name ≡ Some d
+Knows r names = (name : List ℕ) (d : Denotation) → found r.scopes (folded name) ≡ Ok d → names name ≡ Some d
 
 -- the sites of a table by their kinds and places
 abbrev pub placed : List Site → List Stands

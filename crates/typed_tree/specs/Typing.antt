@@ -1,7 +1,7 @@
 -- Typing (ISO 7185:1990, 6.2.2, 6.4, 6.7 to 6.10): which typed tree a program has, if it breaks no rule of names and types.
 -- Parentheses are gone, each name is bound, and sites stand in the order of places and then of kinds.
 -- It does not say which of several broken rules is told.
-use Rattle.std.specs.Prelude.{◌≡◌, cond, not, ℕ, ℤ, pos, ◌<◌, ◌≤◌, ◌&&◌, ◌++◌, if◌then◌else◌, Bool, true, false, IsTrue, List, [], ◌∷◌, Option, Some, None, All, codes, map, length, drop, nat_eq, nat_lt, slice_get, flat_map, option_map, ◌⊎◌}
+use Rattle.std.specs.Prelude.{◌≡◌, cond, not, ℕ, ℤ, pos, ◌<◌, ◌≤◌, ◌&&◌, ◌++◌, if◌then◌else◌, Bool, true, false, IsTrue, List, [], ◌∷◌, Option, Some, None, All, codes, map, length, drop, nat_eq, slice_get, flat_map, option_map, ◌⊎◌}
 use Rattle.std.specs.List.{range_with_len, list_all}
 use Rattle.std.specs.Ordering.{int_eq}
 use Rattle.lexer.specs.declared.place.Place.{Place}
@@ -24,16 +24,15 @@ use Rattle.parser.specs.declared.tree.Stmt.{Stmt as SyntaxStmt}
 use Rattle.parser.specs.declared.tree.Stmt.TheOpen.{Stmt-F as SyntaxStmt-F}
 use Rattle.parser.specs.declared.tree.Stmt.TheOpen.Stmt-F.{Empty as WrittenEmpty, Assign as WrittenAssign, Call as WrittenCall, Compound as WrittenCompound}
 use Rattle.parser.specs.declared.tree.Stmt.TheFolds.{fold-Stmt as fold-SyntaxStmt}
-use Rattle.typed_tree.specs.declared.denotation.Denotation.{Denotation}
-use Rattle.typed_tree.specs.declared.denotation.Denotation.TheVariants as denotes
-use Rattle.typed_tree.specs.declared.denotation.RequiredProcedure.TheVariants as procedure
-use Rattle.typed_tree.specs.declared.denotation.RequiredFunction.{RequiredFunction}
-use Rattle.typed_tree.specs.declared.denotation.RequiredFunction.TheVariants as function
+use Rattle.scopes.specs.declared.denotation.Denotation.{Denotation}
+use Rattle.scopes.specs.declared.denotation.Denotation.TheVariants as denotes
+use Rattle.scopes.specs.declared.denotation.RequiredProcedure.TheVariants as procedure
+use Rattle.scopes.specs.declared.denotation.RequiredFunction.{RequiredFunction}
+use Rattle.scopes.specs.declared.denotation.RequiredFunction.TheVariants as function
 use Rattle.typed_tree.specs.declared.site.SiteKind.{SiteKind}
 use Rattle.typed_tree.specs.declared.site.SiteKind.TheVariants as kind
-use Rattle.typed_tree.specs.declared.types.OrdinalRange.{OrdinalRange}
-use Rattle.typed_tree.specs.declared.types.TypeId.{TypeId}
-use Rattle.typed_tree.specs.declared.types.TypeForm.TheVariants.{Integer, Boolean}
+use Rattle.types.specs.declared.form.OrdinalRange.{OrdinalRange}
+use Rattle.types.specs.declared.form.TypeId.{TypeId}
 use Rattle.typed_tree.specs.declared.tree.Tree.{Tree}
 use Rattle.typed_tree.specs.declared.tree.Block.{Block}
 use Rattle.typed_tree.specs.declared.tree.Variable.{Variable as DeclaredVariable}
@@ -57,7 +56,7 @@ use Rattle.typed_tree.specs.declared.tree.Stmt.TheOpen.{Stmt-F}
 use Rattle.typed_tree.specs.declared.tree.Stmt.TheOpen.Stmt-F.{Empty, Assign, Write, Compound}
 use Rattle.typed_tree.specs.declared.tree.Stmt.TheViews.{out-Stmt}
 use Rattle.typed_tree.specs.Ids.{AreInOrder}
-use Rattle.typed_tree.specs.Types.{range_at}
+use Rattle.types.specs.Types.{range_at, required_forms}
 use Rattle.typed_tree.specs.Entries.{joined, entries_of, sites_of}
 use Rattle.typed_tree.specs.WellFormed.{IsWellFormed}
 use Rattle.typed_tree.specs.Names.{folded, looked_up, or_outer, required, integer, boolean, definitions, defined_names, variable_names, typed_names, denoter_type, denoted, AreDistinct}
@@ -142,7 +141,7 @@ chain_type left (link ∷ links) = chain_type (link left) links
 
 -- the values of a type
 abbrev pub values_of_type : TypeId → Option OrdinalRange
-values_of_type type_id = range_at (slice_get (Integer ∷ Boolean ∷ []) type_id.index)
+values_of_type type_id = range_at (slice_get required_forms type_id.index)
 
 -- ---- typed expressions
 
@@ -470,7 +469,7 @@ pub record IsTyped (program : Program) (tree : Tree) : Type 0 where
   -- a write or writeln needs output
   pub output : 0 < length program.parameters.items ⊎ All (λ s. IsTrue (writes_nothing s)) program.block.statements.items
   pub variables : tree.variables.items ≡ map declared (typed_names program)
-  pub forms : tree.types.forms.items ≡ Integer ∷ Boolean ∷ []
+  pub forms : tree.types.forms.items ≡ required_forms
   pub one_block : (block : Block) × (tree.blocks.items ≡ block ∷ []) × IsBlock program block
   -- entries are numbered in the order of entry
   pub entries : entries_of tree ≡ range_with_len 0 (length (entries_of tree))

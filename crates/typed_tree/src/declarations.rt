@@ -1,18 +1,18 @@
 ghost use Rattle.std.specs.Prelude.{◌≡◌, ◌⊎◌, ◌<◌, [], Ok, IfOk, IfErr, IsErr, IsOkUnless, OnOk, All, codes, map, nat_lt, length};
 ghost use Rattle.typed_tree.specs.Names.{folded, defined_names};
-ghost use Rattle.typed_tree.specs.Scopes.{found};
-ghost use Rattle.typed_tree.specs.Regions.{placed, Opens, OpensRequired, Defines, Passes, PassesGroup, PassesGroups, DenotesType, CannotDefine, CannotPass, CannotPassGroup, CannotPassGroups, DenotesNoType};
-ghost use Rattle.typed_tree.specs.declared.denotation.Denotation.TheVariants as denotes;
+ghost use Rattle.scopes.specs.Scopes.{found};
+ghost use Rattle.scopes.specs.Growth.{Opens, Defines, CannotDefine};
+ghost use Rattle.typed_tree.specs.Regions.{placed, OpensRequired, Passes, PassesGroup, PassesGroups, DenotesType, CannotPass, CannotPassGroup, CannotPassGroups, DenotesNoType};
+ghost use Rattle.scopes.specs.declared.denotation.Denotation.TheVariants as denotes;
 ghost use Rattle.typed_tree.specs.declared.fault.TypeFault.TheVariants.{Memory};
 
-use crate::denotation::{Denotation, RequiredFunction, RequiredProcedure, ScopeFault};
 use crate::fault::TypeFault;
-use crate::scopes::Scopes;
 use crate::tree::Variable;
-use crate::types::{MAXINT, TypeId, TypeTable};
 use lexer::place::Place;
 use parser::tree as syntax;
+use scopes::{Denotation, RequiredFunction, RequiredProcedure, ScopeFault, Scopes};
 use std::alloc::{AllocError, Global};
+use types::{MAXINT, TypeId, TypeTable};
 
 // Small and capital letters are alike.
 fn folded(alloc: Global, name: &[u8]) -> Result<Vec<u8>, AllocError>
@@ -29,8 +29,8 @@ fn declare(
     name: &syntax::Name,
     denotation: Denotation,
 ) -> Result<(), TypeFault>
-    ensures defined { OnOk result (Defines (folded name.now.text.now) denotation scopes.old.blocks.items scopes.new.blocks.items) }
-    ensures refused { IfErr result (λ fault. (fault ≡ Memory) ⊎ CannotDefine (folded name.now.text.now) scopes.old.blocks.items) }
+    ensures defined { OnOk result (Defines (folded name.now.text.now) denotation scopes.old scopes.new) }
+    ensures refused { IfErr result (λ fault. (fault ≡ Memory) ⊎ CannotDefine (folded name.now.text.now) scopes.old) }
 {
     let key = folded(alloc, name.text)?;
     let place = name.place;
@@ -44,8 +44,8 @@ pub(crate) fn find(
     scopes: &Scopes,
     name: &syntax::Name,
 ) -> Result<Denotation, TypeFault>
-    ensures found { IfOk result (λ denotation. found scopes.now.blocks.items (folded name.now.text.now) ≡ Ok denotation) }
-    ensures refused { IfErr result (λ fault. (fault ≡ Memory) ⊎ IsErr (found scopes.now.blocks.items (folded name.now.text.now))) }
+    ensures found { IfOk result (λ denotation. found scopes.now (folded name.now.text.now) ≡ Ok denotation) }
+    ensures refused { IfErr result (λ fault. (fault ≡ Memory) ⊎ IsErr (found scopes.now (folded name.now.text.now))) }
 {
     let key = folded(alloc, name.text)?;
     scopes
@@ -66,7 +66,7 @@ fn placed(fault: ScopeFault, place: Place) -> TypeFault
 
 // The required identifiers stand round the program.
 pub(crate) fn open_required(alloc: Global, scopes: &mut Scopes) -> Result<(), TypeFault>
-    ensures opened { OnOk result (OpensRequired scopes.old.blocks.items scopes.new.blocks.items) }
+    ensures opened { OnOk result (OpensRequired scopes.old scopes.new) }
     ensures refused { IsOkUnless result Memory }
 {
     let required: [(&[u8], Denotation); 10] = [
@@ -109,7 +109,7 @@ pub(crate) fn open_block(
     scopes: &mut Scopes,
     program: &syntax::Program,
 ) -> Result<(), TypeFault>
-    ensures opened { OnOk result (Opens (map (λ name. folded name.text.now) (defined_names program.now)) scopes.old.blocks.items scopes.new.blocks.items) }
+    ensures opened { OnOk result (Opens (map (λ name. folded name.text.now) (defined_names program.now)) scopes.old scopes.new) }
     ensures refused { IsOkUnless result Memory }
 {
     let mut names = Vec::new(alloc);
@@ -132,11 +132,11 @@ pub(crate) fn declare_parameters(
     parameters: &[syntax::Name],
 ) -> Result<bool, TypeFault>
     ensures only_output { OnOk result (All (λ name. folded name.text.now ≡ codes "output") parameters.now) }
-    ensures passed { OnOk result (Passes (map (λ name. (name.text.now, denotes.Output)) parameters.now) scopes.old.blocks.items scopes.new.blocks.items) }
+    ensures passed { OnOk result (Passes (map (λ name. (name.text.now, denotes.Output)) parameters.now) scopes.old scopes.new) }
     ensures has_output { IfOk result (λ has_output. has_output ≡ nat_lt 0 (length parameters.now)) }
     ensures refused { IfErr result (λ fault. (fault ≡ Memory)
         ⊎ ((¬ All (λ name. folded name.text.now ≡ codes "output") parameters.now)
-        ⊎ CannotPass (map (λ name. (name.text.now, denotes.Output)) parameters.now) scopes.old.blocks.items)) }
+        ⊎ CannotPass (map (λ name. (name.text.now, denotes.Output)) parameters.now) scopes.old)) }
 {
     for name in parameters {
         if folded(alloc, name.text)?.as_slice() != b"output".as_slice() {
@@ -152,8 +152,8 @@ pub(crate) fn declare_variables(
     scopes: &mut Scopes,
     groups: &[syntax::VariableGroup],
 ) -> Result<Vec<Variable>, TypeFault>
-    ensures passed { IfOk result (λ variables. PassesGroups groups.now scopes.old.blocks.items [] scopes.new.blocks.items variables.items) }
-    ensures refused { IfErr result (λ fault. (fault ≡ Memory) ⊎ CannotPassGroups groups.now scopes.old.blocks.items []) }
+    ensures passed { IfOk result (λ variables. PassesGroups groups.now scopes.old [] scopes.new variables.items) }
+    ensures refused { IfErr result (λ fault. (fault ≡ Memory) ⊎ CannotPassGroups groups.now scopes.old []) }
 {
     let mut variables = Vec::new(alloc);
     for group in groups {
@@ -169,8 +169,8 @@ fn declare_group(
     group: &syntax::VariableGroup,
     variables: &mut Vec<Variable>,
 ) -> Result<(), TypeFault>
-    ensures passed { OnOk result (PassesGroup group.now scopes.old.blocks.items variables.old.items scopes.new.blocks.items variables.new.items) }
-    ensures refused { IfErr result (λ fault. (fault ≡ Memory) ⊎ CannotPassGroup group.now scopes.old.blocks.items variables.old.items) }
+    ensures passed { OnOk result (PassesGroup group.now scopes.old variables.old.items scopes.new variables.new.items) }
+    ensures refused { IfErr result (λ fault. (fault ≡ Memory) ⊎ CannotPassGroup group.now scopes.old variables.old.items) }
 {
     let type_id = denoted_type(alloc, scopes, group)?;
     for name in &group.names {
@@ -186,8 +186,8 @@ fn denoted_type(
     scopes: &Scopes,
     group: &syntax::VariableGroup,
 ) -> Result<TypeId, TypeFault>
-    ensures denoted { IfOk result (DenotesType scopes.now.blocks.items group.now.denoter) }
-    ensures refused { IfErr result (λ fault. (fault ≡ Memory) ⊎ DenotesNoType scopes.now.blocks.items group.now.denoter) }
+    ensures denoted { IfOk result (DenotesType scopes.now group.now.denoter) }
+    ensures refused { IfErr result (λ fault. (fault ≡ Memory) ⊎ DenotesNoType scopes.now group.now.denoter) }
 {
     let syntax::TypeDenoter::Name(name) = &group.denoter;
     match find(alloc, scopes, name) {

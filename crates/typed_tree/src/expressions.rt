@@ -3,18 +3,18 @@ ghost use Rattle.typed_tree.specs.Entries.{monadic_sites, dyadic_sites};
 ghost use Rattle.typed_tree.specs.Names.{integer};
 ghost use Rattle.typed_tree.specs.Resolved.{IsOnly, IsNotOne};
 ghost use Rattle.typed_tree.specs.Typing.{is_function, is_dyadic, is_sign, dyadic_type, function_type, first_place, operator_stands, function_stands};
-ghost use Rattle.typed_tree.specs.declared.denotation.Denotation.TheVariants as denotes;
+ghost use Rattle.scopes.specs.declared.denotation.Denotation.TheVariants as denotes;
 ghost use Rattle.typed_tree.specs.declared.fault.TypeFault.TheVariants.{Memory};
 
-use crate::denotation::{Denotation, RequiredFunction};
 use crate::fault::TypeFault;
 use crate::resolver::Resolver;
 use crate::site::SiteKind;
 use crate::tree::{Dyadic, Expr, Link, Monadic, Relation};
-use crate::types::{MAXINT, TypeId, TypeTable};
 use lexer::place::Place;
 use parser::tree as syntax;
+use scopes::{Denotation, RequiredFunction};
 use std::alloc::Global;
+use types::{MAXINT, TypeId, TypeTable};
 
 /// An expression and the type of its value.
 #[derive(Debug, Drop)]

@@ -3,18 +3,12 @@
 #![tactic(auto)]
 
 mod declarations;
-mod denotation;
 mod expressions;
 pub mod fault;
 mod program;
 mod resolver;
-mod scopes;
 pub mod site;
 mod statements;
 pub mod tree;
-pub mod types;
 
 pub use program::{resolve, sites};
-
-#[cfg(test)]
-mod tests;

@@ -3,18 +3,18 @@ ghost use Rattle.typed_tree.specs.WellFormed.{IsWellFormed};
 ghost use Rattle.typed_tree.specs.Ids.{AreInOrder};
 ghost use Rattle.typed_tree.specs.Typing.{IsTyped, HasTyping};
 ghost use Rattle.typed_tree.specs.declared.fault.TypeFault.TheVariants.{Memory};
-ghost use Rattle.typed_tree.specs.declared.types.TypeForm.TheVariants.{Integer, Boolean};
+ghost use Rattle.types.specs.Types.{required_forms};
 ghost use Rattle.typed_tree.specs.declared.resolver.TheConstants.{MOST_SITES};
 
 use crate::declarations::{declare_parameters, declare_variables, open_block, open_required};
 use crate::fault::TypeFault;
 use crate::resolver::Resolver;
-use crate::scopes::Scopes;
 use crate::site::Site;
 use crate::tree::{Block, Tree};
-use crate::types::TypeTable;
 use parser::tree as syntax;
+use scopes::Scopes;
 use std::alloc::Global;
+use types::TypeTable;
 
 /// The most variables of a program: no text that the lexer takes has as many.
 pub const MOST_VARIABLES: usize = 1_000_000;
@@ -25,7 +25,7 @@ pub fn resolve(alloc: Global, program: &syntax::Program) -> Result<Tree, TypeFau
     ensures in_order { IfOk result (λ tree. AreInOrder tree.sites.items) }
     ensures few_sites { IfOk result (λ tree. vec_len tree.sites ≤ MOST_SITES) }
     ensures points { IfOk result (λ tree. tree.points.items ≡ []) }
-    ensures types { IfOk result (λ tree. tree.types.forms.items ≡ Integer ∷ Boolean ∷ []) }
+    ensures types { IfOk result (λ tree. tree.types.forms.items ≡ required_forms) }
     ensures one_block { IfOk result (λ tree. vec_len tree.blocks ≡ 1) }
 
     // Each variable and each site that the tree names is in its table.

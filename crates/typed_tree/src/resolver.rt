@@ -1,18 +1,17 @@
 ghost use Rattle.std.specs.Prelude.{◌≡◌, ◌⊎◌, ◌≤◌, ◌<◌, [], ◌∷◌, Ok, IfOk, IfErr, length, vec_len};
 ghost use Rattle.typed_tree.specs.Ids.{AreInOrder};
 ghost use Rattle.typed_tree.specs.Names.{folded};
-ghost use Rattle.typed_tree.specs.Scopes.{found};
+ghost use Rattle.scopes.specs.Scopes.{found};
 ghost use Rattle.typed_tree.specs.declared.fault.TypeFault.TheVariants.{Memory};
 ghost use Rattle.typed_tree.specs.declared.resolver.TheConstants.{MOST_SITES, MOST_ENTRIES};
 
 use crate::declarations::find;
-use crate::denotation::Denotation;
 use crate::fault::TypeFault;
-use crate::scopes::Scopes;
 use crate::site::{Site, SiteKind};
 use crate::tree::{Access, Variable};
 use lexer::place::Place;
 use parser::tree as syntax;
+use scopes::{Denotation, Scopes};
 use std::alloc::Global;
 
 /// The most sites, and the most points, of a program.
@@ -112,7 +111,7 @@ impl Resolver {
         ensures grows { length self.old.sites.items ≤ length self.new.sites.items }
         ensures sites { self.new.sites ≡ self.old.sites }
         ensures adds { AddsNothing self.old self.new }
-        ensures found { IfOk result (λ denotation. found self.old.scopes.blocks.items (folded name.now.text.now) ≡ Ok denotation) }
+        ensures found { IfOk result (λ denotation. found self.old.scopes (folded name.now.text.now) ≡ Ok denotation) }
         ensures refused { IfErr result (λ fault. (fault ≡ Memory) ⊎ IsUnknown self.old name.now) }
     {
         self.latest = name.place;

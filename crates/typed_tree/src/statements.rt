@@ -2,15 +2,15 @@ ghost use Rattle.std.specs.Prelude.{◌≡◌, ◌⊎◌, ◌≤◌, ◌≢◌, 
 ghost use Rattle.typed_tree.specs.Typing.{writes_nothing, values_of_type, is_written_as};
 ghost use Rattle.typed_tree.specs.declared.fault.TypeFault.TheVariants.{Memory};
 
-use crate::denotation::{Denotation, RequiredProcedure};
 use crate::expressions::{Typed, first_place};
 use crate::fault::TypeFault;
 use crate::resolver::Resolver;
 use crate::site::SiteKind;
 use crate::tree::{RangeTest, Representation, Stmt, Width, WriteParameter};
-use crate::types::{OrdinalRange, TypeId, TypeTable, required_form};
 use lexer::place::Place;
 use parser::tree as syntax;
+use scopes::{Denotation, RequiredProcedure};
+use types::{OrdinalRange, TypeId, TypeTable, required_form};
 
 impl Resolver {
     ghost use Rattle.typed_tree.specs.Resolved.{AddsNothing, TellsParameters, TellsFile, MakesWidth, MakesParameter, MakesParameters, MakesAssignment, MakesCall, MakesWrite, MakesStatement, MakesStatements, MakesCompound, AreSilent};

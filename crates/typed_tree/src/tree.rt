@@ -1,6 +1,6 @@
 use crate::site::{Point, Site};
-use crate::types::{OrdinalRange, TypeId, TypeTable};
 use lexer::place::Place;
+use types::{OrdinalRange, TypeId, TypeTable};
 
 /// A program with its names bound and its types known.
 #[derive(Debug, Drop)]

@@ -29,12 +29,12 @@ returns-in_err-declare-clause-refused c =
     let root = length c.args.variables.now.items in
     let names = c.deref-name-items.result.now in
     let type_id = c.in_ok-type_id.type_id in
-    let h : (c.in_err-declare.field-0.0 ≡ Memory) ⊎ CannotPassGroup c.args.group.now c.args.scopes.now.blocks.items c.args.variables.now.items =
+    let h : (c.in_err-declare.field-0.0 ≡ Memory) ⊎ CannotPassGroup c.args.group.now c.args.scopes.now c.args.variables.now.items =
     ⊎_elim inl
     (λ q. inr (inr (inl (
       type_id,
       c.in_ok-type_id.ensures.denoted,
-      subst (λ l. CannotPass (roots_from root type_id l) c.args.scopes.now.blocks.items) c.deref-name-items.ensures.value
+      subst (λ l. CannotPass (roots_from root type_id l) c.args.scopes.now) c.deref-name-items.ensures.value
           (stuck_at_root root type_id names c.loop-name.name-index _ _ _ c.loop-name-test.true c.loop-name.invariant.passed q),
     ))))
     c.in_err-declare.ensures.refused in

@@ -5,6 +5,6 @@ use Rattle.typed_tree.proofs.declarations.declare_group.Given as goal
 -- the names so far are defined, and each has a variable
 abbrev pub invariant-loop-name : goal.invariant-loop-name
 invariant-loop-name l = record {
-  passed : Passes (roots_from (length l.initial.variables.items) l.type_id (take l.name-index l.name-items)) l.initial.scopes.blocks.items l.scopes.blocks.items;
+  passed : Passes (roots_from (length l.initial.variables.items) l.type_id (take l.name-index l.name-items)) l.initial.scopes l.scopes;
   grown : l.variables.items ≡ l.initial.variables.items ++ map (λ name. record { block = 0; type_id = l.type_id }) (take l.name-index l.name-items);
 }

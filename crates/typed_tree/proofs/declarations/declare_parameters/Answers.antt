@@ -1,7 +1,7 @@
 use Rattle.std.proofs.Common.{rules, ◌≡◌, ◌⊎◌, inl, inr, ⊎_elim, codes, map, sym, ◌∙◌}
 use Rattle.std.proofs.lemmas.List.Elements.{All-more}
 use Rattle.typed_tree.specs.Names.{folded}
-use Rattle.typed_tree.specs.declared.denotation.Denotation.TheVariants.{Output}
+use Rattle.scopes.specs.declared.denotation.Denotation.TheVariants.{Output}
 use Rattle.typed_tree.specs.declared.fault.TypeFault.TheVariants.{Memory}
 use Rattle.typed_tree.specs.Regions.{CannotPass}
 use Rattle.typed_tree.proofs.Refused.{stuck_at}
@@ -23,6 +23,6 @@ loop-name-preserved c =
 pub returns-in_err-declare-clause-refused : goal.returns-in_err-declare-clause-refused
 returns-in_err-declare-clause-refused c =
     let parameters = c.args.parameters.now in
-    let h : (c.in_err-declare.field-0.0 ≡ Memory) ⊎ CannotPass (map (λ name. (name.text.now, Output)) parameters) c.args.scopes.now.blocks.items =
+    let h : (c.in_err-declare.field-0.0 ≡ Memory) ⊎ CannotPass (map (λ name. (name.text.now, Output)) parameters) c.args.scopes.now =
     ⊎_elim inl (λ q. inr (stuck_at (λ name. (name.text.now, Output)) parameters c.loop-name.name-index _ _ _ c.loop-name-test.true c.loop-name.invariant.passed q)) c.in_err-declare.ensures.refused in
     search rules

@@ -1,12 +1,12 @@
 use Rattle.std.proofs.Common.{◌≡◌, All, codes, map, take}
 use Rattle.typed_tree.specs.Names.{folded}
 use Rattle.typed_tree.specs.Regions.{Passes}
-use Rattle.typed_tree.specs.declared.denotation.Denotation.TheVariants as denotes
+use Rattle.scopes.specs.declared.denotation.Denotation.TheVariants as denotes
 use Rattle.typed_tree.proofs.declarations.declare_parameters.Given as goal
 
 -- the parameters so far are output, and they are defined
 abbrev pub invariant-loop-name : goal.invariant-loop-name
 invariant-loop-name l = record {
   only_output : All (λ name. folded name.text.now ≡ codes "output") (take l.name-index l.parameters);
-  passed : Passes (map (λ name. (name.text.now, denotes.Output)) (take l.name-index l.parameters)) l.initial.scopes.blocks.items l.scopes.blocks.items;
+  passed : Passes (map (λ name. (name.text.now, denotes.Output)) (take l.name-index l.parameters)) l.initial.scopes l.scopes;
 }

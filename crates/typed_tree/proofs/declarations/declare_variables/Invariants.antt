@@ -4,4 +4,4 @@ use Rattle.typed_tree.proofs.declarations.declare_variables.Given as goal
 
 -- the groups so far are passed
 abbrev pub invariant-loop-group : goal.invariant-loop-group
-invariant-loop-group l = PassesGroups (take l.group-index l.groups) l.initial.scopes.blocks.items [] l.scopes.blocks.items l.variables.items
+invariant-loop-group l = PassesGroups (take l.group-index l.groups) l.initial.scopes [] l.scopes l.variables.items

@@ -4,4 +4,4 @@ use Rattle.typed_tree.proofs.declarations.open_required.Given as goal
 
 -- the identifiers so far are defined
 abbrev pub invariant-loop-name : goal.invariant-loop-name
-invariant-loop-name l = Passes (map (λ p. (p.0.now, p.1)) (take l.name-index l.name-items)) l.initial.scopes.blocks.items l.scopes.blocks.items
+invariant-loop-name l = Passes (map (λ p. (p.0.now, p.1)) (take l.name-index l.name-items)) l.initial.scopes l.scopes

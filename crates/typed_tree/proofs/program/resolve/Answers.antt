@@ -28,7 +28,7 @@ returns-clause-well_formed c =
     }
 
 -- what the declarations leave, for the statements
-declarations : (c : In_ok-variables) → AreDeclared c.args.program.now c.in_ok-has_output.has_output c.in_ok-variables.variables.items c.declare_variables.new.scopes.blocks.items
+declarations : (c : In_ok-variables) → AreDeclared c.args.program.now c.in_ok-has_output.has_output c.in_ok-variables.variables.items c.declare_variables.new.scopes
 declarations c =
     are_declared c.args.program.now c.in_ok-has_output.has_output c.in_ok-variables.variables.items c.deref.result.now c.deref-2.result.now _ _ _ _ _
     c.new-scopes.ensures c.deref.ensures.value c.deref-2.ensures.value c.in_ok-open_required.ensures.opened c.in_ok-open_block.ensures.opened

@@ -1,13 +1,13 @@
-use Rattle.std.proofs.Common.{◌≡◌, Some, Result, Ok, Err, IfOk, IsErr, [], ◌∷◌, true, length, map, ◌∙◌, refl, sym, ap, subst, arith}
-use Rattle.typed_tree.specs.declared.denotation.Denotation.TheVariants as denotes
+use Rattle.std.proofs.Common.{◌≡◌, Some, Result, Ok, Err, IfOk, IsErr, [], ◌∷◌, true, length, map, ◌∙◌, subst, arith}
+use Rattle.scopes.specs.declared.denotation.Denotation.TheVariants as denotes
 use Rattle.typed_tree.specs.declared.fault.TypeFault.{TypeFault}
 use Rattle.typed_tree.specs.Entries.{monadic_sites}
-use Rattle.typed_tree.specs.Typing.{leading, function_stands}
+use Rattle.typed_tree.specs.Typing.{function_stands}
 use Rattle.typed_tree.specs.WellFormed.{all_hold, is_well_formed_expr, is_well_formed_link}
 use Rattle.typed_tree.specs.Resolved.{MakesLinks, MakesArgument}
 use Rattle.typed_tree.specs.Refusing.{RefusesLinks, RefusesArgument}
 use Rattle.typed_tree.proofs.Measures.{function_sites}
-use Rattle.typed_tree.proofs.ResolvedPieces.{if_ok, adds_then}
+use Rattle.typed_tree.proofs.ResolvedPieces.{adds_then}
 use Rattle.typed_tree.proofs.ResolvedExpressions.{name_made, monadic_is_formed, chain_is_formed}
 use Rattle.typed_tree.proofs.Refusals.{refused_by, refused_for}
 use Rattle.typed_tree.proofs.RefusedExpressions.{name_refused, call_refused, called_unknown, call_unentered, call_untested}

@@ -1,4 +1,4 @@
-use Rattle.std.proofs.Common.{◌≡◌, Ok, ap, ◌∙◌}
+use Rattle.std.proofs.Common.{Ok, ap, ◌∙◌}
 use Rattle.typed_tree.proofs.ResolvedPieces.{if_ok}
 use Rattle.typed_tree.proofs.ResolvedStatements.{call_made}
 use Rattle.typed_tree.proofs.Refusals.{refused_so}

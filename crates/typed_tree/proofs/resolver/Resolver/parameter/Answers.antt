@@ -1,4 +1,4 @@
-use Rattle.std.proofs.Common.{◌≡◌, ◌≤◌, Some, None, IfSome, IfNone, true, false, length, ◌∙◌, refl, ap, subst, arith}
+use Rattle.std.proofs.Common.{◌≡◌, ◌≤◌, Some, IfSome, IfNone, true, false, length, ◌∙◌, refl, ap, subst, arith}
 use Rattle.typed_tree.specs.declared.resolver.Resolver.{Resolver}
 use Rattle.typed_tree.specs.declared.tree.Representation.{Representation}
 use Rattle.typed_tree.specs.declared.tree.WriteParameter.{WriteParameter}

@@ -1,4 +1,4 @@
-use Rattle.std.proofs.Common.{◌≡◌, ◌≢◌, ◌<◌, inr, length, rules, arith}
+use Rattle.std.proofs.Common.{◌≢◌, inr, length, rules, arith}
 use Rattle.typed_tree.specs.Names.{integer}
 use Rattle.typed_tree.proofs.StatementFormed.{width-formed}
 use Rattle.typed_tree.proofs.Refusals.{refused_by}

@@ -1,5 +1,5 @@
 use Rattle.std.proofs.Common.{◌≡◌, ◌≢◌, true, false, [], rules}
-use Rattle.typed_tree.specs.declared.denotation.RequiredProcedure.TheVariants.{Writeln}
+use Rattle.scopes.specs.declared.denotation.RequiredProcedure.TheVariants.{Writeln}
 use Rattle.typed_tree.proofs.ResolvedStatements.{write_made}
 use Rattle.typed_tree.proofs.Refusals.{refused_by}
 use Rattle.typed_tree.proofs.RefusedStatements.{actuals_refused, parameters_refused, write_fits, not_empty}

@@ -1,0 +1,29 @@
+use types::TypeId;
+
+/// What a name denotes (ISO 7185:1990, 6.2.2).
+#[derive(Clone, Copy, Debug, PartialEq, Eq)]
+pub enum Denotation {
+    TypeName(TypeId),
+    Constant { value: i32, type_id: TypeId },
+    /// The variable with this root number.
+    Variable { root: u32, type_id: TypeId },
+    Procedure(RequiredProcedure),
+    Function(RequiredFunction),
+    /// The file output, a program parameter.
+    Output,
+}
+
+/// A required procedure (6.6.4, 6.9).
+#[derive(Clone, Copy, Debug, PartialEq, Eq)]
+pub enum RequiredProcedure {
+    Write,
+    Writeln,
+}
+
+/// A required function of one ordinal (6.6.6.2, 6.6.6.5).
+#[derive(Clone, Copy, Debug, PartialEq, Eq)]
+pub enum RequiredFunction {
+    Abs,
+    Sqr,
+    Odd,
+}

@@ -1,0 +1,13 @@
+//! What names denote: regions, the innermost of which decides (ISO 7185:1990, 6.2.2).
+#![tactic(auto)]
+
+mod denotation;
+mod fault;
+mod regions;
+
+pub use denotation::{Denotation, RequiredFunction, RequiredProcedure};
+pub use fault::ScopeFault;
+pub use regions::Scopes;
+
+#[cfg(test)]
+mod tests;

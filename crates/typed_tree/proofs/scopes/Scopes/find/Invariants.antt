@@ -1,8 +1,0 @@
-use Rattle.std.proofs.Common.{◌≡◌, drop}
-use Rattle.typed_tree.specs.Scopes.{found, found_within}
-use Rattle.typed_tree.proofs.scopes.Scopes.find.Given as goal
-
--- the regions that are left decide over what is found
-abbrev pub invariant-loop-region : goal.invariant-loop-region
-invariant-loop-region l =
-    found_within l.found (drop l.region-index l.self.blocks.items) l.name ≡ found l.self.blocks.items l.name

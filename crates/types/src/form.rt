@@ -1,0 +1,53 @@
+ghost use Rattle.std.specs.Prelude.{◌≡◌, Some, slice_get};
+ghost use Rattle.types.specs.Types.{range_at, required_forms};
+
+/// What a type is made of (ISO 7185:1990, 6.4).
+#[derive(Clone, Copy, Debug, PartialEq, Eq)]
+pub enum TypeForm {
+    /// The required type integer: -2147483647 to 2147483647.
+    Integer,
+    /// The required type Boolean: false is 0, true is 1.
+    Boolean,
+}
+
+impl TypeForm {
+    /// The values of the type, which is ordinal.
+    pub fn range(self) -> OrdinalRange
+        ensures { Some result ≡ range_at (Some self) }
+    {
+        match self {
+            TypeForm::Integer => OrdinalRange {
+                first: -MAXINT,
+                last: MAXINT,
+            },
+            TypeForm::Boolean => OrdinalRange { first: 0, last: 1 },
+        }
+    }
+}
+
+/// A type of a table, by its number there.
+#[derive(Clone, Copy, Debug, PartialEq, Eq)]
+pub struct TypeId {
+    pub index: usize,
+}
+
+/// The first and the last value of an ordinal type.
+#[derive(Clone, Copy, Debug, PartialEq, Eq)]
+pub struct OrdinalRange {
+    pub first: i32,
+    pub last: i32,
+}
+
+/// The largest number of type integer, and the value of maxint (6.4.2.2).
+pub const MAXINT: i32 = 2_147_483_647;
+
+/// What a required type is made of, by its number in each table that `TypeTable::required` makes.
+pub fn required_form(id: TypeId) -> Option<TypeForm>
+    ensures { result ≡ slice_get required_forms id.index }
+{
+    match id.index {
+        0 => Some(TypeForm::Integer),
+        1 => Some(TypeForm::Boolean),
+        _ => None,
+    }
+}

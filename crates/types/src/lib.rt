@@ -1,0 +1,11 @@
+//! The types of a program, and the type rules (ISO 7185:1990, 6.4).
+#![tactic(auto)]
+
+mod form;
+mod table;
+
+pub use form::{MAXINT, OrdinalRange, TypeForm, TypeId, required_form};
+pub use table::TypeTable;
+
+#[cfg(test)]
+mod tests;
