@@ -10,6 +10,3 @@ pub mod token;
 mod word;
 
 pub use scan::{MAX_TEXT, tokens};
-
-#[cfg(test)]
-mod tests;

@@ -62,15 +62,6 @@ form-Parenthesized p b = ap form.expr_form (sym (tree.rolls-Parenthesized p b)) 
 pub levels-Parenthesized : (p : Place) (b : Box Expr Global) → nest.expr_levels (tree.Parenthesized p b) ≡ 1 + nest.expr_levels b.value
 levels-Parenthesized p b = ap nest.expr_levels (sym (tree.rolls-Parenthesized p b)) ∙ levels_of (expr.Parenthesized p b)
 
-pub spelling-Not : (p : Place) (b : Box Expr Global) → spell.expr_spelling (tree.Not p b) ≡ spell.of_kind_at (kind.Word word.Not) p ∷ spell.expr_spelling b.value
-spelling-Not p b = ap spell.expr_spelling (sym (tree.rolls-Not p b)) ∙ spelling_of (expr.Not p b)
-
-pub form-Not : (p : Place) (b : Box Expr Global) → form.expr_form (tree.Not p b) ≡ record { level = form.factor_level; well = form.fits form.factor_level (form.expr_form b.value) }
-form-Not p b = ap form.expr_form (sym (tree.rolls-Not p b)) ∙ form_of (expr.Not p b)
-
-pub levels-Not : (p : Place) (b : Box Expr Global) → nest.expr_levels (tree.Not p b) ≡ 1 + nest.expr_levels b.value
-levels-Not p b = ap nest.expr_levels (sym (tree.rolls-Not p b)) ∙ levels_of (expr.Not p b)
-
 pub spelling-Chain : (b : Box Expr Global) (v : Vec Link Global) → spell.expr_spelling (tree.Chain b v) ≡ spell.expr_spelling b.value ++ spell.joined (map spell.link_spelling v.items)
 spelling-Chain b v = ap spell.expr_spelling (sym (tree.rolls-Chain b v)) ∙ spelling_of (expr.Chain b v)
 
@@ -113,38 +104,11 @@ levels-Wide e w = fold-roll-Actual ℕ ℕ ℕ nest.expr_step nest.actual_step (
 
 -- ---- statements
 
-pub spelling-Empty : spell.stmt_spelling statement.Empty ≡ []
-spelling-Empty = ap spell.stmt_spelling (sym statement.rolls-Empty) ∙ fold-roll-Stmt spell.Spelling spell.stmt_step stmt.Empty
-
-pub spelling-Assign : (n : Name) (p : Place) (e : Expr) → spell.stmt_spelling (statement.Assign n p e) ≡ spell.identifier n ∷ spell.of_kind_at (kind.Symbol symbol.Becomes) p ∷ spell.expr_spelling e
-spelling-Assign n p e = ap spell.stmt_spelling (sym (statement.rolls-Assign n p e)) ∙ fold-roll-Stmt spell.Spelling spell.stmt_step (stmt.Assign n p e)
-
-pub spelling-Call : (n : Name) (v : Vec Actual Global) → spell.stmt_spelling (statement.Call n v) ≡ spell.identifier n ∷ spell.in_parentheses (map spell.actual_spelling v.items)
-spelling-Call n v = ap spell.stmt_spelling (sym (statement.rolls-Call n v)) ∙ fold-roll-Stmt spell.Spelling spell.stmt_step (stmt.Call n v)
-
 pub spelling-Compound : (v : Vec Stmt Global) → spell.stmt_spelling (statement.Compound v) ≡ spell.word_symbol word.Begin ∷ spell.separated symbol.Semicolon (map spell.stmt_spelling v.items) ++ spell.word_symbol word.End ∷ []
 spelling-Compound v = ap spell.stmt_spelling (sym (statement.rolls-Compound v)) ∙ fold-roll-Stmt spell.Spelling spell.stmt_step (stmt.Compound v)
 
-pub form-Empty : form.is_statement statement.Empty ≡ true
-form-Empty = ap form.is_statement (sym statement.rolls-Empty) ∙ fold-roll-Stmt Bool form.stmt_step stmt.Empty
-
-pub form-Assign : (n : Name) (p : Place) (e : Expr) → form.is_statement (statement.Assign n p e) ≡ form.is_expression e
-form-Assign n p e = ap form.is_statement (sym (statement.rolls-Assign n p e)) ∙ fold-roll-Stmt Bool form.stmt_step (stmt.Assign n p e)
-
-pub form-Call : (n : Name) (v : Vec Actual Global) → form.is_statement (statement.Call n v) ≡ list_all form.is_actual v.items
-form-Call n v = ap form.is_statement (sym (statement.rolls-Call n v)) ∙ fold-roll-Stmt Bool form.stmt_step (stmt.Call n v)
-
 pub form-Compound : (v : Vec Stmt Global) → form.is_statement (statement.Compound v) ≡ form.has_items (map form.is_statement v.items) && list_all (λ well. well) (map form.is_statement v.items)
 form-Compound v = ap form.is_statement (sym (statement.rolls-Compound v)) ∙ fold-roll-Stmt Bool form.stmt_step (stmt.Compound v)
-
-pub levels-Empty : nest.stmt_levels statement.Empty ≡ 1
-levels-Empty = ap nest.stmt_levels (sym statement.rolls-Empty) ∙ fold-roll-Stmt ℕ nest.stmt_step stmt.Empty
-
-pub levels-Assign : (n : Name) (p : Place) (e : Expr) → nest.stmt_levels (statement.Assign n p e) ≡ 1 + nest.expr_levels e
-levels-Assign n p e = ap nest.stmt_levels (sym (statement.rolls-Assign n p e)) ∙ fold-roll-Stmt ℕ nest.stmt_step (stmt.Assign n p e)
-
-pub levels-Call : (n : Name) (v : Vec Actual Global) → nest.stmt_levels (statement.Call n v) ≡ 1 + nest.deepest (map nest.actual_levels v.items)
-levels-Call n v = ap nest.stmt_levels (sym (statement.rolls-Call n v)) ∙ fold-roll-Stmt ℕ nest.stmt_step (stmt.Call n v)
 
 pub levels-Compound : (v : Vec Stmt Global) → nest.stmt_levels (statement.Compound v) ≡ 1 + nest.deepest (map nest.stmt_levels v.items)
 levels-Compound v = ap nest.stmt_levels (sym (statement.rolls-Compound v)) ∙ fold-roll-Stmt ℕ nest.stmt_step (stmt.Compound v)

@@ -1,8 +1,12 @@
 -- Rows of spellings, and the first of their tokens.
-use Rattle.std.proofs.Common.{◌≡◌, ℕ, ◌≤◌, max, List, [], ◌∷◌, ◌++◌, Some, fold, refl, subst, sym, ap, ◌∙◌, arith}
+use Rattle.std.proofs.Common.{◌≡◌, ℕ, ◌+◌, ◌<◌, ◌≤◌, max, Result, Ok, Err, List, [], ◌∷◌, ◌++◌, Some, fold, refl, subst, sym, ap, ◌∙◌, arith}
 use Rattle.lexer.specs.declared.token.Token.{Token}
 use Rattle.parser.specs.Spelling.{Lexeme, Spelling, Reads}
-use Rattle.parser.specs.Reading.{next_kind}
+use Rattle.lexer.specs.declared.place.Place.{Place}
+use Rattle.parser.specs.declared.fault.ParseFault.{ParseFault}
+use Rattle.parser.specs.declared.fault.ParseFault.TheVariants.{Memory, NoProgram, TooDeep, LeftOut}
+use Rattle.parser.specs.declared.cursor.Cursor.{Cursor}
+use Rattle.parser.specs.Reading.{next_kind, Stops, ReadWithin}
 
 -- a row of spellings parts where they meet
 pub parted : (s t : Spelling) (a c : List Token) → Reads a (s ++ t) c → (b : List Token) × Reads a s b × Reads b t c
@@ -32,3 +36,19 @@ start_below n a (x ∷ xs) h = let k = start_below n (max a x) xs h in omega ari
 pub other_start : (n a b : ℕ) (xs : List ℕ) → a ≤ n → fold max b xs ≤ n → fold max a xs ≤ n
 other_start n a b [] h k = h
 other_start n a b (x ∷ xs) h k = let m = start_below n (max b x) xs k in other_start n (max a x) (max b x) xs (omega arith) k
+
+-- what stops a rule one level below stops the rule
+pub stops_above : (levels inner depth below : ℕ) (fault : ParseFault) → inner + 1 ≡ levels → below < depth → Stops inner below fault → Stops levels depth fault
+stops_above levels inner depth below Memory less under h = tt
+stops_above levels inner depth below (TooDeep place) less under h = omega arith
+stops_above levels inner depth below (NoProgram place) less under h = h
+stops_above levels inner depth below (LeftOut place) less under h = h
+
+pub within_above : {A : Type 0} → (levels inner depth below : ℕ) (others : List Token) (new : Cursor) (answer : Result A ParseFault) → inner + 1 ≡ levels → below < depth
+    → ReadWithin inner below others new answer → ReadWithin levels depth others new answer
+within_above levels inner depth below others new (Ok found) less under h = h
+within_above levels inner depth below others new (Err fault) less under h = stops_above levels inner depth below fault less under h
+
+-- where no level is left each form that needs one is deeper
+pub stops_spent : (levels depth : ℕ) (fault : ParseFault) (place : Place) → (levels ≡ 0) × (fault ≡ TooDeep place) → 0 < depth → Stops levels depth fault
+stops_spent levels depth fault place h some = subst (λ f. Stops levels depth f) (sym h.1) (let z = h.0 in omega arith)

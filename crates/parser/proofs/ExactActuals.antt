@@ -14,11 +14,11 @@ use Rattle.parser.specs.declared.tree.Expr.TheViews.{out-Actual, roll-Actual, ro
 use Rattle.parser.specs.Spelling.{Reads, expr_spelling, actual_spelling, of_kind_at, mark, separated}
 use Rattle.parser.specs.WellFormed.{is_expression, is_actual, relation_level}
 use Rattle.parser.specs.Nesting.{expr_levels, actual_levels}
-use Rattle.parser.specs.Reading.{next_kind, Ends, EndsActual, comma, parenthesis, Closes, NoNext, ReadTo, ReadsEach}
+use Rattle.parser.specs.Reading.{next_kind, Ends, EndsActual, comma, parenthesis, Closes, NoNext, ReadWithin, ReadsDeep}
 use Rattle.parser.specs.Rules.{BeginsExpr, BeginsActual, BeginsActualList, BeginsActuals}
 use Rattle.parser.proofs.Lists.{and_left, and_right}
 use Rattle.parser.proofs.Equations.{spelling-Alone, form-Alone, levels-Alone, spelling-Wide, form-Wide, levels-Wide}
-use Rattle.parser.proofs.Exact.{parted, begins, same_first}
+use Rattle.parser.proofs.Exact.{parted, begins, same_first, within_above}
 use Rattle.parser.proofs.ExactChains.{close_ends, comma_ends, colon_ends}
 use Rattle.parser.proofs.ExactLists.{Parts, PartsLeft, PartThenOthers, ComesBehind, one_more, no_more, parts_begin, parts_go_on, comes_behind}
 
@@ -85,10 +85,12 @@ value_ends levels a c ends (absent h) = subst (λ x. Ends relation_level x) (sym
 value_ends levels a c ends (wide w h f n) = colon_ends relation_level a (begins (mark symbol.Colon) (expr_spelling w) a c h) (omega arith)
 
 -- what the rule of expressions answers to the value
-pub value_answer : (levels inner : ℕ) (a b : Cursor) (others : List Token) (answer : Result Expr ParseFault) → inner + 1 ≡ levels → EndsActual others
-    → (v : IsValue levels a.rest.now others) → ReadsEach (BeginsExpr relation_level inner) (Ends relation_level) a b answer → ReadTo v.middle b answer
-value_answer levels inner a b others answer less ends v reads =
-    reads v.value v.middle (record { spelled = v.spelled; formed = v.formed; nests = let n = v.nests in omega arith }) (value_ends levels v.middle others ends v.width)
+pub value_answer : (levels inner depth : ℕ) (a b : Cursor) (others : List Token) (answer : Result Expr ParseFault) → inner + 1 ≡ levels → EndsActual others
+    → (v : IsValue depth a.rest.now others) → ReadsDeep inner (BeginsExpr relation_level) (Ends relation_level) a b answer → ReadWithin levels depth v.middle b answer
+value_answer levels inner depth a b others answer less ends v reads =
+    let below = expr_levels v.value in
+    within_above levels inner depth below v.middle b answer less (let n = v.nests in omega arith)
+    (reads below v.value v.middle (record { spelled = v.spelled; formed = v.formed; nests = omega arith }) (value_ends depth v.middle others ends v.width))
 
 -- where no colon comes there is no width
 pub width_absent : (levels : ℕ) (a c : List Token) → NoNext (kind.Symbol symbol.Colon) a → IsWidth levels a c → a ≡ c
@@ -112,17 +114,19 @@ width_taken levels p a b c k ends (absent h) = absurd (no_colon c ends (ap next_
 width_taken levels p a b c k ends (wide w h f n) = record { width = w; spelled = (same_first (of_kind_at (kind.Symbol symbol.Colon) p) (mark symbol.Colon) (expr_spelling w) a b c k h).1; formed = f; nests = n }
 
 -- behind a value
-pub width_left : (levels inner : ℕ) (a b : Cursor) (value : Expr) (x : Actual) (others : List Token) → inner + 1 ≡ levels → ReadsEach (BeginsExpr relation_level inner) (Ends relation_level) a b (Ok value)
-    → BeginsActual levels a.rest.now others x → EndsActual others → IsWidth levels b.rest.now others
-width_left levels inner a b value x others less reads h ends =
-    let v = actual_parts levels a.rest.now others x h in
-    subst (λ t. IsWidth levels t others) (sym (value_answer levels inner a b others (Ok value) less ends v reads)) v.width
+pub width_left : (levels inner depth : ℕ) (a b : Cursor) (value : Expr) (x : Actual) (others : List Token) → inner + 1 ≡ levels → ReadsDeep inner (BeginsExpr relation_level) (Ends relation_level) a b (Ok value)
+    → BeginsActual depth a.rest.now others x → EndsActual others → IsWidth depth b.rest.now others
+width_left levels inner depth a b value x others less reads h ends =
+    let v = actual_parts depth a.rest.now others x h in
+    subst (λ t. IsWidth depth t others) (sym (value_answer levels inner depth a b others (Ok value) less ends v reads)) v.width
 
 -- what the rule of expressions answers to it
-pub width_answer : (levels inner : ℕ) (a b : Cursor) (others : List Token) (answer : Result Expr ParseFault) → inner + 1 ≡ levels → EndsActual others
-    → IsWide levels a.rest.now others → ReadsEach (BeginsExpr relation_level inner) (Ends relation_level) a b answer → ReadTo others b answer
-width_answer levels inner a b others answer less ends w reads =
-    reads w.width others (record { spelled = w.spelled; formed = w.formed; nests = let n = w.nests in omega arith }) (ends_expression others ends)
+pub width_answer : (levels inner depth : ℕ) (a b : Cursor) (others : List Token) (answer : Result Expr ParseFault) → inner + 1 ≡ levels → EndsActual others
+    → IsWide depth a.rest.now others → ReadsDeep inner (BeginsExpr relation_level) (Ends relation_level) a b answer → ReadWithin levels depth others b answer
+width_answer levels inner depth a b others answer less ends w reads =
+    let below = expr_levels w.width in
+    within_above levels inner depth below others b answer less (let n = w.nests in omega arith)
+    (reads below w.width others (record { spelled = w.spelled; formed = w.formed; nests = omega arith }) (ends_expression others ends))
 
 -- ---- lists of actuals
 
@@ -131,8 +135,8 @@ abbrev pub actual_list_parts : Parts Actual
 actual_list_parts = record { symbol = symbol.Comma; spelling = actual_spelling; well = is_actual; levels = actual_levels }
 
 -- what is left of each list of actuals that may stand there
-abbrev pub ActualsListLeft : ℕ → List Token → List Token → Type 0
-ActualsListLeft levels start now = (actuals : List Actual) (others : List Token) → BeginsActualList levels start others actuals → Closes others → PartsLeft Actual actual_list_parts levels now others
+abbrev pub ActualsListLeft : List Token → List Token → Type 0
+ActualsListLeft start now = (depth : ℕ) (actuals : List Actual) (others : List Token) → BeginsActualList depth start others actuals → Closes others → PartsLeft Actual actual_list_parts depth now others
 
 -- a list of actuals begins with one
 pub actuals_begin : (levels : ℕ) (a c : List Token) (actuals : List Actual) → BeginsActualList levels a c actuals → PartThenOthers Actual actual_list_parts levels a c
@@ -150,23 +154,23 @@ actual_ends a c (one_more e) closes = comma e
 actual_ends a c (no_more e) closes = parenthesis (e ∙ closes)
 
 -- what the rule of actuals answers there
-pub actual_answer : (levels : ℕ) (a b : Cursor) (others : List Token) (answer : Result Actual ParseFault) → (p : PartThenOthers Actual actual_list_parts levels a.rest.now others) → Closes others
-    → ReadsEach (BeginsActual levels) EndsActual a b answer → ReadTo p.middle b answer
-actual_answer levels a b others answer p closes reads =
-    reads p.first p.middle (record { spelled = p.spelled; formed = p.formed; nests = p.nests }) (actual_ends p.middle others (comes_behind Actual actual_list_parts levels p.middle others p.left) closes)
+pub actual_answer : (levels depth : ℕ) (a b : Cursor) (others : List Token) (answer : Result Actual ParseFault) → (p : PartThenOthers Actual actual_list_parts depth a.rest.now others) → Closes others
+    → ReadsDeep levels BeginsActual EndsActual a b answer → ReadWithin levels depth p.middle b answer
+actual_answer levels depth a b others answer p closes reads =
+    reads depth p.first p.middle (record { spelled = p.spelled; formed = p.formed; nests = p.nests }) (actual_ends p.middle others (comes_behind Actual actual_list_parts depth p.middle others p.left) closes)
 
 -- behind the first actual
-pub actual_list_begins : (levels : ℕ) (a b : Cursor) (e : Actual) → ReadsEach (BeginsActual levels) EndsActual a b (Ok e) → ActualsListLeft levels a.rest.now b.rest.now
-actual_list_begins levels a b e reads actuals others h closes =
-    let p = actuals_begin levels a.rest.now others actuals h in
-    subst (λ x. PartsLeft Actual actual_list_parts levels x others) (sym (actual_answer levels a b others (Ok e) p closes reads)) p.left
+pub actual_list_begins : (levels : ℕ) (a b : Cursor) (e : Actual) → ReadsDeep levels BeginsActual EndsActual a b (Ok e) → ActualsListLeft a.rest.now b.rest.now
+actual_list_begins levels a b e reads depth actuals others h closes =
+    let p = actuals_begin depth a.rest.now others actuals h in
+    subst (λ x. PartsLeft Actual actual_list_parts depth x others) (sym (actual_answer levels depth a b others (Ok e) p closes reads)) p.left
 
 -- behind one more
 pub actual_list_left : (levels : ℕ) (p : Place) (start : List Token) (a b c : Cursor) (e : Actual) → Reads a.rest.now (of_kind_at (kind.Symbol symbol.Comma) p ∷ []) b.rest.now
-    → ReadsEach (BeginsActual levels) EndsActual b c (Ok e) → ActualsListLeft levels start a.rest.now → ActualsListLeft levels start c.rest.now
-actual_list_left levels p start a b c e k reads left actuals others h closes =
-    let q = one_more_actual levels p a.rest.now b.rest.now others k closes (left actuals others h closes) in
-    subst (λ x. PartsLeft Actual actual_list_parts levels x others) (sym (actual_answer levels b c others (Ok e) q closes reads)) q.left
+    → ReadsDeep levels BeginsActual EndsActual b c (Ok e) → ActualsListLeft start a.rest.now → ActualsListLeft start c.rest.now
+actual_list_left levels p start a b c e k reads left depth actuals others h closes =
+    let q = one_more_actual depth p a.rest.now b.rest.now others k closes (left depth actuals others h closes) in
+    subst (λ x. PartsLeft Actual actual_list_parts depth x others) (sym (actual_answer levels depth b c others (Ok e) q closes reads)) q.left
 
 -- what stands behind the opening parenthesis of actuals
 pub record OpenedActuals (levels : ℕ) (a c : List Token) (actuals : List Actual) : Type 0 where

@@ -26,7 +26,7 @@ use Rattle.parser.specs.WellFormed.{Form, LinkForm, expr_form, is_actual, link_f
 use Rattle.parser.specs.WellFormed as form
 use Rattle.parser.specs.Nesting.{expr_levels, actual_levels, link_levels, deepest}
 use Rattle.parser.specs.Nesting as nest
-use Rattle.parser.specs.Reading.{next_kind, NoOperator, Ends, ReadTo, ReadsEach}
+use Rattle.parser.specs.Reading.{next_kind, NoOperator, Ends, Stops, ReadWithin, ReadsDeep}
 use Rattle.parser.specs.Rules.{BeginsExpr, IsChain}
 use Rattle.parser.proofs.Lists.{and_left, and_right, and_true, length_map}
 use Rattle.parser.proofs.Equations.{spelling_of, form_of, levels_of, spelling-Link, form-Link, levels-Link}
@@ -333,36 +333,36 @@ pub operand_ends : (level above levels : ℕ) (a c : List Token) → level + 1 �
 operand_ends level above levels a c k m ends h = behind_with level above a c h.links k m ends h.spelled h.formed
 
 -- what the rule of first operands answers there
-pub first_answer : (level levels : ℕ) (a b : Cursor) (others : List Token) (answer : Result Expr ParseFault) → IsLevel level → (p : IsChained level levels a.rest.now others) → Ends level others
-    → ReadsEach (BeginsExpr (first_level level) levels) (Ends (first_level level)) a b answer → ReadTo p.middle b answer
-first_answer level levels a b others answer is p ends reads =
-    let k = level_below level is in reads p.first p.middle p.begun (operand_ends level (first_level level) levels p.middle others (omega arith) (omega arith) ends p.chain)
+pub first_answer : (level levels depth : ℕ) (a b : Cursor) (others : List Token) (answer : Result Expr ParseFault) → IsLevel level → (p : IsChained level depth a.rest.now others) → Ends level others
+    → ReadsDeep levels (BeginsExpr (first_level level)) (Ends (first_level level)) a b answer → ReadWithin levels depth p.middle b answer
+first_answer level levels depth a b others answer is p ends reads =
+    let k = level_below level is in reads depth p.first p.middle p.begun (operand_ends level (first_level level) depth p.middle others (omega arith) (omega arith) ends p.chain)
 
 -- and the rule of the others
-pub operand_answer : (level levels : ℕ) (a b : Cursor) (others : List Token) (answer : Result Expr ParseFault) → IsLevel level → (g : GoesOn level levels a.rest.now others) → Ends level others
-    → ReadsEach (BeginsExpr (operand_level level) levels) (Ends (operand_level level)) a b answer → ReadTo g.middle b answer
-operand_answer level levels a b others answer is g ends reads =
-    reads g.operand g.middle g.begun (operand_ends level (operand_level level) levels g.middle others (operand_above level is) (operand_below level is) ends g.chain)
+pub operand_answer : (level levels depth : ℕ) (a b : Cursor) (others : List Token) (answer : Result Expr ParseFault) → IsLevel level → (g : GoesOn level depth a.rest.now others) → Ends level others
+    → ReadsDeep levels (BeginsExpr (operand_level level)) (Ends (operand_level level)) a b answer → ReadWithin levels depth g.middle b answer
+operand_answer level levels depth a b others answer is g ends reads =
+    reads depth g.operand g.middle g.begun (operand_ends level (operand_level level) depth g.middle others (operand_above level is) (operand_below level is) ends g.chain)
 
 -- what is left of each expression that may stand there
-abbrev pub ChainLeft : ℕ → ℕ → List Token → List Token → Type 0
-ChainLeft level levels start now = (e : Expr) (others : List Token) → BeginsExpr level levels start others e → Ends level others → Chain level levels now others
+abbrev pub ChainLeft : ℕ → List Token → List Token → Type 0
+ChainLeft level start now = (depth : ℕ) (e : Expr) (others : List Token) → BeginsExpr level depth start others e → Ends level others → Chain level depth now others
 
 -- behind the first operand
-pub chain_begins : (level levels : ℕ) (a b : Cursor) (first : Expr) → IsLevel level → ReadsEach (BeginsExpr (first_level level) levels) (Ends (first_level level)) a b (Ok first) → ChainLeft level levels a.rest.now b.rest.now
-chain_begins level levels a b first is reads e others h ends =
-    let p = chain_parts level levels a.rest.now others e is h in
-    subst (λ x. Chain level levels x others) (sym (first_answer level levels a b others (Ok first) is p ends reads)) p.chain
+pub chain_begins : (level levels : ℕ) (a b : Cursor) (first : Expr) → IsLevel level → ReadsDeep levels (BeginsExpr (first_level level)) (Ends (first_level level)) a b (Ok first) → ChainLeft level a.rest.now b.rest.now
+chain_begins level levels a b first is reads depth e others h ends =
+    let p = chain_parts level depth a.rest.now others e is h in
+    subst (λ x. Chain level depth x others) (sym (first_answer level levels depth a b others (Ok first) is p ends reads)) p.chain
 
 -- behind one more
 pub chain_left : (level levels : ℕ) (o : Operator) (p : Place) (start : List Token) (a b c : Cursor) (operand : Expr) → IsLevel level → operator_level o ≡ level → Reads a.rest.now (operator o p ∷ []) b.rest.now
-    → ReadsEach (BeginsExpr (operand_level level) levels) (Ends (operand_level level)) b c (Ok operand) → ChainLeft level levels start a.rest.now → ChainLeft level levels start c.rest.now
-chain_left level levels o p start a b c operand is at k reads left e others h ends =
-    let g = goes_on level levels o p a.rest.now b.rest.now others at k ends (left e others h ends) in
-    subst (λ x. Chain level levels x others) (sym (operand_answer level levels b c others (Ok operand) is g ends reads)) g.chain
+    → ReadsDeep levels (BeginsExpr (operand_level level)) (Ends (operand_level level)) b c (Ok operand) → ChainLeft level start a.rest.now → ChainLeft level start c.rest.now
+chain_left level levels o p start a b c operand is at k reads left depth e others h ends =
+    let g = goes_on level depth o p a.rest.now b.rest.now others at k ends (left depth e others h ends) in
+    subst (λ x. Chain level depth x others) (sym (operand_answer level levels depth b c others (Ok operand) is g ends reads)) g.chain
 
 -- the answer of a chain read to its end
-pub read_whole : (others : List Token) (new : Cursor) (first : Expr) (rest : List Link) (answer : Result Expr ParseFault) → new.rest.now ≡ others
-    → MatchResult answer (IsChain first rest) (λ fault. fault ≡ Memory) → ReadTo others new answer
-read_whole others new first rest (Ok e) h k = h
-read_whole others new first rest (Err fault) h k = k
+pub read_whole : (levels depth : ℕ) (others : List Token) (new : Cursor) (first : Expr) (rest : List Link) (answer : Result Expr ParseFault) → new.rest.now ≡ others
+    → MatchResult answer (IsChain first rest) (λ fault. fault ≡ Memory) → ReadWithin levels depth others new answer
+read_whole levels depth others new first rest (Ok e) h k = h
+read_whole levels depth others new first rest (Err fault) h k = subst (λ f. Stops levels depth f) (sym k) tt

@@ -26,10 +26,10 @@ use Rattle.parser.specs.Nesting.{expr_levels, actual_levels, link_levels, deepes
 use Rattle.parser.specs.Nesting as nest
 use Rattle.parser.specs.Cursor.{Took}
 use Rattle.parser.specs.Rules.{BeginsExpr, BeginsActuals}
-use Rattle.parser.specs.Reading.{next_kind, Ends, NoSign, NoNext, ReadTo, ReadsEach}
+use Rattle.parser.specs.Reading.{next_kind, Ends, NoSign, NoNext, ReadWithin, ReadsDeep}
 use Rattle.parser.proofs.Lists.{and_right, all_mapped}
 use Rattle.parser.proofs.Equations.{spelling_of, form_of, levels_of}
-use Rattle.parser.proofs.Exact.{parted, begins, same_first}
+use Rattle.parser.proofs.Exact.{parted, begins, same_first, within_above}
 use Rattle.parser.proofs.ExactChains.{product, chain_parts, level_below, level_unsigned, link_is_level, fits_level, fits_well, fits_if, ends_above, close_ends}
 
 -- ---- factors
@@ -88,13 +88,13 @@ begins_parenthesized levels a c x y z (negated p e h f n) = absurd (z (begins _ 
 begins_parenthesized levels a c x y z (parenthesized p e h f n) = begins _ _ a c h
 
 -- what the rule of parentheses answers there
-pub parenthesized_answer : (levels : ℕ) (a b c d : Cursor) (e : Expr) (others : List Token) (answer : Result Expr ParseFault) → b ≡ a → c ≡ b
-    → ((v : ℕ) → ¬ (next_kind a.rest.now ≡ Some (kind.Number v))) → NoNext kind.Identifier b.rest.now → NoNext (kind.Word word.Not) b.rest.now → BeginsExpr factor_level levels a.rest.now others e → Ends factor_level others
-    → (next_kind c.rest.now ≡ Some (kind.Symbol symbol.OpenParenthesis) → ReadsEach (BeginsExpr factor_level levels) (Ends factor_level) c d answer) → ReadTo others d answer
-parenthesized_answer levels a b c d e others answer ba cb no_number no_name no_word h ends reads =
-    let at = subst (λ (k : Cursor). BeginsExpr factor_level levels k.rest.now others e) (sym ba) h in
-    let first = begins_parenthesized levels b.rest.now others (subst (λ (k : Cursor). (v : ℕ) → ¬ (next_kind k.rest.now ≡ Some (kind.Number v))) (sym ba) no_number) no_name no_word (factor_parts levels b.rest.now others e at) in
-    reads (subst (λ (k : Cursor). next_kind k.rest.now ≡ Some (kind.Symbol symbol.OpenParenthesis)) (sym cb) first) e others (subst (λ (k : Cursor). BeginsExpr factor_level levels k.rest.now others e) (sym cb) at) ends
+pub parenthesized_answer : (levels depth : ℕ) (a b c d : Cursor) (e : Expr) (others : List Token) (answer : Result Expr ParseFault) → b ≡ a → c ≡ b
+    → ((v : ℕ) → ¬ (next_kind a.rest.now ≡ Some (kind.Number v))) → NoNext kind.Identifier b.rest.now → NoNext (kind.Word word.Not) b.rest.now → BeginsExpr factor_level depth a.rest.now others e → Ends factor_level others
+    → (next_kind c.rest.now ≡ Some (kind.Symbol symbol.OpenParenthesis) → ReadsDeep levels (BeginsExpr factor_level) (Ends factor_level) c d answer) → ReadWithin levels depth others d answer
+parenthesized_answer levels depth a b c d e others answer ba cb no_number no_name no_word h ends reads =
+    let at = subst (λ (k : Cursor). BeginsExpr factor_level depth k.rest.now others e) (sym ba) h in
+    let first = begins_parenthesized depth b.rest.now others (subst (λ (k : Cursor). (v : ℕ) → ¬ (next_kind k.rest.now ≡ Some (kind.Number v))) (sym ba) no_number) no_name no_word (factor_parts depth b.rest.now others e at) in
+    reads (subst (λ (k : Cursor). next_kind k.rest.now ≡ Some (kind.Symbol symbol.OpenParenthesis)) (sym cb) first) depth e others (subst (λ (k : Cursor). BeginsExpr factor_level depth k.rest.now others e) (sym cb) at) ends
 
 -- what stands behind the name of a factor
 pub record IsNamed (levels : ℕ) (a c : List Token) : Type 0 where
@@ -127,9 +127,12 @@ negated_behind levels p a b c others e same taken h =
     not_taken_word levels p a.rest.now c.rest.now others (subst (λ (k : Cursor). Reads k.rest.now (of_kind_at (kind.Word word.Not) p ∷ []) c.rest.now) same taken) (factor_parts levels a.rest.now others e h)
 
 -- what the rule of factors answers there
-pub negated_answer : (levels inner : ℕ) (b c : Cursor) (others : List Token) (answer : Result Expr ParseFault) → inner + 1 ≡ levels
-    → IsNegated levels b.rest.now others → Ends factor_level others → ReadsEach (BeginsExpr factor_level inner) (Ends factor_level) b c answer → ReadTo others c answer
-negated_answer levels inner b c others answer less o ends reads = reads o.operand others (record { spelled = o.spelled; formed = o.formed; nests = let n = o.nests in omega arith }) ends
+pub negated_answer : (levels inner depth : ℕ) (b c : Cursor) (others : List Token) (answer : Result Expr ParseFault) → inner + 1 ≡ levels
+    → IsNegated depth b.rest.now others → Ends factor_level others → ReadsDeep inner (BeginsExpr factor_level) (Ends factor_level) b c answer → ReadWithin levels depth others c answer
+negated_answer levels inner depth b c others answer less o ends reads =
+    let below = expr_levels o.operand in
+    within_above levels inner depth below others c answer less (let n = o.nests in omega arith)
+    (reads below o.operand others (record { spelled = o.spelled; formed = o.formed; nests = omega arith }) ends)
 
 -- what stands behind the opening parenthesis of a factor
 pub record Opened (levels : ℕ) (a c : List Token) : Type 0 where
@@ -149,10 +152,12 @@ opened levels p a b c k (parenthesized q e h f n) =
     record { inner = e; middle = r.0; spelled = r.1; closed = r.2; formed = f; nests = n }
 
 -- what the rule of expressions answers there
-pub inner_answer : (levels inner : ℕ) (b c : Cursor) (others : List Token) (answer : Result Expr ParseFault) → inner + 1 ≡ levels
-    → (o : Opened levels b.rest.now others) → ReadsEach (BeginsExpr relation_level inner) (Ends relation_level) b c answer → ReadTo o.middle c answer
-inner_answer levels inner b c others answer less o reads =
-    reads o.inner o.middle (record { spelled = o.spelled; formed = o.formed; nests = let n = o.nests in omega arith }) (close_ends relation_level o.middle (begins _ [] o.middle others o.closed) (omega arith))
+pub inner_answer : (levels inner depth : ℕ) (b c : Cursor) (others : List Token) (answer : Result Expr ParseFault) → inner + 1 ≡ levels
+    → (o : Opened depth b.rest.now others) → ReadsDeep inner (BeginsExpr relation_level) (Ends relation_level) b c answer → ReadWithin levels depth o.middle c answer
+inner_answer levels inner depth b c others answer less o reads =
+    let below = expr_levels o.inner in
+    within_above levels inner depth below o.middle c answer less (let n = o.nests in omega arith)
+    (reads below o.inner o.middle (record { spelled = o.spelled; formed = o.formed; nests = omega arith }) (close_ends relation_level o.middle (begins _ [] o.middle others o.closed) (omega arith)))
 
 -- ---- signed terms
 
@@ -226,6 +231,6 @@ pub sign_missed_at : (levels : ℕ) (a b : Cursor) (e : Expr) (others : List Tok
 sign_missed_at levels a b e others same none h = subst (λ (k : Cursor). IsBehindSign levels k.rest.now others) (sym same) (sign_missed levels a.rest.now others none (signed_parts levels a.rest.now others e h))
 
 -- what the rule of terms answers there
-pub term_answer : (levels : ℕ) (a b : Cursor) (others : List Token) (answer : Result Expr ParseFault) → IsBehindSign levels a.rest.now others → Ends signed_level others
-    → ReadsEach (BeginsExpr product_level levels) (Ends product_level) a b answer → ReadTo others b answer
-term_answer levels a b others answer t ends reads = reads t.term others t.begun (ends_above signed_level product_level others (omega arith) ends)
+pub term_answer : (levels depth : ℕ) (a b : Cursor) (others : List Token) (answer : Result Expr ParseFault) → IsBehindSign depth a.rest.now others → Ends signed_level others
+    → ReadsDeep levels (BeginsExpr product_level) (Ends product_level) a b answer → ReadWithin levels depth others b answer
+term_answer levels depth a b others answer t ends reads = reads depth t.term others t.begun (ends_above signed_level product_level others (omega arith) ends)

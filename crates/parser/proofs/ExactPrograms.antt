@@ -1,5 +1,5 @@
 -- The rules of declarations, blocks and programs read each spelling of their form.
-use Rattle.std.proofs.Common.{◌≡◌, ℕ, ◌+◌, ◌<◌, Bool, true, false, ◌&&◌, List, [], ◌∷◌, ◌++◌, length, map, Option, Some, None, is_some, IfNone, Ok, refl, subst, sym, ap, ◌∙◌, append_assoc, arith}
+use Rattle.std.proofs.Common.{◌≡◌, ℕ, ◌<◌, Bool, true, false, ◌&&◌, List, [], ◌∷◌, ◌++◌, length, map, Option, Some, None, is_some, IfNone, Ok, refl, subst, sym, ap, ◌∙◌, append_assoc, arith}
 use Rattle.std.specs.List.{list_all}
 use Rattle.std.specs.declared.alloc.Global.{Global}
 use Rattle.std.specs.declared.vec.Vec.{Vec}
@@ -21,9 +21,10 @@ use Rattle.parser.specs.declared.fault.ParseFault.{ParseFault}
 use Rattle.parser.specs.declared.fault.ParseFault.TheVariants.{Memory, NoProgram, TooDeep, LeftOut}
 use Rattle.parser.specs.Spelling.{Spelling, Reads, of_kind_at, mark, word_symbol, identifier, identifiers, separated, joined, in_parentheses, group_spelling, denoter_spelling, variables_spelling, stmt_spelling, block_spelling}
 use Rattle.parser.specs.WellFormed.{is_group, is_statement, has_items}
+use Rattle.parser.specs.Nesting.{stmt_levels, deepest, nesting}
 use Rattle.parser.specs.Rules.{BeginsNames, BeginsParameters, BeginsGroup, BeginsGroups, BeginsVariables, BeginsCompound, BeginsBlock, BeginsProgram}
-use Rattle.parser.specs.Reading.{next_kind, Anything, NoNext, Next, BeginsStatementPart, ReadsEach}
-use Rattle.parser.specs.Syntax.{most, IsTreeOf, IsRefused}
+use Rattle.parser.specs.Reading.{next_kind, Anything, NoNext, Next, BeginsStatementPart, Stops, ReadsEach, ReadsDeep}
+use Rattle.parser.specs.Syntax.{most, IsRefused}
 use Rattle.parser.proofs.Exact.{parted, begins, same_first}
 use Rattle.parser.proofs.Lists.{and_left, and_right, length_map}
 use Rattle.parser.proofs.Led.{led, list_begins, led_next, led_some, led_ends}
@@ -263,8 +264,9 @@ pub record BlockParts (levels : ℕ) (tokens others : List Token) : Type 0 where
   pub begins : BeginsStatementPart middle
   pub statements : List Stmt
   pub end : Place
-  pub level : 0 < levels
-  pub begun : (inner : ℕ) → inner + 1 ≡ levels → BeginsCompound inner middle others (statements, end)
+  pub below : ℕ
+  pub less : below < levels
+  pub begun : BeginsCompound below middle others (statements, end)
 
 -- each block has them
 pub block_parts : (levels : ℕ) (a c : List Token) (b : Block) → BeginsBlock levels a c b → BlockParts levels a c
@@ -281,8 +283,9 @@ block_parts levels a c b h =
       begins = begins (word_symbol word.Begin) (separated symbol.Semicolon (map stmt_spelling b.statements.items) ++ last) r.0 c r.2;
       statements = b.statements.items;
       end = b.end;
-      level = omega arith;
-      begun = λ inner less. record {
+      below = deepest (map stmt_levels b.statements.items);
+      less = omega arith;
+      begun = record {
         spelled = r.2;
         some = some_items b.statements.items (and_left (has_items b.statements.items) (list_all is_statement b.statements.items) behind);
         formed = and_right (has_items b.statements.items) (list_all is_statement b.statements.items) behind;
@@ -294,14 +297,16 @@ block_parts levels a c b h =
 pub record BlockBehindVariables (levels : ℕ) (tokens others : List Token) : Type 0 where
   pub statements : List Stmt
   pub end : Place
-  pub begun : (inner : ℕ) → inner + 1 ≡ levels → BeginsCompound inner tokens others (statements, end)
+  pub below : ℕ
+  pub less : below < levels
+  pub begun : BeginsCompound below tokens others (statements, end)
 
 -- behind the variables read
 pub block_behind_variables : (levels : ℕ) (a b : Cursor) (others : List Token) (variables : Vec VariableGroup Global) → ReadsEach BeginsVariables BeginsStatementPart a b (Ok variables)
     → BlockParts levels a.rest.now others → BlockBehindVariables levels b.rest.now others
 block_behind_variables levels a b others variables reads p =
     let same : b.rest.now ≡ p.middle = reads p.groups p.middle p.declared p.begins in
-    record { statements = p.statements; end = p.end; begun = λ inner less. subst (λ x. BeginsCompound inner x others (p.statements, p.end)) (sym same) (p.begun inner less) }
+    record { statements = p.statements; end = p.end; below = p.below; less = p.less; begun = subst (λ x. BeginsCompound p.below x others (p.statements, p.end)) (sym same) p.begun }
 
 -- what stands behind the semicolon of a program
 pub record ProgramBehindSemicolon (levels : ℕ) (tokens others : List Token) : Type 0 where
@@ -365,18 +370,14 @@ program_behind_semicolon levels p a b c k h =
     subst (λ x. ProgramBehindSemicolon levels x c) (sym same) h.behind
 
 -- behind the block read
-pub program_behind_block : (levels : ℕ) (a b : Cursor) (others : List Token) (block : Block) → ReadsEach (BeginsBlock levels) Anything a b (Ok block)
-    → ProgramBehindSemicolon levels a.rest.now others → Reads b.rest.now (mark symbol.Period ∷ []) others
-program_behind_block levels a b others block reads h =
-    let same : b.rest.now ≡ h.middle = reads h.block h.middle h.begun tt in subst (λ x. Reads x (mark symbol.Period ∷ []) others) (sym same) h.period
+pub program_behind_block : (levels depth : ℕ) (a b : Cursor) (others : List Token) (block : Block) → ReadsDeep levels BeginsBlock Anything a b (Ok block)
+    → ProgramBehindSemicolon depth a.rest.now others → Reads b.rest.now (mark symbol.Period ∷ []) others
+program_behind_block levels depth a b others block reads h =
+    let same : b.rest.now ≡ h.middle = reads depth h.block h.middle h.begun tt in subst (λ x. Reads x (mark symbol.Period ∷ []) others) (sym same) h.period
 
--- a tree of all tokens is a program with nothing behind it
-pub tree_begins : (tokens : List Token) (tree : Program) → IsTreeOf tree tokens → BeginsProgram most tokens [] tree
-tree_begins tokens tree h = record { spelled = h.spelled; formed = h.well_formed; nests = h.nests }
-
--- a fault where each tree of the tokens would be read
-pub refused : (tokens : List Token) (fault : ParseFault) → ((tree : Program) → IsTreeOf tree tokens → fault ≡ Memory) → IsRefused tokens fault
+-- a fault where each spelling of a program would be read, if it isn't too deep
+pub refused : (tokens : List Token) (fault : ParseFault) → ((depth : ℕ) (tree : Program) → BeginsProgram depth tokens [] tree → Stops most depth fault) → IsRefused tokens fault
 refused tokens Memory f = tt
-refused tokens (NoProgram place) f = λ tree h. let e = f tree h in cc
-refused tokens (TooDeep place) f = λ tree h. let e = f tree h in cc
-refused tokens (LeftOut place) f = λ tree h. let e = f tree h in cc
+refused tokens (NoProgram place) f = λ tree formed spelled. f (nesting tree) tree (record { spelled = spelled; formed = formed; nests = omega arith })
+refused tokens (TooDeep place) f = λ tree h. let deep = f most tree (record { spelled = h.spelled; formed = h.well_formed; nests = h.nests }) in absurd (omega arith)
+refused tokens (LeftOut place) f = λ tree formed spelled. f (nesting tree) tree (record { spelled = spelled; formed = formed; nests = omega arith })

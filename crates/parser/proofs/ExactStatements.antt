@@ -9,18 +9,21 @@ use Rattle.lexer.specs.declared.token.Token.{Token}
 use Rattle.lexer.specs.declared.token.Word.TheVariants as word
 use Rattle.parser.specs.declared.fault.ParseFault.{ParseFault}
 use Rattle.parser.specs.declared.cursor.Cursor.{Cursor}
+use Rattle.parser.specs.declared.tree.Actual.{Actual}
+use Rattle.parser.specs.declared.tree.Expr.{Expr}
+use Rattle.parser.specs.declared.tree.Name.{Name}
 use Rattle.parser.specs.declared.tree.Stmt.{Stmt}
 use Rattle.parser.specs.declared.tree.Stmt.TheOpen as stmt
 use Rattle.parser.specs.declared.tree.Stmt.TheViews.{out-Stmt, roll-out-Stmt}
 use Rattle.parser.specs.declared.tree.Stmt.TheFolds.{map-Stmt, fold-roll-Stmt}
 use Rattle.parser.specs.Spelling.{Lexeme, Spelling, Reads, expr_spelling, actual_spelling, stmt_spelling, of_kind, of_kind_at, mark, word_symbol, identifier, separated, in_parentheses}
 use Rattle.parser.specs.Spelling as spell
-use Rattle.parser.specs.WellFormed.{relation_level, is_statement, has_items}
+use Rattle.parser.specs.WellFormed.{relation_level, is_expression, is_actual, is_statement, has_items}
 use Rattle.parser.specs.WellFormed as form
-use Rattle.parser.specs.Nesting.{stmt_levels, deepest}
+use Rattle.parser.specs.Nesting.{expr_levels, actual_levels, stmt_levels, deepest}
 use Rattle.parser.specs.Nesting as nest
-use Rattle.parser.specs.Reading.{next_kind, Ends, EndsStmt, EndsStatements, semicolon, end, ReadTo, ReadsEach}
-use Rattle.parser.specs.Rules.{BeginsStmt, BeginsStatements, BeginsCompound}
+use Rattle.parser.specs.Reading.{next_kind, NoNext, Ends, EndsStmt, EndsStatements, semicolon, end, ReadWithin, ReadsDeep}
+use Rattle.parser.specs.Rules.{BeginsExpr, BeginsActuals, BeginsStmt, BeginsStatements, BeginsCompound}
 use Rattle.parser.proofs.Lists.{and_left, and_right, all_mapped}
 use Rattle.parser.proofs.Exact.{parted, begins, same_first}
 use Rattle.parser.proofs.ExactChains.{semicolon_ends, end_ends}
@@ -30,6 +33,73 @@ use Rattle.parser.proofs.ExactLists.{Parts, PartsLeft, PartThenOthers, ComesBehi
 pub ends_value : (c : List Token) → EndsStmt c → Ends relation_level c
 ends_value c (semicolon h) = semicolon_ends relation_level c h (omega arith)
 ends_value c (end h) = end_ends relation_level c h (omega arith)
+
+-- ---- assignments and calls
+
+no_name : (c : List Token) → EndsStmt c → ¬ (next_kind c ≡ Some kind.Identifier)
+no_name c (semicolon h) e = let no : Some (kind.Symbol symbol.Semicolon) ≡ Some kind.Identifier = sym h ∙ e in cc
+no_name c (end h) e = let no : Some (kind.Word word.End) ≡ Some kind.Identifier = sym h ∙ e in cc
+
+no_becomes : (c : List Token) → EndsStmt c → ¬ (next_kind c ≡ Some (kind.Symbol symbol.Becomes))
+no_becomes c (semicolon h) e = let no : Some (kind.Symbol symbol.Semicolon) ≡ Some (kind.Symbol symbol.Becomes) = sym h ∙ e in cc
+no_becomes c (end h) e = let no : Some (kind.Word word.End) ≡ Some (kind.Symbol symbol.Becomes) = sym h ∙ e in cc
+
+-- what stands behind the name of a statement
+pub data IsSimple (levels : ℕ) (tokens others : List Token) : Type 0 where
+  assigned : (p : Place) (e : Expr) → Reads tokens (of_kind_at (kind.Symbol symbol.Becomes) p ∷ expr_spelling e) others → is_expression e ≡ true → 1 + expr_levels e ≤ levels → IsSimple levels tokens others
+  called : (actuals : List Actual) → Reads tokens (in_parentheses (map actual_spelling actuals)) others → list_all is_actual actuals ≡ true
+      → 1 + deepest (map actual_levels actuals) ≤ levels → IsSimple levels tokens others
+
+simple_of : (levels : ℕ) (m : Name) (a b c : List Token) (d : stmt.Stmt-F Stmt) → Reads a (identifier m ∷ []) b → EndsStmt c → Reads a (spell.stmt_step (map-Stmt Stmt Spelling stmt_spelling d)) c
+    → form.stmt_step (map-Stmt Stmt Bool is_statement d) ≡ true → nest.stmt_step (map-Stmt Stmt ℕ stmt_levels d) ≤ levels → IsSimple levels b c
+simple_of levels m a b c stmt.Empty k ends s f n = absurd (no_name c ends (ap next_kind (sym s) ∙ begins (identifier m) [] a b k))
+simple_of levels m a b c (stmt.Assign x p v) k ends s f n = assigned p v (same_first (identifier m) (identifier x) (of_kind_at (kind.Symbol symbol.Becomes) p ∷ expr_spelling v) a b c k s).1 f n
+simple_of levels m a b c (stmt.Call x v) k ends s f n = called v.items (same_first (identifier m) (identifier x) (in_parentheses (map actual_spelling v.items)) a b c k s).1 f n
+simple_of levels m a b c (stmt.Compound v) k ends s f n =
+    let no : Some (kind.Word word.Begin) ≡ Some kind.Identifier =
+    sym (begins (word_symbol word.Begin) (separated symbol.Semicolon (map stmt_spelling v.items) ++ word_symbol word.End ∷ []) a c s) ∙ begins (identifier m) [] a b k in cc
+
+-- at a name stands an assignment or a call
+pub simple_parts : (levels : ℕ) (m : Name) (a b c : List Token) (s : Stmt) → Reads a (identifier m ∷ []) b → EndsStmt c → BeginsStmt levels a c s → IsSimple levels b c
+simple_parts levels m a b c s k ends h =
+    let d = out-Stmt s in
+    let o = sym (roll-out-Stmt s) in
+    simple_of levels m a b c d k ends (subst (λ x. Reads a x c) (ap stmt_spelling o ∙ fold-roll-Stmt Spelling spell.stmt_step d) h.spelled)
+    (sym (ap is_statement o ∙ fold-roll-Stmt Bool form.stmt_step d) ∙ h.formed) (subst (λ n. n ≤ levels) (ap stmt_levels o ∙ fold-roll-Stmt ℕ nest.stmt_step d) h.nests)
+
+-- the value of an assignment
+pub record IsAssigned (levels : ℕ) (a c : List Token) : Type 0 where
+  pub value : Expr
+  pub below : ℕ
+  pub less : below < levels
+  pub begun : BeginsExpr relation_level below a c value
+
+-- behind `:=` stands a value
+pub becomes_taken : (levels : ℕ) (p : Place) (a b c : List Token) → Reads a (of_kind_at (kind.Symbol symbol.Becomes) p ∷ []) b → EndsStmt c → IsSimple levels a c → IsAssigned levels b c
+becomes_taken levels p a b c k ends (assigned q e h f n) = record {
+  value = e;
+  below = expr_levels e;
+  less = omega arith;
+  begun = record { spelled = (same_first (of_kind_at (kind.Symbol symbol.Becomes) p) (of_kind_at (kind.Symbol symbol.Becomes) q) (expr_spelling e) a b c k h).1; formed = f; nests = omega arith };
+}
+becomes_taken levels p a b c k ends (called [] h f n) = absurd (no_becomes c ends (ap next_kind (sym h) ∙ begins (of_kind_at (kind.Symbol symbol.Becomes) p) [] a b k))
+becomes_taken levels p a b c k ends (called (x ∷ xs) h f n) =
+    let no : Some (kind.Symbol symbol.OpenParenthesis) ≡ Some (kind.Symbol symbol.Becomes) = (same_first (of_kind_at (kind.Symbol symbol.Becomes) p) (mark symbol.OpenParenthesis) _ a b c k h).0 in cc
+
+-- the actuals of a call
+pub record IsCalled (levels : ℕ) (a c : List Token) : Type 0 where
+  pub actuals : List Actual
+  pub below : ℕ
+  pub less : below < levels
+  pub begun : BeginsActuals below a c actuals
+
+becomes_missed : (levels : ℕ) (a c : List Token) → NoNext (kind.Symbol symbol.Becomes) a → IsSimple levels a c → IsCalled levels a c
+becomes_missed levels a c none (assigned p e h f n) = absurd (none (begins (of_kind_at (kind.Symbol symbol.Becomes) p) (expr_spelling e) a c h))
+becomes_missed levels a c none (called xs h f n) = record { actuals = xs; below = deepest (map actual_levels xs); less = omega arith; begun = record { spelled = h; formed = f; nests = omega arith } }
+
+-- where no `:=` comes stand the actuals of a call
+pub becomes_missed_at : (levels : ℕ) (a b : Cursor) (others : List Token) → b ≡ a → NoNext (kind.Symbol symbol.Becomes) a.rest.now → IsSimple levels a.rest.now others → IsCalled levels b.rest.now others
+becomes_missed_at levels a b others same none h = subst (λ (k : Cursor). IsCalled levels k.rest.now others) (sym same) (becomes_missed levels a.rest.now others none h)
 
 -- ---- compound statements
 
@@ -44,7 +114,9 @@ with_last_place k (l ∷ s) a c h = let r = with_last_place k s h.1 c h.4 in (r.
 -- the statements of a compound statement, and its `end`
 pub record Compounded (levels : ℕ) (a c : List Token) : Type 0 where
   pub found : List Stmt × Place
-  pub begun : BeginsCompound levels a c found
+  pub below : ℕ
+  pub less : below < levels
+  pub begun : BeginsCompound below a c found
 
 some_of : (statements : List Stmt) → has_items (map is_statement statements) ≡ true → 0 < length statements
 some_of [] h = cc
@@ -54,25 +126,25 @@ no_begin : (c : List Token) → EndsStmt c → ¬ (next_kind c ≡ Some (kind.Wo
 no_begin c (semicolon h) e = let no : Some (kind.Symbol symbol.Semicolon) ≡ Some (kind.Word word.Begin) = sym h ∙ e in cc
 no_begin c (end h) e = let no : Some (kind.Word word.End) ≡ Some (kind.Word word.Begin) = sym h ∙ e in cc
 
-compounded_of : (levels inner : ℕ) (a c : List Token) (d : stmt.Stmt-F Stmt) → inner + 1 ≡ levels → next_kind a ≡ Some (kind.Word word.Begin) → EndsStmt c
-    → Reads a (spell.stmt_step (map-Stmt Stmt Spelling stmt_spelling d)) c → form.stmt_step (map-Stmt Stmt Bool is_statement d) ≡ true → nest.stmt_step (map-Stmt Stmt ℕ stmt_levels d) ≤ levels → Compounded inner a c
-compounded_of levels inner a c stmt.Empty less e ends s f n = absurd (no_begin c ends (ap next_kind (sym s) ∙ e))
-compounded_of levels inner a c (stmt.Assign m p v) less e ends s f n =
+compounded_of : (levels : ℕ) (a c : List Token) (d : stmt.Stmt-F Stmt) → next_kind a ≡ Some (kind.Word word.Begin) → EndsStmt c
+    → Reads a (spell.stmt_step (map-Stmt Stmt Spelling stmt_spelling d)) c → form.stmt_step (map-Stmt Stmt Bool is_statement d) ≡ true → nest.stmt_step (map-Stmt Stmt ℕ stmt_levels d) ≤ levels → Compounded levels a c
+compounded_of levels a c stmt.Empty e ends s f n = absurd (no_begin c ends (ap next_kind (sym s) ∙ e))
+compounded_of levels a c (stmt.Assign m p v) e ends s f n =
     let no : Some kind.Identifier ≡ Some (kind.Word word.Begin) = sym (begins (identifier m) (of_kind_at (kind.Symbol symbol.Becomes) p ∷ expr_spelling v) a c s) ∙ e in cc
-compounded_of levels inner a c (stmt.Call m v) less e ends s f n =
+compounded_of levels a c (stmt.Call m v) e ends s f n =
     let no : Some kind.Identifier ≡ Some (kind.Word word.Begin) = sym (begins (identifier m) (in_parentheses (map actual_spelling v.items)) a c s) ∙ e in cc
-compounded_of levels inner a c (stmt.Compound v) less e ends s f n =
+compounded_of levels a c (stmt.Compound v) e ends s f n =
     let r = with_last_place (kind.Word word.End) (word_symbol word.Begin ∷ separated symbol.Semicolon (map stmt_spelling v.items)) a c s in
     let some = and_left (has_items (map is_statement v.items)) (list_all (λ b. b) (map is_statement v.items)) f in
     let all = and_right (has_items (map is_statement v.items)) (list_all (λ b. b) (map is_statement v.items)) f in
-    record { found = (v.items, r.0); begun = record { spelled = r.1; some = some_of v.items some; formed = sym (all_mapped is_statement v.items) ∙ all; nests = omega arith } }
+    record { found = (v.items, r.0); below = deepest (map stmt_levels v.items); less = omega arith; begun = record { spelled = r.1; some = some_of v.items some; formed = sym (all_mapped is_statement v.items) ∙ all; nests = omega arith } }
 
 -- at `begin` stands a compound statement
-pub compounded : (levels inner : ℕ) (a c : List Token) (s : Stmt) → inner + 1 ≡ levels → next_kind a ≡ Some (kind.Word word.Begin) → EndsStmt c → BeginsStmt levels a c s → Compounded inner a c
-compounded levels inner a c s less e ends h =
+pub compounded : (levels : ℕ) (a c : List Token) (s : Stmt) → next_kind a ≡ Some (kind.Word word.Begin) → EndsStmt c → BeginsStmt levels a c s → Compounded levels a c
+compounded levels a c s e ends h =
     let d = out-Stmt s in
     let o = sym (roll-out-Stmt s) in
-    compounded_of levels inner a c d less e ends (subst (λ x. Reads a x c) (ap stmt_spelling o ∙ fold-roll-Stmt Spelling spell.stmt_step d) h.spelled)
+    compounded_of levels a c d e ends (subst (λ x. Reads a x c) (ap stmt_spelling o ∙ fold-roll-Stmt Spelling spell.stmt_step d) h.spelled)
     (sym (ap is_statement o ∙ fold-roll-Stmt Bool form.stmt_step d) ∙ h.formed) (subst (λ n. n ≤ levels) (ap stmt_levels o ∙ fold-roll-Stmt ℕ nest.stmt_step d) h.nests)
 
 -- what stands behind the `begin` of a compound statement
@@ -107,8 +179,8 @@ abbrev pub statement_list_parts : Parts Stmt
 statement_list_parts = record { symbol = symbol.Semicolon; spelling = stmt_spelling; well = is_statement; levels = stmt_levels }
 
 -- what is left of each list of statements that may stand there
-abbrev pub StatementsLeft : ℕ → List Token → List Token → Type 0
-StatementsLeft levels start now = (statements : List Stmt) (others : List Token) → BeginsStatements levels start others statements → EndsStatements others → PartsLeft Stmt statement_list_parts levels now others
+abbrev pub StatementsLeft : List Token → List Token → Type 0
+StatementsLeft start now = (depth : ℕ) (statements : List Stmt) (others : List Token) → BeginsStatements depth start others statements → EndsStatements others → PartsLeft Stmt statement_list_parts depth now others
 
 -- a list of statements begins with one
 pub statements_begin : (levels : ℕ) (a c : List Token) (statements : List Stmt) → BeginsStatements levels a c statements → PartThenOthers Stmt statement_list_parts levels a c
@@ -127,20 +199,20 @@ stmt_ends a c (one_more e) ends = semicolon e
 stmt_ends a c (no_more e) ends = end (e ∙ ends)
 
 -- what the rule of statements answers there
-pub statement_answer : (levels : ℕ) (a b : Cursor) (others : List Token) (answer : Result Stmt ParseFault) → (p : PartThenOthers Stmt statement_list_parts levels a.rest.now others) → EndsStatements others
-    → ReadsEach (BeginsStmt levels) EndsStmt a b answer → ReadTo p.middle b answer
-statement_answer levels a b others answer p ends reads =
-    reads p.first p.middle (record { spelled = p.spelled; formed = p.formed; nests = p.nests }) (stmt_ends p.middle others (comes_behind Stmt statement_list_parts levels p.middle others p.left) ends)
+pub statement_answer : (levels depth : ℕ) (a b : Cursor) (others : List Token) (answer : Result Stmt ParseFault) → (p : PartThenOthers Stmt statement_list_parts depth a.rest.now others) → EndsStatements others
+    → ReadsDeep levels BeginsStmt EndsStmt a b answer → ReadWithin levels depth p.middle b answer
+statement_answer levels depth a b others answer p ends reads =
+    reads depth p.first p.middle (record { spelled = p.spelled; formed = p.formed; nests = p.nests }) (stmt_ends p.middle others (comes_behind Stmt statement_list_parts depth p.middle others p.left) ends)
 
 -- behind the first statement
-pub statement_list_begins : (levels : ℕ) (a b : Cursor) (s : Stmt) → ReadsEach (BeginsStmt levels) EndsStmt a b (Ok s) → StatementsLeft levels a.rest.now b.rest.now
-statement_list_begins levels a b s reads statements others h ends =
-    let p = statements_begin levels a.rest.now others statements h in
-    subst (λ x. PartsLeft Stmt statement_list_parts levels x others) (sym (statement_answer levels a b others (Ok s) p ends reads)) p.left
+pub statement_list_begins : (levels : ℕ) (a b : Cursor) (s : Stmt) → ReadsDeep levels BeginsStmt EndsStmt a b (Ok s) → StatementsLeft a.rest.now b.rest.now
+statement_list_begins levels a b s reads depth statements others h ends =
+    let p = statements_begin depth a.rest.now others statements h in
+    subst (λ x. PartsLeft Stmt statement_list_parts depth x others) (sym (statement_answer levels depth a b others (Ok s) p ends reads)) p.left
 
 -- behind one more
 pub statement_list_left : (levels : ℕ) (p : Place) (start : List Token) (a b c : Cursor) (s : Stmt) → Reads a.rest.now (of_kind_at (kind.Symbol symbol.Semicolon) p ∷ []) b.rest.now
-    → ReadsEach (BeginsStmt levels) EndsStmt b c (Ok s) → StatementsLeft levels start a.rest.now → StatementsLeft levels start c.rest.now
-statement_list_left levels p start a b c s k reads left statements others h ends =
-    let q = one_more_statement levels p a.rest.now b.rest.now others k ends (left statements others h ends) in
-    subst (λ x. PartsLeft Stmt statement_list_parts levels x others) (sym (statement_answer levels b c others (Ok s) q ends reads)) q.left
+    → ReadsDeep levels BeginsStmt EndsStmt b c (Ok s) → StatementsLeft start a.rest.now → StatementsLeft start c.rest.now
+statement_list_left levels p start a b c s k reads left depth statements others h ends =
+    let q = one_more_statement depth p a.rest.now b.rest.now others k ends (left depth statements others h ends) in
+    subst (λ x. PartsLeft Stmt statement_list_parts depth x others) (sym (statement_answer levels depth b c others (Ok s) q ends reads)) q.left

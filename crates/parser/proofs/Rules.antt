@@ -1,5 +1,5 @@
 -- What the rules give, form by form.
-use Rattle.std.proofs.Common.{◌≡◌, ℕ, ◌+◌, ◌≤◌, max, Bool, true, false, ◌&&◌, ◌||◌, nat_lt, nat_eq, List, [], ◌∷◌, ◌++◌, map, length, Some, None, Result, Ok, Err, IfOk, MatchResult, refl, subst, sym, ap, ◌∙◌, append_assoc, arith}
+use Rattle.std.proofs.Common.{◌≡◌, ℕ, ◌+◌, ◌≤◌, max, Bool, true, false, ◌&&◌, ◌||◌, nat_lt, nat_eq, List, [], ◌∷◌, ◌++◌, map, length, Some, Result, Ok, Err, IfOk, MatchResult, refl, subst, sym, ap, ◌∙◌, append_assoc, arith}
 use Rattle.std.proofs.lemmas.List.{append-nil}
 use Rattle.std.proofs.lemmas.Bool.{lt-ltb, ltb-false, eq-eqb}
 use Rattle.std.specs.List.{list_all}
@@ -9,7 +9,6 @@ use Rattle.std.specs.declared.vec.Vec.{Vec}
 use Rattle.lexer.specs.declared.place.Place.{Place}
 use Rattle.lexer.specs.declared.token.Kind.TheVariants as kind
 use Rattle.lexer.specs.declared.token.Symbol.TheVariants as symbol
-use Rattle.lexer.specs.declared.token.Word.TheVariants as word
 use Rattle.parser.specs.declared.fault.ParseFault.{ParseFault}
 use Rattle.parser.specs.declared.fault.ParseFault.TheVariants.{Memory}
 use Rattle.parser.specs.declared.cursor.Cursor.{Cursor}
@@ -28,7 +27,7 @@ use Rattle.parser.specs.Rules.{Read, BeginsExpr, BeginsActual, BeginsActuals, Is
 use Rattle.parser.proofs.Equations.{spelling-Name, form-Name, levels-Name, spelling-Function, form-Function, levels-Function, spelling-Parenthesized, form-Parenthesized, levels-Parenthesized, spelling-Chain, form-Chain, levels-Chain, spelling-Link, form-Link, levels-Link, spelling-Wide, form-Wide, levels-Wide}
 use Rattle.parser.proofs.Lists.{map_push, all_push, deepest_push, all_mapped, and_true, and_left, length_map}
 use Rattle.parser.proofs.Reading.{both, without_place, joined_push}
-use Rattle.parser.proofs.ExactChains.{fits_level, fits_well, fits_if, link_level}
+use Rattle.parser.proofs.ExactChains.{fits_if, link_level}
 
 -- an expression in parentheses
 pub gives-Parenthesized : (levels inner_levels : ℕ) (a b c d : Cursor) (p q : Place) (box : Box Expr Global) (inner : Expr)

@@ -1,7 +1,8 @@
 -- What a rule answers where the tokens that are left begin with a spelling of its form: it reads this spelling and no
--- more, or memory runs out. What stands behind the form may not go on with it.
+-- more, or memory runs out, or the form is deeper than the levels that are left. What stands behind the form may not go on
+-- with it.
 -- This doesn't say what a rule answers to other tokens.
-use Rattle.std.specs.Prelude.{◌≡◌, ℕ, ◌≤◌, List, [], ◌∷◌, Option, Some, None, Result, MatchResult}
+use Rattle.std.specs.Prelude.{◌≡◌, ℕ, ◌<◌, ◌≤◌, List, [], ◌∷◌, Option, Some, None, Result, MatchResult}
 use Rattle.lexer.specs.declared.place.Place.{Place}
 use Rattle.lexer.specs.declared.token.Kind.{Kind}
 use Rattle.lexer.specs.declared.token.Kind.TheVariants as kind
@@ -9,7 +10,7 @@ use Rattle.lexer.specs.declared.token.Symbol.TheVariants as symbol
 use Rattle.lexer.specs.declared.token.Token.{Token}
 use Rattle.lexer.specs.declared.token.Word.TheVariants as word
 use Rattle.parser.specs.declared.fault.ParseFault.{ParseFault}
-use Rattle.parser.specs.declared.fault.ParseFault.TheVariants.{Memory}
+use Rattle.parser.specs.declared.fault.ParseFault.TheVariants.{Memory, TooDeep}
 use Rattle.parser.specs.declared.cursor.Cursor.{Cursor}
 use Rattle.parser.specs.declared.tree.Sign.{Sign}
 use Rattle.parser.specs.declared.tree.Operator.{Operator}
@@ -28,6 +29,21 @@ ReadTo others new answer = MatchResult answer (λ _. new.rest.now ≡ others) (�
 -- whatever the tokens begin with, where what is left can stand behind it: the rule reads it and no more
 abbrev pub ReadsEach : {A B : Type 0} → (List Token → List Token → A → Type 0) → (List Token → Type 0) → Cursor → Cursor → Result B ParseFault → Type 0
 ReadsEach {A} Begins Ends old new answer = (found : A) (others : List Token) → Begins old.rest.now others found → Ends others → ReadTo others new answer
+
+-- why a rule below which so many levels are left stops at a form of this depth: memory ran out, or the form is deeper
+abbrev pub Stops : ℕ → ℕ → ParseFault → Type 0
+Stops levels depth Memory = Unit {0}
+Stops levels depth (TooDeep place) = levels < depth
+Stops levels depth _ = ⊥
+
+-- the rule read up to these tokens, or it stopped
+abbrev pub ReadWithin : {A : Type 0} → ℕ → ℕ → List Token → Cursor → Result A ParseFault → Type 0
+ReadWithin levels depth others new answer = MatchResult answer (λ _. new.rest.now ≡ others) (Stops levels depth)
+
+-- the same as ReadsEach of forms that nest, of whatever depth
+abbrev pub ReadsDeep : {A B : Type 0} → ℕ → (ℕ → List Token → List Token → A → Type 0) → (List Token → Type 0) → Cursor → Cursor → Result B ParseFault → Type 0
+ReadsDeep {A} levels Begins Ends old new answer =
+    (depth : ℕ) (found : A) (others : List Token) → Begins depth old.rest.now others found → Ends others → ReadWithin levels depth others new answer
 
 -- anything may stand behind
 abbrev pub Anything : List Token → Type 0

@@ -38,20 +38,26 @@ is_left_out _ = false
 abbrev pub first_left_out : List Token → Option Place
 first_left_out tokens = option_map (λ token. token.place) (find (λ token. is_left_out token.kind) tokens)
 
--- the tokens have no tree
+-- the tokens have no tree that nests as deep as allowed
 abbrev pub HasNoTree : List Token → Type 0
 HasNoTree tokens = (tree : Program) → ¬ IsTreeOf tree tokens
 
--- memory ran out, or there is no tree
+-- the tokens have no tree, however deep it nests
+abbrev pub HasNoTreeAtAll : List Token → Type 0
+HasNoTreeAtAll tokens = (tree : Program) → IsTrue (is_program tree) → ¬ Spells tokens (program_spelling tree)
+
+-- memory ran out, or there is no tree, or each is too deep
 abbrev pub IsRefused : List Token → ParseFault → Type 0
 IsRefused tokens Memory = Unit {0}
-IsRefused tokens fault = HasNoTree tokens
+IsRefused tokens (TooDeep place) = HasNoTree tokens
+IsRefused tokens _ = HasNoTreeAtAll tokens
 
--- The fault is one of these tokens: a form left out before all others, at its first token.
+-- The fault is one of these tokens: a form left out before all others, at its first token. Nesting is told only where it
+-- keeps the tokens from having a tree that is allowed, and P1 never for nesting alone.
 abbrev pub IsFaultOf : ParseFault → List Token → Type 0
 IsFaultOf Memory tokens = Unit {0}
 IsFaultOf (LeftOut place) tokens = first_left_out tokens ≡ Some place
-IsFaultOf (NoProgram place) tokens = (first_left_out tokens ≡ None) × HasNoTree tokens
+IsFaultOf (NoProgram place) tokens = (first_left_out tokens ≡ None) × HasNoTreeAtAll tokens
 IsFaultOf (TooDeep place) tokens = (first_left_out tokens ≡ None) × HasNoTree tokens
 
 -- an exact answer: a tree of the tokens, or a fault of theirs

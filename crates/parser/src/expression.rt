@@ -1,7 +1,7 @@
 ghost use Rattle.std.specs.Prelude.{◌≡◌, ◌≤◌, IfOk, MatchResult, Some};
 ghost use Rattle.parser.specs.Cursor.{left, IsOfRules};
 ghost use Rattle.parser.specs.declared.fault.ParseFault.TheVariants.{Memory};
-ghost use Rattle.parser.specs.Reading.{next_kind, ReadsEach, Ends, EndsActual, Closes, NoNext};
+ghost use Rattle.parser.specs.Reading.{next_kind, ReadsDeep, Ends, EndsActual, Closes, NoNext};
 ghost use Rattle.parser.specs.Rules.{Read, BeginsExpr, BeginsActual, BeginsActualList, BeginsActuals, IsChain};
 ghost use Rattle.parser.specs.WellFormed.{relation_level, sum_level, signed_level, product_level, factor_level};
 
@@ -23,7 +23,7 @@ pub fn expression<'a>(
 ) -> Result<Expr<'a>, ParseFault>
     ensures left { MatchResult result (λ _. left cursor.new ≤ left cursor.old) IsOfRules }
     ensures given { IfOk result (Read (BeginsExpr relation_level levels) cursor.old cursor.new) }
-    ensures exact { ReadsEach (BeginsExpr relation_level levels) (Ends relation_level)
+    ensures exact { ReadsDeep levels (BeginsExpr relation_level) (Ends relation_level)
         cursor.old cursor.new result }
 {
     let first = simple(alloc, cursor, levels)?;
@@ -49,7 +49,7 @@ fn simple<'a>(
 ) -> Result<Expr<'a>, ParseFault>
     ensures left { MatchResult result (λ _. left cursor.new ≤ left cursor.old) IsOfRules }
     ensures given { IfOk result (Read (BeginsExpr sum_level levels) cursor.old cursor.new) }
-    ensures exact { ReadsEach (BeginsExpr sum_level levels) (Ends sum_level)
+    ensures exact { ReadsDeep levels (BeginsExpr sum_level) (Ends sum_level)
         cursor.old cursor.new result }
 {
     let first = signed(alloc, cursor, levels)?;
@@ -74,7 +74,7 @@ fn signed<'a>(
 ) -> Result<Expr<'a>, ParseFault>
     ensures left { MatchResult result (λ _. left cursor.new ≤ left cursor.old) IsOfRules }
     ensures given { IfOk result (Read (BeginsExpr signed_level levels) cursor.old cursor.new) }
-    ensures exact { ReadsEach (BeginsExpr signed_level levels) (Ends signed_level)
+    ensures exact { ReadsDeep levels (BeginsExpr signed_level) (Ends signed_level)
         cursor.old cursor.new result }
 {
     match cursor.take_sign() {
@@ -92,7 +92,7 @@ fn signed<'a>(
 fn term<'a>(alloc: Global, cursor: &mut Cursor<'_, 'a>, levels: u32) -> Result<Expr<'a>, ParseFault>
     ensures left { MatchResult result (λ _. left cursor.new ≤ left cursor.old) IsOfRules }
     ensures given { IfOk result (Read (BeginsExpr product_level levels) cursor.old cursor.new) }
-    ensures exact { ReadsEach (BeginsExpr product_level levels) (Ends product_level)
+    ensures exact { ReadsDeep levels (BeginsExpr product_level) (Ends product_level)
         cursor.old cursor.new result }
 {
     let first = factor(alloc, cursor, levels)?;
@@ -117,7 +117,7 @@ fn factor<'a>(
 ) -> Result<Expr<'a>, ParseFault>
     ensures left { MatchResult result (λ _. left cursor.new ≤ left cursor.old) IsOfRules }
     ensures given { IfOk result (Read (BeginsExpr factor_level levels) cursor.old cursor.new) }
-    ensures exact { ReadsEach (BeginsExpr factor_level levels) (Ends factor_level)
+    ensures exact { ReadsDeep levels (BeginsExpr factor_level) (Ends factor_level)
         cursor.old cursor.new result }
 {
     if let Some((value, place)) = cursor.take_number() {
@@ -148,7 +148,7 @@ fn named<'a>(
     ensures left { MatchResult result (λ _. left cursor.new ≤ left cursor.old) IsOfRules }
     ensures given { IfOk result (Read (BeginsExpr factor_level levels) cursor.old cursor.new) }
     ensures exact { next_kind cursor.old.rest.now ≡ Some Kind.Identifier →
-        ReadsEach (BeginsExpr factor_level levels) (Ends factor_level)
+        ReadsDeep levels (BeginsExpr factor_level) (Ends factor_level)
         cursor.old cursor.new result }
 {
     let name = cursor.expect_name()?;
@@ -169,7 +169,7 @@ fn parenthesized<'a>(
     ensures left { MatchResult result (λ _. left cursor.new ≤ left cursor.old) IsOfRules }
     ensures given { IfOk result (Read (BeginsExpr factor_level levels) cursor.old cursor.new) }
     ensures exact { next_kind cursor.old.rest.now ≡ Some (Kind.Symbol Symbol.OpenParenthesis) →
-        ReadsEach (BeginsExpr factor_level levels) (Ends factor_level)
+        ReadsDeep levels (BeginsExpr factor_level) (Ends factor_level)
         cursor.old cursor.new result }
 {
     let open = cursor.expect_symbol(Symbol::OpenParenthesis)?;
@@ -191,7 +191,7 @@ pub fn actuals<'a>(
 ) -> Result<Vec<Actual<'a>>, ParseFault>
     ensures left { MatchResult result (λ _. left cursor.new ≤ left cursor.old) IsOfRules }
     ensures given { IfOk result (λ found. Read (BeginsActuals levels) cursor.old cursor.new found.items) }
-    ensures exact { ReadsEach (BeginsActuals levels) (NoNext (Kind.Symbol Symbol.OpenParenthesis))
+    ensures exact { ReadsDeep levels BeginsActuals (NoNext (Kind.Symbol Symbol.OpenParenthesis))
         cursor.old cursor.new result }
 {
     if cursor.take_symbol(Symbol::OpenParenthesis).is_none() {
@@ -212,7 +212,7 @@ fn actual_list<'a>(
     ensures left { MatchResult result (λ _. left cursor.new ≤ left cursor.old) IsOfRules }
     ensures given { IfOk result
         (λ found. Read (BeginsActualList levels) cursor.old cursor.new found.items) }
-    ensures exact { ReadsEach (BeginsActualList levels) Closes cursor.old cursor.new result }
+    ensures exact { ReadsDeep levels BeginsActualList Closes cursor.old cursor.new result }
 {
     let mut actuals = Vec::new(alloc);
     actuals.push(actual(alloc, cursor, levels)?)?;
@@ -231,7 +231,7 @@ fn actual<'a>(
 ) -> Result<Actual<'a>, ParseFault>
     ensures left { MatchResult result (λ _. left cursor.new ≤ left cursor.old) IsOfRules }
     ensures given { IfOk result (Read (BeginsActual levels) cursor.old cursor.new) }
-    ensures exact { ReadsEach (BeginsActual levels) EndsActual cursor.old cursor.new result }
+    ensures exact { ReadsDeep levels BeginsActual EndsActual cursor.old cursor.new result }
 {
     let levels = inside(levels, cursor.place())?;
     let value = expression(alloc, cursor, levels)?;

@@ -12,6 +12,3 @@ pub mod tree;
 
 pub use nesting::MAX_NESTING;
 pub use program::parse;
-
-#[cfg(test)]
-mod tests;

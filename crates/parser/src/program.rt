@@ -1,7 +1,7 @@
 ghost use Rattle.std.specs.Prelude.{◌≡◌, ◌<◌, ◌≤◌, IfOk, IfErr, MatchOption, MatchResult};
 ghost use Rattle.parser.specs.Cursor.{left, IsOfRules, Took};
 ghost use Rattle.parser.specs.Rules.{Read, BeginsList, BeginsNames, BeginsParameters, BeginsGroup, BeginsGroups, BeginsVariables, BeginsBlock, BeginsProgram};
-ghost use Rattle.parser.specs.Reading.{ReadsEach, NoNext, BeginsStatementPart, Anything};
+ghost use Rattle.parser.specs.Reading.{ReadsEach, ReadsDeep, NoNext, BeginsStatementPart, Anything};
 ghost use Rattle.parser.specs.Syntax.{first_left_out, is_left_out, IsTreeOf, IsRefused, Answers};
 
 use crate::cursor::Cursor;
@@ -16,7 +16,7 @@ use std::alloc::Global;
 /// The syntax tree that the tokens spell (6.2 to 6.10), its parentheses kept. P3 where a token
 /// stands that only forms left out have: the first of these, before all else. Otherwise P1 at the
 /// first token with which no program goes on, or just past the last, or P2 where the nesting passes
-/// `MAX_NESTING`.
+/// `MAX_NESTING`; nesting alone is never P1.
 pub fn parse<'a>(alloc: Global, tokens: &[Token<'a>]) -> Result<Program<'a>, ParseFault>
     ensures left_out { MatchOption (first_left_out tokens.now) (IfErr result IsOfRules)
         (λ place. result ≡ Err (ParseFault.LeftOut place)) }
@@ -66,7 +66,7 @@ fn whole<'a>(alloc: Global, cursor: &mut Cursor<'_, 'a>) -> Result<Program<'a>, 
 fn program<'a>(alloc: Global, cursor: &mut Cursor<'_, 'a>) -> Result<Program<'a>, ParseFault>
     ensures left { MatchResult result (λ _. left cursor.new ≤ left cursor.old) IsOfRules }
     ensures given { IfOk result (Read (BeginsProgram MAX_NESTING) cursor.old cursor.new) }
-    ensures exact { ReadsEach (BeginsProgram MAX_NESTING) Anything cursor.old cursor.new result }
+    ensures exact { ReadsDeep MAX_NESTING BeginsProgram Anything cursor.old cursor.new result }
 {
     cursor.expect_word(Word::Program)?;
     let name = cursor.expect_name()?;
@@ -120,7 +120,7 @@ fn block<'a>(
 ) -> Result<Block<'a>, ParseFault>
     ensures left { MatchResult result (λ _. left cursor.new ≤ left cursor.old) IsOfRules }
     ensures given { IfOk result (Read (BeginsBlock levels) cursor.old cursor.new) }
-    ensures exact { ReadsEach (BeginsBlock levels) Anything cursor.old cursor.new result }
+    ensures exact { ReadsDeep levels BeginsBlock Anything cursor.old cursor.new result }
 {
     let variables = variables(alloc, cursor)?;
     let levels = inside(levels, cursor.place())?;

@@ -1,6 +1,6 @@
 ghost use Rattle.std.specs.Prelude.{◌≡◌, ◌+◌, ◌≤◌, IfOk, MatchResult, Some};
 ghost use Rattle.parser.specs.Cursor.{left, IsOfRules};
-ghost use Rattle.parser.specs.Reading.{next_kind, ReadsEach, EndsStmt, EndsStatements, Anything};
+ghost use Rattle.parser.specs.Reading.{next_kind, ReadsDeep, EndsStmt, EndsStatements, Anything};
 ghost use Rattle.parser.specs.Rules.{Read, BeginsStmt, BeginsStatements, BeginsCompound};
 
 use crate::cursor::Cursor;
@@ -24,7 +24,7 @@ pub fn compound<'a>(
     ensures left { MatchResult result (λ _. left cursor.new ≤ left cursor.old) IsOfRules }
     ensures given { IfOk result
         (λ found. Read (BeginsCompound levels) cursor.old cursor.new (found.0.items, found.1)) }
-    ensures exact { ReadsEach (BeginsCompound levels) Anything cursor.old cursor.new result }
+    ensures exact { ReadsDeep levels BeginsCompound Anything cursor.old cursor.new result }
 {
     cursor.expect_word(Word::Begin)?;
     let statements = statements(alloc, cursor, levels)?;
@@ -42,7 +42,7 @@ fn statements<'a>(
     ensures left { MatchResult result (λ _. left cursor.new ≤ left cursor.old) IsOfRules }
     ensures given { IfOk result
         (λ found. Read (BeginsStatements levels) cursor.old cursor.new found.items) }
-    ensures exact { ReadsEach (BeginsStatements levels) EndsStatements cursor.old cursor.new result }
+    ensures exact { ReadsDeep levels BeginsStatements EndsStatements cursor.old cursor.new result }
 {
     let mut statements = Vec::new(alloc);
     statements.push(statement(alloc, cursor, levels)?)?;
@@ -62,7 +62,7 @@ fn statement<'a>(
 ) -> Result<Stmt<'a>, ParseFault>
     ensures left { MatchResult result (λ _. left cursor.new ≤ left cursor.old) IsOfRules }
     ensures given { IfOk result (Read (BeginsStmt levels) cursor.old cursor.new) }
-    ensures exact { ReadsEach (BeginsStmt levels) EndsStmt cursor.old cursor.new result }
+    ensures exact { ReadsDeep levels BeginsStmt EndsStmt cursor.old cursor.new result }
 {
     let levels = inside(levels, cursor.place())?;
     match cursor.peek() {
@@ -86,7 +86,7 @@ fn simple<'a>(
     ensures left { MatchResult result (λ _. left cursor.new ≤ left cursor.old) IsOfRules }
     ensures given { IfOk result (Read (BeginsStmt (levels + 1)) cursor.old cursor.new) }
     ensures exact { next_kind cursor.old.rest.now ≡ Some Kind.Identifier →
-        ReadsEach (BeginsStmt (levels + 1)) EndsStmt cursor.old cursor.new result }
+        ReadsDeep (levels + 1) BeginsStmt EndsStmt cursor.old cursor.new result }
 {
     let name = cursor.expect_name()?;
     match cursor.take_symbol(Symbol::Becomes) {

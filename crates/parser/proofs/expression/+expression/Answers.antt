@@ -1,13 +1,14 @@
-use Rattle.std.proofs.Common.{rules, arith, ◌≡◌, ap, ◌∙◌, sym, subst, refl, [], ◌∷◌, length, Ok, Err}
+use Rattle.std.proofs.Common.{rules, arith, ◌≡◌, ap, ◌∙◌, sym, subst, refl, [], ◌∷◌, length, Some, Ok, Err}
 use Rattle.lexer.specs.declared.token.Kind.TheVariants as kind
 use Rattle.lexer.specs.declared.token.Symbol.TheVariants as symbol
-use Rattle.parser.specs.declared.fault.ParseFault.TheVariants.{Memory}
 use Rattle.parser.specs.declared.tree.Actual.{Actual}
+use Rattle.parser.specs.declared.cursor.Cursor.{Cursor}
 use Rattle.parser.specs.Cursor.{left}
+use Rattle.parser.specs.Rules.{BeginsExpr}
 use Rattle.parser.specs.Spelling.{Reads, mark, of_kind_at}
-use Rattle.parser.specs.Reading.{next_kind, NoSign, NoOperator, NoNext}
-use Rattle.parser.specs.WellFormed.{relation_level, sum_level, product_level}
-use Rattle.parser.proofs.Exact.{same_first, begins}
+use Rattle.parser.specs.Reading.{next_kind, NoSign, NoOperator, NoNext, Stops}
+use Rattle.parser.specs.WellFormed.{relation_level, sum_level, product_level, factor_level}
+use Rattle.parser.proofs.Exact.{same_first, begins, stops_spent}
 use Rattle.parser.proofs.ExactLists.{parts_end}
 use Rattle.parser.proofs.ExactChains.{relation, sum, product, chain_parts, first_answer, operand_answer, goes_on, chain_begins, chain_left, chain_ends, read_whole}
 use Rattle.parser.proofs.ExactExpressions.{factor_parts, number_read, name_taken, negated_behind, negated_answer, parenthesized_answer, opened, inner_answer, signed_parts, sign_taken, sign_missed_at, term_answer}
@@ -20,23 +21,23 @@ use Rattle.parser.proofs.expression.+expression.Goals.{factor-in-Some+in-Word-1,
 -- ---- expression
 
 pub expression-returns-in_err-first-clause-exact : goal.expression-returns-in_err-first-clause-exact
-expression-returns-in_err-first-clause-exact t c = λ e others h ends.
-    let p = chain_parts relation_level c.args.levels c.args.cursor.now.rest.now others e relation h in
-    let m : c.in_err-first.field-0.0 ≡ Memory = first_answer relation_level c.args.levels c.args.cursor.now c.simple.new.cursor others (Err c.in_err-first.field-0.0) relation p ends c.in_err-first.ensures.exact in
+expression-returns-in_err-first-clause-exact t c = λ depth e others h ends.
+    let p = chain_parts relation_level depth c.args.cursor.now.rest.now others e relation h in
+    let m : Stops c.args.levels depth c.in_err-first.field-0.0 = first_answer relation_level c.args.levels depth c.args.cursor.now c.simple.new.cursor others (Err c.in_err-first.field-0.0) relation p ends c.in_err-first.ensures.exact in
     search rules
 
 pub expression-returns-in_default-clause-exact : goal.expression-returns-in_default-clause-exact
-expression-returns-in_default-clause-exact t c = λ e others h ends.
+expression-returns-in_default-clause-exact t c = λ depth e others h ends.
     let same : c.take_operator.new.self ≡ c.simple.new.cursor = search rules in
     let stops : NoOperator relation_level c.simple.new.cursor.rest.now = search rules in
     ap (λ k. k.rest.now) same
-    ∙ chain_ends relation_level c.args.levels c.simple.new.cursor.rest.now others stops (chain_begins relation_level c.args.levels c.args.cursor.now c.simple.new.cursor c.in_ok-first.first relation c.in_ok-first.ensures.exact e others h ends)
+    ∙ chain_ends relation_level depth c.simple.new.cursor.rest.now others stops (chain_begins relation_level c.args.levels c.args.cursor.now c.simple.new.cursor c.in_ok-first.first relation c.in_ok-first.ensures.exact depth e others h ends)
 
 pub expression-returns-in_err-operand-clause-exact : goal.expression-returns-in_err-operand-clause-exact
-expression-returns-in_err-operand-clause-exact t c = λ e others h ends.
-    let g = goes_on relation_level c.args.levels c.in-Some.operator c.in-Some.place c.simple.new.cursor.rest.now c.take_operator.new.self.rest.now others c.in-Some.ensures.level c.in-Some.ensures.spelled ends
-    (chain_begins relation_level c.args.levels c.args.cursor.now c.simple.new.cursor c.in_ok-first.first relation c.in_ok-first.ensures.exact e others h ends) in
-    let m : c.in_err-operand.field-0.0 ≡ Memory = operand_answer relation_level c.args.levels c.take_operator.new.self c.simple-2.new.cursor others (Err c.in_err-operand.field-0.0) relation g ends c.in_err-operand.ensures.exact in
+expression-returns-in_err-operand-clause-exact t c = λ depth e others h ends.
+    let g = goes_on relation_level depth c.in-Some.operator c.in-Some.place c.simple.new.cursor.rest.now c.take_operator.new.self.rest.now others c.in-Some.ensures.level c.in-Some.ensures.spelled ends
+    (chain_begins relation_level c.args.levels c.args.cursor.now c.simple.new.cursor c.in_ok-first.first relation c.in_ok-first.ensures.exact depth e others h ends) in
+    let m : Stops c.args.levels depth c.in_err-operand.field-0.0 = operand_answer relation_level c.args.levels depth c.take_operator.new.self c.simple-2.new.cursor others (Err c.in_err-operand.field-0.0) relation g ends c.in_err-operand.ensures.exact in
     search rules
 
 pub expression-returns-clause-given : goal.expression-returns-clause-given
@@ -45,11 +46,11 @@ expression-returns-clause-given t c =
     c.in_ok-first.ensures.given c.in-Some.ensures.level c.in-Some.ensures.spelled c.in_ok-operand.ensures.given c.new-rest.ensures.items c.in_ok-push.ensures.items c.chained.ensures
 
 pub expression-returns-clause-exact : goal.expression-returns-clause-exact
-expression-returns-clause-exact t c = λ e others h ends.
-    let g = goes_on relation_level c.args.levels c.in-Some.operator c.in-Some.place c.simple.new.cursor.rest.now c.take_operator.new.self.rest.now others c.in-Some.ensures.level c.in-Some.ensures.spelled ends
-    (chain_begins relation_level c.args.levels c.args.cursor.now c.simple.new.cursor c.in_ok-first.first relation c.in_ok-first.ensures.exact e others h ends) in
-    let m : c.simple-2.new.cursor.rest.now ≡ g.middle = operand_answer relation_level c.args.levels c.take_operator.new.self c.simple-2.new.cursor others (Ok c.in_ok-operand.operand) relation g ends c.in_ok-operand.ensures.exact in
-    read_whole others c.simple-2.new.cursor _ _ c.chained.result (m ∙ g.last refl) c.chained.ensures
+expression-returns-clause-exact t c = λ depth e others h ends.
+    let g = goes_on relation_level depth c.in-Some.operator c.in-Some.place c.simple.new.cursor.rest.now c.take_operator.new.self.rest.now others c.in-Some.ensures.level c.in-Some.ensures.spelled ends
+    (chain_begins relation_level c.args.levels c.args.cursor.now c.simple.new.cursor c.in_ok-first.first relation c.in_ok-first.ensures.exact depth e others h ends) in
+    let m : c.simple-2.new.cursor.rest.now ≡ g.middle = operand_answer relation_level c.args.levels depth c.take_operator.new.self c.simple-2.new.cursor others (Ok c.in_ok-operand.operand) relation g ends c.in_ok-operand.ensures.exact in
+    read_whole c.args.levels depth others c.simple-2.new.cursor _ _ c.chained.result (m ∙ g.last refl) c.chained.ensures
 
 -- ---- simple expressions
 
@@ -70,24 +71,24 @@ simple-loop-operator-preserved t c = (
 )
 
 pub simple-returns-in_err-first-clause-exact : goal.simple-returns-in_err-first-clause-exact
-simple-returns-in_err-first-clause-exact t c = λ e others h ends.
-    let p = chain_parts sum_level c.args.levels c.args.cursor.now.rest.now others e sum h in
-    let m : c.in_err-first.field-0.0 ≡ Memory = first_answer sum_level c.args.levels c.args.cursor.now c.signed.new.cursor others (Err c.in_err-first.field-0.0) sum p ends c.in_err-first.ensures.exact in
+simple-returns-in_err-first-clause-exact t c = λ depth e others h ends.
+    let p = chain_parts sum_level depth c.args.cursor.now.rest.now others e sum h in
+    let m : Stops c.args.levels depth c.in_err-first.field-0.0 = first_answer sum_level c.args.levels depth c.args.cursor.now c.signed.new.cursor others (Err c.in_err-first.field-0.0) sum p ends c.in_err-first.ensures.exact in
     search rules
 
 pub simple-returns-in_err-operand-clause-exact : goal.simple-returns-in_err-operand-clause-exact
-simple-returns-in_err-operand-clause-exact t c = λ e others h ends.
-    let g = goes_on sum_level c.args.levels c.in-Some.operator c.in-Some.place c.loop-operator.cursor.rest.now c.take_operator.new.self.rest.now others c.in-Some.ensures.level c.in-Some.ensures.spelled ends
-    (c.loop-operator.invariant.2 e others h ends) in
-    let m : c.in_err-operand.field-0.0 ≡ Memory = operand_answer sum_level c.args.levels c.take_operator.new.self c.term.new.cursor others (Err c.in_err-operand.field-0.0) sum g ends c.in_err-operand.ensures.exact in
+simple-returns-in_err-operand-clause-exact t c = λ depth e others h ends.
+    let g = goes_on sum_level depth c.in-Some.operator c.in-Some.place c.loop-operator.cursor.rest.now c.take_operator.new.self.rest.now others c.in-Some.ensures.level c.in-Some.ensures.spelled ends
+    (c.loop-operator.invariant.2 depth e others h ends) in
+    let m : Stops c.args.levels depth c.in_err-operand.field-0.0 = operand_answer sum_level c.args.levels depth c.take_operator.new.self c.term.new.cursor others (Err c.in_err-operand.field-0.0) sum g ends c.in_err-operand.ensures.exact in
     search rules
 
 pub simple-returns-clause-exact : goal.simple-returns-clause-exact
-simple-returns-clause-exact t c = λ e others h ends.
+simple-returns-clause-exact t c = λ depth e others h ends.
     let same : c.take_operator.new.self ≡ c.loop-operator.cursor = search rules in
     let stops : NoOperator sum_level c.loop-operator.cursor.rest.now = search rules in
-    read_whole others c.take_operator.new.self _ _ c.chained.result
-    (ap (λ k. k.rest.now) same ∙ chain_ends sum_level c.args.levels c.loop-operator.cursor.rest.now others stops (c.loop-operator.invariant.2 e others h ends)) c.chained.ensures
+    read_whole c.args.levels depth others c.take_operator.new.self _ _ c.chained.result
+    (ap (λ k. k.rest.now) same ∙ chain_ends sum_level depth c.loop-operator.cursor.rest.now others stops (c.loop-operator.invariant.2 depth e others h ends)) c.chained.ensures
 
 -- ---- terms
 
@@ -108,85 +109,91 @@ term-loop-operator-preserved t c = (
 )
 
 pub term-returns-in_err-first-clause-exact : goal.term-returns-in_err-first-clause-exact
-term-returns-in_err-first-clause-exact t c = λ e others h ends.
-    let p = chain_parts product_level c.args.levels c.args.cursor.now.rest.now others e product h in
-    let m : c.in_err-first.field-0.0 ≡ Memory = first_answer product_level c.args.levels c.args.cursor.now c.factor.new.cursor others (Err c.in_err-first.field-0.0) product p ends c.in_err-first.ensures.exact in
+term-returns-in_err-first-clause-exact t c = λ depth e others h ends.
+    let p = chain_parts product_level depth c.args.cursor.now.rest.now others e product h in
+    let m : Stops c.args.levels depth c.in_err-first.field-0.0 = first_answer product_level c.args.levels depth c.args.cursor.now c.factor.new.cursor others (Err c.in_err-first.field-0.0) product p ends c.in_err-first.ensures.exact in
     search rules
 
 pub term-returns-in_err-operand-clause-exact : goal.term-returns-in_err-operand-clause-exact
-term-returns-in_err-operand-clause-exact t c = λ e others h ends.
-    let g = goes_on product_level c.args.levels c.in-Some.operator c.in-Some.place c.loop-operator.cursor.rest.now c.take_operator.new.self.rest.now others c.in-Some.ensures.level c.in-Some.ensures.spelled ends
-    (c.loop-operator.invariant.2 e others h ends) in
-    let m : c.in_err-operand.field-0.0 ≡ Memory = operand_answer product_level c.args.levels c.take_operator.new.self c.factor-in-Some.new.cursor others (Err c.in_err-operand.field-0.0) product g ends c.in_err-operand.ensures.exact in
+term-returns-in_err-operand-clause-exact t c = λ depth e others h ends.
+    let g = goes_on product_level depth c.in-Some.operator c.in-Some.place c.loop-operator.cursor.rest.now c.take_operator.new.self.rest.now others c.in-Some.ensures.level c.in-Some.ensures.spelled ends
+    (c.loop-operator.invariant.2 depth e others h ends) in
+    let m : Stops c.args.levels depth c.in_err-operand.field-0.0 = operand_answer product_level c.args.levels depth c.take_operator.new.self c.factor-in-Some.new.cursor others (Err c.in_err-operand.field-0.0) product g ends c.in_err-operand.ensures.exact in
     search rules
 
 pub term-returns-clause-exact : goal.term-returns-clause-exact
-term-returns-clause-exact t c = λ e others h ends.
+term-returns-clause-exact t c = λ depth e others h ends.
     let same : c.take_operator.new.self ≡ c.loop-operator.cursor = search rules in
     let stops : NoOperator product_level c.loop-operator.cursor.rest.now = search rules in
-    read_whole others c.take_operator.new.self _ _ c.chained.result
-    (ap (λ k. k.rest.now) same ∙ chain_ends product_level c.args.levels c.loop-operator.cursor.rest.now others stops (c.loop-operator.invariant.2 e others h ends)) c.chained.ensures
+    read_whole c.args.levels depth others c.take_operator.new.self _ _ c.chained.result
+    (ap (λ k. k.rest.now) same ∙ chain_ends product_level depth c.loop-operator.cursor.rest.now others stops (c.loop-operator.invariant.2 depth e others h ends)) c.chained.ensures
 
 -- ---- signed terms
 
 pub signed-returns-in_err-term-in-Some-clause-exact : goal.signed-returns-in_err-term-in-Some-clause-exact
-signed-returns-in_err-term-in-Some-clause-exact t c = λ e others h ends.
-    let b = sign_taken c.args.levels c.in-Some.sign c.in-Some.place c.args.cursor.now.rest.now c.take_sign.new.self.rest.now others c.in-Some.ensures.spelled (signed_parts c.args.levels c.args.cursor.now.rest.now others e h) in
-    let m : c.in_err-term-in-Some.field-0.0 ≡ Memory = term_answer c.args.levels c.take_sign.new.self c.term-in-Some.new.cursor others (Err c.in_err-term-in-Some.field-0.0) b ends c.in_err-term-in-Some.ensures.exact in
+signed-returns-in_err-term-in-Some-clause-exact t c = λ depth e others h ends.
+    let b = sign_taken depth c.in-Some.sign c.in-Some.place c.args.cursor.now.rest.now c.take_sign.new.self.rest.now others c.in-Some.ensures.spelled (signed_parts depth c.args.cursor.now.rest.now others e h) in
+    let m : Stops c.args.levels depth c.in_err-term-in-Some.field-0.0 = term_answer c.args.levels depth c.take_sign.new.self c.term-in-Some.new.cursor others (Err c.in_err-term-in-Some.field-0.0) b ends c.in_err-term-in-Some.ensures.exact in
     search rules
 
 pub signed-returns-in_ok-new-in-Some-clause-exact : goal.signed-returns-in_ok-new-in-Some-clause-exact
-signed-returns-in_ok-new-in-Some-clause-exact t c = λ e others h ends.
-    let b = sign_taken c.args.levels c.in-Some.sign c.in-Some.place c.args.cursor.now.rest.now c.take_sign.new.self.rest.now others c.in-Some.ensures.spelled (signed_parts c.args.levels c.args.cursor.now.rest.now others e h) in
-    term_answer c.args.levels c.take_sign.new.self c.term-in-Some.new.cursor others (Ok c.in_ok-term-in-Some.field-0) b ends c.in_ok-term-in-Some.ensures.exact
+signed-returns-in_ok-new-in-Some-clause-exact t c = λ depth e others h ends.
+    let b = sign_taken depth c.in-Some.sign c.in-Some.place c.args.cursor.now.rest.now c.take_sign.new.self.rest.now others c.in-Some.ensures.spelled (signed_parts depth c.args.cursor.now.rest.now others e h) in
+    term_answer c.args.levels depth c.take_sign.new.self c.term-in-Some.new.cursor others (Ok c.in_ok-term-in-Some.field-0) b ends c.in_ok-term-in-Some.ensures.exact
 
 pub signed-returns-in-None-clause-exact : goal.signed-returns-in-None-clause-exact
-signed-returns-in-None-clause-exact t c = λ e others h ends.
+signed-returns-in-None-clause-exact t c = λ depth e others h ends.
     let same : c.take_sign.new.self ≡ c.args.cursor.now = search rules in
     let none : NoSign c.args.cursor.now.rest.now = search rules in
-    term_answer c.args.levels c.take_sign.new.self c.term.new.cursor others c.term.result (sign_missed_at c.args.levels c.args.cursor.now c.take_sign.new.self e others same none h) ends c.term.ensures.exact
+    term_answer c.args.levels depth c.take_sign.new.self c.term.new.cursor others c.term.result (sign_missed_at depth c.args.cursor.now c.take_sign.new.self e others same none h) ends c.term.ensures.exact
 
 -- ---- factors
 
 pub factor-returns-in-Some-clause-exact : goal.factor-returns-in-Some-clause-exact
-factor-returns-in-Some-clause-exact t c = λ e others h ends.
-    number_read c.args.levels c.in-Some.value c.in-Some.place c.args.cursor.now.rest.now c.take_number.new.self.rest.now others c.in-Some.ensures.spelled (factor_parts c.args.levels c.args.cursor.now.rest.now others e h)
+factor-returns-in-Some-clause-exact t c = λ depth e others h ends.
+    number_read depth c.in-Some.value c.in-Some.place c.args.cursor.now.rest.now c.take_number.new.self.rest.now others c.in-Some.ensures.spelled (factor_parts depth c.args.cursor.now.rest.now others e h)
+
+pub factor-returns-in-Some-Identifier-clause-exact : goal.factor-returns-in-Some-Identifier-clause-exact
+factor-returns-in-Some-Identifier-clause-exact t c = λ depth e others h ends.
+    let same : c.take_number.new.self ≡ c.args.cursor.now = search rules in
+    let first : next_kind c.take_number.new.self.rest.now ≡ Some kind.Identifier = search rules in
+    c.named.ensures.exact first depth e others (subst (λ (k : Cursor). BeginsExpr factor_level depth k.rest.now others e) (sym same) h) ends
 
 pub factor-returns-in_default-take_word-clause-exact : goal.factor-returns-in_default-take_word-clause-exact
-factor-returns-in_default-take_word-clause-exact t c = λ e others h ends.
+factor-returns-in_default-take_word-clause-exact t c = λ depth e others h ends.
     let same : c.take_number.new.self ≡ c.args.cursor.now = search rules in
     let again : c.take_word.new.self ≡ c.take_number.new.self = search rules in
     let name : NoNext kind.Identifier c.take_number.new.self.rest.now = elim c.match-peek.branch [ factor-in-Some+in-Word-1 w ↦ search rules | factor-in-None-1 w ↦ search rules ] in
-    parenthesized_answer c.args.levels c.args.cursor.now c.take_number.new.self c.take_word.new.self c.parenthesized.new.cursor e others c.parenthesized.result same again c.in_default.ensures.missed name c.in_default-take_word.ensures.missed h ends
+    parenthesized_answer c.args.levels depth c.args.cursor.now c.take_number.new.self c.take_word.new.self c.parenthesized.new.cursor e others c.parenthesized.result same again c.in_default.ensures.missed name c.in_default-take_word.ensures.missed h ends
     c.parenthesized.ensures.exact
 
 pub factor-returns-in_err-levels-clause-exact : goal.factor-returns-in_err-levels-clause-exact
-factor-returns-in_err-levels-clause-exact t c = λ e others h ends.
+factor-returns-in_err-levels-clause-exact t c = λ depth e others h ends.
     let same : c.take_number.new.self ≡ c.args.cursor.now = search rules in
-    let b = negated_behind c.args.levels c.in-Some-take_word.place c.args.cursor.now c.take_number.new.self c.take_word.new.self others e same c.in-Some-take_word.ensures.spelled h in
+    let b = negated_behind depth c.in-Some-take_word.place c.args.cursor.now c.take_number.new.self c.take_word.new.self others e same c.in-Some-take_word.ensures.spelled h in
     let n = b.nests in
-    let z = c.in_err-levels.ensures.spent.0 in
-    absurd (omega arith)
+    let m : Stops c.args.levels depth c.in_err-levels.field-0.0 = stops_spent c.args.levels depth _ _ c.in_err-levels.ensures.spent (omega arith) in
+    search rules
 
 pub factor-returns-in_err-inner-clause-exact : goal.factor-returns-in_err-inner-clause-exact
-factor-returns-in_err-inner-clause-exact t c = λ e others h ends.
+factor-returns-in_err-inner-clause-exact t c = λ depth e others h ends.
     let same : c.take_number.new.self ≡ c.args.cursor.now = search rules in
-    let b = negated_behind c.args.levels c.in-Some-take_word.place c.args.cursor.now c.take_number.new.self c.take_word.new.self others e same c.in-Some-take_word.ensures.spelled h in
-    let m : c.in_err-inner.field-0.0 ≡ Memory = negated_answer c.args.levels c.in_ok-levels.levels c.take_word.new.self c.factor.new.cursor others (Err c.in_err-inner.field-0.0) c.in_ok-levels.ensures.left b ends c.in_err-inner.ensures.exact in
+    let b = negated_behind depth c.in-Some-take_word.place c.args.cursor.now c.take_number.new.self c.take_word.new.self others e same c.in-Some-take_word.ensures.spelled h in
+    let m : Stops c.args.levels depth c.in_err-inner.field-0.0 = negated_answer c.args.levels c.in_ok-levels.levels depth c.take_word.new.self c.factor.new.cursor others (Err c.in_err-inner.field-0.0) c.in_ok-levels.ensures.left b ends c.in_err-inner.ensures.exact in
     search rules
 
 pub factor-returns-clause-exact : goal.factor-returns-clause-exact
-factor-returns-clause-exact t c = λ e others h ends.
+factor-returns-clause-exact t c = λ depth e others h ends.
     let same : c.take_number.new.self ≡ c.args.cursor.now = search rules in
-    let b = negated_behind c.args.levels c.in-Some-take_word.place c.args.cursor.now c.take_number.new.self c.take_word.new.self others e same c.in-Some-take_word.ensures.spelled h in
-    negated_answer c.args.levels c.in_ok-levels.levels c.take_word.new.self c.factor.new.cursor others (Ok c.in_ok-inner.inner) c.in_ok-levels.ensures.left b ends c.in_ok-inner.ensures.exact
+    let b = negated_behind depth c.in-Some-take_word.place c.args.cursor.now c.take_number.new.self c.take_word.new.self others e same c.in-Some-take_word.ensures.spelled h in
+    negated_answer c.args.levels c.in_ok-levels.levels depth c.take_word.new.self c.factor.new.cursor others (Ok c.in_ok-inner.inner) c.in_ok-levels.ensures.left b ends c.in_ok-inner.ensures.exact
 
 -- ---- names
 
 pub named-returns-in_err-actuals-clause-exact : goal.named-returns-in_err-actuals-clause-exact
-named-returns-in_err-actuals-clause-exact t c = λ first e others h ends.
-    let n = name_taken c.args.levels c.in_ok-name.name c.args.cursor.now.rest.now c.expect_name.new.self.rest.now others c.in_ok-name.ensures.spelled (factor_parts c.args.levels c.args.cursor.now.rest.now others e h) in
-    let m : c.in_err-actuals.field-0.0 ≡ Memory = c.in_err-actuals.ensures.exact n.actuals others n.begun ends.call in
+named-returns-in_err-actuals-clause-exact t c = λ first depth e others h ends.
+    let n = name_taken depth c.in_ok-name.name c.args.cursor.now.rest.now c.expect_name.new.self.rest.now others c.in_ok-name.ensures.spelled (factor_parts depth c.args.cursor.now.rest.now others e h) in
+    let m : Stops c.args.levels depth c.in_err-actuals.field-0.0 = c.in_err-actuals.ensures.exact depth n.actuals others n.begun ends.call in
     search rules
 
 pub named-returns-then-is_empty-clause-given : goal.named-returns-then-is_empty-clause-given
@@ -195,9 +202,9 @@ named-returns-then-is_empty-clause-given t c =
     gives-Name c.args.levels c.args.cursor.now c.expect_name.new.self c.actuals.new.cursor c.in_ok-name.name c.in_ok-actuals.actuals.items c.in_ok-name.ensures.spelled c.in_ok-actuals.ensures.given none
 
 pub named-returns-then-is_empty-clause-exact : goal.named-returns-then-is_empty-clause-exact
-named-returns-then-is_empty-clause-exact t c = λ first e others h ends.
-    let n = name_taken c.args.levels c.in_ok-name.name c.args.cursor.now.rest.now c.expect_name.new.self.rest.now others c.in_ok-name.ensures.spelled (factor_parts c.args.levels c.args.cursor.now.rest.now others e h) in
-    c.in_ok-actuals.ensures.exact n.actuals others n.begun ends.call
+named-returns-then-is_empty-clause-exact t c = λ first depth e others h ends.
+    let n = name_taken depth c.in_ok-name.name c.args.cursor.now.rest.now c.expect_name.new.self.rest.now others c.in_ok-name.ensures.spelled (factor_parts depth c.args.cursor.now.rest.now others e h) in
+    c.in_ok-actuals.ensures.exact depth n.actuals others n.begun ends.call
 
 pub named-returns-clause-given : goal.named-returns-clause-given
 named-returns-clause-given t c =
@@ -205,9 +212,9 @@ named-returns-clause-given t c =
     gives-Call c.args.levels c.args.cursor.now c.expect_name.new.self c.actuals.new.cursor c.in_ok-name.name c.in_ok-actuals.actuals c.in_ok-name.ensures.spelled c.in_ok-actuals.ensures.given some
 
 pub named-returns-clause-exact : goal.named-returns-clause-exact
-named-returns-clause-exact t c = λ first e others h ends.
-    let n = name_taken c.args.levels c.in_ok-name.name c.args.cursor.now.rest.now c.expect_name.new.self.rest.now others c.in_ok-name.ensures.spelled (factor_parts c.args.levels c.args.cursor.now.rest.now others e h) in
-    c.in_ok-actuals.ensures.exact n.actuals others n.begun ends.call
+named-returns-clause-exact t c = λ first depth e others h ends.
+    let n = name_taken depth c.in_ok-name.name c.args.cursor.now.rest.now c.expect_name.new.self.rest.now others c.in_ok-name.ensures.spelled (factor_parts depth c.args.cursor.now.rest.now others e h) in
+    c.in_ok-actuals.ensures.exact depth n.actuals others n.begun ends.call
 
 -- ---- parentheses
 
@@ -217,28 +224,28 @@ parenthesized-returns-clause-given t c =
     c.in_ok-inside.ensures.left (search rules) c.in_ok-inner.ensures.given c.in_ok-expect_symbol.ensures.spelled c.in_ok-new.ensures.ok
 
 pub parenthesized-returns-in_err-inside-clause-exact : goal.parenthesized-returns-in_err-inside-clause-exact
-parenthesized-returns-in_err-inside-clause-exact t c = λ first e others h ends.
-    let o = opened c.args.levels c.in_ok-open.open c.args.cursor.now.rest.now c.expect_symbol.new.self.rest.now others (search rules) (factor_parts c.args.levels c.args.cursor.now.rest.now others e h) in
+parenthesized-returns-in_err-inside-clause-exact t c = λ first depth e others h ends.
+    let o = opened depth c.in_ok-open.open c.args.cursor.now.rest.now c.expect_symbol.new.self.rest.now others (search rules) (factor_parts depth c.args.cursor.now.rest.now others e h) in
     let n = o.nests in
-    let z = c.in_err-inside.ensures.spent.0 in
-    absurd (omega arith)
+    let m : Stops c.args.levels depth c.in_err-inside.field-0.0 = stops_spent c.args.levels depth _ _ c.in_err-inside.ensures.spent (omega arith) in
+    search rules
 
 pub parenthesized-returns-in_err-inner-clause-exact : goal.parenthesized-returns-in_err-inner-clause-exact
-parenthesized-returns-in_err-inner-clause-exact t c = λ first e others h ends.
-    let o = opened c.args.levels c.in_ok-open.open c.args.cursor.now.rest.now c.expect_symbol.new.self.rest.now others (search rules) (factor_parts c.args.levels c.args.cursor.now.rest.now others e h) in
-    let m : c.in_err-inner.field-0.0 ≡ Memory = inner_answer c.args.levels c.in_ok-inside.field-0 c.expect_symbol.new.self c.expression.new.cursor others (Err c.in_err-inner.field-0.0) c.in_ok-inside.ensures.left o c.in_err-inner.ensures.exact in
+parenthesized-returns-in_err-inner-clause-exact t c = λ first depth e others h ends.
+    let o = opened depth c.in_ok-open.open c.args.cursor.now.rest.now c.expect_symbol.new.self.rest.now others (search rules) (factor_parts depth c.args.cursor.now.rest.now others e h) in
+    let m : Stops c.args.levels depth c.in_err-inner.field-0.0 = inner_answer c.args.levels c.in_ok-inside.field-0 depth c.expect_symbol.new.self c.expression.new.cursor others (Err c.in_err-inner.field-0.0) c.in_ok-inside.ensures.left o c.in_err-inner.ensures.exact in
     search rules
 
 pub parenthesized-returns-in_err-expect_symbol-clause-exact : goal.parenthesized-returns-in_err-expect_symbol-clause-exact
-parenthesized-returns-in_err-expect_symbol-clause-exact t c = λ first e others h ends.
-    let o = opened c.args.levels c.in_ok-open.open c.args.cursor.now.rest.now c.expect_symbol.new.self.rest.now others (search rules) (factor_parts c.args.levels c.args.cursor.now.rest.now others e h) in
-    let m : c.expression.new.cursor.rest.now ≡ o.middle = inner_answer c.args.levels c.in_ok-inside.field-0 c.expect_symbol.new.self c.expression.new.cursor others (Ok c.in_ok-inner.inner) c.in_ok-inside.ensures.left o c.in_ok-inner.ensures.exact in
+parenthesized-returns-in_err-expect_symbol-clause-exact t c = λ first depth e others h ends.
+    let o = opened depth c.in_ok-open.open c.args.cursor.now.rest.now c.expect_symbol.new.self.rest.now others (search rules) (factor_parts depth c.args.cursor.now.rest.now others e h) in
+    let m : c.expression.new.cursor.rest.now ≡ o.middle = inner_answer c.args.levels c.in_ok-inside.field-0 depth c.expect_symbol.new.self c.expression.new.cursor others (Ok c.in_ok-inner.inner) c.in_ok-inside.ensures.left o c.in_ok-inner.ensures.exact in
     absurd (c.in_err-expect_symbol.ensures.missed (ap next_kind m ∙ begins _ [] o.middle others o.closed))
 
 pub parenthesized-returns-clause-exact : goal.parenthesized-returns-clause-exact
-parenthesized-returns-clause-exact t c = λ first e others h ends.
-    let o = opened c.args.levels c.in_ok-open.open c.args.cursor.now.rest.now c.expect_symbol.new.self.rest.now others (search rules) (factor_parts c.args.levels c.args.cursor.now.rest.now others e h) in
-    let m : c.expression.new.cursor.rest.now ≡ o.middle = inner_answer c.args.levels c.in_ok-inside.field-0 c.expect_symbol.new.self c.expression.new.cursor others (Ok c.in_ok-inner.inner) c.in_ok-inside.ensures.left o c.in_ok-inner.ensures.exact in
+parenthesized-returns-clause-exact t c = λ first depth e others h ends.
+    let o = opened depth c.in_ok-open.open c.args.cursor.now.rest.now c.expect_symbol.new.self.rest.now others (search rules) (factor_parts depth c.args.cursor.now.rest.now others e h) in
+    let m : c.expression.new.cursor.rest.now ≡ o.middle = inner_answer c.args.levels c.in_ok-inside.field-0 depth c.expect_symbol.new.self c.expression.new.cursor others (Ok c.in_ok-inner.inner) c.in_ok-inside.ensures.left o c.in_ok-inner.ensures.exact in
     (same_first _ _ [] c.expression.new.cursor.rest.now _ others c.in_ok-expect_symbol.ensures.spelled (subst (λ x. Reads x (mark symbol.CloseParenthesis ∷ []) others) (sym m) o.closed)).1
 
 -- ---- actuals
@@ -250,24 +257,24 @@ actuals-returns-clause-given t c =
     opened.1 c.in_ok-actuals.ensures.given c.in_ok-expect_symbol.ensures.spelled
 
 pub actuals-returns-in_err-actuals-clause-exact : goal.actuals-returns-in_err-actuals-clause-exact
-actuals-returns-in_err-actuals-clause-exact t c = λ actuals others h ends.
+actuals-returns-in_err-actuals-clause-exact t c = λ depth actuals others h ends.
     let opened = taken_if c.args.cursor.now c.take_symbol.new.self (kind.Symbol symbol.OpenParenthesis) c.take_symbol.result c.is_none.result c.is_none.ensures c.if-is_none.false c.take_symbol.ensures.spelled in
-    let o = opened_actuals c.args.levels opened.0 c.args.cursor.now.rest.now c.take_symbol.new.self.rest.now others actuals opened.1 ends h in
-    let m : c.in_err-actuals.field-0.0 ≡ Memory = c.in_err-actuals.ensures.exact actuals o.middle o.list o.closes in
+    let o = opened_actuals depth opened.0 c.args.cursor.now.rest.now c.take_symbol.new.self.rest.now others actuals opened.1 ends h in
+    let m : Stops c.args.levels depth c.in_err-actuals.field-0.0 = c.in_err-actuals.ensures.exact depth actuals o.middle o.list o.closes in
     search rules
 
 pub actuals-returns-in_err-expect_symbol-clause-exact : goal.actuals-returns-in_err-expect_symbol-clause-exact
-actuals-returns-in_err-expect_symbol-clause-exact t c = λ actuals others h ends.
+actuals-returns-in_err-expect_symbol-clause-exact t c = λ depth actuals others h ends.
     let opened = taken_if c.args.cursor.now c.take_symbol.new.self (kind.Symbol symbol.OpenParenthesis) c.take_symbol.result c.is_none.result c.is_none.ensures c.if-is_none.false c.take_symbol.ensures.spelled in
-    let o = opened_actuals c.args.levels opened.0 c.args.cursor.now.rest.now c.take_symbol.new.self.rest.now others actuals opened.1 ends h in
-    let m : c.actual_list.new.cursor.rest.now ≡ o.middle = c.in_ok-actuals.ensures.exact actuals o.middle o.list o.closes in
+    let o = opened_actuals depth opened.0 c.args.cursor.now.rest.now c.take_symbol.new.self.rest.now others actuals opened.1 ends h in
+    let m : c.actual_list.new.cursor.rest.now ≡ o.middle = c.in_ok-actuals.ensures.exact depth actuals o.middle o.list o.closes in
     absurd (c.in_err-expect_symbol.ensures.missed (ap next_kind m ∙ o.closes))
 
 pub actuals-returns-clause-exact : goal.actuals-returns-clause-exact
-actuals-returns-clause-exact t c = λ actuals others h ends.
+actuals-returns-clause-exact t c = λ depth actuals others h ends.
     let opened = taken_if c.args.cursor.now c.take_symbol.new.self (kind.Symbol symbol.OpenParenthesis) c.take_symbol.result c.is_none.result c.is_none.ensures c.if-is_none.false c.take_symbol.ensures.spelled in
-    let o = opened_actuals c.args.levels opened.0 c.args.cursor.now.rest.now c.take_symbol.new.self.rest.now others actuals opened.1 ends h in
-    let m : c.actual_list.new.cursor.rest.now ≡ o.middle = c.in_ok-actuals.ensures.exact actuals o.middle o.list o.closes in
+    let o = opened_actuals depth opened.0 c.args.cursor.now.rest.now c.take_symbol.new.self.rest.now others actuals opened.1 ends h in
+    let m : c.actual_list.new.cursor.rest.now ≡ o.middle = c.in_ok-actuals.ensures.exact depth actuals o.middle o.list o.closes in
     (same_first (of_kind_at (kind.Symbol symbol.CloseParenthesis) c.in_ok-expect_symbol.field-0) (mark symbol.CloseParenthesis) [] c.actual_list.new.cursor.rest.now c.expect_symbol.new.self.rest.now others
     c.in_ok-expect_symbol.ensures.spelled (subst (λ x. Reads x (mark symbol.CloseParenthesis ∷ []) others) (sym m) o.closed)).1
 
@@ -292,44 +299,44 @@ actual_list-loop-alloc-preserved t c =
     )
 
 pub actual_list-returns-in_err-actual-clause-exact : goal.actual_list-returns-in_err-actual-clause-exact
-actual_list-returns-in_err-actual-clause-exact t c = λ actuals others h ends.
-    let p = actuals_begin c.args.levels c.args.cursor.now.rest.now others actuals h in
-    let m : c.in_err-actual.field-0.0 ≡ Memory = actual_answer c.args.levels c.args.cursor.now c.actual.new.cursor others (Err c.in_err-actual.field-0.0) p ends c.in_err-actual.ensures.exact in
+actual_list-returns-in_err-actual-clause-exact t c = λ depth actuals others h ends.
+    let p = actuals_begin depth c.args.cursor.now.rest.now others actuals h in
+    let m : Stops c.args.levels depth c.in_err-actual.field-0.0 = actual_answer c.args.levels depth c.args.cursor.now c.actual.new.cursor others (Err c.in_err-actual.field-0.0) p ends c.in_err-actual.ensures.exact in
     search rules
 
 pub actual_list-returns-in_err-actual-2-clause-exact : goal.actual_list-returns-in_err-actual-2-clause-exact
-actual_list-returns-in_err-actual-2-clause-exact t c = λ actuals others h ends.
+actual_list-returns-in_err-actual-2-clause-exact t c = λ depth actuals others h ends.
     let comma = taken c.loop-alloc.cursor c.take_symbol.new.self (kind.Symbol symbol.Comma) c.take_symbol.result (sym c.is_some.ensures ∙ c.loop-alloc-test.true) c.take_symbol.ensures.spelled in
-    let p = one_more_actual c.args.levels comma.0 c.loop-alloc.cursor.rest.now c.take_symbol.new.self.rest.now others comma.1 ends (c.loop-alloc.invariant.2 actuals others h ends) in
-    let m : c.in_err-actual-2.field-0.0 ≡ Memory =
-    actual_answer c.args.levels c.take_symbol.new.self c.actual-in-loop-alloc.new.cursor others (Err c.in_err-actual-2.field-0.0) p ends c.in_err-actual-2.ensures.exact in
+    let p = one_more_actual depth comma.0 c.loop-alloc.cursor.rest.now c.take_symbol.new.self.rest.now others comma.1 ends (c.loop-alloc.invariant.2 depth actuals others h ends) in
+    let m : Stops c.args.levels depth c.in_err-actual-2.field-0.0 =
+    actual_answer c.args.levels depth c.take_symbol.new.self c.actual-in-loop-alloc.new.cursor others (Err c.in_err-actual-2.field-0.0) p ends c.in_err-actual-2.ensures.exact in
     search rules
 
 pub actual_list-returns-clause-exact : goal.actual_list-returns-clause-exact
-actual_list-returns-clause-exact t c = λ actuals others h ends.
+actual_list-returns-clause-exact t c = λ depth actuals others h ends.
     let none = not_taken c.loop-alloc.cursor c.take_symbol.new.self (kind.Symbol symbol.Comma) c.take_symbol.result (sym c.is_some.ensures ∙ c.loop-alloc-test.false) c.take_symbol.ensures.kept c.take_symbol.ensures.missed in
-    ap (λ k. k.rest.now) none.0 ∙ parts_end Actual actual_list_parts c.args.levels c.loop-alloc.cursor.rest.now others none.1 (c.loop-alloc.invariant.2 actuals others h ends)
+    ap (λ k. k.rest.now) none.0 ∙ parts_end Actual actual_list_parts depth c.loop-alloc.cursor.rest.now others none.1 (c.loop-alloc.invariant.2 depth actuals others h ends)
 
 -- ---- an actual
 
 pub actual-returns-in_err-value-clause-exact : goal.actual-returns-in_err-value-clause-exact
-actual-returns-in_err-value-clause-exact t c = λ x others h ends.
-    let v = actual_parts c.args.levels c.args.cursor.now.rest.now others x h in
-    let m : c.in_err-value.field-0.0 ≡ Memory = value_answer c.args.levels c.in_ok-levels.levels c.args.cursor.now c.expression.new.cursor others (Err c.in_err-value.field-0.0) c.in_ok-levels.ensures.left ends v c.in_err-value.ensures.exact in
+actual-returns-in_err-value-clause-exact t c = λ depth x others h ends.
+    let v = actual_parts depth c.args.cursor.now.rest.now others x h in
+    let m : Stops c.args.levels depth c.in_err-value.field-0.0 = value_answer c.args.levels c.in_ok-levels.levels depth c.args.cursor.now c.expression.new.cursor others (Err c.in_err-value.field-0.0) c.in_ok-levels.ensures.left ends v c.in_err-value.ensures.exact in
     search rules
 
 pub actual-returns-then-is_none-clause-exact : goal.actual-returns-then-is_none-clause-exact
-actual-returns-then-is_none-clause-exact t c = λ x others h ends.
+actual-returns-then-is_none-clause-exact t c = λ depth x others h ends.
     let none = missed_if c.expression.new.cursor c.take_symbol.new.self (kind.Symbol symbol.Colon) c.take_symbol.result c.is_none.result c.is_none.ensures c.if-is_none.true c.take_symbol.ensures.kept c.take_symbol.ensures.missed in
-    let w = width_left c.args.levels c.in_ok-levels.levels c.args.cursor.now c.expression.new.cursor c.in_ok-value.value x others c.in_ok-levels.ensures.left c.in_ok-value.ensures.exact h ends in
-    ap (λ k. k.rest.now) none.0 ∙ width_absent c.args.levels c.expression.new.cursor.rest.now others none.1 w
+    let w = width_left c.args.levels c.in_ok-levels.levels depth c.args.cursor.now c.expression.new.cursor c.in_ok-value.value x others c.in_ok-levels.ensures.left c.in_ok-value.ensures.exact h ends in
+    ap (λ k. k.rest.now) none.0 ∙ width_absent depth c.expression.new.cursor.rest.now others none.1 w
 
 pub actual-returns-in_err-width-clause-exact : goal.actual-returns-in_err-width-clause-exact
-actual-returns-in_err-width-clause-exact t c = λ x others h ends.
+actual-returns-in_err-width-clause-exact t c = λ depth x others h ends.
     let colon = taken_if c.expression.new.cursor c.take_symbol.new.self (kind.Symbol symbol.Colon) c.take_symbol.result c.is_none.result c.is_none.ensures c.if-is_none.false c.take_symbol.ensures.spelled in
-    let w = width_left c.args.levels c.in_ok-levels.levels c.args.cursor.now c.expression.new.cursor c.in_ok-value.value x others c.in_ok-levels.ensures.left c.in_ok-value.ensures.exact h ends in
-    let b = width_taken c.args.levels colon.0 c.expression.new.cursor.rest.now c.take_symbol.new.self.rest.now others colon.1 ends w in
-    let m : c.in_err-width.field-0.0 ≡ Memory = width_answer c.args.levels c.in_ok-levels.levels c.take_symbol.new.self c.expression-2.new.cursor others (Err c.in_err-width.field-0.0) c.in_ok-levels.ensures.left ends b c.in_err-width.ensures.exact in
+    let w = width_left c.args.levels c.in_ok-levels.levels depth c.args.cursor.now c.expression.new.cursor c.in_ok-value.value x others c.in_ok-levels.ensures.left c.in_ok-value.ensures.exact h ends in
+    let b = width_taken depth colon.0 c.expression.new.cursor.rest.now c.take_symbol.new.self.rest.now others colon.1 ends w in
+    let m : Stops c.args.levels depth c.in_err-width.field-0.0 = width_answer c.args.levels c.in_ok-levels.levels depth c.take_symbol.new.self c.expression-2.new.cursor others (Err c.in_err-width.field-0.0) c.in_ok-levels.ensures.left ends b c.in_err-width.ensures.exact in
     search rules
 
 pub actual-returns-clause-given : goal.actual-returns-clause-given
@@ -339,8 +346,8 @@ actual-returns-clause-given t c =
     c.in_ok-levels.ensures.left c.in_ok-value.ensures.given colon.1 c.in_ok-width.ensures.given
 
 pub actual-returns-clause-exact : goal.actual-returns-clause-exact
-actual-returns-clause-exact t c = λ x others h ends.
+actual-returns-clause-exact t c = λ depth x others h ends.
     let colon = taken_if c.expression.new.cursor c.take_symbol.new.self (kind.Symbol symbol.Colon) c.take_symbol.result c.is_none.result c.is_none.ensures c.if-is_none.false c.take_symbol.ensures.spelled in
-    let w = width_left c.args.levels c.in_ok-levels.levels c.args.cursor.now c.expression.new.cursor c.in_ok-value.value x others c.in_ok-levels.ensures.left c.in_ok-value.ensures.exact h ends in
-    let b = width_taken c.args.levels colon.0 c.expression.new.cursor.rest.now c.take_symbol.new.self.rest.now others colon.1 ends w in
-    width_answer c.args.levels c.in_ok-levels.levels c.take_symbol.new.self c.expression-2.new.cursor others (Ok c.in_ok-width.width) c.in_ok-levels.ensures.left ends b c.in_ok-width.ensures.exact
+    let w = width_left c.args.levels c.in_ok-levels.levels depth c.args.cursor.now c.expression.new.cursor c.in_ok-value.value x others c.in_ok-levels.ensures.left c.in_ok-value.ensures.exact h ends in
+    let b = width_taken depth colon.0 c.expression.new.cursor.rest.now c.take_symbol.new.self.rest.now others colon.1 ends w in
+    width_answer c.args.levels c.in_ok-levels.levels depth c.take_symbol.new.self c.expression-2.new.cursor others (Ok c.in_ok-width.width) c.in_ok-levels.ensures.left ends b c.in_ok-width.ensures.exact

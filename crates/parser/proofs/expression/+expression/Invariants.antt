@@ -40,7 +40,7 @@ decreases-actual l = 10 * l.levels + 1
 abbrev pub invariant-simple-loop-operator : goal.invariant-simple-loop-operator
 invariant-simple-loop-operator l =
     (left l.cursor ≤ left l.fn.cursor) × IsChainSoFar sum_level l.levels l.fn.cursor l.cursor l.first l.rest.items
-    × ChainLeft sum_level l.levels l.fn.cursor.rest.now l.cursor.rest.now
+    × ChainLeft sum_level l.fn.cursor.rest.now l.cursor.rest.now
 
 abbrev pub decreases-simple-loop-operator : goal.decreases-simple-loop-operator
 decreases-simple-loop-operator l = left l.cursor
@@ -48,7 +48,7 @@ decreases-simple-loop-operator l = left l.cursor
 abbrev pub invariant-term-loop-operator : goal.invariant-term-loop-operator
 invariant-term-loop-operator l =
     (left l.cursor ≤ left l.fn.cursor) × IsChainSoFar product_level l.levels l.fn.cursor l.cursor l.first l.rest.items
-    × ChainLeft product_level l.levels l.fn.cursor.rest.now l.cursor.rest.now
+    × ChainLeft product_level l.fn.cursor.rest.now l.cursor.rest.now
 
 abbrev pub decreases-term-loop-operator : goal.decreases-term-loop-operator
 decreases-term-loop-operator l = left l.cursor
@@ -56,7 +56,7 @@ decreases-term-loop-operator l = left l.cursor
 abbrev pub invariant-actual_list-loop-alloc : goal.invariant-actual_list-loop-alloc
 invariant-actual_list-loop-alloc l =
     (left l.cursor ≤ left l.fn.cursor) × Read (BeginsActualList l.levels) l.fn.cursor l.cursor l.actuals.items
-    × ActualsListLeft l.levels l.fn.cursor.rest.now l.cursor.rest.now
+    × ActualsListLeft l.fn.cursor.rest.now l.cursor.rest.now
 
 abbrev pub decreases-actual_list-loop-alloc : goal.decreases-actual_list-loop-alloc
 decreases-actual_list-loop-alloc l = left l.cursor

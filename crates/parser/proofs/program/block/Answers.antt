@@ -1,5 +1,7 @@
 use Rattle.std.proofs.Common.{rules, ◌≡◌}
 use Rattle.parser.specs.declared.fault.ParseFault.TheVariants.{Memory}
+use Rattle.parser.specs.Reading.{Stops}
+use Rattle.parser.proofs.Exact.{stops_above}
 use Rattle.parser.proofs.ExactPrograms.{block_parts, block_behind_variables}
 use Rattle.parser.proofs.Programs.{block_stands}
 use Rattle.parser.proofs.program.block.Goals as goal
@@ -10,18 +12,19 @@ returns-clause-given c =
     c.in_ok-levels.ensures.left c.in_ok-variables.ensures.given c.in_ok-statements.ensures.given
 
 pub returns-in_err-variables-clause-exact : goal.returns-in_err-variables-clause-exact
-returns-in_err-variables-clause-exact c = λ b others h _.
-    let p = block_parts c.args.levels c.args.cursor.now.rest.now others b h in
+returns-in_err-variables-clause-exact c = λ depth b others h _.
+    let p = block_parts depth c.args.cursor.now.rest.now others b h in
     let m : c.in_err-variables.field-0.0 ≡ Memory = c.in_err-variables.ensures.exact p.groups p.middle p.declared p.begins in
     search rules
 
 pub returns-in_err-statements-clause-exact : goal.returns-in_err-statements-clause-exact
-returns-in_err-statements-clause-exact c = λ b others h _.
-    let p = block_behind_variables c.args.levels c.args.cursor.now c.variables.new.cursor others c.in_ok-variables.variables c.in_ok-variables.ensures.exact (block_parts c.args.levels c.args.cursor.now.rest.now others b h) in
-    let m : c.in_err-statements.field-0.0 ≡ Memory = c.in_err-statements.ensures.exact (p.statements, p.end) others (p.begun c.in_ok-levels.levels c.in_ok-levels.ensures.left) tt in
+returns-in_err-statements-clause-exact c = λ depth b others h _.
+    let p = block_behind_variables depth c.args.cursor.now c.variables.new.cursor others c.in_ok-variables.variables c.in_ok-variables.ensures.exact (block_parts depth c.args.cursor.now.rest.now others b h) in
+    let m : Stops c.args.levels depth c.in_err-statements.field-0.0 = stops_above c.args.levels c.in_ok-levels.levels depth p.below c.in_err-statements.field-0.0
+    c.in_ok-levels.ensures.left p.less (c.in_err-statements.ensures.exact p.below (p.statements, p.end) others p.begun tt) in
     search rules
 
 pub returns-clause-exact : goal.returns-clause-exact
-returns-clause-exact c = λ b others h _.
-    let p = block_behind_variables c.args.levels c.args.cursor.now c.variables.new.cursor others c.in_ok-variables.variables c.in_ok-variables.ensures.exact (block_parts c.args.levels c.args.cursor.now.rest.now others b h) in
-    c.in_ok-statements.ensures.exact (p.statements, p.end) others (p.begun c.in_ok-levels.levels c.in_ok-levels.ensures.left) tt
+returns-clause-exact c = λ depth b others h _.
+    let p = block_behind_variables depth c.args.cursor.now c.variables.new.cursor others c.in_ok-variables.variables c.in_ok-variables.ensures.exact (block_parts depth c.args.cursor.now.rest.now others b h) in
+    c.in_ok-statements.ensures.exact p.below (p.statements, p.end) others p.begun tt

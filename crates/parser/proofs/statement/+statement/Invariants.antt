@@ -16,7 +16,7 @@ decreases-statement l = 3 * l.levels
 abbrev pub invariant-statements-loop-alloc : goal.invariant-statements-loop-alloc
 invariant-statements-loop-alloc l =
     (left l.cursor ≤ left l.fn.cursor) × Read (BeginsStatements l.levels) l.fn.cursor l.cursor l.statements.items
-    × StatementsLeft l.levels l.fn.cursor.rest.now l.cursor.rest.now
+    × StatementsLeft l.fn.cursor.rest.now l.cursor.rest.now
 
 abbrev pub decreases-statements-loop-alloc : goal.decreases-statements-loop-alloc
 decreases-statements-loop-alloc l = left l.cursor
