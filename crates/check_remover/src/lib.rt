@@ -4,5 +4,3 @@
 mod places;
 pub mod remove;
 mod sites;
-#[cfg(test)]
-mod tests;

@@ -12,6 +12,9 @@ use std::collections::HashSet;
 
 /// The code without its checks at sites whose id isn't among the open ones. A jump goes to the first
 /// remaining instruction at or after its old target, or just past the last. The tables stay.
+///
+/// # Errors
+/// Want of memory.
 pub fn remove(alloc: Global, code: &Code, open_sites: &[Site]) -> Result<Code, AllocError>
     ensures instructions { IfOk result
         (λ stripped. stripped.instructions.items ≡ strip open_sites.now code.now.instructions.items) }

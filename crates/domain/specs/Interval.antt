@@ -161,7 +161,7 @@ IsEnd z = (neg_ℤ limit ≤ℤ z) × (z ≤ℤ limit)
 abbrev pub nearest_end : ℤ → ℤ
 nearest_end z = int_max (int_min z limit) (neg_ℤ limit)
 
--- the same range, as far as its ends are ends of an interval of the program
+-- the range with each end beyond the greatest or the least held there
 abbrev pub held : Interval → Interval
 held a = record { first = nearest_end a.first; last = nearest_end a.last }
 

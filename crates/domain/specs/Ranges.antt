@@ -1,4 +1,4 @@
-use Rattle.std.proofs.Common.{◌≡◌, ◌↔◌, ◌⊎◌, inl, inr, ⊎_elim, ℤ, pos, ◌+ℤ◌, ◌-ℤ◌, ◌*ℤ◌, neg_ℤ, ◌≤ℤ◌, ◌<ℤ◌, int_le, int_lt, int_div, Bool, true, false, cond, not, ◌||◌, ◌&&◌, arith, refl, ap, sym, ◌∙◌}
+use Rattle.std.proofs.Common.{◌≡◌, ◌⊎◌, inl, inr, ⊎_elim, ℤ, pos, ◌+ℤ◌, ◌-ℤ◌, ◌*ℤ◌, neg_ℤ, ◌≤ℤ◌, ◌<ℤ◌, int_le, int_lt, int_div, Bool, true, false, cond, not, ◌||◌, ◌&&◌, arith, refl, ap, sym, ◌∙◌}
 use Rattle.std.proofs.lemmas.Int.{ints, clamps, by_lt_z}
 use Rattle.std.proofs.lemmas.Bool.{cond_both, false_from_ne_true, false≢true, not-true, not_from_false, and_parts, and_from, and_left, and_right, or_parts, or_from, or_left, or_right, or_cases}
 use Rattle.std.specs.Int.{int_min, int_max, int_rem_euclid}
@@ -90,10 +90,6 @@ difference-present a b r left right first last =
     ∙ ap held (neither (is_vacant a) (is_vacant b) vacant (record { first = a.first -ℤ b.last; last = a.last -ℤ b.first }) left right)
 
 -- ---- what the operators make of numbers that lie in ranges
-
--- the test tells whether a number lies in the range
-pub has_number-iff : (a : Interval) (z : ℤ) → (has_number a z ≡ true) ↔ HasMember a z
-has_number-iff a z = (λ passes. (grind (arith, ints), grind (arith, ints)), λ has. grind (arith, ints))
 
 pub sum-has : (a b : Interval) (x y : ℤ) → HasMember a x → HasMember b y → HasMember (sum a b) (x +ℤ y)
 sum-has a b x y left right = (grind (arith, ints), grind (arith, ints))

@@ -8,7 +8,7 @@ use std::marker::Model;
 mod operators;
 mod truth_values;
 
-/// The greatest end of a range: sums of two ends fit 64 bits.
+/// The greatest end of a range, and its negative the least: sums of two ends fit 64 bits.
 const LIMIT: i64 = 4611686018427387903;
 
 /// A range of whole numbers between -4611686018427387903 and 4611686018427387903. It is empty where its first number
@@ -84,7 +84,7 @@ impl Interval {
         self.first() <= number && number <= self.last()
     }
 
-    /// The sums of a number of each range. An end that no interval has becomes the nearest that one has.
+    /// The sums of a number of each range. An end beyond the greatest or the least is held there.
     pub fn add(&self, other: &Interval) -> Interval
         ensures ends { result ≡ held (sum self.now other.now) }
         ensures members { (x y : ℤ) → HasMember self.now x → HasMember other.now y
@@ -96,7 +96,7 @@ impl Interval {
         Interval::held(self.first() + other.first(), self.last() + other.last())
     }
 
-    /// The differences of a number of each range. An end that no interval has becomes the nearest that one has.
+    /// The differences of a number of each range. An end beyond the greatest or the least is held there.
     pub fn subtract(&self, other: &Interval) -> Interval
         ensures ends { result ≡ held (difference self.now other.now) }
         ensures members { (x y : ℤ) → HasMember self.now x → HasMember other.now y
@@ -122,7 +122,7 @@ impl Interval {
         }
     }
 
-    /// The range whose ends are nearest to these.
+    /// The range from a first to a last number, an end beyond the greatest or the least held there.
     fn held(first: i64, last: i64) -> Interval
         ensures { result ≡ held (record { first = first; last = last }) }
     {

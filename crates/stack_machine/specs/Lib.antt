@@ -4,7 +4,6 @@ pub mod Failures
 pub mod Frames
 pub mod Laws
 pub mod Machine
-pub mod Operators
 pub mod Output
 pub mod Run
 pub mod Told

@@ -1,7 +1,6 @@
 ghost use Rattle.std.specs.Prelude.{◌≡◌, pos, ◌*ℤ◌, int_le, if◌then◌else◌};
 ghost use Rattle.std.specs.Int.{w32, int_wrapping_div, int_rem_euclid};
 ghost use Rattle.stack_machine.specs.Frames as frames;
-ghost use Rattle.stack_machine.specs.Operators as operators;
 ghost use Rattle.stack_machine.specs.declared.stop.MachineFault.TheVariants.{WrongDivisor};
 
 use crate::stop::MachineFault;
@@ -35,7 +34,7 @@ pub enum Dyadic {
 impl Monadic {
     /// What the operator gives of a number: arithmetic wraps at 32 bits, and a truth is 0 or 1.
     pub fn of(self, value: i32) -> i32
-        ensures { result ≡ operators.of_one self value }
+        ensures { result ≡ frames.of_one self value }
     {
         match self {
             Monadic::Negate => value.wrapping_neg(),
@@ -50,7 +49,7 @@ impl Monadic {
 impl Dyadic {
     /// What the operator gives of two numbers: arithmetic wraps at 32 bits, and a truth is 0 or 1.
     pub fn of(self, left: i32, right: i32) -> i32
-        ensures { result ≡ operators.of_two self left right }
+        ensures { result ≡ frames.of_two self left right }
     {
         match self {
             Dyadic::Add => left.wrapping_add(right),
@@ -79,8 +78,8 @@ pub fn quotient(left: i32, right: i32) -> Result<i32, MachineFault>
     Ok(left.wrapping_div(right))
 }
 
-/// The number from 0 to below the divisor that differs from the left one by a multiple of it. A divisor of 0 or less is a `WrongDivisor`
-/// (ISO 7185:1990, 6.7.2.2).
+/// The number from 0 to below the divisor that differs from the left one by a multiple of it. A divisor of 0 or
+/// less is a `WrongDivisor` (ISO 7185:1990, 6.7.2.2).
 pub fn modulo(left: i32, right: i32) -> Result<i32, MachineFault>
     ensures { result ≡ (if int_le (pos 1) right then Ok (int_rem_euclid left right) else Err WrongDivisor) }
 {

@@ -10,5 +10,3 @@ pub mod machine;
 mod output;
 pub mod stop;
 mod store;
-#[cfg(test)]
-mod tests;

@@ -105,7 +105,7 @@ impl Output {
         self.put_all(text, writer)
     }
 
-    /// Takes a number to the right of as many places as the width says, and never cut.
+    /// Takes a number, set right in as many places as the width says, and never cut (ISO 7185:1990, 6.9.3.3).
     pub fn put_integer<W: Sink>(
         &mut self,
         value: i32,
@@ -140,7 +140,7 @@ impl Output {
         self.put_string(text.as_bytes(), width, writer)
     }
 
-    /// Takes a string to the right of as many places as the width says, or its first characters where it is
+    /// Takes a string, set right in as many places as the width says, or its first characters where it is
     /// longer (ISO 7185:1990, 6.9.3.6).
     fn put_string<W: Sink>(&mut self, text: &[u8], width: i32, writer: &mut W) -> Result<(), Stop>
         requires { W.failures writer.old < 2 ^ 64 - 1 }

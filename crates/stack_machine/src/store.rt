@@ -2,7 +2,6 @@ ghost use Rattle.std.specs.Prelude.{◌≡◌, ◌+◌, ◌-◌, ◌<◌, ◌≤
 ghost use Rattle.stack_machine.specs.declared.cell.Cell.TheVariants.{Undefined};
 ghost use Rattle.std.specs.List.{list_all};
 ghost use Rattle.stack_machine.specs.Frames as frames;
-ghost use Rattle.stack_machine.specs.Operators.{of_one, of_two};
 
 use crate::arithmetic::{Dyadic, Monadic, is_true, modulo, product, quotient};
 use crate::cell::Cell;
@@ -158,7 +157,7 @@ impl Store {
 
     /// A number gives way to what the operator gives of it.
     fn on_one(&mut self, operator: Monadic) -> Result<(), MachineFault>
-        ensures value { Acts result (view self.new) (frames.on_one (of_one operator) (view self.old)) }
+        ensures value { Acts result (view self.new) (frames.on_one (frames.of_one operator) (view self.old)) }
         ensures size { self.new.size ≡ self.old.size }
     {
         self.has(1)?;
@@ -170,7 +169,7 @@ impl Store {
 
     /// Two numbers give way to what the operator gives of them.
     fn on_two(&mut self, operator: Dyadic) -> Result<(), MachineFault>
-        ensures value { Acts result (view self.new) (frames.on_two (of_two operator) (view self.old)) }
+        ensures value { Acts result (view self.new) (frames.on_two (frames.of_two operator) (view self.old)) }
         ensures size { self.new.size ≡ self.old.size }
     {
         self.has(2)?;

@@ -8,7 +8,7 @@ use crate::Domain;
 use crate::interval::{Interval, LIMIT};
 
 impl Interval {
-    /// The products of a number of each range. An end that no interval has becomes the nearest that one has.
+    /// The products of a number of each range. An end beyond the greatest or the least is held there.
     pub fn multiply(&self, other: &Interval) -> Interval
         ensures ends { result ≡ held (product self.now other.now) }
         ensures members { (x y : ℤ) → HasMember self.now x → HasMember other.now y
@@ -25,8 +25,8 @@ impl Interval {
         )
     }
 
-    /// The squares of the range's numbers, as by the required function sqr (ISO 7185:1990, 6.6.6.2). An end that no
-    /// interval has becomes the nearest that one has.
+    /// The squares of the range's numbers, as by the required function sqr (ISO 7185:1990, 6.6.6.2). An end
+    /// beyond the greatest is held there.
     pub fn square(&self) -> Interval
         ensures ends { result ≡ held (squared self.now) }
         ensures members { (x : ℤ) → HasMember self.now x → IsEnd (x *ℤ x) → HasMember result (x *ℤ x) }
@@ -112,15 +112,9 @@ impl Interval {
         }
         let greatest = divisor.last() - 1;
         if self.first() < 0 {
-            return Interval {
-                first: 0,
-                last: greatest,
-            };
+            return Interval::between_ends(0, greatest);
         }
-        Interval {
-            first: 0,
-            last: greatest.min(self.last()),
-        }
+        Interval::between_ends(0, greatest.min(self.last()))
     }
 
     /// The least range that has four numbers.
