@@ -4,7 +4,7 @@ ghost use Rattle.cert_checker.specs.Entries.{entries};
 ghost use Rattle.cert_checker.specs.Promise.{Valid, StatesHold};
 ghost use Rattle.code_generator.specs.Code.{program_code};
 ghost use Rattle.code_generator.specs.Follows.{Follows};
-ghost use Rattle.code_generator.specs.Tables.{site_table};
+ghost use Rattle.code_generator.specs.Tables.{site_table, point_table};
 ghost use Rattle.typed_tree.specs.WellFormed.{IsWellFormed};
 ghost use Rattle.typed_tree.specs.Ids.{AreInOrder};
 ghost use Rattle.report.specs.Headline.{Headline, IsTypedTreeOf};
@@ -70,6 +70,7 @@ pub fn compile(alloc: Global, source: &[u8], certificate: Option<&[u8]>) -> Resu
     // The code is that of the tree, and the stripped code is without the checks of the sites that aren't open.
     ensures full { IfOk result (λ c. c.full.instructions.items ≡ program_code c.tree) }
     ensures sites { IfOk result (λ c. c.full.sites.items ≡ site_table c.tree.sites.items) }
+    ensures points { IfOk result (λ c. c.full.points.items ≡ point_table c.tree.points.items) }
     ensures stripped { IfOk result (λ c. IsStripped c.tree c.verdict.open_sites.items c.stripped) }
 {
     let tree = typed(alloc, source)?;
@@ -106,8 +107,9 @@ pub fn go<R: Feed, W: Sink>(
     requires reader_counts { R.failures reader.old < 2 ^ 64 - 1 }
     requires writer_counts { W.failures writer.old < 2 ^ 64 - 1 }
     ensures ran { IfOk result (λ r. RunsStripped source.now (text_of certificate.entry)
-        r.0.open_sites.items r.1 cells budget (W.contents writer.old) (W.contents writer.new)) }
+        r.0 r.1 cells budget (W.contents writer.old) (W.contents writer.new)) }
     ensures write_failed { IfOk result (λ r. W.failures writer.new ≡ W.failures writer.old + write_failures_of r.1) }
+    ensures input_left { reader.new ≡ reader.old }
     ensures refused { IfErr result (IsRefusal source.now (text_of certificate.entry)) }
 {
     let compiled = compile(alloc, source, certificate)?;

@@ -14,6 +14,7 @@ use std::test::Fail;
 
 mod hostile;
 mod large;
+mod memory;
 mod rows;
 
 const CELLS: u32 = 1_000_000;

@@ -20,6 +20,7 @@ returns-clause-headline c =
           (record {
             instructions = c.in_ok-stripped.ensures.instructions ∙ ap (λ sites. strip sites full.instructions.items) open_sites ∙ ap (strip _) c.in_ok-full.ensures.instructions;
             sites = c.in_ok-stripped.ensures.sites ∙ c.in_ok-full.ensures.sites;
+            points = c.in_ok-stripped.ensures.points ∙ c.in_ok-full.ensures.points;
           })
           (c.in_ok-full.ensures.follows c.in_ok-tree.ensures.well_formed);
     }
@@ -43,4 +44,5 @@ pub returns-clause-stripped : goal.returns-clause-stripped
 returns-clause-stripped c = record {
   instructions = c.in_ok-stripped.ensures.instructions ∙ ap (λ sites. strip sites c.in_ok-full.full.instructions.items) (c.deref.ensures.value ∙ c.in_ok-open_sites.ensures) ∙ ap (strip _) c.in_ok-full.ensures.instructions;
   sites = c.in_ok-stripped.ensures.sites ∙ c.in_ok-full.ensures.sites;
+  points = c.in_ok-stripped.ensures.points ∙ c.in_ok-full.ensures.points;
 }

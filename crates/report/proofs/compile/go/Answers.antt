@@ -17,6 +17,7 @@ returns-clause-ran g c =
       code = compiled.stripped;
       spelled = c.in_ok-compiled.ensures.certificate;
       valid = c.in_ok-compiled.ensures.checked;
+      entered = c.in_ok-compiled.ensures.visits;
       stripped = c.in_ok-compiled.ensures.stripped;
       headline = c.in_ok-compiled.ensures.headline;
       ran = λ input. subst
