@@ -2,7 +2,7 @@
 use Rattle.std.proofs.Common.{arith, ◌≡◌, ℤ, pos, ◌≤ℤ◌, int_le, Bool, true, false, not, refl, subst}
 use Rattle.std.proofs.lemmas.Int.{ints}
 use Rattle.std.proofs.lemmas.Bool.{and_parts, and_from}
-use Rattle.typed_tree.specs.declared.types.OrdinalRange.{OrdinalRange}
+use Rattle.types.specs.declared.form.OrdinalRange.{OrdinalRange}
 use Rattle.domain.specs.Interval as domain
 use Rattle.domain.specs.Interval.{Interval, HasMember, has_number, is_vacant, common, truth_values}
 use Rattle.domain.specs.Ranges.{included-has, common-has, common-has_left, common-has_right, has-present}

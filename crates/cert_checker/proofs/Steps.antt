@@ -171,13 +171,6 @@ assignment-done target fits value limits range fitting old entered valued tested
     (walks-then (test range) (λ f. assign target.root f) valued tested new fitting tt
     (subst (λ l. Walks (within l fits.site range) valued tested fitting) is three) four))
 
-pub block-done : (variables : ℕ) (block : Block) (old new : Walk) (first : Kept) → viewed first ≡ start variables → Walks (statement_walk block.body) (record { state = first; open_ids = old.open_ids; visits = old.visits }) new tt → Walks (block_walk variables block) old new tt
-block-done variables block old new first first_is walked =
-    let begun : Walk = record { state = first; open_ids = old.open_ids; visits = old.visits } in
-    walks-then (begin variables) (λ _. statement_walk block.body) old begun new tt tt
-    (record { value_is = refl; state_is = first_is; open_is = sym (append-nil old.open_ids.items); visits_are = omega arith; unbroken = refl })
-    walked
-
 -- a width that is there
 pub width-done : (width : Width) (range passed : Interval) (old mid new : Walk) → Walks (value_walk width.value) old mid range → Walks (positive width.site range) mid new passed → Walks (width_walk (Some width)) old new tt
 width-done width range passed old mid new one two =

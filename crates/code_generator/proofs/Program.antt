@@ -26,7 +26,8 @@ use Rattle.code_generator.specs.Follows.{BeginsWith, StopsAs, DoesAll, DoesAsMuc
 use Rattle.code_generator.specs.Need.{body_need, program_need}
 use Rattle.code_generator.specs.Tables.{site_table}
 use Rattle.typed_tree.specs.WellFormed.{is_well_formed_body, IsWellFormed}
-use Rattle.code_generator.proofs.Reach.{HasAt, has_front, has_back, has_all, Comes, IsOver, comes_by, comes_nowhere, stops_on, stops_by, longer, one_end, grows, begins_itself}
+use Rattle.code_generator.proofs.Reach.{HasAt, has_front, has_back, has_all, Comes, IsOver, comes_by, comes_nowhere, stops_on, stops_by, longer, one_end, grows_to}
+use Rattle.stack_machine.proofs.Growing.{begins_itself}
 use Rattle.code_generator.proofs.Depths.{Within, stmt_within}
 use Rattle.code_generator.proofs.Alike.{Alike}
 use Rattle.code_generator.proofs.ProgramWorld.{program_world, entered_cells, length_entered, program_begins, ShowsProgram, shows_program}
@@ -141,7 +142,7 @@ leads_to : (sites : List Plain) (code : List Instr) (b j : ℕ) (m : State) → 
 leads_to sites code b j m over = record {
   over = λ over'. one_end sites code b j m over' over;
   begins = ⊎_elim
-      (λ lt. grows sites code b j (omega arith) m)
+      (λ lt. grows_to sites code b j (omega arith) m)
       (λ le. subst (λ r. BeginsWith (steps sites code j m).output r.output) (longer sites code j b le m over) (begins_itself (steps sites code j m).output))
       (cases_lt b j);
 }
