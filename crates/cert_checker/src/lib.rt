@@ -49,6 +49,3 @@ pub fn check(alloc: Global, tree: &Tree, certificate: &Certificate) -> Result<Ve
         visits,
     })
 }
-
-#[cfg(test)]
-mod tests;

@@ -12,7 +12,7 @@ use std::alloc::Global;
 use typed_tree::tree::{
     Access, Block, Dyadic, Expr, Monadic, RangeTest, Stmt, Tree, Width, WriteParameter,
 };
-use typed_tree::types::OrdinalRange;
+use types::OrdinalRange;
 
 /// A walk over the statements of a program, in the order in which they are run.
 #[derive(Debug, Drop)]

@@ -7,5 +7,3 @@ pub mod fault;
 pub mod generate;
 mod size;
 mod tables;
-#[cfg(test)]
-mod tests;

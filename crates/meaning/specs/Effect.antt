@@ -2,7 +2,7 @@
 -- It says nothing of how long that takes.
 use Rattle.std.specs.Prelude.{ℕ, ℤ, pos, negsuc, ◌-◌, ◌++◌, ◌&&◌, Bool, List, [], ◌∷◌, Option, Some, None, if◌then◌else◌, int_le, length, replicate, take, unwrap_or, codes}
 use Rattle.std.specs.Fmt.{signed_decimal}
-use Rattle.typed_tree.specs.declared.types.OrdinalRange.{OrdinalRange}
+use Rattle.types.specs.declared.form.OrdinalRange.{OrdinalRange}
 use Rattle.typed_tree.specs.declared.tree.Representation.{Representation}
 use Rattle.typed_tree.specs.declared.tree.Representation.TheVariants as representation
 use Rattle.meaning.specs.declared.outcome.Ending.{Ending}

@@ -11,6 +11,3 @@ mod text;
 mod work;
 
 pub use interpreter::interpret;
-
-#[cfg(test)]
-mod tests;

@@ -5,7 +5,7 @@ ghost use Rattle.meaning.specs.Pending.{Answers, checked, positive};
 
 use crate::store::{Ordinal, Value};
 use typed_tree::tree::{Dyadic, Monadic, Relation, Representation};
-use typed_tree::types::OrdinalRange;
+use types::OrdinalRange;
 
 // The default total widths (ISO 7185:1990, 6.9.3.1).
 const INTEGER_WIDTH: i32 = 10;

@@ -1,14 +1,15 @@
-use super::*;
-use certificate::Version;
+use cert_checker::check;
+use cert_checker::fault::CheckFault;
+use certificate::{Certificate, Version};
 use lexer::place::Place;
-use std::alloc::AllocError;
+use std::alloc::{AllocError, Global};
 use std::test::Fail;
-use typed_tree::site::SiteKind;
+use typed_tree::site::{Site, SiteKind};
 use typed_tree::tree::{
-    Access, Block, Dyadic, Expr, Link, Monadic, RangeTest, Relation, Representation, Stmt,
+    Access, Block, Dyadic, Expr, Link, Monadic, RangeTest, Relation, Representation, Stmt, Tree,
     Variable, Width, WriteParameter,
 };
-use typed_tree::types::{MAXINT, OrdinalRange, TypeForm, TypeId, TypeTable};
+use types::{MAXINT, OrdinalRange, TypeForm, TypeId, TypeTable};
 
 const HERE: Place = Place { line: 1, column: 1 };
 

@@ -1,8 +1,6 @@
-use crate::interpret;
-use crate::operations::{combined_value, operated_value};
-use crate::outcome::{Ending, Outcome};
-use crate::store::{Ordinal, Value};
 use lexer::place::Place;
+use meaning::interpret;
+use meaning::outcome::{Ending, Outcome};
 use std::alloc::Global;
 use std::process::Abort;
 use std::test::Fail;
@@ -10,7 +8,7 @@ use typed_tree::tree::{
     Access, Block, Dyadic, Expr, Link, Monadic, RangeTest, Relation, Representation, Stmt, Tree,
     Variable, Width, WriteParameter,
 };
-use typed_tree::types::{MAXINT, OrdinalRange, TypeTable};
+use types::{MAXINT, OrdinalRange, TypeTable};
 
 // A program of one variable with these statements.
 fn program(alloc: Global, statements: Vec<Stmt>) -> Result<Tree, Fail> {
@@ -229,19 +227,6 @@ fn a_sign_covers_the_whole_first_term(rt: HostRuntime) -> Result<(), Fail> {
     Ok(())
 }
 
-#[test]
-fn ordinals_calculate_within_integer(rt: HostRuntime) -> Result<(), Fail> {
-    let maxint = Ordinal::new(2147483647);
-    let one = Ordinal::new(1);
-    assert_eq!(rt; maxint.plus(one), None);
-    assert_eq!(rt; maxint.minus(one), Some(Ordinal::new(2147483646)));
-    assert_eq!(rt; one.negated().number(), -1);
-    assert!(rt; maxint.negated().is_integer());
-    assert!(rt; !Ordinal::new(-2147483648).is_integer());
-    assert_eq!(rt; Ordinal::new(-2147483648).magnitude().number(), 2147483648);
-    Ok(())
-}
-
 // The operands of the tables, in order: -maxint, maxint, and the numbers about 0 and the root of maxint.
 const OPERANDS: [i32; 7] = [-2147483647, -1, 0, 1, 46340, 46341, 2147483647];
 
@@ -374,67 +359,118 @@ const MODULI: [[Option<i32>; 7]; 7] = [
     [None, None, None, Some(0), Some(41707), Some(41707), Some(0)],
 ];
 
-fn number(value: i32) -> Value {
-    Value::Number(Ordinal::new(value))
+// An expression has the value, or errs at the site 9 where there is none.
+fn gives(rt: &impl Abort, alloc: Global, expression: Expr, value: Option<i32>) -> Result<(), Fail> {
+    let mut parameter = integer(expression);
+    parameter.width = Some(Width {
+        value: constant(1),
+        site: 20,
+    });
+    let outcome = run_of_write(alloc, vec![in alloc; parameter]?, false)?;
+    match value {
+        Some(value) => {
+            let text = format!(in alloc; "{value}")?;
+            assert_eq!(rt; outcome.ending, Ending::Finished);
+            assert_eq!(rt; outcome.output.as_slice(), text.as_bytes());
+        }
+        None => assert_eq!(rt; outcome.ending, Ending::Error(9)),
+    }
+    Ok(())
 }
 
-fn truth(holds: bool) -> Value {
-    number(if holds { 1 } else { 0 })
+fn gives_of_two(
+    rt: &impl Abort,
+    alloc: Global,
+    operation: Dyadic,
+    left: i32,
+    right: i32,
+    value: Option<i32>,
+) -> Result<(), Fail> {
+    let expression = chain(alloc, constant(left), operation, constant(right))?;
+    gives(rt, alloc, expression, value)
 }
 
-// A value, or the error at the site 9 where there is none.
-fn expected(value: Option<i32>) -> Result<Value, u32> {
-    value.map(number).ok_or(9)
+fn gives_of_one(
+    rt: &impl Abort,
+    alloc: Global,
+    operation: Monadic,
+    operand: i32,
+    value: Option<i32>,
+) -> Result<(), Fail> {
+    let expression = Expr::Monadic {
+        number: 4,
+        operation,
+        operand: Box::new(alloc, constant(operand))?,
+    };
+    gives(rt, alloc, expression, value)
+}
+
+#[test]
+fn sums_and_differences_stay_within_integer(rt: HostRuntime) -> Result<(), Fail> {
+    let alloc = rt.alloc();
+    let plus = Dyadic::Plus { overflow: 9 };
+    let minus = Dyadic::Minus { overflow: 9 };
+    gives_of_two(&rt, alloc, plus, 2147483647, 1, None)?;
+    gives_of_two(&rt, alloc, plus, 2147483646, 1, Some(2147483647))?;
+    gives_of_two(&rt, alloc, minus, -2147483647, 1, None)?;
+    gives_of_two(&rt, alloc, minus, 2147483647, 1, Some(2147483646))?;
+    gives_of_one(&rt, alloc, Monadic::Minus, 2147483647, Some(-2147483647))
 }
 
 // Each pair of operands has the value of the table.
-fn agrees(rt: &impl Abort, operation: Dyadic, table: &[[Option<i32>; 7]; 7]) {
+fn agrees(
+    rt: &impl Abort,
+    alloc: Global,
+    operation: Dyadic,
+    table: &[[Option<i32>; 7]; 7],
+) -> Result<(), Fail> {
     for i in 0..7 {
         for j in 0..7 {
-            let value = combined_value(operation, number(OPERANDS[i]), number(OPERANDS[j]));
-            assert_eq!(rt; value, expected(table[i][j]));
+            gives_of_two(rt, alloc, operation, OPERANDS[i], OPERANDS[j], table[i][j])?;
         }
     }
+    Ok(())
 }
 
 #[test]
 fn products_quotients_and_moduli_are_those_of_the_tables(rt: HostRuntime) -> Result<(), Fail> {
-    agrees(&rt, Dyadic::Times { overflow: 9 }, &PRODUCTS);
-    agrees(&rt, Dyadic::Div { by_zero: 9 }, &QUOTIENTS);
-    agrees(&rt, Dyadic::Mod { by_zero_or_less: 9 }, &MODULI);
-    Ok(())
+    let alloc = rt.alloc();
+    agrees(&rt, alloc, Dyadic::Times { overflow: 9 }, &PRODUCTS)?;
+    agrees(&rt, alloc, Dyadic::Div { by_zero: 9 }, &QUOTIENTS)?;
+    agrees(&rt, alloc, Dyadic::Mod { by_zero_or_less: 9 }, &MODULI)
+}
+
+fn truth(holds: bool) -> Option<i32> {
+    Some(if holds { 1 } else { 0 })
 }
 
 // By hand: the operands stand in order, so they are related as their positions are.
 #[test]
 fn operands_are_related_as_their_positions(rt: HostRuntime) -> Result<(), Fail> {
+    let alloc = rt.alloc();
     for i in 0..7 {
         for j in 0..7 {
-            let related = |relation| combined_value(
-                Dyadic::Relation(relation),
-                number(OPERANDS[i]),
-                number(OPERANDS[j]),
-            );
-            assert_eq!(rt; related(Relation::Equal), Ok(truth(i == j)));
-            assert_eq!(rt; related(Relation::NotEqual), Ok(truth(i != j)));
-            assert_eq!(rt; related(Relation::Less), Ok(truth(i < j)));
-            assert_eq!(rt; related(Relation::Greater), Ok(truth(i > j)));
-            assert_eq!(rt; related(Relation::LessOrEqual), Ok(truth(i <= j)));
-            assert_eq!(rt; related(Relation::GreaterOrEqual), Ok(truth(i >= j)));
+            for (relation, holds) in [
+                (Relation::Equal, i == j),
+                (Relation::NotEqual, i != j),
+                (Relation::Less, i < j),
+                (Relation::Greater, i > j),
+                (Relation::LessOrEqual, i <= j),
+                (Relation::GreaterOrEqual, i >= j),
+            ] {
+                let operation = Dyadic::Relation(relation);
+                let (left, right) = (OPERANDS[i], OPERANDS[j]);
+                gives_of_two(&rt, alloc, operation, left, right, truth(holds))?;
+            }
         }
     }
     Ok(())
 }
 
-// The operation has the value, or the error at the site 9 where there is none.
-fn gives(rt: &impl Abort, operation: Monadic, operand: i32, value: Option<i32>) {
-    let answer = operated_value(operation, number(operand));
-    assert_eq!(rt; answer, expected(value));
-}
-
 // By hand: the operand, its magnitude, its square where it is of type integer, and whether it is odd.
 #[test]
 fn magnitudes_squares_and_odd_numbers(rt: HostRuntime) -> Result<(), Fail> {
+    let alloc = rt.alloc();
     for (operand, magnitude, square, odd) in [
         (-2147483647, 2147483647, None, 1),
         (-46341, 46341, None, 1),
@@ -447,9 +483,9 @@ fn magnitudes_squares_and_odd_numbers(rt: HostRuntime) -> Result<(), Fail> {
         (46341, 46341, None, 1),
         (2147483647, 2147483647, None, 1),
     ] {
-        gives(&rt, Monadic::Abs, operand, Some(magnitude));
-        gives(&rt, Monadic::Sqr { overflow: 9 }, operand, square);
-        gives(&rt, Monadic::Odd, operand, Some(odd));
+        gives_of_one(&rt, alloc, Monadic::Abs, operand, Some(magnitude))?;
+        gives_of_one(&rt, alloc, Monadic::Sqr { overflow: 9 }, operand, square)?;
+        gives_of_one(&rt, alloc, Monadic::Odd, operand, Some(odd))?;
     }
     Ok(())
 }
@@ -457,18 +493,12 @@ fn magnitudes_squares_and_odd_numbers(rt: HostRuntime) -> Result<(), Fail> {
 // By hand: the truth tables.
 #[test]
 fn truth_values(rt: HostRuntime) -> Result<(), Fail> {
+    let alloc = rt.alloc();
     for (left, right, both, either) in [(0, 0, 0, 0), (0, 1, 0, 1), (1, 0, 0, 1), (1, 1, 1, 1)] {
-        assert_eq!(rt;
-            combined_value(Dyadic::And, number(left), number(right)),
-            Ok(number(both))
-        );
-        assert_eq!(rt;
-            combined_value(Dyadic::Or, number(left), number(right)),
-            Ok(number(either))
-        );
+        gives_of_two(&rt, alloc, Dyadic::And, left, right, Some(both))?;
+        gives_of_two(&rt, alloc, Dyadic::Or, left, right, Some(either))?;
     }
-    assert_eq!(rt; operated_value(Monadic::Not, number(0)), Ok(number(1)));
-    assert_eq!(rt; operated_value(Monadic::Not, number(1)), Ok(number(0)));
-    assert_eq!(rt; operated_value(Monadic::Plus, number(-7)), Ok(number(-7)));
-    Ok(())
+    gives_of_one(&rt, alloc, Monadic::Not, 0, Some(1))?;
+    gives_of_one(&rt, alloc, Monadic::Not, 1, Some(0))?;
+    gives_of_one(&rt, alloc, Monadic::Plus, -7, Some(-7))
 }

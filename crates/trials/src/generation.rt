@@ -1,7 +1,7 @@
 ghost use Rattle.std.specs.Prelude.{◌≤◌};
 
-use crate::fault::GenFault;
-use crate::generate::generate;
+use code_generator::fault::GenFault;
+use code_generator::generate::generate;
 use lexer::place::Place;
 use pcode_assembler::code::Code;
 use pcode_assembler::instr::Instr;
@@ -16,7 +16,7 @@ use typed_tree::tree::{
     Access, Block, Dyadic, Expr, Link, Monadic, RangeTest, Representation, Stmt, Tree, Variable,
     Width, WriteParameter,
 };
-use typed_tree::types::{OrdinalRange, TypeTable};
+use types::{OrdinalRange, TypeTable};
 
 /// The greatest number of type integer.
 const MAXINT: i32 = 2147483647;

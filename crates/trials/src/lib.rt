@@ -1,0 +1,19 @@
+//! Tests of the layers' public calls, in a crate of their own: a crate with tests is proved once more with them.
+#![tactic(auto)]
+
+#[cfg(test)]
+mod checking;
+#[cfg(test)]
+mod generation;
+#[cfg(test)]
+mod lexemes;
+#[cfg(test)]
+mod meanings;
+#[cfg(test)]
+mod removal;
+#[cfg(test)]
+mod running;
+#[cfg(test)]
+mod syntax;
+#[cfg(test)]
+mod typing;
