@@ -7,7 +7,7 @@ use report::text::{fault_text, lines, stop_text};
 use report::words::{PcomWords, WordsFault, pcom_words};
 use stack_machine::bytes::Counted;
 use stack_machine::machine::Machine;
-use std::io::Write;
+use std::io::{ErrorKind, Write};
 use std::process::ExitCode;
 use std::{env, fs};
 
@@ -50,16 +50,22 @@ fn told(rt: &HostRuntime, error: &clap::Error) -> ExitCode {
 }
 
 fn compiled(rt: &HostRuntime, words: PcomWords<'_>) -> ExitCode {
-    let Ok(source) = fs::read(rt, words.source) else {
-        eprint_all(rt, b"cannot read ");
-        eprint_all(rt, words.source.as_bytes());
-        eprint_all(rt, b"\n");
-        return ExitCode::from(TROUBLE);
+    let source = match fs::read(rt, words.source) {
+        Ok(source) => source,
+        Err(error) if error.kind() == ErrorKind::OutOfMemory => return no_memory(rt),
+        Err(_) => return unreadable(rt, words.source),
     };
     match compile(rt.alloc(), &source, None) {
         Ok(compiled) => reported(rt, &compiled, words.go),
         Err(fault) => refused(rt, &fault),
     }
+}
+
+fn unreadable(rt: &HostRuntime, path: &str) -> ExitCode {
+    eprint_all(rt, b"cannot read ");
+    eprint_all(rt, path.as_bytes());
+    eprint_all(rt, b"\n");
+    ExitCode::from(TROUBLE)
 }
 
 // The report, and then the run. What takes memory comes before the first line.
