@@ -1,7 +1,6 @@
 use Rattle.std.proofs.Common.{rules, arith, ◌≡◌, ◌≤◌, Result, Ok, Err, IfOk, Bool, Some, ℕ, ℤ, ◌+◌, List, [], ◌∷◌, ◌++◌, length, map, refl, sym, ap, ◌∙◌, subst, append_assoc, append-nil, ◌<◌, get_or, drop, drop-cons, add-one, suc, length-append}
 use Rattle.std.proofs.lemmas.List.{drop_all}
 use Rattle.typed_tree.specs.declared.tree.Access.{Access}
-use Rattle.typed_tree.specs.declared.tree.Block.{Block}
 use Rattle.typed_tree.specs.declared.tree.RangeTest.{RangeTest}
 use Rattle.typed_tree.specs.declared.tree.Width.{Width}
 use Rattle.typed_tree.specs.declared.tree.WriteParameter.{WriteParameter}
@@ -19,8 +18,8 @@ use Rattle.std.specs.declared.alloc.Global.{Global}
 use Rattle.domain.specs.Interval.{Interval}
 use Rattle.cert_checker.specs.declared.walk.Walk.{Walk}
 use Rattle.cert_checker.specs.declared.state.State.{State as Kept}
-use Rattle.cert_checker.specs.State.{start, with_value}
-use Rattle.cert_checker.specs.Walk.{Walked, Walking, ◌>>=◌, give, enter, use_of, within, positive, operated, combined, in_turn, value_walk, link_walk, width_walk, parameter_walk, statement_walk, all_of, assign, begin, limits_of, assignment, block_walk}
+use Rattle.cert_checker.specs.State.{with_value}
+use Rattle.cert_checker.specs.Walk.{Walked, Walking, ◌>>=◌, give, enter, use_of, within, positive, operated, combined, in_turn, value_walk, link_walk, width_walk, parameter_walk, statement_walk, all_of, assign, limits_of, assignment}
 use Rattle.cert_checker.specs.View.{viewed, Walks}
 
 -- ---- the walk, form by form

@@ -1,12 +1,11 @@
 //! The domains of the checker's abstract values, and the facts of its states.
 //!
 //! `Domain` has the three operations that the checker's soundness stands on, with their laws; `Interval` is a
-//! domain, with the arithmetic of ranges. `Bound` and `Fact` are what a state says of variables.
+//! domain, with the arithmetic of ranges. A `Fact` is what a state says of variables.
 #![tactic(auto)]
 
 ghost use Rattle.std.specs.Prelude.{◌≡◌, Bool, true};
 
-pub mod bound;
 pub mod fact;
 pub mod interval;
 
