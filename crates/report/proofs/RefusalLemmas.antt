@@ -1,17 +1,20 @@
 -- The fault of a layer, as the whole compiler tells it, is a refusal of the source.
-use Rattle.std.proofs.Common.{◌≡◌, ◌⊎◌, ⊎_elim, ℕ, ◌<◌, List, Result, Err, IfErr, length, refl, sym, subst}
+use Rattle.std.proofs.Common.{◌≡◌, ◌⊎◌, ⊎_elim, ℕ, ◌<◌, List, Some, Result, Err, IfErr, length, refl, sym, subst}
 use Rattle.parser.specs.declared.tree.Program.{Program}
 use Rattle.typed_tree.specs.declared.tree.Tree.{Tree}
 use Rattle.typed_tree.specs.Typing.{HasTyping}
 use Rattle.typed_tree.specs.declared.fault.TypeFault.{TypeFault}
 use Rattle.typed_tree.specs.declared.fault.TypeFault.TheVariants as typing
+use Rattle.certificate.specs.declared.fault.ReadFault.{ReadFault}
+use Rattle.certificate.specs.declared.fault.ReadFault.TheVariants as read
+use Rattle.certificate.specs.Text.{first_fault}
 use Rattle.code_generator.specs.declared.fault.GenFault.{GenFault}
 use Rattle.code_generator.specs.declared.fault.GenFault.TheVariants as generate
 use Rattle.code_generator.specs.Code.{program_code}
 use Rattle.report.specs.declared.fault.Fault.{Fault}
-use Rattle.report.specs.Faults.{typing_fault, generator_fault}
+use Rattle.report.specs.Faults.{typing_fault, certificate_fault, generator_fault}
 use Rattle.report.specs.Headline.{IsWrittenAs, IsTypedTreeOf}
-use Rattle.report.specs.Refusals.{IsRefusal}
+use Rattle.report.specs.Refusals.{IsRefusal, IsCertificate}
 
 -- an answer that is this fault
 pub refused_by : {A : Type 0} (source text : List ℕ) (answer : Result A Fault) (y fault : Fault) → answer ≡ Err y → y ≡ fault → IsRefusal source text fault → IfErr answer (IsRefusal source text)
@@ -24,6 +27,13 @@ typing-refusal source text typing.Memory program written h = tt
 typing-refusal source text fault program written h = (program, written, ⊎_elim (λ e. cc) (λ none. none) h)
 
 -- code is refused where there is too much of it
-pub generation-refusal : (source text : List ℕ) (tree : Tree) (fault : GenFault) → IsTypedTreeOf tree source → (fault ≡ generate.TooLarge → 1000000 < length (program_code tree)) → IsRefusal source text (generator_fault fault)
-generation-refusal source text tree generate.Memory typed h = tt
-generation-refusal source text tree generate.TooLarge typed h = (tree, typed, h refl)
+pub generation-refusal : (source text : List ℕ) (tree : Tree) (fault : GenFault) → IsTypedTreeOf tree source → IsCertificate text → (fault ≡ generate.TooLarge → 1000000 < length (program_code tree)) → IsRefusal source text (generator_fault fault)
+generation-refusal source text tree generate.Memory typed spelled h = tt
+generation-refusal source text tree generate.TooLarge typed spelled h = (tree, typed, spelled, h refl)
+
+-- a certificate is refused for its first faulty line
+pub certificate-refusal : (source text : List ℕ) (tree : Tree) (fault : ReadFault) → IsTypedTreeOf tree source → first_fault text ≡ Some fault → IsRefusal source text (certificate_fault fault)
+certificate-refusal source text tree read.Memory typed h = tt
+certificate-refusal source text tree (read.FirstLine line) typed h = (tree, typed, h)
+certificate-refusal source text tree (read.NotInGrammar line) typed h = (tree, typed, h)
+certificate-refusal source text tree (read.Unended line) typed h = (tree, typed, h)

@@ -8,7 +8,8 @@ use Rattle.parser.specs.declared.tree.Program.{Program}
 use Rattle.parser.specs.Syntax.{IsFaultOf}
 use Rattle.typed_tree.specs.declared.tree.Tree.{Tree}
 use Rattle.typed_tree.specs.Typing.{HasTyping}
-use Rattle.certificate.specs.Text.{first_fault}
+use Rattle.certificate.specs.declared.Certificate.{Certificate as CertificateRead}
+use Rattle.certificate.specs.Text.{spelling, first_fault}
 use Rattle.code_generator.specs.Code.{program_code}
 use Rattle.report.specs.declared.fault.Fault.{Fault}
 use Rattle.report.specs.declared.fault.Fault.TheVariants.{Memory, Lex, Parse, Typing, Certificate, Check, Generate}
@@ -19,12 +20,17 @@ abbrev pub text_of : Option (Bor (List ℕ)) → List ℕ
 text_of None = codes "pcert 1\n"
 text_of (Some text) = text.now
 
--- why a source with a certificate is refused
+-- a text is the spelling of a certificate
+abbrev pub IsCertificate : List ℕ → Type 0
+IsCertificate text = (certificate : CertificateRead) × (text ≡ spelling certificate)
+
+-- why a source with a certificate is refused: each layer is told only where those before it had no fault
 abbrev pub IsRefusal : List ℕ → List ℕ → Fault → Type 0
 IsRefusal source text Memory = Unit {0}
 IsRefusal source text (Lex fault) = IsFirstFault source fault
 IsRefusal source text (Parse fault) = (tokens : List Token) × IsTokenList source (map lexeme_of tokens) × IsFaultOf fault tokens
 IsRefusal source text (Typing fault) = (program : Program) × IsWrittenAs source program × (¬ HasTyping program)
-IsRefusal source text (Certificate fault) = first_fault text ≡ Some fault
+IsRefusal source text (Certificate fault) = (tree : Tree) × IsTypedTreeOf tree source × (first_fault text ≡ Some fault)
 IsRefusal source text (Check fault) = ⊥
-IsRefusal source text (Generate fault) = (tree : Tree) × IsTypedTreeOf tree source × (1000000 < length (program_code tree))
+IsRefusal source text (Generate fault) =
+    (tree : Tree) × IsTypedTreeOf tree source × IsCertificate text × (1000000 < length (program_code tree))

@@ -91,12 +91,14 @@ refusal_of (fault.Certificate f) = certificate_refusal f
 refusal_of (fault.Check f) = Memory
 refusal_of (fault.Generate f) = generator_refusal f
 
+-- the line of a refusal
 abbrev pub refusal_line : Refusal → List ℕ
 refusal_line Memory = codes "no memory\n"
 refusal_line (At place code) = place_text place.line place.column ++ codes ": refused " ++ code_text code ++ 10 ∷ []
 refusal_line (Certificate line code) = codes "certificate:" ++ decimal line ++ codes ": refused " ++ code_text code ++ 10 ∷ []
 refusal_line (Whole code) = codes "refused " ++ code_text code ++ 10 ∷ []
 
+-- the status of a refusal: 3 for want of memory, 2 for all else
 abbrev pub refusal_status : Refusal → ℕ
 refusal_status Memory = 3
 refusal_status (At place code) = 2
@@ -111,6 +113,7 @@ kind_name (Some kind) = name_of kind
 abbrev pub error_name : ℕ → List ℕ
 error_name kind = kind_name (kind_of kind)
 
+-- the words for a fault of the input
 abbrev pub input_name : InputFault → List ℕ
 input_name input.EndOfInput = codes "end of input"
 input_name input.NotANumber = codes "not a number"
@@ -118,6 +121,7 @@ input_name input.NumberTooLarge = codes "number too large"
 input_name input.OutsideType = codes "value outside the type"
 input_name input.NotACharacter = codes "not a character"
 
+-- the code of a machine fault
 abbrev pub machine_text : MachineFault → List ℕ
 machine_text machine.Underflow = codes "M1"
 machine_text machine.OutOfBounds = codes "M2"
@@ -135,6 +139,7 @@ stop_line (stop.Fault fault) = codes "machine fault " ++ machine_text fault ++ 1
 stop_line stop.ReadFailed = codes "read failed\n"
 stop_line stop.WriteFailed = codes "write failed\n"
 
+-- the status of a stop
 abbrev pub stop_status : Stop → ℕ
 stop_status stop.Finished = 0
 stop_status (stop.Error site) = 4

@@ -36,4 +36,5 @@ pub record RunsStripped (source text : List ℕ) (verdict : Verdict) (stop : Sto
   pub entered : verdict.visits ≡ entries tree
   pub stripped : IsStripped tree verdict.open_sites.items code
   pub headline : Headline tree verdict.open_sites.items code
+  -- for every input, since no instruction asks for any yet
   pub ran : (input : List ℕ) → Tells stop (machine code input cells budget) before after

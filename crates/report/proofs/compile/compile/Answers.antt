@@ -1,7 +1,7 @@
-use Rattle.std.proofs.Common.{◌∙◌, ap, Err}
+use Rattle.std.proofs.Common.{rules, ◌∙◌, ap, Err}
 use Rattle.std.proofs.lemmas.Result.{err_from_is_err_and}
 use Rattle.report.specs.Refusals.{text_of}
-use Rattle.report.proofs.RefusalLemmas.{refused_by, generation-refusal}
+use Rattle.report.proofs.RefusalLemmas.{refused_by, certificate-refusal, generation-refusal}
 use Rattle.check_remover.specs.Strip.{strip}
 use Rattle.report.proofs.StrippedFollows.{stripped-follows}
 use Rattle.report.proofs.compile.compile.Goals as goal
@@ -38,7 +38,7 @@ returns-in_err-full-clause-refused c =
     let text = text_of c.args.certificate in
     let told = err_from_is_err_and c.from_residual-in_err-full.result c.from_residual-in_err-full.ensures.1 in
     refused_by source text c.from_residual-in_err-full.result told.0 _ told.1 told.2
-    (generation-refusal source text c.in_ok-tree.tree c.in_err-full.field-0.0 c.in_ok-tree.ensures.typed (λ same. c.generate.ensures.too_large.0 (c.in_err-full.was ∙ ap Err same)))
+    (generation-refusal source text c.in_ok-tree.tree c.in_err-full.field-0.0 c.in_ok-tree.ensures.typed (c.in_ok-certificate.certificate, search rules) (λ same. c.generate.ensures.too_large.0 (c.in_err-full.was ∙ ap Err same)))
 
 pub returns-clause-stripped : goal.returns-clause-stripped
 returns-clause-stripped c = record {
@@ -46,3 +46,11 @@ returns-clause-stripped c = record {
   sites = c.in_ok-stripped.ensures.sites ∙ c.in_ok-full.ensures.sites;
   points = c.in_ok-stripped.ensures.points ∙ c.in_ok-full.ensures.points;
 }
+
+pub returns-in_err-certificate-clause-refused : goal.returns-in_err-certificate-clause-refused
+returns-in_err-certificate-clause-refused c =
+    let source = c.args.source.now in
+    let text = text_of c.args.certificate in
+    let told = err_from_is_err_and c.from_residual-in_err-certificate.result c.from_residual-in_err-certificate.ensures.1 in
+    refused_by source text c.from_residual-in_err-certificate.result told.0 _ told.1 told.2
+    (certificate-refusal source text c.in_ok-tree.tree c.in_err-certificate.field-0.0 c.in_ok-tree.ensures.typed (search rules))
