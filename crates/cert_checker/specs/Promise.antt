@@ -15,7 +15,8 @@ use Rattle.cert_checker.specs.Holds.{StateHolds, Separate}
 abbrev pub open_in : List ℕ → List Site → List Site
 open_in ids sites = filter (λ site. list_any (λ id. id == site.id) ids) sites
 
--- a certificate is valid for a program, and these sites are open; a certificate without claims breaks no rule of its own
+-- A certificate is valid for a program, and these sites are open. A certificate of version 1 claims nothing, so it breaks
+-- no rule, and no field speaks of it.
 pub record Valid (tree : Tree) (certificate : Certificate) (open_sites : List Site) : Type 0 where
   pub unbroken : (program_walk tree).broken ≡ []
   pub open_are : open_sites ≡ open_in (program_walk tree).open_ids tree.sites.items

@@ -23,6 +23,7 @@ integer = record { first = neg_ℤ maxint; last = maxint }
 abbrev pub start : ℕ → State
 start variables = Live (record { ranges = replicate variables vacant; defined = replicate variables false })
 
+-- no run comes here
 abbrev pub is_dead : State → Bool
 is_dead Dead = true
 is_dead (Live facts) = false

@@ -45,6 +45,7 @@ pub record Walked (A : Type 0) : Type 0 where
   pub broken : List Breach
   pub linked : List Entry
 
+-- a piece of a walk, from the state before it
 abbrev pub Walking : Type 0 → Type 0
 Walking A = State → Walked A
 
@@ -158,6 +159,7 @@ in_turn (link ∷ links) range = do
   result ← link range
   in_turn links result
 
+-- one layer of an expression
 abbrev pub value_step : Expr-F (Walking Interval) Combination → Walking Interval
 value_step (Constant number value) = do
   _ ← enter number
@@ -214,6 +216,7 @@ assignment target fits value = do
   fitting ← within (limits_of fits.range) fits.site range
   assign target.root fitting
 
+-- one layer of a statement
 abbrev pub statement_step : Stmt-F (Walking (Unit {0})) → Walking (Unit {0})
 statement_step (Empty number) = enter number
 statement_step (Assign number target fits value) = do

@@ -24,7 +24,7 @@ use walk::Walk;
 pub struct Verdict {
     /// The sites of the tree that the walk leaves open, in the order of the table: those at which a run may err.
     pub open_sites: Vec<Site>,
-    /// How many statements and expressions were entered: each of the program once.
+    /// How often the walk entered a statement or an expression: as often as the program has one.
     pub visits: u64,
 }
 

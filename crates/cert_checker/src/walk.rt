@@ -19,7 +19,7 @@ use types::OrdinalRange;
 pub(crate) struct Walk {
     /// What is known where the walk is.
     state: State,
-    /// The ids of the sites that may err, in the order of the walk.
+    /// The ids of the sites that the walk leaves open, in its order.
     open_ids: Vec<u32>,
     /// The entries into statements and expressions.
     visits: Visits,

@@ -52,6 +52,7 @@ monadic_code monadic.Abs = instr.Absolute ∷ []
 monadic_code (monadic.Sqr overflow) = instr.CheckSquare overflow ∷ instr.Square ∷ []
 monadic_code monadic.Odd = instr.Odd ∷ []
 
+-- the instruction of a relation
 abbrev pub relation_instr : Relation → Instr
 relation_instr relation.Equal = instr.Equal
 relation_instr relation.NotEqual = instr.NotEqual
@@ -157,6 +158,7 @@ expr_depth = fold-Expr ℕ ℕ expr_depth_step link_depth_step
 abbrev pub link_depth : Link → ℕ
 link_depth = fold-Link ℕ ℕ expr_depth_step link_depth_step
 
+-- the same of a width: a default width is pushed too
 abbrev pub width_depth : Option Width → ℕ
 width_depth None = 1
 width_depth (Some width) = expr_depth width.value

@@ -1,6 +1,6 @@
 -- Code follows a program: on the machine it writes what the program writes and stops as the program ends, for every
--- input and every number of cells. There are no routines yet, so the only frame that may not fit is the program's own. It does
--- not say that a run ends, nor what happens where a reader or a writer fails.
+-- input and every number of cells. There are no routines yet, so the only frame that may not fit is the program's own.
+-- It does not say that a run ends, nor what happens where a reader or a writer fails.
 use Rattle.std.specs.Prelude.{◌≡◌, ℕ, ◌<◌, ◌⊎◌, List, [], ◌++◌, Some, slice_get}
 use Rattle.pcode_assembler.specs.declared.code.Code.{Code}
 use Rattle.typed_tree.specs.declared.tree.Tree.{Tree}
@@ -48,7 +48,9 @@ DoesAll tree m run = (run.output ≡ m.output) × StopsAs tree m.ending run.stop
 abbrev pub DoesAsMuch : Tree → Meaning → Outcome → Type 0
 DoesAsMuch tree m run = elim m.ending [ ending.More ↦ BeginsWith run.output m.output | _ ↦ DoesAll tree m run ]
 
--- what a run's stop says of the program, which is seen for each number of turns
+-- What a run's stop says of the program, seen for each number of turns: no fault; a used up budget, with a beginning of
+-- some meaning's output; a full store before any output, with fewer cells than the need; or an end of some meaning.
+-- No reader or writer fails here.
 abbrev pub IsExplained : Tree → ℕ → (ℕ → Meaning) → Outcome → Stop → Type 0
 IsExplained tree cells means run (stop.Fault fault) = ⊥
 IsExplained tree cells means run stop.More = (turns : ℕ) × BeginsWith (means turns).output run.output

@@ -1,6 +1,6 @@
--- How many cells a block may need at most, by which a full store is judged: 8 for an activation, the cells of its
+-- How many cells a block may need at most; a store with as many is never full: 8 for an activation, the cells of its
 -- variables, and 8 and the cells of its value for each statement and each expression of the block. It does not say how
--- many a frame takes, which are fewer.
+-- many a frame takes, which is no more.
 use Rattle.std.specs.Prelude.{ℕ, ◌+◌, Option, Some, None, length, sum, sum_by, slice_get}
 use Rattle.typed_tree.specs.declared.tree.Tree.{Tree}
 use Rattle.typed_tree.specs.declared.tree.Block.{Block}
@@ -29,6 +29,7 @@ expr_need_step (Chain first rest) = first.value + sum rest.items
 abbrev pub link_need_step : Link-F ℕ ℕ → ℕ
 link_need_step link = one_value + link.operand
 
+-- the cells that an expression may need
 abbrev pub expr_need : Expr → ℕ
 expr_need = fold-Expr ℕ ℕ expr_need_step link_need_step
 

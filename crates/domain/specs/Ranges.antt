@@ -1,3 +1,5 @@
+-- Proofs of the laws of ranges, which the `impl` of `Domain` and the methods of `Interval` name. No promise rests on
+-- reading them.
 use Rattle.std.proofs.Common.{◌≡◌, ◌⊎◌, inl, inr, ⊎_elim, ℤ, pos, ◌+ℤ◌, ◌-ℤ◌, ◌*ℤ◌, neg_ℤ, ◌≤ℤ◌, ◌<ℤ◌, int_le, int_lt, int_div, Bool, true, false, cond, not, ◌||◌, ◌&&◌, arith, refl, ap, sym, ◌∙◌}
 use Rattle.std.proofs.lemmas.Int.{ints, clamps, by_lt_z}
 use Rattle.std.proofs.lemmas.Bool.{cond_both, false_from_ne_true, false≢true, not-true, not_from_false, and_parts, and_from, and_left, and_right, or_parts, or_from, or_left, or_right, or_cases}

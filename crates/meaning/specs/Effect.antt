@@ -33,6 +33,7 @@ pub data Reply (A : Type 0) : Type 0 where
   Gives : A → State → Reply A
   Stops : Ending → State → Reply A
 
+-- what a piece does, from a state
 abbrev pub Action : Type 0 → Type 0
 Action A = State → Reply A
 
@@ -46,9 +47,11 @@ infixl 10 ◌>>=◌
 abbrev pub ◌>>=◌ : {A B : Type 0} → Action A → (A → Action B) → Action B
 (first >>= next) s = and_then (first s) next
 
+-- a value, and nothing changes
 abbrev pub give : {A : Type 0} → A → Action A
 give a s = Gives a s
 
+-- the run ends here
 abbrev pub stop : {A : Type 0} → Ending → Action A
 stop e s = Stops e s
 
@@ -70,12 +73,15 @@ abbrev pub fetched : Option Value → ℕ → Action Value
 fetched None site = stop (ending.Error site)
 fetched (Some v) site = give v
 
+-- the value of a place, in the store of the state
 abbrev pub fetch : Place → ℕ → Action Value
 fetch p site s = fetched (stored s.store p) site s
 
+-- a value is written to a place
 abbrev pub store : Place → Value → Action (Unit {0})
 store p v s = Gives tt (record s { store = written s.store p v })
 
+-- bytes are put behind the output
 abbrev pub write : List ℕ → Action (Unit {0})
 write bytes s = Gives tt (record s { output = s.output ++ bytes })
 
@@ -92,7 +98,7 @@ abbrev pub places : ℤ → ℕ
 places (pos n) = n
 places (negsuc n) = 0
 
--- an integer, set right in a width and never cut (6.9.3.2)
+-- an integer, set right in a width and never cut (6.9.3.3)
 abbrev pub integer_text : ℤ → ℤ → List ℕ
 integer_text n width = replicate (places width - length (signed_decimal n)) 32 ++ signed_decimal n
 

@@ -97,6 +97,7 @@ in_turn (link ∷ links) env v = do
   w ← link env v
   in_turn links env w
 
+-- one layer of an expression: it is entered, and then its parts come
 abbrev pub value_step : Expr-F Evaluation Combination → Evaluation
 value_step (Constant number value) env = do
   _ ← enter number env
@@ -155,6 +156,7 @@ parameter_of parameter env = do
 abbrev pub line_ended : Bool → Action (Unit {0})
 line_ended ends_line = if ends_line then write (10 ∷ []) else give tt
 
+-- one layer of a statement
 abbrev pub effect_step : Stmt-F Execution → Execution
 effect_step (Empty number) env = enter number env
 effect_step (Assign number target fits value) env = do
@@ -195,6 +197,7 @@ pub record Meaning : Type 0 where
   pub output : List ℕ
   pub ending : Ending
 
+-- what a whole run wrote and how it ended; a run that gave its value finished
 abbrev pub ended : Reply (Unit {0}) → Meaning
 ended (Gives done s) = record { output = s.output; ending = ending.Finished }
 ended (Stops e s) = record { output = s.output; ending = e }

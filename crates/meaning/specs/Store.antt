@@ -24,12 +24,14 @@ Store = List (Place × Option Value)
 abbrev pub Environment : Type 0
 Environment = ℕ → Option Place
 
+-- the same step
 abbrev pub step_eq : Step → Step → Bool
 step_eq (Element i) (Element j) = int_eq i j
 step_eq (Field a) (Field b) = pointwise nat_eq a b
 step_eq (Element i) (Field b) = false
 step_eq (Field a) (Element j) = false
 
+-- the same place
 abbrev pub place_eq : Place → Place → Bool
 place_eq p q = nat_eq p.activation q.activation && (nat_eq p.variable q.variable && pointwise step_eq p.steps q.steps)
 

@@ -3,7 +3,7 @@
 pub enum InputFault {
     /// N1: a character, a number or a line end is needed, and nothing is left.
     EndOfInput,
-    /// N2
+    /// N2: no number stands there.
     NotANumber,
     /// N3: outside -2147483647 to 2147483647.
     NumberTooLarge,

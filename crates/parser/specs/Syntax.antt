@@ -1,5 +1,5 @@
 -- Which tree a list of tokens has, and why it has none (ISO 7185:1990, 6.2 to 6.10).
--- This doesn't say at which token a list goes wrong, nor which of P1 and P2 it is.
+-- This doesn't say at which token a list goes wrong, nor whether P1 or P2 is told of a list that has no tree however deep.
 use Rattle.std.specs.Prelude.{◌≡◌, ℕ, ◌≤◌, List, Bool, true, false, IsTrue, Option, Some, None, Result, MatchResult, find}
 use Rattle.std.specs.Option.{option_map}
 use Rattle.lexer.specs.declared.place.Place.{Place}

@@ -76,6 +76,7 @@ pub record LinkForm : Type 0 where
   pub level : ℕ
   pub operand : Form
 
+-- an operator of this level, with an operand that binds tightly enough
 abbrev pub is_link : ℕ → LinkForm → Bool
 is_link level link = nat_eq link.level level && fits (operand_level level) link.operand
 

@@ -1,4 +1,4 @@
-//! Symbolic stack code: its instructions, and the tables of sites and points that they name.
+//! Symbolic stack code as types: its instructions, and the tables of sites and points that they name.
 #![tactic(auto)]
 
 pub mod code;

@@ -18,6 +18,7 @@ use Rattle.scopes.specs.declared.denotation.RequiredFunction.TheVariants.{Abs, S
 abbrev pub small : ℕ → ℕ
 small b = if nat_le 65 b && nat_le b 90 then b + 32 else b
 
+-- a name in small letters
 abbrev pub folded : List ℕ → List ℕ
 folded name = map small name
 
@@ -63,6 +64,7 @@ abbrev pub type_named : Option Denotation → TypeId
 type_named (Some (TypeName type_id)) = type_id
 type_named other = integer
 
+-- the type that a denoter names
 abbrev pub denoter_type : TypeDenoter → TypeId
 denoter_type (denoter.Name name) = type_named (looked_up required name.text.now)
 
@@ -78,6 +80,7 @@ roots_of variables = map (λ p. (p.0.0.text.now, Variable p.1 p.0.1)) (zip varia
 abbrev pub definitions : Program → List Definition
 definitions program = map (λ name. (name.text.now, Output)) program.parameters.items ++ roots_of (typed_names program)
 
+-- what the inner definitions say of a name, or else the outer ones
 abbrev pub or_outer : Option Denotation → Option Denotation → Option Denotation
 or_outer None outer = outer
 or_outer (Some denotation) outer = Some denotation

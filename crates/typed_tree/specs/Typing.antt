@@ -130,6 +130,7 @@ abbrev pub only : {A : Type 0} → List (Option A) → Option A
 only (one ∷ []) = one
 only other = None
 
+-- a value that has no width
 abbrev pub without_width : {A : Type 0} → A → Option A → Option A
 without_width value None = Some value
 without_width value (Some width) = None
@@ -166,15 +167,18 @@ abbrev pub is_monadic : (Monadic → Bool) → (Expr → Bool) → Expr-F Expr L
 is_monadic operation operand (MonadicOf number typed typed_operand) = operation typed && operand typed_operand.value
 is_monadic operation operand other = false
 
+-- a typed operation is this written sign
 abbrev pub is_sign : SyntaxSign → Monadic → Bool
 is_sign syntax_sign.Plus monadic.Plus = true
 is_sign syntax_sign.Minus monadic.Minus = true
 is_sign s other = false
 
+-- a typed operation is `not`
 abbrev pub is_not : Monadic → Bool
 is_not monadic.Not = true
 is_not other = false
 
+-- a typed operation is this required function
 abbrev pub is_function : RequiredFunction → Monadic → Bool
 is_function function.Abs monadic.Abs = true
 is_function function.Sqr (monadic.Sqr overflow) = true
@@ -186,6 +190,7 @@ abbrev pub is_called : Option Denotation → Option (Expr → Bool) → Expr-F E
 is_called (Some (denotes.Function f)) (Some operand) e = is_monadic (is_function f) operand e
 is_called other operand e = false
 
+-- a typed relation is this written operator
 abbrev pub is_relation : Operator → Relation → Bool
 is_relation op.Equal relation.Equal = true
 is_relation op.NotEqual relation.NotEqual = true
@@ -195,6 +200,7 @@ is_relation op.LessOrEqual relation.LessOrEqual = true
 is_relation op.GreaterOrEqual relation.GreaterOrEqual = true
 is_relation o other = false
 
+-- a typed operation is this written operator
 abbrev pub is_dyadic : Operator → Dyadic → Bool
 is_dyadic op.Plus (dyadic.Plus overflow) = true
 is_dyadic op.Minus (dyadic.Minus overflow) = true
@@ -206,6 +212,7 @@ is_dyadic op.Or dyadic.Or = true
 is_dyadic o (dyadic.Relation r) = is_relation o r
 is_dyadic o other = false
 
+-- a typed expression is a chain of these operands
 abbrev pub is_chain : (Expr → Bool) → List (Link → Bool) → Expr-F Expr Link → Bool
 is_chain first links (Chain f rest) = first f.value && all_match links rest.items
 is_chain first links other = false
@@ -224,6 +231,7 @@ abbrev pub function_stands : Option Denotation → Place → List Stands
 function_stands (Some (denotes.Function function.Sqr)) place = (kind.Overflow, place) ∷ []
 function_stands other place = []
 
+-- the site of an operator, at its place
 abbrev pub operator_stands : Operator → Place → List Stands
 operator_stands op.Plus place = (kind.Overflow, place) ∷ []
 operator_stands op.Minus place = (kind.Overflow, place) ∷ []
@@ -261,10 +269,12 @@ abbrev pub is_written_as : Option TypeId → Representation → Bool
 is_written_as value representation.Integer = is_of integer value
 is_written_as value representation.Boolean = is_of boolean value
 
+-- a typed statement is the empty one
 abbrev pub is_empty : Stmt-F Stmt → Bool
 is_empty (Empty number) = true
 is_empty other = false
 
+-- a typed statement is a compound of these
 abbrev pub is_compound : List (Stmt → Bool) → Stmt-F Stmt → Bool
 is_compound statements (Compound number typed_statements) = all_match statements typed_statements.items
 is_compound statements other = false
@@ -322,6 +332,7 @@ module _ (names : Denotes) where
   parameters_of [] = []
   parameters_of (actual ∷ actuals) = cond (is_file_actual (out-SyntaxActual actual)) actuals (actual ∷ actuals)
 
+  -- an assignment: its target's type is that of the value
   abbrev pub is_assignment : Name → SyntaxExpr → Stmt-F Stmt → Bool
   is_assignment name value (Assign number target fits typed_value) =
       is_target (names name.text.now) target.root fits.range (type_of value) && types_expression value typed_value
@@ -341,6 +352,7 @@ module _ (names : Denotes) where
   abbrev pub types_parameter : SyntaxActual → WriteParameter → Bool
   types_parameter actual = is_parameter (out-SyntaxActual actual)
 
+  -- a call is a write of its parameters
   abbrev pub is_call : Name → List SyntaxActual → Stmt-F Stmt → Bool
   is_call name actuals (Write number parameters ends_line) =
       is_write (names name.text.now) (parameters_of actuals) ends_line && all_match (map types_parameter (parameters_of actuals)) parameters.items
@@ -443,6 +455,7 @@ silent_step (WrittenAssign name becomes value) = true
 silent_step (WrittenCall name actuals) = false
 silent_step (WrittenCompound statements) = list_all (λ b. b) statements.items
 
+-- no call in a statement
 abbrev pub writes_nothing : SyntaxStmt → Bool
 writes_nothing = fold-SyntaxStmt Bool silent_step
 

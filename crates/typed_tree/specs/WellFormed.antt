@@ -91,5 +91,6 @@ module _ (variables sites : ℕ) where
 
 -- a tree is well formed
 pub record IsWellFormed (tree : Tree) : Type 0 where
+  -- the four links of a frame and its variables have offsets of 32 bits
   pub few_variables : length tree.variables.items ≤ 4294967291
   pub body : is_well_formed_body (length tree.variables.items) (length tree.sites.items) (slice_get tree.blocks.items 0) ≡ true

@@ -28,10 +28,10 @@ pub enum TypeFault {
     /// K3, where the parameters of a call are wrong.
     #[error("{0}: wrong parameters")]
     WrongParameters(Place),
-    /// K8, where input or output isn't a program parameter, and at another program parameter.
+    /// K8, at a write or writeln without the program parameter output, and at another program parameter.
     #[error("{0}: input or output is no program parameter")]
     NotProgramParameter(Place),
-    /// K10, over 1,000,000 sites or points, or over 4,000,000 statements and expressions.
+    /// K10, over 1,000,000 sites or variables, or over 4,000,000 statements and expressions.
     #[error("{0}: too many sites, statements or expressions")]
     TooMany(Place),
 }

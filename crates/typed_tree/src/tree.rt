@@ -84,7 +84,7 @@ pub struct WriteParameter {
     pub width: Option<Width>,
 }
 
-/// How a value is written, by its type (6.9.3.2, 6.9.3.5).
+/// How a value is written, by its type (6.9.3.3, 6.9.3.5).
 #[derive(Clone, Copy, Debug, PartialEq, Eq)]
 pub enum Representation {
     Integer,
