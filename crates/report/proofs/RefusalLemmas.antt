@@ -2,7 +2,7 @@
 use Rattle.std.proofs.Common.{◌≡◌, ◌⊎◌, ⊎_elim, ℕ, ◌<◌, List, Some, Result, Err, IfErr, length, refl, sym, subst}
 use Rattle.parser.specs.declared.tree.Program.{Program}
 use Rattle.typed_tree.specs.declared.tree.Tree.{Tree}
-use Rattle.typed_tree.specs.Typing.{HasTyping}
+use Rattle.resolver.specs.Typing.{HasTyping}
 use Rattle.typed_tree.specs.declared.fault.TypeFault.{TypeFault}
 use Rattle.typed_tree.specs.declared.fault.TypeFault.TheVariants as typing
 use Rattle.certificate.specs.declared.fault.ReadFault.{ReadFault}

@@ -7,7 +7,7 @@ use Rattle.lexer.specs.Tokens.{IsTokenList, IsFirstFault, lexeme_of}
 use Rattle.parser.specs.declared.tree.Program.{Program}
 use Rattle.parser.specs.Syntax.{IsFaultOf}
 use Rattle.typed_tree.specs.declared.tree.Tree.{Tree}
-use Rattle.typed_tree.specs.Typing.{HasTyping}
+use Rattle.resolver.specs.Typing.{HasTyping}
 use Rattle.certificate.specs.declared.Certificate.{Certificate as CertificateRead}
 use Rattle.certificate.specs.Text.{spelling, first_fault}
 use Rattle.code_generator.specs.Code.{program_code}

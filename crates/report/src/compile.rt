@@ -20,11 +20,11 @@ use code_generator::generate::generate;
 use lexer::tokens;
 use parser::parse;
 use pcode_assembler::code::{Code, Site};
+use resolver::resolve;
 use stack_machine::bytes::{Feed, Sink};
 use stack_machine::machine::Machine;
 use stack_machine::stop::Stop;
 use std::alloc::{AllocError, Global};
-use typed_tree::resolve;
 use typed_tree::tree::Tree;
 
 /// The certificate that serves where none is given: it says nothing.

@@ -3,7 +3,5 @@
 
 pub mod compile;
 pub mod fault;
-#[cfg(test)]
-mod tests;
 pub mod text;
 pub mod words;

@@ -8,6 +8,3 @@ mod regions;
 pub use denotation::{Denotation, RequiredFunction, RequiredProcedure};
 pub use fault::ScopeFault;
 pub use regions::Scopes;
-
-#[cfg(test)]
-mod tests;

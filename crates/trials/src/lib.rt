@@ -2,6 +2,8 @@
 #![tactic(auto)]
 
 #[cfg(test)]
+mod certificates;
+#[cfg(test)]
 mod checking;
 #[cfg(test)]
 mod generation;
@@ -10,9 +12,15 @@ mod lexemes;
 #[cfg(test)]
 mod meanings;
 #[cfg(test)]
+mod ordinals;
+#[cfg(test)]
+mod ranges;
+#[cfg(test)]
 mod removal;
 #[cfg(test)]
 mod running;
+#[cfg(test)]
+mod scoping;
 #[cfg(test)]
 mod syntax;
 #[cfg(test)]

@@ -1,13 +1,14 @@
 use lexer::place::Place;
 use lexer::tokens;
 use parser::parse;
+use resolver::resolve;
 use std::alloc::Global;
 use std::process::Abort;
 use std::test::Fail;
 use typed_tree::fault::TypeFault;
 use typed_tree::site::{Site, SiteKind};
+use typed_tree::sites;
 use typed_tree::tree::{Dyadic, Expr, Monadic, Representation, Stmt};
-use typed_tree::{resolve, sites};
 use types::MAXINT;
 
 fn assert_sites(

@@ -1,10 +1,4 @@
 pub mod Sites
 pub mod Ids
-pub mod Names
-pub mod Regions
 pub mod Entries
-pub mod Typing
 pub mod WellFormed
-pub mod Formed
-pub mod Resolved
-pub mod Refusing

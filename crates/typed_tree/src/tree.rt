@@ -1,3 +1,5 @@
+ghost use Rattle.std.specs.Prelude.{◌≡◌};
+
 use crate::site::{Point, Site};
 use lexer::place::Place;
 use types::{OrdinalRange, TypeId, TypeTable};
@@ -171,4 +173,11 @@ pub struct Link {
     pub number: u32,
     pub operation: Dyadic,
     pub operand: Expr,
+}
+
+/// The sites of a program, in the order of places and then of kinds, so in the order of their ids.
+pub fn sites(tree: &Tree) -> &[Site]
+    ensures { result.now ≡ tree.now.sites.items }
+{
+    tree.sites.as_slice()
 }

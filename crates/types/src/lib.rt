@@ -6,6 +6,3 @@ mod table;
 
 pub use form::{MAXINT, OrdinalRange, TypeForm, TypeId, required_form};
 pub use table::TypeTable;
-
-#[cfg(test)]
-mod tests;

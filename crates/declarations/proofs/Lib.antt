@@ -1,0 +1,3 @@
+mod Regions
+mod Definitions
+mod Refused

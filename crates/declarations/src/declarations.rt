@@ -1,0 +1,211 @@
+ghost use Rattle.std.specs.Prelude.{◌≡◌, ◌⊎◌, ◌<◌, [], Ok, IfOk, IfErr, IsErr, IsErrAnd, IsOkUnless, OnOk, All, codes, map, nat_lt, length};
+ghost use Rattle.declarations.specs.Names.{folded, defined_names};
+ghost use Rattle.scopes.specs.Scopes.{found};
+ghost use Rattle.scopes.specs.Growth.{Opens, Defines, CannotDefine};
+ghost use Rattle.declarations.specs.Regions.{placed, OpensRequired, Passes, PassesGroup, PassesGroups, DenotesType, CannotPass, CannotPassGroup, CannotPassGroups, DenotesNoType};
+ghost use Rattle.scopes.specs.declared.denotation.Denotation.TheVariants as denotes;
+ghost use Rattle.typed_tree.specs.declared.fault.TypeFault.TheVariants.{Memory};
+
+use lexer::place::Place;
+use parser::tree as syntax;
+use scopes::{Denotation, RequiredFunction, RequiredProcedure, ScopeFault, Scopes};
+use std::alloc::{AllocError, Global};
+use typed_tree::fault::TypeFault;
+use typed_tree::tree::Variable;
+use types::{MAXINT, TypeId, TypeTable};
+
+// Small and capital letters are alike.
+fn folded(alloc: Global, name: &[u8]) -> Result<Vec<u8>, AllocError>
+    ensures { IfOk result (λ key. key.items ≡ folded name.now) }
+{
+    name.iter()
+        .map(|letter| letter.to_ascii_lowercase())
+        .collect(alloc)
+}
+
+fn declare(
+    alloc: Global,
+    scopes: &mut Scopes,
+    name: &syntax::Name,
+    denotation: Denotation,
+) -> Result<(), TypeFault>
+    ensures defined { OnOk result (Defines (folded name.now.text.now) denotation scopes.old scopes.new) }
+    ensures refused { IfErr result (λ fault. (fault ≡ Memory) ⊎ CannotDefine (folded name.now.text.now) scopes.old) }
+{
+    let key = folded(alloc, name.text)?;
+    let place = name.place;
+    scopes
+        .declare(key, denotation)
+        .map_err(move |fault| placed(fault, place))
+}
+
+/// What a name denotes, or the fault of the scopes with the name's place.
+pub fn find(
+    alloc: Global,
+    scopes: &Scopes,
+    name: &syntax::Name,
+) -> Result<Denotation, TypeFault>
+    ensures found { IfOk result (λ denotation. found scopes.now (folded name.now.text.now) ≡ Ok denotation) }
+    ensures refused { IfErr result (λ fault. (fault ≡ Memory) ⊎ IsErr (found scopes.now (folded name.now.text.now))) }
+    ensures told { IfErr result (λ fault. (fault ≡ Memory) ⊎ IsErrAnd (found scopes.now (folded name.now.text.now)) (λ error. fault ≡ placed error name.now.place)) }
+{
+    let key = folded(alloc, name.text)?;
+    let place = name.place;
+    scopes
+        .find(key.as_slice())
+        .map_err(move |fault| placed(fault, place))
+}
+
+fn placed(fault: ScopeFault, place: Place) -> TypeFault
+    ensures { result ≡ placed fault place }
+{
+    match fault {
+        ScopeFault::Memory => TypeFault::Memory,
+        ScopeFault::DeclaredTwice => TypeFault::DeclaredTwice(place),
+        ScopeFault::UsedBeforeDeclared => TypeFault::UsedBeforeDeclared(place),
+        ScopeFault::NotDeclared => TypeFault::NotDeclared(place),
+    }
+}
+
+// The required identifiers stand round the program.
+pub(crate) fn open_required(alloc: Global, scopes: &mut Scopes) -> Result<(), TypeFault>
+    ensures opened { OnOk result (OpensRequired scopes.old scopes.new) }
+    ensures refused { IsOkUnless result Memory }
+{
+    let required: [(&[u8], Denotation); 10] = [
+        (b"integer", Denotation::TypeName(TypeTable::INTEGER)),
+        (b"boolean", Denotation::TypeName(TypeTable::BOOLEAN)),
+        (b"maxint", constant(MAXINT, TypeTable::INTEGER)),
+        (b"false", constant(0, TypeTable::BOOLEAN)),
+        (b"true", constant(1, TypeTable::BOOLEAN)),
+        (b"abs", Denotation::Function(RequiredFunction::Abs)),
+        (b"sqr", Denotation::Function(RequiredFunction::Sqr)),
+        (b"odd", Denotation::Function(RequiredFunction::Odd)),
+        (b"write", Denotation::Procedure(RequiredProcedure::Write)),
+        (
+            b"writeln",
+            Denotation::Procedure(RequiredProcedure::Writeln),
+        ),
+    ];
+    scopes.open(alloc, &[])?;
+    for (name, denotation) in required {
+        let place = Place { line: 1, column: 1 };
+        declare(
+            alloc,
+            scopes,
+            &syntax::Name { text: name, place },
+            denotation,
+        )?;
+    }
+    Ok(())
+}
+
+fn constant(value: i32, type_id: TypeId) -> Denotation
+    ensures { result ≡ denotes.Constant value type_id }
+{
+    Denotation::Constant { value, type_id }
+}
+
+// The names that the program's block defines: its parameters and its variables.
+pub(crate) fn open_block(
+    alloc: Global,
+    scopes: &mut Scopes,
+    program: &syntax::Program,
+) -> Result<(), TypeFault>
+    ensures opened { OnOk result (Opens (map (λ name. folded name.text.now) (defined_names program.now)) scopes.old scopes.new) }
+    ensures refused { IsOkUnless result Memory }
+{
+    let mut names = Vec::new(alloc);
+    for name in &program.parameters {
+        names.push(folded(alloc, name.text)?)?;
+    }
+    for group in &program.block.variables {
+        for name in &group.names {
+            names.push(folded(alloc, name.text)?)?;
+        }
+    }
+    scopes.open(alloc, &names)?;
+    Ok(())
+}
+
+// Whether output is a program parameter; no other name may be one.
+pub(crate) fn declare_parameters(
+    alloc: Global,
+    scopes: &mut Scopes,
+    parameters: &[syntax::Name],
+) -> Result<bool, TypeFault>
+    ensures only_output { OnOk result (All (λ name. folded name.text.now ≡ codes "output") parameters.now) }
+    ensures passed { OnOk result (Passes (map (λ name. (name.text.now, denotes.Output)) parameters.now) scopes.old scopes.new) }
+    ensures has_output { IfOk result (λ has_output. has_output ≡ nat_lt 0 (length parameters.now)) }
+    ensures refused { IfErr result (λ fault. (fault ≡ Memory)
+        ⊎ ((¬ All (λ name. folded name.text.now ≡ codes "output") parameters.now)
+        ⊎ CannotPass (map (λ name. (name.text.now, denotes.Output)) parameters.now) scopes.old)) }
+{
+    for name in parameters {
+        if folded(alloc, name.text)?.as_slice() != b"output".as_slice() {
+            return Err(TypeFault::NotProgramParameter(name.place));
+        }
+        declare(alloc, scopes, name, Denotation::Output)?;
+    }
+    Ok(!parameters.is_empty())
+}
+
+pub(crate) fn declare_variables(
+    alloc: Global,
+    scopes: &mut Scopes,
+    groups: &[syntax::VariableGroup],
+) -> Result<Vec<Variable>, TypeFault>
+    ensures passed { IfOk result (λ variables. PassesGroups groups.now scopes.old [] scopes.new variables.items) }
+    ensures refused { IfErr result (λ fault. (fault ≡ Memory) ⊎ CannotPassGroups groups.now scopes.old []) }
+{
+    let mut variables = Vec::new(alloc);
+    for group in groups {
+        declare_group(alloc, scopes, group, &mut variables)?;
+    }
+    Ok(variables)
+}
+
+// Variables that are declared together. Their type is no name that the block defines, so it can be looked up first.
+fn declare_group(
+    alloc: Global,
+    scopes: &mut Scopes,
+    group: &syntax::VariableGroup,
+    variables: &mut Vec<Variable>,
+) -> Result<(), TypeFault>
+    ensures passed { OnOk result (PassesGroup group.now scopes.old variables.old.items scopes.new variables.new.items) }
+    ensures refused { IfErr result (λ fault. (fault ≡ Memory) ⊎ CannotPassGroup group.now scopes.old variables.old.items) }
+{
+    let type_id = denoted_type(alloc, scopes, group)?;
+    for name in &group.names {
+        let root = u32::try_from(variables.len()).map_err(|_| TypeFault::TooMany(name.place))?;
+        declare(alloc, scopes, name, Denotation::Variable { root, type_id })?;
+        variables.push(Variable { block: 0, type_id })?;
+    }
+    Ok(())
+}
+
+fn denoted_type(
+    alloc: Global,
+    scopes: &Scopes,
+    group: &syntax::VariableGroup,
+) -> Result<TypeId, TypeFault>
+    ensures denoted { IfOk result (DenotesType scopes.now group.now.denoter) }
+    ensures refused { IfErr result (λ fault. (fault ≡ Memory) ⊎ DenotesNoType scopes.now group.now.denoter) }
+{
+    let syntax::TypeDenoter::Name(name) = &group.denoter;
+    match find(alloc, scopes, name) {
+        Ok(Denotation::TypeName(type_id)) => Ok(type_id),
+        Ok(_) => Err(TypeFault::Mismatch(name.place)),
+        // One of the variables has this name.
+        Err(TypeFault::UsedBeforeDeclared(place)) if names_one(&group.names, name) => {
+            Err(TypeFault::Mismatch(place))
+        }
+        Err(fault) => Err(fault),
+    }
+}
+
+fn names_one(names: &[syntax::Name], name: &syntax::Name) -> bool {
+    names
+        .iter()
+        .any(|other| other.text.eq_ignore_ascii_case(name.text))
+}

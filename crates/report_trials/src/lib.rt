@@ -1,0 +1,14 @@
+//! Tests of the whole compiler on whole sources, in a crate of their own: a crate with tests is proved once more with
+//! them. Expected values are worked out by hand from the language's rules.
+#![tactic(auto)]
+
+#[cfg(test)]
+mod hostile;
+#[cfg(test)]
+mod large;
+#[cfg(test)]
+mod memory;
+#[cfg(test)]
+mod rows;
+#[cfg(test)]
+mod shown;

@@ -1,0 +1,17 @@
+mod SiteIds
+mod FormedLemmas
+mod StatementFormed
+mod TypingEquations
+mod StatementEquations
+mod ResolvedPieces
+mod TypesTold
+mod ResolvedExpressions
+mod ResolvedStatements
+mod ResolvedProgram
+mod Measures
+mod StatementMeasures
+mod Refusals
+mod RefusedExpressions
+mod LedExpressions
+mod RefusedStatements
+mod RefusedProgram

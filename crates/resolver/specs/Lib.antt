@@ -1,0 +1,4 @@
+pub mod Typing
+pub mod Formed
+pub mod Resolved
+pub mod Refusing
