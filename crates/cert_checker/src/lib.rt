@@ -20,7 +20,7 @@ use typed_tree::tree::Tree;
 use walk::Walk;
 
 /// What the checker found out of a program.
-#[derive(Debug, Drop)]
+#[derive(Drop)]
 pub struct Verdict {
     /// The sites of the tree that the walk leaves open, in the order of the table: those at which a run may err.
     pub open_sites: Vec<Site>,

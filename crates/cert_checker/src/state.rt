@@ -7,7 +7,7 @@ use std::alloc::{AllocError, Global};
 
 /// What is known of the variables at a point, by root number. A variable that isn't in the lists may hold any integer
 /// or be undefined.
-#[derive(Debug, Drop)]
+#[derive(Drop)]
 pub(crate) struct Facts {
     /// Each defined value of the variable lies in its range.
     ranges: Vec<Interval>,
@@ -19,7 +19,7 @@ pub(crate) struct Facts {
 ///
 /// Facts that order two variables, and bounds that are a variable plus a number, come with branches and with lines of a
 /// certificate: without these no site could tell whether they are there.
-#[derive(Debug, Drop)]
+#[derive(Drop)]
 pub(crate) enum State {
     /// No run comes here.
     Dead,

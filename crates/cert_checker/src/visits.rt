@@ -3,7 +3,7 @@ ghost use Rattle.std.specs.Prelude.{◌≡◌, ◌↔◌, ℕ, ◌+◌, ◌-◌,
 use std::marker::Model;
 
 /// A count of entries into statements and expressions. It begins at 0, and `tick` alone changes it.
-#[derive(Debug, Drop)]
+#[derive(Drop)]
 pub struct Visits {
     entries: u64,
 }

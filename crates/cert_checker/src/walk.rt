@@ -15,7 +15,7 @@ use typed_tree::tree::{
 use types::OrdinalRange;
 
 /// A walk over the statements of a program, in the order in which they are run.
-#[derive(Debug, Drop)]
+#[derive(Drop)]
 pub(crate) struct Walk {
     /// What is known where the walk is.
     state: State,

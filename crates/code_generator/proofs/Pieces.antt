@@ -1,7 +1,9 @@
 -- Pieces of code, one after another.
-use Rattle.std.proofs.Common.{◌≡◌, ℕ, ◌+◌, ◌<◌, ◌≤◌, length, length-append, take, get_or, List, [], ◌∷◌, ◌++◌, map, refl, ap, sym, ◌∙◌}
+use Rattle.std.proofs.Common.{◌≡◌, ℕ, ◌+◌, ◌<◌, ◌≤◌, max, length, length-append, take, get_or, List, [], ◌∷◌, ◌++◌, map, refl, ap, sym, ◌∙◌}
 use Rattle.std.specs.List.{flat_map}
-use Rattle.std.proofs.lemmas.List.{take_all, take_more, flat_map_more}
+use Rattle.std.specs.Prelude.{fold}
+use Rattle.std.proofs.lemmas.List.Sums.{fold_push}
+use Rattle.std.proofs.lemmas.List.{take_all, take_more, flat_map_more, map_push}
 use Rattle.std.specs.Global.{Vec, Box}
 use Rattle.pcode_assembler.specs.declared.instr.Instr.{Instr}
 use Rattle.typed_tree.specs.declared.tree.Expr.{Expr}
@@ -35,6 +37,28 @@ stmt_code-Compound number statements =
 pub joined_at_end : {X : Type 0} (piece_of : X → List Instr) (code start : List Instr) (xs ys : List X) (i : ℕ) → code ≡ start ++ flat_map piece_of (take i xs) → length xs ≤ i → xs ≡ ys → code ≡ start ++ flat_map piece_of ys
 joined_at_end piece_of code start xs ys i e h same =
     e ∙ ap (λ zs. start ++ flat_map piece_of zs) (take_all i xs h ∙ same)
+
+-- and one piece further
+pub joined_one_more : {X : Type 0} (piece_of : X → List Instr) (code more start : List Instr) (xs : List X) (i : ℕ) (x : X) → code ≡ start ++ flat_map piece_of (take i xs) → i < length xs → x ≡ get_or xs i x → more ≡ code ++ piece_of x → more ≡ start ++ flat_map piece_of (take (i + 1) xs)
+joined_one_more piece_of code more start xs i x e h here grown =
+    grown ∙ ap (λ p. p ++ piece_of x) e ∙ ap (λ y. (start ++ flat_map piece_of (take i xs)) ++ piece_of y) here
+    ∙ flat_map_more piece_of start (take i xs) (get_or xs i x) ∙ ap (λ ys. start ++ flat_map piece_of ys) (sym (take_more xs i x h))
+
+-- how many instructions the pieces have then
+pub length_one_more : {X : Type 0} (piece_of : X → List Instr) (xs : List X) (i : ℕ) (x : X) → i < length xs → x ≡ get_or xs i x → length (flat_map piece_of (take (i + 1) xs)) ≡ length (flat_map piece_of (take i xs)) + length (piece_of x)
+length_one_more piece_of xs i x h here =
+    ap (λ ys. length (flat_map piece_of ys)) (take_more xs i x h) ∙ ap length (sym (flat_map_more piece_of [] (take i xs) (get_or xs i x)))
+    ∙ length-append (flat_map piece_of (take i xs)) (piece_of (get_or xs i x)) ∙ ap (λ y. length (flat_map piece_of (take i xs)) + length (piece_of y)) (sym here)
+
+-- the greatest depth so far, and one more
+pub greatest_one_more : {X : Type 0} (depth_of : X → ℕ) (first : ℕ) (xs : List X) (i : ℕ) (x : X) → i < length xs → x ≡ get_or xs i x → fold max first (map depth_of (take (i + 1) xs)) ≡ max (fold max first (map depth_of (take i xs))) (depth_of x)
+greatest_one_more depth_of first xs i x h here =
+    ap (λ ys. fold max first (map depth_of ys)) (take_more xs i x h) ∙ ap (fold max first) (map_push depth_of (take i xs) (get_or xs i x))
+    ∙ fold_push max first (map depth_of (take i xs)) (depth_of (get_or xs i x)) ∙ ap (λ y. max (fold max first (map depth_of (take i xs))) (depth_of y)) (sym here)
+
+-- a link: its operand, and its operation
+pub link_code-is : (link : Link) → link_code link ≡ expr_code link.operand ++ dyadic_code link.operation
+link_code-is link = fold_out-Link (List Instr) (List Instr) expr_step link_step link
 
 -- an operation on one operand
 pub expr_code-Monadic : (number : ℕ) (operation : Monadic) (operand : Box Expr) → expr_code (MonadicOf number operation operand) ≡ expr_code operand.value ++ monadic_code operation

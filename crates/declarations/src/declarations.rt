@@ -40,11 +40,7 @@ fn declare(
 }
 
 /// What a name denotes, or the fault of the scopes with the name's place.
-pub fn find(
-    alloc: Global,
-    scopes: &Scopes,
-    name: &syntax::Name,
-) -> Result<Denotation, TypeFault>
+pub fn find(alloc: Global, scopes: &Scopes, name: &syntax::Name) -> Result<Denotation, TypeFault>
     ensures found { IfOk result (λ denotation. found scopes.now (folded name.now.text.now) ≡ Ok denotation) }
     ensures refused { IfErr result (λ fault. (fault ≡ Memory) ⊎ IsErr (found scopes.now (folded name.now.text.now))) }
     ensures told { IfErr result (λ fault. (fault ≡ Memory) ⊎ IsErrAnd (found scopes.now (folded name.now.text.now)) (λ error. fault ≡ placed error name.now.place)) }

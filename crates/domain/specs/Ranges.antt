@@ -75,6 +75,13 @@ neither true v x y left right = cc
 neither false true x y left right = cc
 neither false false x y left right = refl
 
+-- where one of two ranges has no number, what is made of both has none
+pub left-vacant : (a b r : Interval) → is_vacant a ≡ true → vacant ≡ cond (is_vacant a || is_vacant b) vacant r
+left-vacant a b r left = rw left refl
+
+pub right-vacant : (a b r : Interval) → is_vacant a ≡ false → is_vacant b ≡ true → vacant ≡ cond (is_vacant a || is_vacant b) vacant r
+right-vacant a b r left right = rw (left, right) refl
+
 same_ends : (r : Interval) (first last : ℤ) → r.first ≡ first → r.last ≡ last → ◌≡◌ {A = Interval} r (record { first = first; last = last })
 same_ends r first last first_is last_is =
     ap (λ (z : ℤ). let i : Interval = record { first = z; last = r.last } in i) first_is

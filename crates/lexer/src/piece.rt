@@ -12,7 +12,7 @@ use crate::word::word_of;
 const MAX_NUMBER: u64 = 2147483647;
 
 /// What the rest of a text begins with.
-#[derive(Clone, Copy, Debug)]
+#[derive(Clone, Copy)]
 pub enum Piece {
     /// A blank, a line end or a comment (6.1.8).
     Separator,
@@ -21,7 +21,7 @@ pub enum Piece {
 
 /// Why nothing can be cut off the rest of a text. Each fault stands where the rest begins, save
 /// `StringByte`.
-#[derive(Clone, Copy, Debug)]
+#[derive(Clone, Copy)]
 pub enum Refusal {
     UnknownByte,
     OpenComment,

@@ -26,7 +26,7 @@ pub enum Ending {
 }
 
 /// What a run has written, and how it ends.
-#[derive(Debug, Drop)]
+#[derive(Drop)]
 pub struct Outcome {
     pub output: Vec<u8>,
     pub ending: Ending,

@@ -6,7 +6,7 @@ ghost use Rattle.meaning.specs.Integers.{integer_or_none, is_integer_number, is_
 use std::marker::Model;
 
 /// A step from a variable to a component of it.
-#[derive(Debug, PartialEq, Eq, PartialOrd, Ord, Drop)]
+#[derive(PartialEq, Eq, PartialOrd, Ord, Drop)]
 pub enum Step {
     /// The element of an array at this ordinal.
     Element(i32),
@@ -16,7 +16,7 @@ pub enum Step {
 
 /// Where a scalar or a set lies: an activation, a variable of it by its root number, and the steps
 /// to a component.
-#[derive(Debug, PartialEq, Eq, PartialOrd, Ord, Drop)]
+#[derive(PartialEq, Eq, PartialOrd, Ord, Drop)]
 pub struct Place {
     pub activation: u64,
     pub variable: u32,
@@ -24,13 +24,13 @@ pub struct Place {
 }
 
 /// A value: an ordinal by its number.
-#[derive(Clone, Copy, Debug, PartialEq, Eq)]
+#[derive(Clone, Copy)]
 pub enum Value {
     Number(Ordinal),
 }
 
 /// The number of an ordinal, or of one whose sign was changed: -2147483648 to 2147483648.
-#[derive(Clone, Copy, Debug, PartialEq, Eq)]
+#[derive(Clone, Copy)]
 pub struct Ordinal {
     number: i64,
 }

@@ -3,7 +3,7 @@ use typed_tree::tree::{
 };
 
 /// Work that a run has still to do. What it needs lies on the stack of values.
-#[derive(Clone, Copy, Debug)]
+#[derive(Clone, Copy)]
 pub enum Work<'t> {
     /// The statements of a compound statement, one after another.
     Statements(&'t [Stmt]),

@@ -159,18 +159,23 @@ pub actual_answer : (levels depth : ℕ) (a b : Cursor) (others : List Token) (a
 actual_answer levels depth a b others answer p closes reads =
     reads depth p.first p.middle (record { spelled = p.spelled; formed = p.formed; nests = p.nests }) (actual_ends p.middle others (comes_behind Actual actual_list_parts depth p.middle others p.left) closes)
 
--- behind the first actual
-pub actual_list_begins : (levels : ℕ) (a b : Cursor) (e : Actual) → ReadsDeep levels BeginsActual EndsActual a b (Ok e) → ActualsListLeft a.rest.now b.rest.now
-actual_list_begins levels a b e reads depth actuals others h closes =
-    let p = actuals_begin depth a.rest.now others actuals h in
-    subst (λ x. PartsLeft Actual actual_list_parts depth x others) (sym (actual_answer levels depth a b others (Ok e) p closes reads)) p.left
+-- an actual comes next, in each list of actuals that may stand there
+abbrev pub ActualNext : List Token → List Token → Type 0
+ActualNext start now = (depth : ℕ) (actuals : List Actual) (others : List Token) → BeginsActualList depth start others actuals → Closes others → PartThenOthers Actual actual_list_parts depth now others
 
--- behind one more
-pub actual_list_left : (levels : ℕ) (p : Place) (start : List Token) (a b c : Cursor) (e : Actual) → Reads a.rest.now (of_kind_at (kind.Symbol symbol.Comma) p ∷ []) b.rest.now
-    → ReadsDeep levels BeginsActual EndsActual b c (Ok e) → ActualsListLeft start a.rest.now → ActualsListLeft start c.rest.now
-actual_list_left levels p start a b c e k reads left depth actuals others h closes =
-    let q = one_more_actual depth p a.rest.now b.rest.now others k closes (left depth actuals others h closes) in
-    subst (λ x. PartsLeft Actual actual_list_parts depth x others) (sym (actual_answer levels depth b c others (Ok e) q closes reads)) q.left
+-- the first actual
+pub actual_list_begins : (start : List Token) → ActualNext start start
+actual_list_begins start depth actuals others h closes = actuals_begin depth start others actuals h
+
+-- behind a comma
+pub actual_list_goes_on : (p : Place) (start a b : List Token) → Reads a (of_kind_at (kind.Symbol symbol.Comma) p ∷ []) b → ActualsListLeft start a → ActualNext start b
+actual_list_goes_on p start a b k left depth actuals others h closes = one_more_actual depth p a b others k closes (left depth actuals others h closes)
+
+-- behind an actual
+pub actual_list_left : (levels : ℕ) (start : List Token) (a b : Cursor) (e : Actual) → ReadsDeep levels BeginsActual EndsActual a b (Ok e) → ActualNext start a.rest.now → ActualsListLeft start b.rest.now
+actual_list_left levels start a b e reads next depth actuals others h closes =
+    let p = next depth actuals others h closes in
+    subst (λ x. PartsLeft Actual actual_list_parts depth x others) (sym (actual_answer levels depth a b others (Ok e) p closes reads)) p.left
 
 -- what stands behind the opening parenthesis of actuals
 pub record OpenedActuals (levels : ℕ) (a c : List Token) (actuals : List Actual) : Type 0 where

@@ -1,5 +1,5 @@
 -- The rules of declarations, blocks and programs read each spelling of their form.
-use Rattle.std.proofs.Common.{◌≡◌, ℕ, ◌<◌, Bool, true, false, ◌&&◌, List, [], ◌∷◌, ◌++◌, length, map, Option, Some, None, is_some, IfNone, Ok, refl, subst, sym, ap, ◌∙◌, append_assoc, arith}
+use Rattle.std.proofs.Common.{◌≡◌, ℕ, ◌<◌, true, false, ◌&&◌, List, [], ◌∷◌, ◌++◌, length, map, Some, Ok, refl, subst, sym, ap, ◌∙◌, append_assoc, arith}
 use Rattle.std.specs.List.{list_all}
 use Rattle.std.specs.declared.alloc.Global.{Global}
 use Rattle.std.specs.declared.vec.Vec.{Vec}
@@ -27,12 +27,8 @@ use Rattle.parser.specs.Reading.{next_kind, Anything, NoNext, Next, BeginsStatem
 use Rattle.parser.specs.Syntax.{most, IsRefused}
 use Rattle.parser.proofs.Exact.{parted, begins, same_first}
 use Rattle.parser.proofs.Lists.{and_left, and_right, length_map}
+use Rattle.parser.proofs.Reading.{both}
 use Rattle.parser.proofs.Led.{led, list_begins, led_next, led_some, led_ends}
-
--- what holds where no token was taken
-pub not_taken : {P : Type 0} (o : Option Place) (some : Bool) → some ≡ is_some o → some ≡ false → IfNone o P → P
-not_taken None some e h t = t
-not_taken (Some place) some e h t = cc
 
 -- no token of one kind comes where one of another does
 pub other_kind : (k l : Kind) (a : List Token) → Next k a → ¬ (Some k ≡ Some l) → NoNext l a
@@ -52,14 +48,6 @@ pub names_first : (a c : List Token) (names : List Name) → BeginsNames a c nam
 names_first a c [] h = let some = h.some in absurd (omega arith)
 names_first a c (n ∷ ns) h = let r = list_begins symbol.Comma (identifier n ∷ []) (identifiers ns) a c h.spelled in begins (identifier n) [] a r.0 r.1
 
--- behind the first name
-pub names_begin : (n : Name) (a b : List Token) → Reads a (identifier n ∷ []) b → NamesLeft a b
-names_begin n a b k [] others h ends = let some = h.some in absurd (omega arith)
-names_begin n a b k (m ∷ ms) others h ends =
-    let r = list_begins symbol.Comma (identifier m ∷ []) (identifiers ms) a others h.spelled in
-    let same : b ≡ r.0 = (same_first (identifier n) (identifier m) [] a b r.0 k r.1).1 in
-    (ms, subst (λ x. Reads x (led symbol.Comma (identifiers ms)) others) (sym same) r.2)
-
 -- a name, and the others behind it
 pub record NameThenOthers (tokens others : List Token) : Type 0 where
   pub name : Name
@@ -76,12 +64,22 @@ pub names_go_on_with : (p : Place) (start a b : List Token) → Reads a (of_kind
     → (names : List Name) (others : List Token) → BeginsNames start others names → NoNext (kind.Symbol symbol.Comma) others → NameThenOthers b others
 names_go_on_with p start a b k left names others h ends = let r = left names others h ends in names_next p r.0 a b others k ends r.1
 
--- behind one more name
-pub names_left : (p : Place) (n : Name) (start a b c : List Token) → Reads a (of_kind_at (kind.Symbol symbol.Comma) p ∷ []) b → Reads b (identifier n ∷ []) c
-    → NamesLeft start a → NamesLeft start c
-names_left p n start a b c k taken left names others h ends =
-    let g = names_go_on_with p start a b k left names others h ends in
-    (g.rest, (same_first (identifier n) (identifier g.name) (led symbol.Comma (identifiers g.rest)) b c others taken g.spelled).1)
+-- a name comes next, in each list of names that may stand there
+abbrev pub NameNext : List Token → List Token → Type 0
+NameNext start now = (names : List Name) (others : List Token) → BeginsNames start others names → NoNext (kind.Symbol symbol.Comma) others → NameThenOthers now others
+
+-- the first name
+pub names_begin : (start : List Token) → NameNext start start
+names_begin start [] others h ends = let some = h.some in absurd (omega arith)
+names_begin start (n ∷ ns) others h ends =
+    let r = list_begins symbol.Comma (identifier n ∷ []) (identifiers ns) start others h.spelled in
+    record { name = n; rest = ns; spelled = both (identifier n ∷ []) (led symbol.Comma (identifiers ns)) start r.0 others r.1 r.2 }
+
+-- behind a name
+pub names_left : (n : Name) (start a b : List Token) → Reads a (identifier n ∷ []) b → NameNext start a → NamesLeft start b
+names_left n start a b taken next names others h ends =
+    let g = next names others h ends in
+    (g.rest, (same_first (identifier n) (identifier g.name) (led symbol.Comma (identifiers g.rest)) a b others taken g.spelled).1)
 
 -- where no comma comes the names end
 pub names_end : (start a : List Token) → NamesLeft start a → NoNext (kind.Symbol symbol.Comma) a
@@ -180,10 +178,14 @@ pub groups_begin_with : (a c : List Token) (groups : List VariableGroup) → Beg
 groups_begin_with a c [] h = let some = h.some in absurd (omega arith)
 groups_begin_with a c (g ∷ gs) h = groups_part a c g gs h.spelled h.formed
 
--- behind the first group
-pub groups_begin : (a b : Cursor) (g : VariableGroup) → ReadsEach BeginsGroup Anything a b (Ok g) → EachGroupsLeft a.rest.now b.rest.now
-groups_begin a b g reads groups others h ends =
-    let p = groups_begin_with a.rest.now others groups h in
+-- a group comes next, in each row of groups that may stand there
+abbrev pub GroupNext : List Token → List Token → Type 0
+GroupNext start now = (groups : List VariableGroup) (others : List Token) → BeginsGroups start others groups → NoNext kind.Identifier others → GroupThenOthers now others
+
+-- behind a group
+pub groups_left : (start : List Token) (a b : Cursor) (g : VariableGroup) → ReadsEach BeginsGroup Anything a b (Ok g) → GroupNext start a.rest.now → EachGroupsLeft start b.rest.now
+groups_left start a b g reads next groups others h ends =
+    let p = next groups others h ends in
     let same : b.rest.now ≡ p.middle = reads p.group p.middle p.begun tt in
     subst (λ x. GroupsLeft x others) (sym same) p.left
 
@@ -192,14 +194,6 @@ pub groups_go_on_with : (start a : List Token) → EachGroupsLeft start a → Ne
     → (groups : List VariableGroup) (others : List Token) → BeginsGroups start others groups → NoNext kind.Identifier others → GroupThenOthers a others
 groups_go_on_with start a left next groups others h ends =
     let r = left groups others h ends in groups_part_of a others r.groups r.spelled r.formed next ends
-
--- behind one more group
-pub groups_left : (start : List Token) (a b : Cursor) (g : VariableGroup) → Next kind.Identifier a.rest.now → ReadsEach BeginsGroup Anything a b (Ok g)
-    → EachGroupsLeft start a.rest.now → EachGroupsLeft start b.rest.now
-groups_left start a b g next reads left groups others h ends =
-    let p = groups_go_on_with start a.rest.now left next groups others h ends in
-    let same : b.rest.now ≡ p.middle = reads p.group p.middle p.begun tt in
-    subst (λ x. GroupsLeft x others) (sym same) p.left
 
 -- a group begins with a name
 pub group_first : (a c : List Token) (g : VariableGroup) → BeginsGroup a c g → Next kind.Identifier a

@@ -204,15 +204,20 @@ pub statement_answer : (levels depth : ℕ) (a b : Cursor) (others : List Token)
 statement_answer levels depth a b others answer p ends reads =
     reads depth p.first p.middle (record { spelled = p.spelled; formed = p.formed; nests = p.nests }) (stmt_ends p.middle others (comes_behind Stmt statement_list_parts depth p.middle others p.left) ends)
 
--- behind the first statement
-pub statement_list_begins : (levels : ℕ) (a b : Cursor) (s : Stmt) → ReadsDeep levels BeginsStmt EndsStmt a b (Ok s) → StatementsLeft a.rest.now b.rest.now
-statement_list_begins levels a b s reads depth statements others h ends =
-    let p = statements_begin depth a.rest.now others statements h in
-    subst (λ x. PartsLeft Stmt statement_list_parts depth x others) (sym (statement_answer levels depth a b others (Ok s) p ends reads)) p.left
+-- a statement comes next, in each list of statements that may stand there
+abbrev pub StatementNext : List Token → List Token → Type 0
+StatementNext start now = (depth : ℕ) (statements : List Stmt) (others : List Token) → BeginsStatements depth start others statements → EndsStatements others → PartThenOthers Stmt statement_list_parts depth now others
 
--- behind one more
-pub statement_list_left : (levels : ℕ) (p : Place) (start : List Token) (a b c : Cursor) (s : Stmt) → Reads a.rest.now (of_kind_at (kind.Symbol symbol.Semicolon) p ∷ []) b.rest.now
-    → ReadsDeep levels BeginsStmt EndsStmt b c (Ok s) → StatementsLeft start a.rest.now → StatementsLeft start c.rest.now
-statement_list_left levels p start a b c s k reads left depth statements others h ends =
-    let q = one_more_statement depth p a.rest.now b.rest.now others k ends (left depth statements others h ends) in
-    subst (λ x. PartsLeft Stmt statement_list_parts depth x others) (sym (statement_answer levels depth b c others (Ok s) q ends reads)) q.left
+-- the first statement
+pub statement_list_begins : (start : List Token) → StatementNext start start
+statement_list_begins start depth statements others h ends = statements_begin depth start others statements h
+
+-- behind a semicolon
+pub statement_list_goes_on : (p : Place) (start a b : List Token) → Reads a (of_kind_at (kind.Symbol symbol.Semicolon) p ∷ []) b → StatementsLeft start a → StatementNext start b
+statement_list_goes_on p start a b k left depth statements others h ends = one_more_statement depth p a b others k ends (left depth statements others h ends)
+
+-- behind a statement
+pub statement_list_left : (levels : ℕ) (start : List Token) (a b : Cursor) (s : Stmt) → ReadsDeep levels BeginsStmt EndsStmt a b (Ok s) → StatementNext start a.rest.now → StatementsLeft start b.rest.now
+statement_list_left levels start a b s reads next depth statements others h ends =
+    let p = next depth statements others h ends in
+    subst (λ x. PartsLeft Stmt statement_list_parts depth x others) (sym (statement_answer levels depth a b others (Ok s) p ends reads)) p.left

@@ -1,5 +1,5 @@
 -- What the rules of declarations, blocks and programs give.
-use Rattle.std.proofs.Common.{◌≡◌, ℕ, ◌+◌, ◌<◌, true, ◌&&◌, List, [], ◌∷◌, ◌++◌, length, map, subst, sym, ap, ◌∙◌, append_assoc, arith}
+use Rattle.std.proofs.Common.{◌≡◌, ℕ, ◌+◌, ◌<◌, true, ◌&&◌, List, [], ◌∷◌, ◌++◌, length, map, subst, sym, ap, ◌∙◌, append_assoc, append-nil, refl, arith}
 use Rattle.std.specs.List.{list_all}
 use Rattle.std.specs.declared.alloc.Global.{Global}
 use Rattle.std.specs.declared.vec.Vec.{Vec}
@@ -31,6 +31,18 @@ pub names_go_on : (a b c d : Cursor) (names grown : List Name) (p : Place) (n : 
 names_go_on a b c d names grown p n list comma taken is =
     list_goes_on symbol.Comma a b c d (identifiers names) (identifiers grown) p (identifier n ∷ []) list comma taken (ap identifiers is ∙ map_push (λ name. identifier name ∷ []) names n)
 
+-- with one more name there is a list
+abbrev pub NamesGrow : Cursor → Cursor → List Name → Type 0
+NamesGrow old now names = (new : Cursor) (n : Name) → Took now new (identifier n ∷ []) → Read (BeginsList symbol.Comma) old new (identifiers (names ++ n ∷ []))
+
+-- the first name
+pub names_grow_first : (a : Cursor) → NamesGrow a a []
+names_grow_first a b n taken = record { some = omega arith; spelled = taken }
+
+-- behind a comma
+pub names_grow : (a b c : Cursor) (names : List Name) (p : Place) → Read (BeginsList symbol.Comma) a b (identifiers names) → Took b c (of_kind_at (kind.Symbol symbol.Comma) p ∷ []) → NamesGrow a c names
+names_grow a b c names p list comma d n taken = names_go_on a b c d names (names ++ n ∷ []) p n list comma taken refl
+
 -- variables declared together
 pub group_stands : (a b c d e : Cursor) (p q : Place) (names : Vec Name Global) (n : Name)
     → Read (BeginsList symbol.Comma) a b (identifiers names.items) → Took b c (of_kind_at (kind.Symbol symbol.Colon) p ∷ []) → Took c d (identifier n ∷ []) → Took d e (of_kind_at (kind.Symbol symbol.Semicolon) q ∷ [])
@@ -51,6 +63,22 @@ groups_go_on a b c groups grown g list given is = record {
       (both (joined (map group_spelling groups)) (group_spelling g) a.rest.now b.rest.now c.rest.now list.spelled given.spelled);
   formed = subst (λ x. list_all is_group x ≡ true) (sym is) (all_push is_group groups g list.formed given.formed);
 }
+
+-- with one more group there is a row
+abbrev pub GroupsGrow : Cursor → Cursor → List VariableGroup → Type 0
+GroupsGrow old now groups = (new : Cursor) (g : VariableGroup) → Read BeginsGroup now new g → Read BeginsGroups old new (groups ++ g ∷ [])
+
+-- the first group
+pub groups_grow_first : (a : Cursor) → GroupsGrow a a []
+groups_grow_first a b g given = record {
+  some = omega arith;
+  spelled = subst (λ s. Took a b s) (sym (append-nil (group_spelling g))) given.spelled;
+  formed = and_true (is_group g) true given.formed refl;
+}
+
+-- behind a group
+pub groups_grow : (a b : Cursor) (groups : List VariableGroup) → Read BeginsGroups a b groups → GroupsGrow a b groups
+groups_grow a b groups list c g given = groups_go_on a b c groups (groups ++ g ∷ []) g list given refl
 
 -- a block
 pub block_stands : (levels inner : ℕ) (a b c : Cursor) (variables : Vec VariableGroup Global) (statements : Vec Stmt Global) (end : Place)

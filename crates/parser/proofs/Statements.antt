@@ -1,5 +1,5 @@
 -- What the rules of lists and statements give.
-use Rattle.std.proofs.Common.{◌≡◌, ℕ, ◌+◌, ◌<◌, ◌≤◌, true, List, [], ◌∷◌, ◌++◌, length, map, Option, Some, None, is_some, Bool, not, false, IfSome, OnSome, subst, sym, ap, ◌∙◌, arith}
+use Rattle.std.proofs.Common.{◌≡◌, ℕ, ◌+◌, ◌<◌, ◌≤◌, true, List, [], ◌∷◌, ◌++◌, length, map, Option, Some, None, is_some, Bool, not, false, IfSome, OnSome, subst, sym, ap, ◌∙◌, refl, arith}
 use Rattle.std.specs.List.{list_all}
 use Rattle.std.specs.declared.alloc.Global.{Global}
 use Rattle.std.specs.declared.vec.Vec.{Vec}
@@ -24,18 +24,14 @@ use Rattle.parser.proofs.Lists.{map_push, all_push, deepest_push, all_mapped, an
 use Rattle.parser.proofs.Reading.{both, without_place, without_last_place, separated_more, in_parentheses_some}
 
 -- a token was taken where the call answered its place
-pub taken : (a b : Cursor) (k : Kind) (o : Option Place) → is_some o ≡ true → IfSome o (λ place. Took a b (of_kind_at k place ∷ [])) → (place : Place) × Took a b (of_kind_at k place ∷ [])
-taken a b k None h t = cc
-taken a b k (Some place) h t = (place, t)
-
--- and then fewer are left
-pub fewer : (m n : ℕ) (o : Option Place) → is_some o ≡ true → OnSome o (m < n) → m < n
-fewer m n None h t = cc
-fewer m n (Some place) h t = t
-
 pub taken_if : (a b : Cursor) (k : Kind) (o : Option Place) (none : Bool) → is_some o ≡ not none → none ≡ false → IfSome o (λ place. Took a b (of_kind_at k place ∷ [])) → (place : Place) × Took a b (of_kind_at k place ∷ [])
 taken_if a b k None none e h t = cc
 taken_if a b k (Some place) none e h t = (place, t)
+
+-- and then fewer are left
+pub fewer_if : (m n : ℕ) (o : Option Place) (none : Bool) → is_some o ≡ not none → none ≡ false → OnSome o (m < n) → m < n
+fewer_if m n None none e h t = cc
+fewer_if m n (Some place) none e h t = t
 
 pub some_grown : {A : Type 0} (xs : List A) (x : A) → 0 < length (xs ++ x ∷ [])
 some_grown [] x = omega arith
@@ -64,6 +60,22 @@ actuals_go_on levels a b c d actuals grown p x list comma given is = record {
   nests = subst (λ xs. deepest xs ≤ levels) (sym (ap (map actual_levels) is ∙ map_push actual_levels actuals x)) (deepest_push levels (map actual_levels actuals) (actual_levels x) list.nests given.nests);
 }
 
+-- with one more actual there is a list
+abbrev pub ActualsGrow : ℕ → Cursor → Cursor → List Actual → Type 0
+ActualsGrow levels old now actuals = (new : Cursor) (x : Actual) → Read (BeginsActual levels) now new x → Read (BeginsActualList levels) old new (actuals ++ x ∷ [])
+
+-- the first actual
+pub actuals_grow_first : (levels : ℕ) (a : Cursor) → ActualsGrow levels a a []
+actuals_grow_first levels a b x given = record {
+  list = record { some = omega arith; spelled = given.spelled };
+  formed = and_true (is_actual x) true given.formed refl;
+  nests = deepest_push levels [] (actual_levels x) (omega arith) given.nests;
+}
+
+-- behind a comma
+pub actuals_grow : (levels : ℕ) (a b c : Cursor) (actuals : List Actual) (p : Place) → Read (BeginsActualList levels) a b actuals → Took b c (of_kind_at (kind.Symbol symbol.Comma) p ∷ []) → ActualsGrow levels a c actuals
+actuals_grow levels a b c actuals p list comma d x given = actuals_go_on levels a b c d actuals (actuals ++ x ∷ []) p x list comma given refl
+
 -- a list in its parentheses
 pub in_their_parentheses : (a b c d : Cursor) (p q : Place) (parts : List Spelling)
     → Took a b (of_kind_at (kind.Symbol symbol.OpenParenthesis) p ∷ []) → Read (BeginsList symbol.Comma) b c parts → Took c d (of_kind_at (kind.Symbol symbol.CloseParenthesis) q ∷ []) → Took a d (in_parentheses parts)
@@ -89,6 +101,22 @@ statements_go_on levels a b c d statements grown p s list semicolon given is = r
   formed = subst (λ x. list_all is_statement x ≡ true) (sym is) (all_push is_statement statements s list.formed given.formed);
   nests = subst (λ x. deepest x ≤ levels) (sym (ap (map stmt_levels) is ∙ map_push stmt_levels statements s)) (deepest_push levels (map stmt_levels statements) (stmt_levels s) list.nests given.nests);
 }
+
+-- with one more statement there is a list
+abbrev pub StatementsGrow : ℕ → Cursor → Cursor → List Stmt → Type 0
+StatementsGrow levels old now statements = (new : Cursor) (s : Stmt) → Read (BeginsStmt levels) now new s → Read (BeginsStatements levels) old new (statements ++ s ∷ [])
+
+-- the first statement
+pub statements_grow_first : (levels : ℕ) (a : Cursor) → StatementsGrow levels a a []
+statements_grow_first levels a b s given = record {
+  list = record { some = omega arith; spelled = given.spelled };
+  formed = and_true (is_statement s) true given.formed refl;
+  nests = deepest_push levels [] (stmt_levels s) (omega arith) given.nests;
+}
+
+-- behind a semicolon
+pub statements_grow : (levels : ℕ) (a b c : Cursor) (statements : List Stmt) (p : Place) → Read (BeginsStatements levels) a b statements → Took b c (of_kind_at (kind.Symbol symbol.Semicolon) p ∷ []) → StatementsGrow levels a c statements
+statements_grow levels a b c statements p list semicolon d s given = statements_go_on levels a b c d statements (statements ++ s ∷ []) p s list semicolon given refl
 
 -- statements between their word symbols
 pub compound_closed : (levels : ℕ) (a b c d : Cursor) (p end : Place) (statements : List Stmt)

@@ -7,7 +7,7 @@ use lexer::place::Place;
 use lexer::token::{Kind, Symbol, Token, Word};
 
 /// The tokens that are left to read.
-#[derive(Clone, Copy, Debug)]
+#[derive(Clone, Copy)]
 pub struct Cursor<'t, 'a> {
     rest: &'t [Token<'a>],
     /// Just past the last token of all.

@@ -215,11 +215,12 @@ fn actual_list<'a>(
     ensures exact { ReadsDeep levels BeginsActualList Closes cursor.old cursor.new result }
 {
     let mut actuals = Vec::new(alloc);
-    actuals.push(actual(alloc, cursor, levels)?)?;
-    while cursor.take_symbol(Symbol::Comma).is_some() {
+    loop {
         actuals.push(actual(alloc, cursor, levels)?)?;
+        if cursor.take_symbol(Symbol::Comma).is_none() {
+            return Ok(actuals);
+        }
     }
-    Ok(actuals)
 }
 
 // actual = expression [":" expression]

@@ -8,7 +8,7 @@ use crate::tree::Operator;
 use lexer::token::{Kind, Symbol, Word};
 
 /// The operators of one precedence (6.7.2.1).
-#[derive(Clone, Copy, Debug, PartialEq, Eq)]
+#[derive(Clone, Copy, PartialEq, Eq)]
 pub enum Level {
     Relation,
     Sum,

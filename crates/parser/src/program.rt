@@ -104,11 +104,12 @@ fn names<'a>(alloc: Global, cursor: &mut Cursor<'_, 'a>) -> Result<Vec<Name<'a>>
     ensures exact { ReadsEach BeginsNames (NoNext (Kind.Symbol Symbol.Comma)) cursor.old cursor.new result }
 {
     let mut names = Vec::new(alloc);
-    names.push(cursor.expect_name()?)?;
-    while cursor.take_symbol(Symbol::Comma).is_some() {
+    loop {
         names.push(cursor.expect_name()?)?;
+        if cursor.take_symbol(Symbol::Comma).is_none() {
+            return Ok(names);
+        }
     }
-    Ok(names)
 }
 
 // block = variables compound
@@ -157,11 +158,12 @@ fn groups<'a>(
     ensures exact { ReadsEach BeginsGroups (NoNext Kind.Identifier) cursor.old cursor.new result }
 {
     let mut groups = Vec::new(alloc);
-    groups.push(group(alloc, cursor)?)?;
-    while let Some(Kind::Identifier) = cursor.peek() {
+    loop {
         groups.push(group(alloc, cursor)?)?;
+        let Some(Kind::Identifier) = cursor.peek() else {
+            return Ok(groups);
+        };
     }
-    Ok(groups)
 }
 
 // group = names ":" name ";"

@@ -45,11 +45,12 @@ fn statements<'a>(
     ensures exact { ReadsDeep levels BeginsStatements EndsStatements cursor.old cursor.new result }
 {
     let mut statements = Vec::new(alloc);
-    statements.push(statement(alloc, cursor, levels)?)?;
-    while cursor.take_symbol(Symbol::Semicolon).is_some() {
+    loop {
         statements.push(statement(alloc, cursor, levels)?)?;
+        if cursor.take_symbol(Symbol::Semicolon).is_none() {
+            return Ok(statements);
+        }
     }
-    Ok(statements)
 }
 
 // statement = [simple | compound]

@@ -1,6 +1,11 @@
 -- The fault of a layer, as the whole compiler tells it, is a refusal of the source.
-use Rattle.std.proofs.Common.{◌≡◌, ◌⊎◌, ⊎_elim, ℕ, ◌<◌, List, Some, Result, Err, IfErr, length, refl, sym, subst}
+use Rattle.std.proofs.Common.{◌≡◌, ◌⊎◌, ⊎_elim, ℕ, ◌<◌, List, Some, Result, Err, IfErr, map, length, refl, sym, subst}
+use Rattle.lexer.specs.declared.token.Token.{Token}
+use Rattle.lexer.specs.Tokens.{IsTokenList, lexeme_of}
+use Rattle.parser.specs.declared.fault.ParseFault.{ParseFault}
+use Rattle.parser.specs.declared.fault.ParseFault.TheVariants as parse
 use Rattle.parser.specs.declared.tree.Program.{Program}
+use Rattle.parser.specs.Syntax.{IsFaultOf}
 use Rattle.typed_tree.specs.declared.tree.Tree.{Tree}
 use Rattle.resolver.specs.Typing.{HasTyping}
 use Rattle.typed_tree.specs.declared.fault.TypeFault.{TypeFault}
@@ -12,7 +17,7 @@ use Rattle.code_generator.specs.declared.fault.GenFault.{GenFault}
 use Rattle.code_generator.specs.declared.fault.GenFault.TheVariants as generate
 use Rattle.code_generator.specs.Code.{program_code}
 use Rattle.report.specs.declared.fault.Fault.{Fault}
-use Rattle.report.specs.Faults.{typing_fault, certificate_fault, generator_fault}
+use Rattle.report.specs.Faults.{parser_fault, typing_fault, certificate_fault, generator_fault}
 use Rattle.report.specs.Headline.{IsWrittenAs, IsTypedTreeOf}
 use Rattle.report.specs.Refusals.{IsRefusal, IsCertificate}
 
@@ -20,6 +25,11 @@ use Rattle.report.specs.Refusals.{IsRefusal, IsCertificate}
 pub refused_by : {A : Type 0} (source text : List ℕ) (answer : Result A Fault) (y fault : Fault) → answer ≡ Err y → y ≡ fault → IsRefusal source text fault → IfErr answer (IsRefusal source text)
 refused_by source text answer y fault is same h =
     subst (λ r. IfErr r (IsRefusal source text)) (sym is) (subst (IsRefusal source text) (sym same) h)
+
+-- syntax is refused of a source whose tokens have that fault
+pub parsing-refusal : (source text : List ℕ) (fault : ParseFault) (tokens : List Token) → IsTokenList source (map lexeme_of tokens) → IsFaultOf fault tokens → IsRefusal source text (parser_fault fault)
+parsing-refusal source text parse.Memory tokens list h = tt
+parsing-refusal source text fault tokens list h = (tokens, list, h)
 
 -- names and types are refused of a source that is written as a program without a typing
 pub typing-refusal : (source text : List ℕ) (fault : TypeFault) (program : Program) → IsWrittenAs source program → (fault ≡ typing.Memory) ⊎ (¬ HasTyping program) → IsRefusal source text (typing_fault fault)

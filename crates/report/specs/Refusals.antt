@@ -5,11 +5,14 @@ use denote.Ref.{Bor}
 use Rattle.lexer.specs.declared.token.Token.{Token}
 use Rattle.lexer.specs.Tokens.{IsTokenList, IsFirstFault, lexeme_of}
 use Rattle.parser.specs.declared.tree.Program.{Program}
+use Rattle.parser.specs.declared.fault.ParseFault.TheVariants as parse
 use Rattle.parser.specs.Syntax.{IsFaultOf}
 use Rattle.typed_tree.specs.declared.tree.Tree.{Tree}
+use Rattle.typed_tree.specs.declared.fault.TypeFault.TheVariants as typing
 use Rattle.resolver.specs.Typing.{HasTyping}
 use Rattle.certificate.specs.declared.Certificate.{Certificate as CertificateRead}
 use Rattle.certificate.specs.Text.{spelling, first_fault}
+use Rattle.code_generator.specs.declared.fault.GenFault.TheVariants as generate
 use Rattle.code_generator.specs.Code.{program_code}
 use Rattle.report.specs.declared.fault.Fault.{Fault}
 use Rattle.report.specs.declared.fault.Fault.TheVariants.{Memory, Lex, Parse, Typing, Certificate, Check, Generate}
@@ -24,13 +27,17 @@ text_of (Some text) = text.now
 abbrev pub IsCertificate : List ℕ → Type 0
 IsCertificate text = (certificate : CertificateRead) × (text ≡ spelling certificate)
 
--- why a source with a certificate is refused: each layer is told only where those before it had no fault
+-- why a source with a certificate is refused: each layer is told only where those before it had no fault, and the want
+-- of memory of each is told alike
 abbrev pub IsRefusal : List ℕ → List ℕ → Fault → Type 0
 IsRefusal source text Memory = Unit {0}
 IsRefusal source text (Lex fault) = IsFirstFault source fault
+IsRefusal source text (Parse parse.Memory) = ⊥
 IsRefusal source text (Parse fault) = (tokens : List Token) × IsTokenList source (map lexeme_of tokens) × IsFaultOf fault tokens
+IsRefusal source text (Typing typing.Memory) = ⊥
 IsRefusal source text (Typing fault) = (program : Program) × IsWrittenAs source program × (¬ HasTyping program)
 IsRefusal source text (Certificate fault) = (tree : Tree) × IsTypedTreeOf tree source × (first_fault text ≡ Some fault)
 IsRefusal source text (Check fault) = ⊥
-IsRefusal source text (Generate fault) =
+IsRefusal source text (Generate generate.Memory) = ⊥
+IsRefusal source text (Generate generate.TooLarge) =
     (tree : Tree) × IsTypedTreeOf tree source × IsCertificate text × (1000000 < length (program_code tree))

@@ -1,4 +1,4 @@
-ghost use Rattle.std.specs.Prelude.{◌≡◌, ◌≤◌, ◌<◌, ◌+◌, ◌-◌, ◌^◌, ℕ, List, IfOk, IfErr};
+ghost use Rattle.std.specs.Prelude.{◌≡◌, ◌≤◌, ◌<◌, ◌+◌, ◌-◌, ◌^◌, ℕ, List, IfOk, IfErr, OnErr};
 ghost use Rattle.certificate.specs.Text.{spelling};
 ghost use Rattle.cert_checker.specs.Entries.{entries};
 ghost use Rattle.cert_checker.specs.Promise.{Valid, StatesHold};
@@ -31,7 +31,7 @@ use typed_tree::tree::Tree;
 pub const PLAIN_CERTIFICATE: &[u8] = b"pcert 1\n";
 
 /// What compiling a source gives.
-#[derive(Debug, Drop)]
+#[derive(Drop)]
 pub struct Compiled {
     pub tree: Tree,
     /// The certificate that was used.
@@ -93,7 +93,7 @@ pub fn compile(alloc: Global, source: &[u8], certificate: Option<&[u8]>) -> Resu
 /// so many cells (1 to 16,777,216) and for at most `budget` instructions.
 ///
 /// # Errors
-/// Those of `compile`, and want of memory for the machine.
+/// Those of `compile`, and want of memory for the machine. The writer is then as it was.
 pub fn go<R: Feed, W: Sink>(
     alloc: Global,
     source: &[u8],
@@ -111,6 +111,7 @@ pub fn go<R: Feed, W: Sink>(
     ensures write_failed { IfOk result (λ r. W.failures writer.new ≡ W.failures writer.old + write_failures_of r.1) }
     ensures input_left { reader.new ≡ reader.old }
     ensures refused { IfErr result (IsRefusal source.now (text_of certificate.entry)) }
+    ensures unwritten { OnErr result (writer.new ≡ writer.old) }
 {
     let compiled = compile(alloc, source, certificate)?;
     let mut machine = Machine::new(alloc, cells)?;

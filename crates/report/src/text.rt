@@ -81,14 +81,14 @@ pub fn stop_text(alloc: Global, stop: &Stop) -> (Line, u8)
 }
 
 /// The letter and the number of a rule that a source breaks.
-#[derive(Clone, Copy, Debug, PartialEq, Eq)]
+#[derive(Clone, Copy)]
 pub struct Code {
     pub letter: u8,
     pub number: u8,
 }
 
 /// What a fault says: where, and which rule.
-#[derive(Clone, Copy, Debug, PartialEq, Eq)]
+#[derive(Clone, Copy)]
 pub enum Refusal {
     Memory,
     /// At a place of the source.

@@ -101,10 +101,10 @@ fn any_text_is_answered(rt: HostRuntime) -> Result<(), Fail> {
     let mut taken = 0u32;
     for _ in 0..2_000 {
         let text = text_of_bytes(alloc, &mut numbers)?;
-        let (line, status) = refusal(alloc, &text)?;
+        let (line, status) = refusal(alloc, &text, None)?;
         assert_eq!(rt; status == 2, line.ends_with(b"\n"));
         let text = text_of_pieces(alloc, &mut numbers)?;
-        let (_, status) = refusal(alloc, &text)?;
+        let (_, status) = refusal(alloc, &text, None)?;
         assert!(rt; status == 2 || status == 0);
         taken = taken.saturating_add(u32::from(status == 0));
     }
@@ -112,7 +112,7 @@ fn any_text_is_answered(rt: HostRuntime) -> Result<(), Fail> {
     assert!(rt; taken < 100);
     for byte in 0..=255u8 {
         let text = [byte];
-        let (_, status) = refusal(alloc, &text)?;
+        let (_, status) = refusal(alloc, &text, None)?;
         assert_eq!(rt; status, 2);
     }
     Ok(())

@@ -1,4 +1,4 @@
-use crate::shown::{CELLS, interpreted, is_same_end, refusal, repeated, show};
+use crate::shown::{CELLS, all_hold, interpreted, refusal, repeated, show};
 use meaning::outcome::Ending;
 use report::compile::compile;
 use report::text::stop_text;
@@ -12,9 +12,9 @@ fn texts_up_to_a_mebibyte_are_taken(rt: HostRuntime) -> Result<(), Fail> {
     let program = "program p; begin end.";
     let full = repeated(alloc, &[(program, 1), (" ", 1_048_576 - 21)])?;
     assert_eq!(rt; full.len(), 1_048_576);
-    assert!(rt; compile(alloc, &full, None).is_ok());
+    compile(alloc, &full, None)?;
     let longer = repeated(alloc, &[(program, 1), (" ", 1_048_577 - 21)])?;
-    let (line, status) = refusal(alloc, &longer)?;
+    let (line, status) = refusal(alloc, &longer, None)?;
     assert_eq!(rt; line.as_slice(), b"1:1: refused L7\n".as_slice());
     assert_eq!(rt; status, 2);
     Ok(())
@@ -37,129 +37,116 @@ fn nested(alloc: Global, compounds: usize, parentheses: usize) -> Result<Vec<u8>
     )
 }
 
+// Compounds and parentheses, and the line of the refusal, if there is one. The program's compound is the first level,
+// and the assignment the last but the parentheses. It stands behind 33 characters and 6 for each compound, and the first
+// parenthesis 5 columns on.
+static DEPTHS: [(usize, usize, &str); 6] = [
+    (0, 126, ""),
+    (0, 127, "1:165: refused P2\n"),
+    (126, 0, ""),
+    (127, 0, "1:796: refused P2\n"),
+    (60, 66, ""),
+    (60, 67, "1:465: refused P2\n"),
+];
+
+fn nests_so(alloc: Global, row: &(usize, usize, &str)) -> Result<bool, Fail> {
+    let source = nested(alloc, row.0, row.1)?;
+    let (line, _) = refusal(alloc, &source, None)?;
+    Ok(line.as_slice() == row.2.as_bytes())
+}
+
 #[test]
 fn nesting_goes_to_128(rt: HostRuntime) -> Result<(), Fail> {
+    all_hold(rt.alloc(), &DEPTHS, nests_so)
+}
+
+// Whether a source does without checks and without an error what it should, on the machine and by the interpreter.
+fn writes(alloc: Global, source: &[u8], output: &[u8]) -> Result<bool, Fail> {
+    let shown = show(alloc, source, CELLS, u64::MAX)?;
+    let (written, ending) = interpreted(alloc, source)?;
+    let is_written = shown.output.as_slice() == output && written.as_slice() == output;
+    let is_ended = shown.stop == Stop::Finished && ending == Ending::Finished;
+    Ok(is_written && is_ended && shown.report.is_empty())
+}
+
+#[test]
+fn a_long_chain_uses_no_stack(rt: HostRuntime) -> Result<(), Fail> {
     let alloc = rt.alloc();
-    // The program's compound is the first level and the assignment the last but the parentheses.
-    let rows = [
-        (0, 126, true),
-        (0, 127, false),
-        (126, 0, true),
-        (127, 0, false),
-        (60, 66, true),
-        (60, 67, false),
+    let chain = [
+        ("program p(output); begin writeln(0", 1),
+        ("+1-1", 50_000),
+        (") end.", 1),
     ];
-    for (compounds, parentheses, taken) in rows {
-        let source = nested(alloc, compounds, parentheses)?;
-        let (line, _) = refusal(alloc, &source)?;
-        assert_eq!(rt; line.is_empty(), taken, "{compounds} and {parentheses}");
-        assert_eq!(rt;
-            line.ends_with(b" refused P2\n"),
-            !taken,
-            "{compounds} and {parentheses}"
-        );
-    }
-    // The first parenthesis stands at column 39.
-    let (line, _) = refusal(alloc, &nested(alloc, 0, 127)?)?;
-    assert_eq!(rt; line.as_slice(), b"1:165: refused P2\n".as_slice());
+    assert!(rt; writes(alloc, &repeated(alloc, &chain)?, b"         0\n")?);
     Ok(())
 }
 
 #[test]
-fn long_lists_use_no_stack(rt: HostRuntime) -> Result<(), Fail> {
+fn a_long_compound_uses_no_stack(rt: HostRuntime) -> Result<(), Fail> {
     let alloc = rt.alloc();
-    let chain = repeated(
-        alloc,
-        &[
-            ("program p(output); begin writeln(0", 1),
-            ("+1-1", 50_000),
-            (") end.", 1),
-        ],
-    )?;
-    let shown_chain = show(alloc, &chain, CELLS, u64::MAX)?;
-    assert_eq!(rt; shown_chain.output.as_slice(), b"         0\n".as_slice());
-    assert!(rt; shown_chain.report.is_empty());
-    let (written, _) = interpreted(alloc, &chain)?;
-    assert_eq!(rt; written.as_slice(), b"         0\n".as_slice());
-    let compound = repeated(
-        alloc,
-        &[("program p; begin ", 1), (";", 100_000), (" end.", 1)],
-    )?;
-    let compiled = compile(alloc, &compound, None)?;
-    assert_eq!(rt; compiled.verdict.visits, 100_002);
-    let (_, ending) = interpreted(alloc, &compound)?;
-    assert_eq!(rt; ending, Ending::Finished);
+    let compound = [("program p; begin ", 1), (";", 100_000), (" end.", 1)];
+    let source = repeated(alloc, &compound)?;
+    assert!(rt; writes(alloc, &source, b"")?);
+    assert_eq!(rt; compile(alloc, &source, None)?.verdict.visits, 100_002);
     Ok(())
+}
+
+// How often `x+` stands in a sum, and the line of the refusal. Each has two sites and four instructions. The first site is
+// that of `:=`, and each further one stands a column on from the first `x`, at column 39.
+static LIMITS: [(usize, &str); 2] = [
+    (500_001, "1:1000038: refused K10\n"),
+    (250_001, "refused G1\n"),
+];
+
+fn is_limit_told(alloc: Global, row: &(usize, &str)) -> Result<bool, Fail> {
+    let sum = [
+        ("program p; var x: integer; begin x := ", 1),
+        ("x+", row.0),
+        ("x end.", 1),
+    ];
+    let (line, status) = refusal(alloc, &repeated(alloc, &sum)?, None)?;
+    Ok(line.as_slice() == row.1.as_bytes() && status == 2)
 }
 
 #[test]
 fn limits_are_told(rt: HostRuntime) -> Result<(), Fail> {
-    let alloc = rt.alloc();
-    // Each `x+` has two sites and four instructions.
-    let many_sites = repeated(
-        alloc,
-        &[
-            ("program p; var x: integer; begin x := ", 1),
-            ("x+", 500_001),
-            ("x end.", 1),
-        ],
-    )?;
-    let (line, status) = refusal(alloc, &many_sites)?;
-    // The first site is that of `:=`, and each further one stands a column on from the first `x`, at column 39.
-    assert_eq!(rt; line.as_slice(), b"1:1000038: refused K10\n".as_slice());
-    assert_eq!(rt; status, 2);
-    let many_instructions = repeated(
-        alloc,
-        &[
-            ("program p; var x: integer; begin x := ", 1),
-            ("x+", 250_001),
-            ("x end.", 1),
-        ],
-    )?;
-    let (line, status) = refusal(alloc, &many_instructions)?;
-    assert_eq!(rt; line.as_slice(), b"refused G1\n".as_slice());
-    assert_eq!(rt; status, 2);
-    Ok(())
+    all_hold(rt.alloc(), &LIMITS, is_limit_told)
 }
 
 #[test]
 fn output_passes_its_piece(rt: HostRuntime) -> Result<(), Fail> {
     let alloc = rt.alloc();
-    let source = repeated(
-        alloc,
-        &[
-            ("program p(output); begin writeln(1)", 1),
-            ("; writeln(1)", 999),
-            (" end.", 1),
-        ],
-    )?;
-    let want = repeated(alloc, &[("         1\n", 1_000)])?;
-    let shown = show(alloc, &source, CELLS, u64::MAX)?;
-    assert_eq!(rt; shown.output.as_slice(), want.as_slice());
-    assert_eq!(rt; shown.stop, Stop::Finished);
-    let (written, ending) = interpreted(alloc, &source)?;
-    assert_eq!(rt; written.as_slice(), want.as_slice());
-    assert!(rt; is_same_end(shown.stop, ending));
+    let source = [
+        ("program p(output); begin writeln(1)", 1),
+        ("; writeln(1)", 999),
+        (" end.", 1),
+    ];
+    let output = repeated(alloc, &[("         1\n", 1_000)])?;
+    assert!(rt; writes(alloc, &repeated(alloc, &source)?, &output)?);
     Ok(())
+}
+
+// Cells and a budget, and the output, the line of the stop and the status.
+type Run = (u32, u64, &'static str, &'static str, u8);
+
+// The frame takes four cells, the variable one, and the value and its width two more.
+static RUNS: [Run; 4] = [
+    (3, u64::MAX, "", "store full\n", 6),
+    (6, u64::MAX, "", "store full\n", 6),
+    (7, u64::MAX, "         1\n", "", 0),
+    (7, 0, "", "budget used up\n", 3),
+];
+
+fn runs_out(alloc: Global, row: &Run) -> Result<bool, Fail> {
+    let source = b"program p(output); var x: integer; begin x := 1; writeln(x) end.";
+    let (cells, budget, output, line, status) = *row;
+    let shown = show(alloc, source, cells.clamp(1, CELLS), budget)?;
+    let (told, ended) = stop_text(alloc, &shown.stop);
+    let is_written = shown.output.as_slice() == output.as_bytes();
+    Ok(is_written && told.as_slice() == line.as_bytes() && ended == status)
 }
 
 #[test]
 fn cells_and_budget_run_out(rt: HostRuntime) -> Result<(), Fail> {
-    let alloc = rt.alloc();
-    let source = b"program p(output); var x: integer; begin x := 1; writeln(x) end.";
-    // The frame takes four cells, the variable one, and the value and its width two more.
-    let rows = [
-        (3, u64::MAX, "", "store full\n", 6),
-        (6, u64::MAX, "", "store full\n", 6),
-        (7, u64::MAX, "         1\n", "", 0),
-        (7, 0, "", "budget used up\n", 3),
-    ];
-    for (cells, budget, output, line, status) in rows {
-        let shown = show(alloc, source, cells, budget)?;
-        assert_eq!(rt; shown.output.as_slice(), output.as_bytes(), "{cells} cells");
-        let (told, ended) = stop_text(alloc, &shown.stop);
-        assert_eq!(rt; told.as_slice(), line.as_bytes(), "{cells} cells");
-        assert_eq!(rt; ended, status, "{cells} cells");
-    }
-    Ok(())
+    all_hold(rt.alloc(), &RUNS, runs_out)
 }

@@ -1,16 +1,17 @@
-use crate::shown::{CELLS, interpreted, is_same_end, refusal, show};
+use crate::shown::{CELLS, all_hold, interpreted, is_same_end, refusal, show};
 use pcode_assembler::code::{Point, Site};
 use report::compile::compile;
 use report::fault::Fault;
 use report::text::{fault_text, stop_text};
 use report::words::{WordsFault, pcom_words};
 use stack_machine::stop::{InputFault, MachineFault, Stop};
+use std::alloc::Global;
 use std::test::Fail;
 
 // A source, what is told of it, what it writes, the line of its stop, and the status.
 type Row = (&'static str, &'static str, &'static str, &'static str, u8);
 
-const ROWS: [Row; 23] = [
+static ROWS: [Row; 23] = [
     (
         "program p(output); var x, y: integer; begin x := 7; y := x - 10; writeln(x + y, -x) end.",
         "",
@@ -168,289 +169,317 @@ const ROWS: [Row; 23] = [
     ),
 ];
 
+// Whether the machine and the interpreter do what the row says.
+fn runs_so(alloc: Global, row: &Row) -> Result<bool, Fail> {
+    let (source, report, output, line, status) = *row;
+    let shown = show(alloc, source.as_bytes(), CELLS, u64::MAX)?;
+    let (told, ended) = stop_text(alloc, &shown.stop);
+    let (written, ending) = interpreted(alloc, source.as_bytes())?;
+    let is_told = shown.report.as_slice() == report.as_bytes();
+    let is_written = shown.output.as_slice() == output.as_bytes();
+    let is_ended = told.as_slice() == line.as_bytes() && ended == status;
+    let is_meant = written.as_slice() == output.as_bytes() && is_same_end(shown.stop, ending);
+    Ok(is_told && is_written && is_ended && is_meant)
+}
+
 #[test]
 fn rows_run_as_the_rules_say(rt: HostRuntime) -> Result<(), Fail> {
-    let alloc = rt.alloc();
-    for (source, report, output, line, status) in ROWS {
-        let shown = show(alloc, source.as_bytes(), CELLS, u64::MAX)?;
-        assert_eq!(rt; shown.report.as_slice(), report.as_bytes(), "{source}");
-        assert_eq!(rt; shown.output.as_slice(), output.as_bytes(), "{source}");
-        let (told, ended) = stop_text(alloc, &shown.stop);
-        assert_eq!(rt; told.as_slice(), line.as_bytes(), "{source}");
-        assert_eq!(rt; ended, status, "{source}");
-        let (written, ending) = interpreted(alloc, source.as_bytes())?;
-        assert_eq!(rt; written.as_slice(), output.as_bytes(), "{source}");
-        assert!(rt; is_same_end(shown.stop, ending), "{source}");
-    }
-    Ok(())
+    all_hold(rt.alloc(), &ROWS, runs_so)
+}
+
+// Sources, and how many statements and expressions they have.
+static VISITS: [(&str, u64); 4] = [
+    // 4 statements, 2 targets, 6 factors, 2 operators and 1 sign.
+    (
+        "program p(output); var x, y: integer; begin x := 7; y := x - 10; writeln(x + y, -x) end.",
+        15,
+    ),
+    ("program p; begin end.", 2),
+    // 2 statements, 2 values and 1 width.
+    ("program p(output); begin write(1:2, true) end.", 5),
+    // 2 statements, and `not`, `odd`, a sign and a number.
+    ("program p(output); begin write(not odd(-1)) end.", 6),
+];
+
+fn has_visits(alloc: Global, row: &(&str, u64)) -> Result<bool, Fail> {
+    let compiled = compile(alloc, row.0.as_bytes(), None)?;
+    Ok(compiled.verdict.visits == row.1)
 }
 
 #[test]
 fn each_entry_is_visited_once(rt: HostRuntime) -> Result<(), Fail> {
-    let alloc = rt.alloc();
-    // Of the first row: 4 statements, 2 targets, 6 factors, 2 operators and 1 sign.
-    let rows = [
-        (ROWS[0].0, 15),
-        ("program p; begin end.", 2),
-        // 2 statements, 2 values and 1 width.
-        ("program p(output); begin write(1:2, true) end.", 5),
-        // 2 statements, and `not`, `odd`, a sign and a number.
-        ("program p(output); begin write(not odd(-1)) end.", 6),
-    ];
-    for (source, visits) in rows {
-        let compiled = compile(alloc, source.as_bytes(), None)?;
-        assert_eq!(rt; compiled.verdict.visits, visits, "{source}");
-    }
-    Ok(())
+    all_hold(rt.alloc(), &VISITS, has_visits)
+}
+
+// Sources, and the line of their refusal.
+static REFUSALS: [(&str, &str); 38] = [
+    ("", "1:1: refused P1\n"),
+    (
+        "program p; begin if 10div 2 = 5 then end.",
+        "1:21: refused L6\n",
+    ),
+    ("program p; begin ? end.", "1:18: refused L1\n"),
+    ("program p; begin (* {", "1:18: refused L2\n"),
+    ("program p; begin 'x", "1:18: refused L3\n"),
+    ("program p; begin '' end.", "1:18: refused L4\n"),
+    ("program p; begin 99999999999a", "1:18: refused L5\n"),
+    ("program p; begin '\u{7}' end.", "1:19: refused L8\n"),
+    (
+        "program p; var x: integer; begin x := 1 < 2 < 3 end.",
+        "1:45: refused P1\n",
+    ),
+    (
+        "program p(output); begin write(1:2:3) end.",
+        "1:35: refused P1\n",
+    ),
+    (
+        "program p(output); begin write() end.",
+        "1:32: refused P1\n",
+    ),
+    (
+        "program p; var b: Boolean; begin b := 1 end.",
+        "1:36: refused K1\n",
+    ),
+    (
+        "program p; var x: integer; begin x := true end.",
+        "1:36: refused K1\n",
+    ),
+    (
+        "program p; var b: Boolean; begin b := not 1 end.",
+        "1:39: refused K1\n",
+    ),
+    (
+        "program p; var x: integer; begin x := -true end.",
+        "1:39: refused K1\n",
+    ),
+    (
+        "program p; var b: Boolean; begin b := 1 and true end.",
+        "1:41: refused K1\n",
+    ),
+    (
+        "program p; var b: Boolean; begin b := 1 = true end.",
+        "1:41: refused K1\n",
+    ),
+    (
+        "program p; var x: integer; begin x := 1 + true end.",
+        "1:41: refused K1\n",
+    ),
+    (
+        "program p; var x: integer; begin x := abs(true) end.",
+        "1:43: refused K1\n",
+    ),
+    (
+        "program p(output); begin write(1:true) end.",
+        "1:34: refused K1\n",
+    ),
+    (
+        "program p(output); begin write(integer) end.",
+        "1:32: refused K1\n",
+    ),
+    (
+        "program p; var x: integer; begin x := abs(1, 2) end.",
+        "1:39: refused K3\n",
+    ),
+    (
+        "program p; var x: integer; begin x := abs(1:2) end.",
+        "1:39: refused K3\n",
+    ),
+    (
+        "program p; var x: integer; begin x := abs end.",
+        "1:39: refused K3\n",
+    ),
+    ("program p(output); begin write end.", "1:26: refused K3\n"),
+    (
+        "program p(output); begin write(output) end.",
+        "1:26: refused K3\n",
+    ),
+    ("program p; begin abs(1) end.", "1:18: refused K3\n"),
+    ("program p; begin write(1) end.", "1:18: refused K8\n"),
+    (
+        "program p; var x: integer; begin x := maxint(1) end.",
+        "1:39: refused K1\n",
+    ),
+    ("program p; begin nil end.", "1:18: refused P3\n"),
+    (
+        "program p; var a, a: integer; begin end.",
+        "1:19: refused S1\n",
+    ),
+    (
+        "program p; var a: t; t: integer; begin end.",
+        "1:19: refused S2\n",
+    ),
+    ("program p; begin read end.", "1:18: refused S3\n"),
+    (
+        "program p; var a: integer; begin a := integer end.",
+        "1:39: refused K1\n",
+    ),
+    ("program p; begin integer := 1 end.", "1:18: refused K2\n"),
+    (
+        "program p; var a: integer; begin a := writeln end.",
+        "1:39: refused K3\n",
+    ),
+    ("program p; begin writeln(1) end.", "1:18: refused K8\n"),
+    ("program p(input); begin end.", "1:11: refused K8\n"),
+];
+
+fn is_refused(alloc: Global, row: &(&str, &str)) -> Result<bool, Fail> {
+    let (told, status) = refusal(alloc, row.0.as_bytes(), None)?;
+    Ok(told.as_slice() == row.1.as_bytes() && status == 2)
 }
 
 #[test]
 fn refusals_stand_at_their_places(rt: HostRuntime) -> Result<(), Fail> {
-    let alloc = rt.alloc();
-    let rows = [
-        ("", "1:1: refused P1\n"),
-        (
-            "program p; begin if 10div 2 = 5 then end.",
-            "1:21: refused L6\n",
-        ),
-        ("program p; begin ? end.", "1:18: refused L1\n"),
-        ("program p; begin (* {", "1:18: refused L2\n"),
-        ("program p; begin 'x", "1:18: refused L3\n"),
-        ("program p; begin '' end.", "1:18: refused L4\n"),
-        ("program p; begin 99999999999a", "1:18: refused L5\n"),
-        ("program p; begin '\u{7}' end.", "1:19: refused L8\n"),
-        (
-            "program p; var x: integer; begin x := 1 < 2 < 3 end.",
-            "1:45: refused P1\n",
-        ),
-        (
-            "program p(output); begin write(1:2:3) end.",
-            "1:35: refused P1\n",
-        ),
-        (
-            "program p(output); begin write() end.",
-            "1:32: refused P1\n",
-        ),
-        (
-            "program p; var b: Boolean; begin b := 1 end.",
-            "1:36: refused K1\n",
-        ),
-        (
-            "program p; var x: integer; begin x := true end.",
-            "1:36: refused K1\n",
-        ),
-        (
-            "program p; var b: Boolean; begin b := not 1 end.",
-            "1:39: refused K1\n",
-        ),
-        (
-            "program p; var x: integer; begin x := -true end.",
-            "1:39: refused K1\n",
-        ),
-        (
-            "program p; var b: Boolean; begin b := 1 and true end.",
-            "1:41: refused K1\n",
-        ),
-        (
-            "program p; var b: Boolean; begin b := 1 = true end.",
-            "1:41: refused K1\n",
-        ),
-        (
-            "program p; var x: integer; begin x := 1 + true end.",
-            "1:41: refused K1\n",
-        ),
-        (
-            "program p; var x: integer; begin x := abs(true) end.",
-            "1:43: refused K1\n",
-        ),
-        (
-            "program p(output); begin write(1:true) end.",
-            "1:34: refused K1\n",
-        ),
-        (
-            "program p(output); begin write(integer) end.",
-            "1:32: refused K1\n",
-        ),
-        (
-            "program p; var x: integer; begin x := abs(1, 2) end.",
-            "1:39: refused K3\n",
-        ),
-        (
-            "program p; var x: integer; begin x := abs(1:2) end.",
-            "1:39: refused K3\n",
-        ),
-        (
-            "program p; var x: integer; begin x := abs end.",
-            "1:39: refused K3\n",
-        ),
-        ("program p(output); begin write end.", "1:26: refused K3\n"),
-        (
-            "program p(output); begin write(output) end.",
-            "1:26: refused K3\n",
-        ),
-        ("program p; begin abs(1) end.", "1:18: refused K3\n"),
-        ("program p; begin write(1) end.", "1:18: refused K8\n"),
-        (
-            "program p; var x: integer; begin x := maxint(1) end.",
-            "1:39: refused K1\n",
-        ),
-        ("program p; begin nil end.", "1:18: refused P3\n"),
-        (
-            "program p; var a, a: integer; begin end.",
-            "1:19: refused S1\n",
-        ),
-        (
-            "program p; var a: t; t: integer; begin end.",
-            "1:19: refused S2\n",
-        ),
-        ("program p; begin read end.", "1:18: refused S3\n"),
-        (
-            "program p; var a: integer; begin a := integer end.",
-            "1:39: refused K1\n",
-        ),
-        ("program p; begin integer := 1 end.", "1:18: refused K2\n"),
-        (
-            "program p; var a: integer; begin a := writeln end.",
-            "1:39: refused K3\n",
-        ),
-        ("program p; begin writeln(1) end.", "1:18: refused K8\n"),
-        ("program p(input); begin end.", "1:11: refused K8\n"),
-    ];
-    for (source, line) in rows {
-        let (told, status) = refusal(alloc, source.as_bytes())?;
-        assert_eq!(rt; told.as_slice(), line.as_bytes(), "{source}");
-        assert_eq!(rt; status, 2, "{source}");
-    }
-    Ok(())
+    all_hold(rt.alloc(), &REFUSALS, is_refused)
+}
+
+// Certificates, and the line of their refusal.
+static CERTIFICATES: [(&str, &str); 5] = [
+    ("", "certificate:1: refused F1\n"),
+    ("pcert 2\n", "certificate:1: refused F1\n"),
+    ("pcert 1", "certificate:1: refused F5\n"),
+    ("pcert 1\nproc 0\n", "certificate:2: refused F2\n"),
+    ("pcert 1\nproc 0", "certificate:2: refused F5\n"),
+];
+
+const LEAST: &[u8] = b"program p; begin end.";
+
+fn is_refused_certificate(alloc: Global, row: &(&str, &str)) -> Result<bool, Fail> {
+    let (told, status) = refusal(alloc, LEAST, Some(row.0.as_bytes()))?;
+    Ok(told.as_slice() == row.1.as_bytes() && status == 2)
 }
 
 #[test]
 fn certificates_are_read(rt: HostRuntime) -> Result<(), Fail> {
-    let alloc = rt.alloc();
-    let source = b"program p; begin end.";
-    assert!(rt; compile(alloc, source, Some(b"pcert 1\n")).is_ok());
-    let rows = [
-        ("", "certificate:1: refused F1\n"),
-        ("pcert 2\n", "certificate:1: refused F1\n"),
-        ("pcert 1", "certificate:1: refused F5\n"),
-        ("pcert 1\nproc 0\n", "certificate:2: refused F2\n"),
-        ("pcert 1\nproc 0", "certificate:2: refused F5\n"),
-    ];
-    for (text, line) in rows {
-        let told = match compile(alloc, source, Some(text.as_bytes())) {
-            Ok(_) => fault_text(alloc, &Fault::Memory),
-            Err(fault) => fault_text(alloc, &fault),
-        };
-        assert_eq!(rt; told.0.as_slice(), line.as_bytes(), "{text}");
-        assert_eq!(rt; told.1, 2, "{text}");
-    }
-    Ok(())
+    compile(rt.alloc(), LEAST, Some(b"pcert 1\n"))?;
+    all_hold(rt.alloc(), &CERTIFICATES, is_refused_certificate)
+}
+
+const INDEX: Site = Site {
+    id: 0,
+    line: 1,
+    column: 58,
+    kind: 1,
+};
+
+const SET_MEMBER: Site = Site {
+    id: 0,
+    line: 1,
+    column: 58,
+    kind: 13,
+};
+
+const POINT: Point = Point {
+    id: 0,
+    line: 1,
+    column: 95,
+};
+
+// Stops, with their lines and their statuses.
+static STOPS: [(Stop, &str, u8); 16] = [
+    (Stop::Finished, "", 0),
+    (Stop::Error(INDEX), "1:58: error: index\n", 4),
+    (Stop::Error(SET_MEMBER), "1:58: error: set member\n", 4),
+    (
+        Stop::Input {
+            point: POINT,
+            fault: InputFault::EndOfInput,
+        },
+        "1:95: input: end of input\n",
+        5,
+    ),
+    (
+        Stop::Input {
+            point: POINT,
+            fault: InputFault::NotANumber,
+        },
+        "1:95: input: not a number\n",
+        5,
+    ),
+    (
+        Stop::Input {
+            point: POINT,
+            fault: InputFault::NumberTooLarge,
+        },
+        "1:95: input: number too large\n",
+        5,
+    ),
+    (
+        Stop::Input {
+            point: POINT,
+            fault: InputFault::OutsideType,
+        },
+        "1:95: input: value outside the type\n",
+        5,
+    ),
+    (
+        Stop::Input {
+            point: POINT,
+            fault: InputFault::NotACharacter,
+        },
+        "1:95: input: not a character\n",
+        5,
+    ),
+    (Stop::More, "budget used up\n", 3),
+    (Stop::StoreFull, "store full\n", 6),
+    (
+        Stop::Fault(MachineFault::Underflow),
+        "machine fault M1\n",
+        7,
+    ),
+    (
+        Stop::Fault(MachineFault::OutOfBounds),
+        "machine fault M2\n",
+        7,
+    ),
+    (
+        Stop::Fault(MachineFault::WrongKind),
+        "machine fault M3\n",
+        7,
+    ),
+    (
+        Stop::Fault(MachineFault::WrongDivisor),
+        "machine fault M4\n",
+        7,
+    ),
+    (Stop::ReadFailed, "read failed\n", 3),
+    (Stop::WriteFailed, "write failed\n", 3),
+];
+
+fn is_stop_told(alloc: Global, row: &(Stop, &str, u8)) -> Result<bool, Fail> {
+    let (told, status) = stop_text(alloc, &row.0);
+    Ok(told.as_slice() == row.1.as_bytes() && status == row.2)
 }
 
 #[test]
 fn every_stop_has_its_line(rt: HostRuntime) -> Result<(), Fail> {
-    let alloc = rt.alloc();
-    let point = Point {
-        id: 0,
-        line: 1,
-        column: 95,
-    };
-    let site = |kind| Site {
-        id: 0,
-        line: 1,
-        column: 58,
-        kind,
-    };
-    let input = |fault| Stop::Input { point, fault };
-    let rows = [
-        (Stop::Finished, "", 0),
-        (Stop::Error(site(1)), "1:58: error: index\n", 4),
-        (Stop::Error(site(13)), "1:58: error: set member\n", 4),
-        (
-            input(InputFault::EndOfInput),
-            "1:95: input: end of input\n",
-            5,
-        ),
-        (
-            input(InputFault::NotANumber),
-            "1:95: input: not a number\n",
-            5,
-        ),
-        (
-            input(InputFault::NumberTooLarge),
-            "1:95: input: number too large\n",
-            5,
-        ),
-        (
-            input(InputFault::OutsideType),
-            "1:95: input: value outside the type\n",
-            5,
-        ),
-        (
-            input(InputFault::NotACharacter),
-            "1:95: input: not a character\n",
-            5,
-        ),
-        (Stop::More, "budget used up\n", 3),
-        (Stop::StoreFull, "store full\n", 6),
-        (
-            Stop::Fault(MachineFault::Underflow),
-            "machine fault M1\n",
-            7,
-        ),
-        (
-            Stop::Fault(MachineFault::OutOfBounds),
-            "machine fault M2\n",
-            7,
-        ),
-        (
-            Stop::Fault(MachineFault::WrongKind),
-            "machine fault M3\n",
-            7,
-        ),
-        (
-            Stop::Fault(MachineFault::WrongDivisor),
-            "machine fault M4\n",
-            7,
-        ),
-        (Stop::ReadFailed, "read failed\n", 3),
-        (Stop::WriteFailed, "write failed\n", 3),
-    ];
-    for (stop, line, status) in rows {
-        let (told, ended) = stop_text(alloc, &stop);
-        assert_eq!(rt; told.as_slice(), line.as_bytes());
-        assert_eq!(rt; ended, status);
-    }
-    let (told, status) = fault_text(alloc, &Fault::Memory);
+    all_hold(rt.alloc(), &STOPS, is_stop_told)
+}
+
+#[test]
+fn want_of_memory_has_its_line(rt: HostRuntime) {
+    let (told, status) = fault_text(rt.alloc(), &Fault::Memory);
     assert_eq!(rt; told.as_slice(), b"no memory\n".as_slice());
     assert_eq!(rt; status, 3);
-    Ok(())
+}
+
+// Words, and whether they ask for a run; none where they are refused.
+static WORDS: [(&[&str], Option<bool>); 5] = [
+    (&["pcom", "--go", "x.pas"], Some(true)),
+    (&["pcom", "x.pas"], Some(false)),
+    (&["pcom"], None),
+    (&["pcom", "--stop", "x.pas"], None),
+    (&["pcom", "x.pas", "y.pas"], None),
+];
+
+fn are_words_read(alloc: Global, row: &(&[&str], Option<bool>)) -> Result<bool, Fail> {
+    Ok(match pcom_words(alloc, row.0) {
+        Ok(words) => words.source == "x.pas" && row.1 == Some(words.go),
+        Err(WordsFault::Words(error)) => error.exit_code() == 2 && row.1.is_none(),
+        Err(WordsFault::Memory) => return Err(Fault::Memory.into()),
+    })
 }
 
 #[test]
 fn words_are_read(rt: HostRuntime) -> Result<(), Fail> {
-    let alloc = rt.alloc();
-    for (words, go) in [
-        (["pcom", "--go", "x.pas"].as_slice(), true),
-        (["pcom", "x.pas"].as_slice(), false),
-    ] {
-        match pcom_words(alloc, words) {
-            Ok(read) => {
-                assert_eq!(rt; read.source, "x.pas");
-                assert_eq!(rt; read.go, go);
-            }
-            Err(_) => panic!(rt; "words refused"),
-        }
-    }
-    for words in [
-        ["pcom"].as_slice(),
-        ["pcom", "--stop", "x.pas"].as_slice(),
-        ["pcom", "x.pas", "y.pas"].as_slice(),
-    ] {
-        match pcom_words(alloc, words) {
-            Err(WordsFault::Words(error)) => assert_eq!(rt; error.exit_code(), 2),
-            _ => panic!(rt; "words taken"),
-        }
-    }
-    Ok(())
+    all_hold(rt.alloc(), &WORDS, are_words_read)
 }

@@ -41,11 +41,7 @@ impl Resolver {
     ghost use Rattle.resolver.specs.Resolved.{Adds, AddsNothing};
     ghost use Rattle.resolver.specs.Refusing.{IsUnknown};
 
-    pub(crate) fn new(
-        alloc: Global,
-        declarations: Declarations,
-        start: Place,
-    ) -> Resolver
+    pub(crate) fn new(alloc: Global, declarations: Declarations, start: Place) -> Resolver
         ensures scopes { result.scopes ≡ declarations.scopes }
         ensures variables { result.variables ≡ declarations.variables }
         ensures has_output { result.has_output ≡ declarations.has_output }

@@ -130,6 +130,17 @@ module _ {S : Type 0} where
         ∙ ap (cond (pointwise nat_eq other key.items) (Some (Some d))) (sym (said_of before other));
   }
 
+  -- the innermost region is written again, with the same entries
+  pub written_again : (tables : List (Table S)) (n : ℕ) (before after : Table S) → n ≡ length tables → 0 < n → before ≡ slice_index_or tables (n - 1) before
+      → after.entries ≡ before.entries → map region_of (slice_set tables (n - 1) after) ≡ map region_of tables
+  written_again tables n before after len some is same =
+      let outer = take (n - 1) tables in
+      ap (map region_of) (last_written tables n after len some)
+      ∙ map-append region_of outer (after ∷ [])
+      ∙ ap (λ es. map region_of outer ++ map (λ entry. (entry.0.items, entry.1)) es ∷ []) same
+      ∙ sym (map-append region_of outer (before ∷ []))
+      ∙ sym (ap (map region_of) (last_item tables n before len some is))
+
   -- a region that knows some names knows one more after an insert
   pub knows_more : (keys : List (Vec ℕ Global)) (i : ℕ) (item key : Vec ℕ Global) (before after : Table S) (name : List ℕ)
       → i < length keys → item ≡ get_or keys i item → key.items ≡ item.items

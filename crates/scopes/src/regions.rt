@@ -1,4 +1,4 @@
-ghost use Rattle.std.specs.Prelude.{◌≡◌, ◌-◌, List, [], OnOk, IfErr, length, map, nat_eq, take};
+ghost use Rattle.std.specs.Prelude.{◌≡◌, ◌-◌, List, [], OnOk, OnErr, IfErr, length, map, nat_eq, take};
 ghost use Rattle.std.specs.Cmp.Lexicographic.{pointwise};
 ghost use Rattle.std.specs.HashMap.{get_by};
 ghost use Rattle.scopes.specs.Scopes.{Region, decided};
@@ -37,9 +37,10 @@ impl Scopes {
         }
     }
 
-    /// Begins a region, with all names that its block will define.
+    /// Begins a region, with all names that its block will define. Without memory none begins.
     pub fn open(&mut self, alloc: Global, names: &[Vec<u8>]) -> Result<(), AllocError>
-        ensures { OnOk result (Opens (map (λ name. name.items) names.now) self.old self.new) }
+        ensures opened { OnOk result (Opens (map (λ name. name.items) names.now) self.old self.new) }
+        ensures unchanged { OnErr result (self.new ≡ self.old) }
     {
         let mut region = IndexMap::new(alloc);
         for name in names {
@@ -56,17 +57,19 @@ impl Scopes {
         let _ = self.blocks.pop();
     }
 
-    /// Passes the definition of a name of the innermost region.
+    /// Passes the definition of a name of the innermost region. A refusal leaves all regions as they were.
     pub fn declare(&mut self, name: Vec<u8>, denotation: Denotation) -> Result<(), ScopeFault>
         ensures defined { OnOk result (Defines name.items denotation self.old self.new) }
         ensures refused { IfErr result (Refuses name.items self.old) }
+        ensures unchanged { OnErr result (self.new ≡ self.old) }
     {
         let Some(region) = self.blocks.last_mut() else {
             return Err(ScopeFault::NotDeclared);
         };
-        if region.insert(name, Some(denotation))?.flatten().is_some() {
+        if region.get(name.as_slice()).copied().flatten().is_some() {
             return Err(ScopeFault::DeclaredTwice);
         }
+        region.insert(name, Some(denotation))?;
         Ok(())
     }
 

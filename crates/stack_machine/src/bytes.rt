@@ -38,7 +38,7 @@ pub trait Sink {
 }
 
 /// A reader or a writer with a count of its failures.
-#[derive(Debug, Drop)]
+#[derive(Drop)]
 pub struct Counted<T> {
     inner: T,
     failures: u64,

@@ -1,5 +1,5 @@
 /// A cell of the store.
-#[derive(Clone, Copy, Debug, PartialEq, Eq)]
+#[derive(Clone, Copy)]
 pub enum Cell {
     /// What a variable holds before its first assignment.
     Undefined,

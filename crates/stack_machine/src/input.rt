@@ -2,7 +2,7 @@ use crate::output::PIECE;
 use std::alloc::{AllocError, Global};
 
 /// The input that a run holds. No instruction of those built asks for any.
-#[derive(Debug, Drop)]
+#[derive(Drop)]
 pub struct Input {
     bytes: Vec<u8>,
 }

@@ -14,7 +14,7 @@ use std::alloc::{AllocError, Global};
 pub const PIECE: usize = 4096;
 
 /// The output that a run holds back: it goes out when the piece is full and at every stop.
-#[derive(Debug, Drop)]
+#[derive(Drop)]
 pub struct Output {
     bytes: Vec<u8>,
     held: usize,

@@ -17,7 +17,7 @@ const MAXINT: i64 = 2147483647;
 const LINKS: usize = 4;
 
 /// The cells of a machine, and the frame that a run is in.
-#[derive(Debug, Drop)]
+#[derive(Drop)]
 pub struct Store {
     /// At least as many as the first frame's links.
     cells: Vec<Cell>,
@@ -162,7 +162,7 @@ impl Store {
     {
         self.has(1)?;
         self.has_room_after(1)?;
-        let value = self.top()?;
+        let value = self.number_at(1)?;
         self.replace(1, Cell::Number(operator.of(value)));
         Ok(())
     }
@@ -222,7 +222,7 @@ impl Store {
         ensures { result ≡ frames.top_is_in_range low high (view self.now) }
     {
         self.has(1)?;
-        let value = self.top()?;
+        let value = self.number_at(1)?;
         Ok(low <= value && value <= high)
     }
 
@@ -231,7 +231,7 @@ impl Store {
         ensures { result ≡ frames.top_is_not_zero (view self.now) }
     {
         self.has(1)?;
-        let value = self.top()?;
+        let value = self.number_at(1)?;
         Ok(is_true(value))
     }
 
@@ -277,7 +277,7 @@ impl Store {
         ensures { result ≡ frames.square_is_integer (view self.now) }
     {
         self.has(1)?;
-        let value = self.top()?;
+        let value = self.number_at(1)?;
         Ok(fits(product(value, value)))
     }
 
@@ -304,12 +304,13 @@ impl Store {
         Ok(())
     }
 
-    /// The number on top.
-    fn top(&self) -> Result<i32, MachineFault>
-        requires { 1 ≤ self.now.used }
-        ensures { result ≡ frames.number_at 1 (view self.now) }
+    /// The number in a cell, so many from the top; the top is the first.
+    fn number_at(&self, count: usize) -> Result<i32, MachineFault>
+        requires some { 1 ≤ count }
+        requires in_use { count ≤ self.now.used }
+        ensures { result ≡ frames.number_at count (view self.now) }
     {
-        number(self.cells[self.used - 1])
+        number(self.cells[self.used - count])
     }
 
     /// The topmost two numbers, the lower one first.
@@ -317,8 +318,8 @@ impl Store {
         requires { 2 ≤ self.now.used }
         ensures { result ≡ frames.two_numbers (view self.now) }
     {
-        let left = number(self.cells[self.used - 2])?;
-        let right = number(self.cells[self.used - 1])?;
+        let left = self.number_at(2)?;
+        let right = self.number_at(1)?;
         Ok((left, right))
     }
 

@@ -1,31 +1,202 @@
-use lexer::fault::LexFault;
-use lexer::place::Place;
-use lexer::token::{Kind, Symbol, Word};
+use crate::rows::all_hold;
+use lexer::token::Token;
 use lexer::{MAX_TEXT, tokens};
 use std::alloc::Global;
 use std::test::Fail;
 
-fn at(line: u32, column: u32) -> Place {
-    Place { line, column }
+/// How many tokens a text has, or the number of its fault and the place.
+fn outcome_told(alloc: Global, text: &&[u8]) -> Result<String, Fail> {
+    match tokens(alloc, *text) {
+        Ok(list) => Ok(format!(in alloc; "{}", list.len())?),
+        Err(fault) => {
+            let place = fault.place().ok_or("a fault without a place")?;
+            Ok(format!(in alloc; "L{} {place}", fault.number())?)
+        }
+    }
 }
 
-/// Whether a text of one line has just these tokens: kind, spelling and column.
-fn has_tokens(alloc: Global, text: &[u8], wanted: &[(Kind, &[u8], u32)]) -> Result<bool, LexFault> {
-    let found = tokens(alloc, text)?;
-    let mut same = found.len() == wanted.len();
-    for (token, (kind, spelling, column)) in found.iter().zip(wanted) {
-        let has_text = token.text == *spelling && token.place == at(1, *column);
-        same = same && has_text && token.kind == *kind;
-    }
-    Ok(same)
-}
+/// Texts, and their first fault.
+static FAULTS: [(&[u8], &str); 28] = [
+    (b"!", "L1 1:1"),
+    (b"a\n b _c", "L1 2:4"),
+    (b"_ ''", "L1 1:1"),
+    (b"\x0c", "L1 1:1"),
+    (b"\x00", "L1 1:1"),
+    (b"{ \n } \" ", "L1 2:4"),
+    (b"a { b", "L2 1:3"),
+    (b"(*)", "L2 1:1"),
+    (b"{ } (* { ", "L2 1:5"),
+    (b"{*", "L2 1:1"),
+    (b"x := 'ab", "L3 1:6"),
+    (b"'a\n'", "L3 1:1"),
+    (b"'''", "L3 1:1"),
+    (b"'a''b", "L3 1:1"),
+    (b"'\x01a", "L3 1:1"),
+    (b"'", "L3 1:1"),
+    (b"a ''", "L4 1:3"),
+    (b"'' !", "L4 1:1"),
+    (b"2147483648", "L5 1:1"),
+    (b" 99999999999a", "L5 1:2"),
+    (b"00000000000000000000000002147483648", "L5 1:1"),
+    (b"begin if 10div 2", "L6 1:10"),
+    (b"1e5", "L6 1:1"),
+    (b"'a\x7f'", "L8 1:3"),
+    (b"\n 'ab\r' ''", "L8 2:5"),
+    (b"'''\t'", "L8 1:4"),
+    (b"'\xff", "L3 1:1"),
+    (b"'\xff'", "L8 1:2"),
+];
 
 #[test]
-fn prints_a_place(rt: HostRuntime) -> Result<(), Fail> {
-    let place = at(3, 14);
-    let text = format!(in rt.alloc(); "{place}")?;
-    assert_eq!(rt; text.as_str(), "3:14");
-    Ok(())
+fn tells_the_first_fault(rt: HostRuntime) -> Result<(), Fail> {
+    all_hold(rt.alloc(), &FAULTS, outcome_told)
+}
+
+/// The place, the kind and the spelling of each token of a text.
+fn tokens_told(alloc: Global, text: &&str) -> Result<String, Fail> {
+    let mut told = String::new(alloc);
+    for token in &tokens(alloc, text.as_bytes())? {
+        told.push_str(token_told(alloc, token)?.as_str())?;
+    }
+    Ok(told)
+}
+
+fn token_told(alloc: Global, token: &Token<'_>) -> Result<String, Fail> {
+    let spelling = str::from_utf8(token.text)?;
+    Ok(format!(in alloc; "{} {:?} {spelling}; ", token.place, token.kind)?)
+}
+
+/// A text is cut where a token is longest.
+static TOKENS: [(&str, &str); 1] = [(
+    "1..2 (..)a.) a:=x<>y<=z>=w: =(.1.)'a''b' '''' ' '007 {*) @ (*}1{}2..).",
+    "1:1 Number(1) 1; 1:2 Symbol(Range) ..; 1:4 Number(2) 2; 1:6 Symbol(OpenBracket) (.; \
+        1:8 Symbol(CloseBracket) .); 1:10 Identifier a; 1:11 Symbol(CloseBracket) .); 1:14 Identifier a; \
+        1:15 Symbol(Becomes) :=; 1:17 Identifier x; 1:18 Symbol(NotEqual) <>; 1:20 Identifier y; \
+        1:21 Symbol(LessOrEqual) <=; 1:23 Identifier z; 1:24 Symbol(GreaterOrEqual) >=; 1:26 Identifier w; \
+        1:27 Symbol(Colon) :; 1:29 Symbol(Equal) =; 1:30 Symbol(OpenBracket) (.; 1:32 Number(1) 1; \
+        1:33 Symbol(CloseBracket) .); 1:35 Text 'a''b'; 1:42 Text ''''; 1:47 Text ' '; 1:50 Number(7) 007; \
+        1:58 Symbol(Arrow) @; 1:63 Number(1) 1; 1:66 Number(2) 2; 1:67 Symbol(Range) ..; \
+        1:69 Symbol(CloseParenthesis) ); 1:70 Symbol(Period) .; ",
+)];
+
+#[test]
+fn cuts_where_a_token_is_longest(rt: HostRuntime) -> Result<(), Fail> {
+    all_hold(rt.alloc(), &TOKENS, tokens_told)
+}
+
+/// Each symbol, each word in any case, and identifiers that begin or end like words.
+static KINDS: [(&str, &str); 26] = [
+    ("+", "1:1 Symbol(Plus) +; "),
+    ("-", "1:1 Symbol(Minus) -; "),
+    ("*", "1:1 Symbol(Times) *; "),
+    ("/", "1:1 Symbol(Slash) /; "),
+    ("=", "1:1 Symbol(Equal) =; "),
+    ("<", "1:1 Symbol(Less) <; "),
+    (">", "1:1 Symbol(Greater) >; "),
+    ("[", "1:1 Symbol(OpenBracket) [; "),
+    ("(.", "1:1 Symbol(OpenBracket) (.; "),
+    ("]", "1:1 Symbol(CloseBracket) ]; "),
+    (".)", "1:1 Symbol(CloseBracket) .); "),
+    (".", "1:1 Symbol(Period) .; "),
+    (",", "1:1 Symbol(Comma) ,; "),
+    (":", "1:1 Symbol(Colon) :; "),
+    (";", "1:1 Symbol(Semicolon) ;; "),
+    ("(", "1:1 Symbol(OpenParenthesis) (; "),
+    (")", "1:1 Symbol(CloseParenthesis) ); "),
+    ("<>", "1:1 Symbol(NotEqual) <>; "),
+    ("<=", "1:1 Symbol(LessOrEqual) <=; "),
+    (">=", "1:1 Symbol(GreaterOrEqual) >=; "),
+    (":=", "1:1 Symbol(Becomes) :=; "),
+    ("..", "1:1 Symbol(Range) ..; "),
+    ("^", "1:1 Symbol(Arrow) ^; "),
+    ("@", "1:1 Symbol(Arrow) @; "),
+    (
+        "AND array Begin cASE conST div do downto else end file for function goto if in label mod nil not of or \
+        packed PROCEDURE prograM record repeat set then to type until var while WITH",
+        "1:1 Word(And) AND; 1:5 Word(Array) array; 1:11 Word(Begin) Begin; 1:17 Word(Case) cASE; 1:22 Word(Const) conST; \
+        1:28 Word(Div) div; 1:32 Word(Do) do; 1:35 Word(Downto) downto; 1:42 Word(Else) else; 1:47 Word(End) end; \
+        1:51 Word(File) file; 1:56 Word(For) for; 1:60 Word(Function) function; 1:69 Word(Goto) goto; 1:74 Word(If) if; \
+        1:77 Word(In) in; 1:80 Word(Label) label; 1:86 Word(Mod) mod; 1:90 Word(Nil) nil; 1:94 Word(Not) not; \
+        1:98 Word(Of) of; 1:101 Word(Or) or; 1:104 Word(Packed) packed; 1:111 Word(Procedure) PROCEDURE; \
+        1:121 Word(Program) prograM; 1:129 Word(Record) record; 1:136 Word(Repeat) repeat; 1:143 Word(Set) set; \
+        1:147 Word(Then) then; 1:152 Word(To) to; 1:155 Word(Type) type; 1:160 Word(Until) until; 1:166 Word(Var) var; \
+        1:170 Word(While) while; 1:176 Word(With) WITH; ",
+    ),
+    (
+        "andy en ifs o forward E10 x9y programm",
+        "1:1 Identifier andy; 1:6 Identifier en; 1:9 Identifier ifs; 1:13 Identifier o; 1:15 Identifier forward; \
+        1:23 Identifier E10; 1:27 Identifier x9y; 1:31 Identifier programm; ",
+    ),
+];
+
+#[test]
+fn knows_each_symbol_and_word(rt: HostRuntime) -> Result<(), Fail> {
+    all_hold(rt.alloc(), &KINDS, tokens_told)
+}
+
+/// A text of most bytes, each alike, and the same with one more.
+fn long_told(alloc: Global, byte: &u8) -> Result<String, Fail> {
+    let mut text = vec![in alloc; *byte; MAX_TEXT]?;
+    let most = outcome_told(alloc, &text.as_slice())?;
+    text.push(*byte)?;
+    let more = outcome_told(alloc, &text.as_slice())?;
+    Ok(format!(in alloc; "{most}, {more}")?)
+}
+
+static LONG: [(u8, &str); 9] = [
+    (b' ', "0, L7 1:1"),
+    (b'a', "1, L7 1:1"),
+    (b'0', "1, L7 1:1"),
+    (b'{', "L2 1:1, L7 1:1"),
+    (b'\'', "1, L7 1:1"),
+    (b'(', "1048576, L7 1:1"),
+    (b'\n', "0, L7 1:1"),
+    (b'9', "L5 1:1, L7 1:1"),
+    (b'<', "1048576, L7 1:1"),
+];
+
+#[test]
+fn takes_long_texts(rt: HostRuntime) -> Result<(), Fail> {
+    all_hold(rt.alloc(), &LONG, long_told)
+}
+
+/// The number of the fault of each of sixteen bytes alone, or 0.
+fn bytes_told(alloc: Global, sixteenth: &u8) -> Result<String, Fail> {
+    let mut told = String::new(alloc);
+    for low in 0..16u8 {
+        let byte = sixteenth.wrapping_mul(16).wrapping_add(low);
+        let number = match tokens(alloc, &[byte]) {
+            Ok(_) => 0,
+            Err(fault) => fault.number(),
+        };
+        told.push_str(format!(in alloc; "{number}")?.as_str())?;
+    }
+    Ok(told)
+}
+
+/// The bytes by their upper half: signs, digits, letters and blanks begin a token or stand between tokens.
+static BYTES: [(u8, &str); 16] = [
+    (0, "1111111110011011"),
+    (1, "1111111111111111"),
+    (2, "0111111300000000"),
+    (3, "0000000000000001"),
+    (4, "0000000000000000"),
+    (5, "0000000000001001"),
+    (6, "1000000000000000"),
+    (7, "0000000000021111"),
+    (8, "1111111111111111"),
+    (9, "1111111111111111"),
+    (10, "1111111111111111"),
+    (11, "1111111111111111"),
+    (12, "1111111111111111"),
+    (13, "1111111111111111"),
+    (14, "1111111111111111"),
+    (15, "1111111111111111"),
+];
+
+#[test]
+fn answers_any_byte(rt: HostRuntime) -> Result<(), Fail> {
+    all_hold(rt.alloc(), &BYTES, bytes_told)
 }
 
 /// The next of a row of numbers that look random.
@@ -35,218 +206,8 @@ fn next_random(seed: u64) -> u64 {
 }
 
 #[test]
-fn tells_the_first_fault(rt: HostRuntime) {
-    let faults: [(&[u8], u8, Place); 28] = [
-        (b"!", 1, at(1, 1)),
-        (b"a\n b _c", 1, at(2, 4)),
-        (b"_ ''", 1, at(1, 1)),
-        (b"\x0c", 1, at(1, 1)),
-        (b"\x00", 1, at(1, 1)),
-        (b"{ \n } \" ", 1, at(2, 4)),
-        (b"a { b", 2, at(1, 3)),
-        (b"(*)", 2, at(1, 1)),
-        (b"{ } (* { ", 2, at(1, 5)),
-        (b"{*", 2, at(1, 1)),
-        (b"x := 'ab", 3, at(1, 6)),
-        (b"'a\n'", 3, at(1, 1)),
-        (b"'''", 3, at(1, 1)),
-        (b"'a''b", 3, at(1, 1)),
-        (b"'\x01a", 3, at(1, 1)),
-        (b"'", 3, at(1, 1)),
-        (b"a ''", 4, at(1, 3)),
-        (b"'' !", 4, at(1, 1)),
-        (b"2147483648", 5, at(1, 1)),
-        (b" 99999999999a", 5, at(1, 2)),
-        (b"00000000000000000000000002147483648", 5, at(1, 1)),
-        (b"begin if 10div 2", 6, at(1, 10)),
-        (b"1e5", 6, at(1, 1)),
-        (b"'a\x7f'", 8, at(1, 3)),
-        (b"\n 'ab\r' ''", 8, at(2, 5)),
-        (b"'''\t'", 8, at(1, 4)),
-        (b"'\xff", 3, at(1, 1)),
-        (b"'\xff'", 8, at(1, 2)),
-    ];
-    for (text, number, place) in faults {
-        let fault = tokens(rt.alloc(), text).err();
-        let told = fault.map(|fault| (fault.number(), fault.place()));
-        assert_eq!(rt; told, Some((number, Some(place))), "{text:?}");
-    }
-}
-
-#[test]
-fn cuts_where_a_token_is_longest(rt: HostRuntime) -> Result<(), Fail> {
-    let text = b"1..2 (..)a.) a:=x<>y<=z>=w: =(.1.)'a''b' '''' ' '007 {*) @ (*}1{}2..).";
-    let wanted: [(Kind, &[u8], u32); 31] = [
-        (Kind::Number(1), b"1", 1),
-        (Kind::Symbol(Symbol::Range), b"..", 2),
-        (Kind::Number(2), b"2", 4),
-        (Kind::Symbol(Symbol::OpenBracket), b"(.", 6),
-        (Kind::Symbol(Symbol::CloseBracket), b".)", 8),
-        (Kind::Identifier, b"a", 10),
-        (Kind::Symbol(Symbol::CloseBracket), b".)", 11),
-        (Kind::Identifier, b"a", 14),
-        (Kind::Symbol(Symbol::Becomes), b":=", 15),
-        (Kind::Identifier, b"x", 17),
-        (Kind::Symbol(Symbol::NotEqual), b"<>", 18),
-        (Kind::Identifier, b"y", 20),
-        (Kind::Symbol(Symbol::LessOrEqual), b"<=", 21),
-        (Kind::Identifier, b"z", 23),
-        (Kind::Symbol(Symbol::GreaterOrEqual), b">=", 24),
-        (Kind::Identifier, b"w", 26),
-        (Kind::Symbol(Symbol::Colon), b":", 27),
-        (Kind::Symbol(Symbol::Equal), b"=", 29),
-        (Kind::Symbol(Symbol::OpenBracket), b"(.", 30),
-        (Kind::Number(1), b"1", 32),
-        (Kind::Symbol(Symbol::CloseBracket), b".)", 33),
-        (Kind::Text, b"'a''b'", 35),
-        (Kind::Text, b"''''", 42),
-        (Kind::Text, b"' '", 47),
-        (Kind::Number(7), b"007", 50),
-        (Kind::Symbol(Symbol::Arrow), b"@", 58),
-        (Kind::Number(1), b"1", 63),
-        (Kind::Number(2), b"2", 66),
-        (Kind::Symbol(Symbol::Range), b"..", 67),
-        (Kind::Symbol(Symbol::CloseParenthesis), b")", 69),
-        (Kind::Symbol(Symbol::Period), b".", 70),
-    ];
-    assert!(rt; has_tokens(rt.alloc(), text, &wanted)?);
-    Ok(())
-}
-
-#[test]
-fn knows_each_symbol(rt: HostRuntime) -> Result<(), Fail> {
-    let symbols: [(&[u8], Symbol); 24] = [
-        (b"+", Symbol::Plus),
-        (b"-", Symbol::Minus),
-        (b"*", Symbol::Times),
-        (b"/", Symbol::Slash),
-        (b"=", Symbol::Equal),
-        (b"<", Symbol::Less),
-        (b">", Symbol::Greater),
-        (b"[", Symbol::OpenBracket),
-        (b"(.", Symbol::OpenBracket),
-        (b"]", Symbol::CloseBracket),
-        (b".)", Symbol::CloseBracket),
-        (b".", Symbol::Period),
-        (b",", Symbol::Comma),
-        (b":", Symbol::Colon),
-        (b";", Symbol::Semicolon),
-        (b"(", Symbol::OpenParenthesis),
-        (b")", Symbol::CloseParenthesis),
-        (b"<>", Symbol::NotEqual),
-        (b"<=", Symbol::LessOrEqual),
-        (b">=", Symbol::GreaterOrEqual),
-        (b":=", Symbol::Becomes),
-        (b"..", Symbol::Range),
-        (b"^", Symbol::Arrow),
-        (b"@", Symbol::Arrow),
-    ];
-    for (text, symbol) in symbols {
-        let found = tokens(rt.alloc(), text)?;
-        let kind = found.last().map(|token| token.kind);
-        assert_eq!(rt;
-            (found.len(), kind),
-            (1, Some(Kind::Symbol(symbol))),
-            "{text:?}"
-        );
-    }
-    Ok(())
-}
-
-#[test]
-fn knows_each_word_in_any_case(rt: HostRuntime) -> Result<(), Fail> {
+fn answers_random_texts(rt: HostRuntime) -> Result<(), Fail> {
     let alloc = rt.alloc();
-    let text =
-        b"AND array Begin cASE conST div do downto else end file for function goto if in label mod nil not of or packed PROCEDURE prograM record repeat set then to type until var while WITH";
-    let words = [
-        Word::And,
-        Word::Array,
-        Word::Begin,
-        Word::Case,
-        Word::Const,
-        Word::Div,
-        Word::Do,
-        Word::Downto,
-        Word::Else,
-        Word::End,
-        Word::File,
-        Word::For,
-        Word::Function,
-        Word::Goto,
-        Word::If,
-        Word::In,
-        Word::Label,
-        Word::Mod,
-        Word::Nil,
-        Word::Not,
-        Word::Of,
-        Word::Or,
-        Word::Packed,
-        Word::Procedure,
-        Word::Program,
-        Word::Record,
-        Word::Repeat,
-        Word::Set,
-        Word::Then,
-        Word::To,
-        Word::Type,
-        Word::Until,
-        Word::Var,
-        Word::While,
-        Word::With,
-    ];
-    let found = tokens(alloc, text)?;
-    assert_eq!(rt; found.len(), words.len());
-    for (token, word) in found.iter().zip(&words) {
-        assert_eq!(rt; token.kind, Kind::Word(*word));
-    }
-    for token in &tokens(alloc, b"andy en ifs o forward E10 x9y programm")? {
-        assert_eq!(rt; token.kind, Kind::Identifier);
-    }
-    Ok(())
-}
-
-#[test]
-fn takes_long_texts(rt: HostRuntime) -> Result<(), Fail> {
-    let alloc = rt.alloc();
-    for unit in [b" ", b"a", b"0", b"{", b"'", b"(", b"\n", b"9", b"<"] {
-        let mut text = Vec::new(alloc);
-        for _ in 0..MAX_TEXT {
-            text.extend_from_slice(unit)?;
-        }
-        let outcome = tokens(alloc, &text).map(|found| found.len());
-        let wanted = match unit {
-            b" " | b"\n" => Ok(0),
-            b"{" => Err(LexFault::OpenComment(Place::START)),
-            b"'" | b"a" | b"0" => Ok(1),
-            b"9" => Err(LexFault::LargeNumber(Place::START)),
-            _ => Ok(MAX_TEXT),
-        };
-        assert_eq!(rt; outcome, wanted, "{unit:?}");
-        text.extend_from_slice(unit)?;
-        let fault = tokens(alloc, &text).err();
-        assert_eq!(rt; fault, Some(LexFault::LongText(Place::START)));
-    }
-    Ok(())
-}
-
-#[test]
-fn answers_any_bytes(rt: HostRuntime) -> Result<(), Fail> {
-    let alloc = rt.alloc();
-    for byte in 0..=255u8 {
-        let fault = tokens(alloc, &[byte]).err();
-        let number = fault.map_or(0, |fault| fault.number());
-        let wanted = match byte {
-            b'{' => 2,
-            b'\'' => 3,
-            b'a'..=b'z' | b'A'..=b'Z' | b'0'..=b'9' | b'\t' | b'\n' | b'\r' | b' ' => 0,
-            b'!' | b'"' | b'#' | b'$' | b'%' | b'&' | b'?' | b'\\' | b'_' | b'`' => 1,
-            b'|' | b'}' | b'~' => 1,
-            33..=126 => 0,
-            _ => 1,
-        };
-        assert_eq!(rt; number, wanted, "{byte}");
-    }
     let mut seed = 1;
     for _ in 0..1000 {
         let mut text = Vec::new(alloc);

@@ -1,3 +1,4 @@
+use crate::rows::all_hold;
 use check_remover::remove::remove;
 use pcode_assembler::code::{Code, Site};
 use pcode_assembler::instr::Instr;
@@ -18,17 +19,7 @@ const OVERFLOW: Site = Site {
     kind: 11,
 };
 
-fn code_of(alloc: Global, instructions: &[Instr]) -> Result<Code, AllocError> {
-    Ok(Code {
-        sites: vec![in alloc; FITS, OVERFLOW]?,
-        points: Vec::new(alloc),
-        instructions: instructions.to_vec(alloc)?,
-    })
-}
-
-fn number(value: i32) -> Instr {
-    Instr::LoadConstant { value }
-}
+const SITES: [Site; 2] = [FITS, OVERFLOW];
 
 const ENTER: Instr = Instr::Enter {
     variables: 0,
@@ -43,60 +34,59 @@ const IN_RANGE: Instr = Instr::CheckRange {
 
 const SUM: Instr = Instr::CheckSum { site: 1 };
 
-#[test]
-fn moves_a_jump_over_a_removed_check(rt: HostRuntime) -> Result<(), Fail> {
-    let alloc = rt.alloc();
-    let whole = [
-        ENTER,
-        number(5),
-        Instr::Jump { target: 3 },
-        IN_RANGE,
-        number(2),
-        SUM,
-        Instr::Add,
-        number(1),
-        Instr::WriteInteger,
-        Instr::Stop,
-    ];
-    let code = code_of(alloc, &whole)?;
-    let with_sum = [
-        ENTER,
-        number(5),
-        Instr::Jump { target: 3 },
-        number(2),
-        SUM,
-        Instr::Add,
-        number(1),
-        Instr::WriteInteger,
-        Instr::Stop,
-    ];
-    let stripped = remove(alloc, &code, &[OVERFLOW])?;
-    assert_eq!(rt; stripped.instructions.as_slice(), with_sum.as_slice());
-    assert_eq!(rt; stripped.sites.as_slice(), [FITS, OVERFLOW].as_slice());
-    let without = [
-        ENTER,
-        number(5),
-        Instr::Jump { target: 3 },
-        number(2),
-        Instr::Add,
-        number(1),
-        Instr::WriteInteger,
-        Instr::Stop,
-    ];
-    let stripped = remove(alloc, &code, &[])?;
-    assert_eq!(rt; stripped.instructions.as_slice(), without.as_slice());
-    Ok(())
+/// A jump to a check, and a check of the other site behind it.
+const WHOLE: &[Instr] = &[
+    ENTER,
+    Instr::LoadConstant { value: 5 },
+    Instr::Jump { target: 3 },
+    IN_RANGE,
+    Instr::LoadConstant { value: 2 },
+    SUM,
+    Instr::Add,
+    Instr::LoadConstant { value: 1 },
+    Instr::WriteInteger,
+    Instr::Stop,
+];
+
+/// A jump to a check at the end, behind a check of the other site.
+const CHECKS_LAST: &[Instr] = &[Instr::Jump { target: 2 }, SUM, IN_RANGE];
+
+/// Instructions and the open sites, and what is left of the instructions; the table of sites stays.
+static ROWS: [((&[Instr], &[Site]), &str); 4] = [
+    (
+        (WHOLE, &[OVERFLOW]),
+        "[Enter { variables: 0, evaluation: 2 }, LoadConstant { value: 5 }, Jump { target: 3 }, \
+        LoadConstant { value: 2 }, CheckSum { site: 1 }, Add, LoadConstant { value: 1 }, WriteInteger, Stop]",
+    ),
+    (
+        (WHOLE, &[]),
+        "[Enter { variables: 0, evaluation: 2 }, LoadConstant { value: 5 }, Jump { target: 3 }, \
+        LoadConstant { value: 2 }, Add, LoadConstant { value: 1 }, WriteInteger, Stop]",
+    ),
+    (
+        (CHECKS_LAST, &[OVERFLOW]),
+        "[Jump { target: 2 }, CheckSum { site: 1 }]",
+    ),
+    ((CHECKS_LAST, &[]), "[Jump { target: 1 }]"),
+];
+
+fn told(alloc: Global, row: &(&[Instr], &[Site])) -> Result<String, Fail> {
+    let stripped = remove(alloc, &code_of(alloc, row.0)?, row.1)?;
+    if stripped.sites.as_slice() != SITES.as_slice() {
+        return Err(Fail::new("another table of sites"));
+    }
+    Ok(format!(in alloc; "{:?}", stripped.instructions)?)
+}
+
+fn code_of(alloc: Global, instructions: &[Instr]) -> Result<Code, AllocError> {
+    Ok(Code {
+        sites: SITES.to_vec(alloc)?,
+        points: Vec::new(alloc),
+        instructions: instructions.to_vec(alloc)?,
+    })
 }
 
 #[test]
-fn moves_a_jump_to_a_removed_end_past_the_end(rt: HostRuntime) -> Result<(), Fail> {
-    let alloc = rt.alloc();
-    let code = code_of(alloc, &[Instr::Jump { target: 2 }, SUM, IN_RANGE])?;
-    let stripped = remove(alloc, &code, &[OVERFLOW])?;
-    let wanted = [Instr::Jump { target: 2 }, SUM];
-    assert_eq!(rt; stripped.instructions.as_slice(), wanted.as_slice());
-    let stripped = remove(alloc, &code, &[])?;
-    let wanted = [Instr::Jump { target: 1 }];
-    assert_eq!(rt; stripped.instructions.as_slice(), wanted.as_slice());
-    Ok(())
+fn moves_jumps_over_removed_checks(rt: HostRuntime) -> Result<(), Fail> {
+    all_hold(rt.alloc(), &ROWS, told)
 }

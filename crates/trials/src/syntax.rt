@@ -1,123 +1,126 @@
+use crate::rows::all_hold;
+use crate::sources::repeated;
 use lexer::place::Place;
 use lexer::token::{Kind, Symbol, Token, Word};
 use lexer::tokens;
 use parser::fault::ParseFault;
 use parser::parse;
-use parser::tree::{Actual, Expr, Operator, Stmt};
+use parser::tree::{Expr, Operator, Stmt};
 use std::alloc::{AllocError, Global};
 use std::test::Fail;
 
-fn at(line: u32, column: u32) -> Place {
-    Place { line, column }
-}
-
-/// Two texts with one between them `count` times.
-fn repeated(
-    alloc: Global,
-    before: &[u8],
-    middle: &[u8],
-    count: usize,
-    after: &[u8],
-) -> Result<Vec<u8>, AllocError> {
-    let mut text = Vec::from_slice(alloc, before)?;
-    for _ in 0..count {
-        text.extend_from_slice(middle)?;
+/// The number and the place of the fault of a text; nothing where it has a tree.
+fn fault_told(alloc: Global, text: &&str) -> Result<String, Fail> {
+    let list = tokens(alloc, text.as_bytes())?;
+    match parse(alloc, &list) {
+        Ok(_) => Ok(String::new(alloc)),
+        Err(fault) => {
+            let place = fault.place().ok_or("a fault without a place")?;
+            Ok(format!(in alloc; "P{} {place}", fault.number())?)
+        }
     }
-    text.extend_from_slice(after)?;
-    Ok(text)
 }
 
-/// The next of a row of numbers that look random.
-fn next_random(seed: u64) -> u64 {
-    seed.wrapping_mul(6364136223846793005)
-        .wrapping_add(1442695040888963407)
-}
+static FAULTS: [(&str, &str); 39] = [
+    ("", "P1 1:1"),
+    ("  ", "P1 1:1"),
+    ("p", "P1 1:1"),
+    ("program", "P1 1:8"),
+    ("program p", "P1 1:10"),
+    ("program p(", "P1 1:11"),
+    ("program p();", "P1 1:11"),
+    ("program p(a b);", "P1 1:13"),
+    ("program p;", "P1 1:11"),
+    ("program p; var begin end.", "P1 1:16"),
+    ("program p; var x, : t; begin end.", "P1 1:19"),
+    ("program p; var x: 1..2; begin end.", "P1 1:19"),
+    ("program p; const a = 1; begin end.", "P1 1:12"),
+    ("program p; begin", "P1 1:17"),
+    ("program p; begin end", "P1 1:21"),
+    ("program p; begin end. x", "P1 1:23"),
+    ("program p; begin end end.", "P1 1:22"),
+    ("program p; begin begin end.", "P1 1:27"),
+    ("program p; begin x := end.", "P1 1:23"),
+    ("program p; begin x := + - 1 end.", "P1 1:25"),
+    ("program p; begin x := 1 + end.", "P1 1:27"),
+    ("program p; begin x := (1 end.", "P1 1:26"),
+    ("program p; begin x := 'a' end.", "P1 1:23"),
+    ("program p; begin x := 1 / 2 end.", "P1 1:25"),
+    ("program p; begin x := a < b < c end.", "P1 1:29"),
+    ("program p; begin x := a * - b end.", "P1 1:27"),
+    ("program p; begin x := a and or b end.", "P1 1:29"),
+    ("program p; begin x := not end.", "P1 1:27"),
+    ("program p; begin x := f() end.", "P1 1:25"),
+    ("program p; begin x := f(1 end.", "P1 1:27"),
+    ("program p; begin f() end.", "P1 1:20"),
+    ("program p; begin f(1: ) end.", "P1 1:23"),
+    ("program p; begin x := (1: 2) end.", "P1 1:25"),
+    ("program p; begin write(x:1:2) end.", "P1 1:27"),
+    ("program p; begin a[1] := 2 end.", "P1 1:19"),
+    ("program p; begin if a then end.", "P1 1:18"),
+    ("program p; begin goto 1 end.", "P3 1:18"),
+    ("begin @ nil file label", "P3 1:7"),
+    (") x^ goto", "P3 1:4"),
+];
 
 #[test]
 fn tells_the_fault(rt: HostRuntime) -> Result<(), Fail> {
-    let faults: [(&[u8], u8, Place); 39] = [
-        (b"", 1, at(1, 1)),
-        (b"  ", 1, at(1, 1)),
-        (b"p", 1, at(1, 1)),
-        (b"program", 1, at(1, 8)),
-        (b"program p", 1, at(1, 10)),
-        (b"program p(", 1, at(1, 11)),
-        (b"program p();", 1, at(1, 11)),
-        (b"program p(a b);", 1, at(1, 13)),
-        (b"program p;", 1, at(1, 11)),
-        (b"program p; var begin end.", 1, at(1, 16)),
-        (b"program p; var x, : t; begin end.", 1, at(1, 19)),
-        (b"program p; var x: 1..2; begin end.", 1, at(1, 19)),
-        (b"program p; const a = 1; begin end.", 1, at(1, 12)),
-        (b"program p; begin", 1, at(1, 17)),
-        (b"program p; begin end", 1, at(1, 21)),
-        (b"program p; begin end. x", 1, at(1, 23)),
-        (b"program p; begin end end.", 1, at(1, 22)),
-        (b"program p; begin begin end.", 1, at(1, 27)),
-        (b"program p; begin x := end.", 1, at(1, 23)),
-        (b"program p; begin x := + - 1 end.", 1, at(1, 25)),
-        (b"program p; begin x := 1 + end.", 1, at(1, 27)),
-        (b"program p; begin x := (1 end.", 1, at(1, 26)),
-        (b"program p; begin x := 'a' end.", 1, at(1, 23)),
-        (b"program p; begin x := 1 / 2 end.", 1, at(1, 25)),
-        (b"program p; begin x := a < b < c end.", 1, at(1, 29)),
-        (b"program p; begin x := a * - b end.", 1, at(1, 27)),
-        (b"program p; begin x := a and or b end.", 1, at(1, 29)),
-        (b"program p; begin x := not end.", 1, at(1, 27)),
-        (b"program p; begin x := f() end.", 1, at(1, 25)),
-        (b"program p; begin x := f(1 end.", 1, at(1, 27)),
-        (b"program p; begin f() end.", 1, at(1, 20)),
-        (b"program p; begin f(1: ) end.", 1, at(1, 23)),
-        (b"program p; begin x := (1: 2) end.", 1, at(1, 25)),
-        (b"program p; begin write(x:1:2) end.", 1, at(1, 27)),
-        (b"program p; begin a[1] := 2 end.", 1, at(1, 19)),
-        (b"program p; begin if a then end.", 1, at(1, 18)),
-        (b"program p; begin goto 1 end.", 3, at(1, 18)),
-        (b"begin @ nil file label", 3, at(1, 7)),
-        (b") x^ goto", 3, at(1, 4)),
-    ];
-    for (text, number, place) in faults {
-        let tokens = tokens(rt.alloc(), text)?;
-        let fault = parse(rt.alloc(), &tokens).err();
-        let told = fault.map(|fault| (fault.number(), fault.place()));
-        assert_eq!(rt; told, Some((number, Some(place))), "{text:?}");
-    }
-    Ok(())
+    all_hold(rt.alloc(), &FAULTS, fault_told)
 }
+
+fn tree_told(alloc: Global, text: &&str) -> Result<String, Fail> {
+    let list = tokens(alloc, text.as_bytes())?;
+    let program = parse(alloc, &list)?;
+    Ok(format!(in alloc; "{program:?}")?)
+}
+
+/// A tree keeps what stands in the text, the widths too.
+static TREES: [(&str, &str); 3] = [
+    (
+        "PROGRAM p(a, B); var x, y: t; z: u; begin x := -x+(1)-2; w; w(x, +3); ; begin end end.",
+        "Program { name: Name { text: [112], place: Place { line: 1, column: 9 } }, parameters: [Name { text: \
+        [97], place: Place { line: 1, column: 11 } }, Name { text: [66], place: Place { line: 1, column: 14 } \
+        }], block: Block { variables: [VariableGroup { names: [Name { text: [120], place: Place { line: 1, \
+        column: 22 } }, Name { text: [121], place: Place { line: 1, column: 25 } }], denoter: Name(Name { text: \
+        [116], place: Place { line: 1, column: 28 } }) }, VariableGroup { names: [Name { text: [122], place: \
+        Place { line: 1, column: 31 } }], denoter: Name(Name { text: [117], place: Place { line: 1, column: 34 \
+        } }) }], statements: [Assign { name: Name { text: [120], place: Place { line: 1, column: 43 } }, \
+        becomes: Place { line: 1, column: 45 }, value: Chain { first: Signed { sign: Minus, place: Place { \
+        line: 1, column: 48 }, term: Name(Name { text: [120], place: Place { line: 1, column: 49 } }) }, rest: \
+        [Link { operator: Plus, place: Place { line: 1, column: 50 }, operand: Parenthesized { open: Place { \
+        line: 1, column: 51 }, inner: Number { value: 1, place: Place { line: 1, column: 52 } } } }, Link { \
+        operator: Minus, place: Place { line: 1, column: 54 }, operand: Number { value: 2, place: Place { line: \
+        1, column: 55 } } }] } }, Call { name: Name { text: [119], place: Place { line: 1, column: 58 } }, \
+        actuals: [] }, Call { name: Name { text: [119], place: Place { line: 1, column: 61 } }, actuals: \
+        [Actual { value: Name(Name { text: [120], place: Place { line: 1, column: 63 } }), width: None }, \
+        Actual { value: Signed { sign: Plus, place: Place { line: 1, column: 66 }, term: Number { value: 3, \
+        place: Place { line: 1, column: 67 } } }, width: None }] }, Empty, Compound { statements: [Empty] }], \
+        end: Place { line: 1, column: 83 } } }",
+    ),
+    (
+        "program p; begin f(x:1, y) end.",
+        "Program { name: Name { text: [112], place: Place { line: 1, column: 9 } }, parameters: [], block: Block \
+        { variables: [], statements: [Call { name: Name { text: [102], place: Place { line: 1, column: 18 } }, \
+        actuals: [Actual { value: Name(Name { text: [120], place: Place { line: 1, column: 20 } }), width: \
+        Some(Number { value: 1, place: Place { line: 1, column: 22 } }) }, Actual { value: Name(Name { text: \
+        [121], place: Place { line: 1, column: 25 } }), width: None }] }], end: Place { line: 1, column: 28 } } \
+        }",
+    ),
+    (
+        "program p; begin x := f(x:1, y) end.",
+        "Program { name: Name { text: [112], place: Place { line: 1, column: 9 } }, parameters: [], block: Block \
+        { variables: [], statements: [Assign { name: Name { text: [120], place: Place { line: 1, column: 18 } \
+        }, becomes: Place { line: 1, column: 20 }, value: Call { name: Name { text: [102], place: Place { line: \
+        1, column: 23 } }, actuals: [Actual { value: Name(Name { text: [120], place: Place { line: 1, column: \
+        25 } }), width: Some(Number { value: 1, place: Place { line: 1, column: 27 } }) }, Actual { value: \
+        Name(Name { text: [121], place: Place { line: 1, column: 30 } }), width: None }] } }], end: Place { \
+        line: 1, column: 33 } } }",
+    ),
+];
 
 #[test]
 fn keeps_what_stands_in_the_text(rt: HostRuntime) -> Result<(), Fail> {
-    let text =
-        b"PROGRAM p(a, B); var x, y: t; z: u; begin x := -x+(1)-2; w; w(x, +3); ; begin end end.";
-    let tokens = tokens(rt.alloc(), text)?;
-    let program = parse(rt.alloc(), &tokens)?;
-    assert_eq!(rt; program.parameters.len(), 2);
-    assert_eq!(rt; program.parameters[1].text, b"B".as_slice());
-    let groups = &program.block.variables;
-    assert_eq!(rt; groups.len(), 2);
-    assert_eq!(rt; (groups[0].names.len(), groups[1].names.len()), (2, 1));
-    let statements = &program.block.statements;
-    assert_eq!(rt; statements.len(), 5);
-    let found = format!(in rt.alloc(); "{:?}", statements[0])?;
-    let wanted = "Assign { name: Name { text: [120], place: Place { line: 1, column: 43 } }, \
-        becomes: Place { line: 1, column: 45 }, value: Chain { \
-        first: Signed { sign: Minus, place: Place { line: 1, column: 48 }, \
-        term: Name(Name { text: [120], place: Place { line: 1, column: 49 } }) }, \
-        rest: [Link { operator: Plus, place: Place { line: 1, column: 50 }, \
-        operand: Parenthesized { open: Place { line: 1, column: 51 }, \
-        inner: Number { value: 1, place: Place { line: 1, column: 52 } } } }, \
-        Link { operator: Minus, place: Place { line: 1, column: 54 }, \
-        operand: Number { value: 2, place: Place { line: 1, column: 55 } } }] } }";
-    assert_eq!(rt; found.as_str(), wanted);
-    for (index, actuals) in [(1, 0), (2, 2)] {
-        assert!(rt;
-            matches!(&statements[index], Stmt::Call { actuals: found, .. } if found.len() == actuals)
-        );
-    }
-    assert!(rt; matches!(&statements[3], Stmt::Empty));
-    assert!(rt; matches!(&statements[4], Stmt::Compound { statements } if statements.len() == 1));
-    assert_eq!(rt; program.block.end, at(1, 83));
-    Ok(())
+    all_hold(rt.alloc(), &TREES, tree_told)
 }
 
 /// The operator of a chain.
@@ -128,8 +131,10 @@ fn operator(expression: &Expr<'_>) -> Option<Operator> {
     }
 }
 
+type Operators = (Option<Operator>, Option<Operator>, Option<Operator>);
+
 /// The operator of an expression, of what it begins with and of what stands behind its operator.
-fn operators(expression: &Expr<'_>) -> (Option<Operator>, Option<Operator>, Option<Operator>) {
+fn operators(expression: &Expr<'_>) -> Operators {
     match expression {
         Expr::Chain { first, rest } => {
             let behind = rest.first().and_then(|link| operator(&link.operand));
@@ -141,193 +146,259 @@ fn operators(expression: &Expr<'_>) -> (Option<Operator>, Option<Operator>, Opti
     }
 }
 
+fn operators_told(alloc: Global, expression: &&str) -> Result<String, Fail> {
+    let text = format!(in alloc; "program p; begin x := {expression} end.")?;
+    let found = operators_of(alloc, text.as_bytes())?;
+    Ok(format!(in alloc; "{found:?}")?)
+}
+
+/// The operators of the assignment that a program begins with.
+fn operators_of(alloc: Global, text: &[u8]) -> Result<Operators, Fail> {
+    let list = tokens(alloc, text)?;
+    let program = parse(alloc, &list)?;
+    match program.block.statements.first() {
+        Some(Stmt::Assign { value, .. }) => Ok(operators(value)),
+        _ => Err(Fail::new("no assignment")),
+    }
+}
+
+static PRECEDENCES: [(&str, &str); 11] = [
+    ("-7 mod 2", "(None, Some(Mod), None)"),
+    ("not a and b", "(Some(And), None, None)"),
+    ("not (a and b)", "(None, None, None)"),
+    ("a = b or c", "(Some(Equal), None, Some(Or))"),
+    ("a or b < c", "(Some(Less), Some(Or), None)"),
+    ("a + b * c", "(Some(Plus), None, Some(Times))"),
+    ("a and b or c", "(Some(Or), Some(And), None)"),
+    ("-a * b - c", "(Some(Minus), None, None)"),
+    ("a - b + c", "(Some(Minus), None, None)"),
+    ("(a + b) * c", "(Some(Times), None, None)"),
+    ("f(a + b) mod 2", "(Some(Mod), None, None)"),
+];
+
 #[test]
 fn binds_by_precedence(rt: HostRuntime) -> Result<(), Fail> {
-    use Operator::{And, Equal, Less, Minus, Mod, Or, Plus, Times};
-    let alloc = rt.alloc();
-    let rows: [(
-        &[u8],
-        (Option<Operator>, Option<Operator>, Option<Operator>),
-    ); 11] = [
-        (b"-7 mod 2", (None, Some(Mod), None)),
-        (b"not a and b", (Some(And), None, None)),
-        (b"not (a and b)", (None, None, None)),
-        (b"a = b or c", (Some(Equal), None, Some(Or))),
-        (b"a or b < c", (Some(Less), Some(Or), None)),
-        (b"a + b * c", (Some(Plus), None, Some(Times))),
-        (b"a and b or c", (Some(Or), Some(And), None)),
-        (b"-a * b - c", (Some(Minus), None, None)),
-        (b"a - b + c", (Some(Minus), None, None)),
-        (b"(a + b) * c", (Some(Times), None, None)),
-        (b"f(a + b) mod 2", (Some(Mod), None, None)),
-    ];
-    for (row, wanted) in rows {
-        let text = repeated(alloc, b"program p; begin x := ", row, 1, b" end.")?;
-        let tokens = tokens(alloc, &text)?;
-        let program = parse(alloc, &tokens)?;
-        match program.block.statements.first() {
-            Some(Stmt::Assign { value, .. }) => assert_eq!(rt; operators(value), wanted, "{row:?}"),
-            _ => assert!(rt; false, "{row:?}"),
-        }
-    }
-    Ok(())
+    all_hold(rt.alloc(), &PRECEDENCES, operators_told)
 }
 
-#[test]
-fn keeps_each_width(rt: HostRuntime) -> Result<(), Fail> {
-    let alloc = rt.alloc();
-    let texts: [&[u8]; 2] = [
-        b"program p; begin f(x:1, y) end.",
-        b"program p; begin x := f(x:1, y) end.",
-    ];
-    for text in texts {
-        let tokens = tokens(alloc, text)?;
-        let program = parse(alloc, &tokens)?;
-        let widths = match program.block.statements.first() {
-            Some(
-                Stmt::Call { actuals, .. }
-                | Stmt::Assign {
-                    value: Expr::Call { actuals, .. },
-                    ..
-                },
-            ) => widths(actuals),
-            _ => None,
-        };
-        assert_eq!(rt; widths, Some((true, false)), "{text:?}");
-    }
-    Ok(())
-}
-
-/// Which of two actuals have a width.
-fn widths(actuals: &[Actual<'_>]) -> Option<(bool, bool)> {
-    match actuals {
-        [one, two] => Some((one.width.is_some(), two.width.is_some())),
-        _ => None,
+/// The number of the fault of a text, or 0.
+fn number_of(alloc: Global, text: &str) -> Result<u8, Fail> {
+    let list = tokens(alloc, text.as_bytes())?;
+    match parse(alloc, &list) {
+        Ok(_) => Ok(0),
+        Err(fault) => Ok(fault.number()),
     }
 }
 
-/// A way to nest: text before, what opens and closes a level, text inside and after, and how many
-/// levels fit.
+/// A way to nest: text before, what opens a level, text inside, what closes a level, text after, and two numbers of levels.
 type Nest = (
-    &'static [u8],
-    &'static [u8],
-    &'static [u8],
-    &'static [u8],
-    &'static [u8],
+    &'static str,
+    &'static str,
+    &'static str,
+    &'static str,
+    &'static str,
+    usize,
     usize,
 );
 
-#[test]
-fn nests_to_128(rt: HostRuntime) -> Result<(), Fail> {
-    let alloc = rt.alloc();
-    let nests: [Nest; 8] = [
-        (b"x := ", b"(", b"1", b")", b"", 126),
-        (b"x := ", b"not ", b"y", b"", b"", 126),
-        (b"x := ", b"f(", b"1:2", b")", b"", 126),
-        (b"", b"begin ", b"", b" end", b"", 126),
-        (b"begin x := 2 - ", b"(-", b"1", b")", b"; end", 125),
-        (b"f(1, (2), ", b"(3 + ", b"1", b")", b")", 125),
-        (
-            b"begin ; begin x := ",
-            b"(",
-            b"y",
-            b") - 1",
-            b" end end",
-            124,
-        ),
-        (
-            b"x := (1); ",
-            b"begin y := ((2)); ",
-            b"f(1)",
-            b" end",
-            b"",
-            124,
-        ),
-    ];
-    for (before, open, inner, close, after, most) in nests {
-        for (count, wanted) in [(most, None), (most + 1, Some(2))] {
-            let mut text = repeated(alloc, b"program p; begin ", before, 1, b"")?;
-            text.extend_from_slice(&repeated(alloc, b"", open, count, inner)?)?;
-            text.extend_from_slice(&repeated(alloc, b"", close, count, after)?)?;
-            text.extend_from_slice(b" end.")?;
-            let fault = parse(alloc, &tokens(alloc, &text)?).err();
-            assert_eq!(rt; fault.map(|fault| fault.number()), wanted, "{before:?}");
-        }
-    }
-    Ok(())
+fn nested(alloc: Global, nest: &Nest, count: usize) -> Result<u8, Fail> {
+    let (before, open, inner, close, after, ..) = *nest;
+    let opened = repeated(alloc, before, open, count)?;
+    let closed = repeated(alloc, inner, close, count)?;
+    let text = format!(in alloc; "{opened}{closed}{after}")?;
+    number_of(alloc, text.as_str())
 }
 
+/// The numbers of the faults at both numbers of levels.
+fn nest_told(alloc: Global, nest: &Nest) -> Result<String, Fail> {
+    let first = nested(alloc, nest, nest.5)?;
+    let second = nested(alloc, nest, nest.6)?;
+    Ok(format!(in alloc; "{first} {second}")?)
+}
+
+static NESTS: [(Nest, &str); 14] = [
+    (
+        ("program p; begin x := ", "(", "1", ")", " end.", 126, 127),
+        "0 2",
+    ),
+    (
+        ("program p; begin x := ", "not ", "y", "", " end.", 126, 127),
+        "0 2",
+    ),
+    (
+        (
+            "program p; begin x := ",
+            "f(",
+            "1:2",
+            ")",
+            " end.",
+            126,
+            127,
+        ),
+        "0 2",
+    ),
+    (
+        ("program p; begin ", "begin ", "", " end", " end.", 126, 127),
+        "0 2",
+    ),
+    (
+        (
+            "program p; begin begin x := 2 - ",
+            "(-",
+            "1",
+            ")",
+            "; end end.",
+            125,
+            126,
+        ),
+        "0 2",
+    ),
+    (
+        (
+            "program p; begin f(1, (2), ",
+            "(3 + ",
+            "1",
+            ")",
+            ") end.",
+            125,
+            126,
+        ),
+        "0 2",
+    ),
+    (
+        (
+            "program p; begin begin ; begin x := ",
+            "(",
+            "y",
+            ") - 1",
+            " end end end.",
+            124,
+            125,
+        ),
+        "0 2",
+    ),
+    (
+        (
+            "program p; begin x := (1); ",
+            "begin y := ((2)); ",
+            "f(1)",
+            " end",
+            " end.",
+            124,
+            125,
+        ),
+        "0 2",
+    ),
+    // Lists are no levels.
+    (
+        ("program p; begin x := x", "+x", "", "", " end.", 1, 100000),
+        "0 0",
+    ),
+    (
+        ("program p; begin x := x", "*x", "", "", " end.", 1, 100000),
+        "0 0",
+    ),
+    (
+        ("program p; begin x := 1", " ;", "", "", " end.", 1, 100000),
+        "0 0",
+    ),
+    (
+        ("program p; begin f(1", ",x", "", "", ") end.", 1, 100000),
+        "0 0",
+    ),
+    (
+        ("program p(a", ",b", "", "", "); begin end.", 1, 100000),
+        "0 0",
+    ),
+    (
+        (
+            "program p; var x: t;",
+            "y:t;",
+            "",
+            "",
+            "begin end.",
+            1,
+            100000,
+        ),
+        "0 0",
+    ),
+];
+
 #[test]
-fn takes_long_lists(rt: HostRuntime) -> Result<(), Fail> {
-    let alloc = rt.alloc();
-    let lists: [(&[u8], &[u8], &[u8]); 6] = [
-        (b"program p; begin x := x", b"+x", b" end."),
-        (b"program p; begin x := x", b"*x", b" end."),
-        (b"program p; begin x := 1", b" ;", b" end."),
-        (b"program p; begin f(1", b",x", b") end."),
-        (b"program p(a", b",b", b"); begin end."),
-        (b"program p; var x: t;", b"y:t;", b"begin end."),
-    ];
-    for (before, middle, after) in lists {
-        let text = repeated(alloc, before, middle, 100000, after)?;
-        let found = tokens(alloc, &text)?;
-        assert!(rt; parse(alloc, &found).is_ok(), "{before:?}");
+fn nests_to_128_and_takes_long_lists(rt: HostRuntime) -> Result<(), Fail> {
+    all_hold(rt.alloc(), &NESTS, nest_told)
+}
+
+/// The next of a row of numbers that look random.
+fn next_random(seed: u64) -> u64 {
+    seed.wrapping_mul(6364136223846793005)
+        .wrapping_add(1442695040888963407)
+}
+
+const PLACE: Place = Place {
+    line: 0,
+    column: u32::MAX,
+};
+
+/// What random lists are made of; a list with the word nil is left out.
+const KINDS: [Kind; 16] = [
+    Kind::Word(Word::Program),
+    Kind::Word(Word::Begin),
+    Kind::Word(Word::Not),
+    Kind::Word(Word::End),
+    Kind::Word(Word::Var),
+    Kind::Word(Word::Nil),
+    Kind::Identifier,
+    Kind::Symbol(Symbol::Times),
+    Kind::Number(u32::MAX),
+    Kind::Text,
+    Kind::Symbol(Symbol::Semicolon),
+    Kind::Symbol(Symbol::Becomes),
+    Kind::Symbol(Symbol::OpenParenthesis),
+    Kind::Symbol(Symbol::CloseParenthesis),
+    Kind::Symbol(Symbol::Plus),
+    Kind::Symbol(Symbol::Colon),
+];
+
+fn token(kind: Kind, text: &'static [u8]) -> Token<'static> {
+    Token {
+        kind,
+        text,
+        place: PLACE,
     }
-    Ok(())
+}
+
+/// How a program begins, as far as the seed says.
+fn beginning(alloc: Global, seed: u64) -> Result<Vec<Token<'static>>, AllocError> {
+    let mut list = vec![in alloc;
+        token(Kind::Word(Word::Program), b"a"),
+        token(Kind::Identifier, b"a"),
+        token(Kind::Symbol(Symbol::Semicolon), b"a"),
+        token(Kind::Word(Word::Begin), b"a"),
+    ]?;
+    list.truncate((seed >> 60) as usize);
+    Ok(list)
+}
+
+/// Whether a list is left out exactly where it has the word nil.
+fn is_left_out_for_nil(alloc: Global, list: &[Token<'_>]) -> bool {
+    let fault = parse(alloc, list).err();
+    let has_nil = list.iter().any(|token| token.kind == Kind::Word(Word::Nil));
+    (fault == Some(ParseFault::LeftOut(PLACE))) == has_nil
 }
 
 #[test]
 fn answers_any_list(rt: HostRuntime) -> Result<(), Fail> {
     let alloc = rt.alloc();
-    let kinds = [
-        Kind::Word(Word::Program),
-        Kind::Word(Word::Begin),
-        Kind::Word(Word::Not),
-        Kind::Word(Word::End),
-        Kind::Word(Word::Var),
-        Kind::Word(Word::Nil),
-        Kind::Identifier,
-        Kind::Symbol(Symbol::Times),
-        Kind::Number(u32::MAX),
-        Kind::Text,
-        Kind::Symbol(Symbol::Semicolon),
-        Kind::Symbol(Symbol::Becomes),
-        Kind::Symbol(Symbol::OpenParenthesis),
-        Kind::Symbol(Symbol::CloseParenthesis),
-        Kind::Symbol(Symbol::Plus),
-        Kind::Symbol(Symbol::Colon),
-    ];
-    let place = Place {
-        line: 0,
-        column: u32::MAX,
-    };
     let mut seed = 1;
     for _ in 0..1000 {
-        let mut list = Vec::new(alloc);
-        for kind in [kinds[0], kinds[6], kinds[10], kinds[1]] {
-            list.push(Token {
-                kind,
-                text: b"a",
-                place,
-            })?;
-        }
-        list.truncate((seed >> 60) as usize);
+        let mut list = beginning(alloc, seed)?;
         for _ in 0..seed >> 58 {
             seed = next_random(seed);
-            let kind = kinds[(seed >> 60) as usize];
-            list.push(Token {
-                kind,
-                text: b"",
-                place,
-            })?;
+            list.push(token(KINDS[(seed >> 60) as usize], b""))?;
         }
         seed = next_random(seed);
-        let fault = parse(alloc, &list).err();
-        let is_left_out = fault == Some(ParseFault::LeftOut(place));
-        assert_eq!(rt;
-            is_left_out,
-            list.iter().any(|token| token.kind == kinds[5])
-        );
+        assert!(rt; is_left_out_for_nil(alloc, &list));
     }
     Ok(())
 }

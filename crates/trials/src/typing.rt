@@ -1,361 +1,202 @@
-use lexer::place::Place;
-use lexer::tokens;
-use parser::parse;
-use resolver::resolve;
+use crate::rows::all_hold;
+use crate::sources::{program_of, resolved, sites_told, tree_of};
 use std::alloc::Global;
-use std::process::Abort;
 use std::test::Fail;
-use typed_tree::fault::TypeFault;
 use typed_tree::site::{Site, SiteKind};
 use typed_tree::sites;
-use typed_tree::tree::{Dyadic, Expr, Monadic, Representation, Stmt};
-use types::MAXINT;
 
-fn assert_sites(
-    rt: &impl Abort,
-    alloc: Global,
-    source: &[u8],
-    stand: &[(SiteKind, u32)],
-) -> Result<(), Fail> {
-    let list = tokens(alloc, source)?;
-    let program = parse(alloc, &list)?;
-    let tree = resolve(alloc, &program)?;
-    assert_eq!(rt; sites(&tree).len(), stand.len());
-    for (id, (site, (kind, column))) in sites(&tree).iter().zip(stand).enumerate() {
-        let place = Place {
-            line: 1,
-            column: *column,
-        };
-        assert_eq!(rt;
-            *site,
-            Site {
-                id: id as u32,
-                kind: *kind,
-                place
-            }
-        );
+/// The sites of a program, whose ids count up from 0.
+fn program_told(alloc: Global, statements: &&str) -> Result<String, Fail> {
+    let list = sites_of(alloc, statements)?;
+    if !count_up(&list) {
+        return Err(Fail::new("ids out of order"));
     }
-    Ok(())
+    sites_told(alloc, &list)
 }
+
+fn sites_of(alloc: Global, statements: &str) -> Result<Vec<Site>, Fail> {
+    let tree = tree_of(alloc, "x, y, z: integer; b: boolean", statements)?;
+    Ok(sites(&tree).to_vec(alloc)?)
+}
+
+fn count_up(list: &[Site]) -> bool {
+    for (place, site) in list.iter().enumerate() {
+        if site.id as usize != place {
+            return false;
+        }
+    }
+    true
+}
+
+/// Sites stand in the order of the text, that of a width behind that of its first token.
+static SITES: [(&str, &str); 3] = [
+    (
+        "x := 7; y := x - 10; writeln(x + y, -x)",
+        "2:3 subrange; 2:11 subrange; 2:14 undefined variable; 2:16 overflow; 2:30 undefined variable; \
+        2:32 overflow; 2:34 undefined variable; 2:38 undefined variable; ",
+    ),
+    (
+        "x := x * 2 div x mod 3; b := not (x <> 1)",
+        "2:3 subrange; 2:6 undefined variable; 2:8 overflow; 2:12 division by zero; 2:16 undefined variable; \
+        2:18 mod by zero or less; 2:27 subrange; 2:35 undefined variable; ",
+    ),
+    (
+        "write(x:y, sqr(z):5)",
+        "2:7 undefined variable; 2:9 undefined variable; 2:9 width; 2:12 overflow; 2:16 undefined variable; \
+        2:19 width; ",
+    ),
+];
 
 #[test]
 fn sites_stand_in_the_order_of_the_text(rt: HostRuntime) -> Result<(), Fail> {
-    assert_sites(
-        &rt,
-        rt.alloc(),
-        b"program p(output); var x, y: integer; begin x := 7; y := x - 10; writeln(x + y, -x) end.",
-        &[
-            (SiteKind::Subrange, 47),
-            (SiteKind::Subrange, 55),
-            (SiteKind::UndefinedVariable, 58),
-            (SiteKind::Overflow, 60),
-            (SiteKind::UndefinedVariable, 74),
-            (SiteKind::Overflow, 76),
-            (SiteKind::UndefinedVariable, 78),
-            (SiteKind::UndefinedVariable, 82),
-        ],
-    )
+    all_hold(rt.alloc(), &SITES, program_told)
 }
+
+/// The blocks of a program.
+fn blocks_told(alloc: Global, source: &&str) -> Result<String, Fail> {
+    let blocks = resolved(alloc, source)??.blocks;
+    Ok(format!(in alloc; "{blocks:?}")?)
+}
+
+/// Operators are entered between their operands, a width behind its value, and a required name may be redefined.
+static BLOCKS: [(&str, &str); 3] = [
+    (
+        "program p(output); begin writeln(1 + 2 - 3) end.",
+        "[Block { body: Compound { number: 0, statements: [Write { number: 1, parameters: [WriteParameter { value: Chain { \
+        first: Constant { number: 2, value: 1 }, rest: [\
+        Link { number: 3, operation: Plus { overflow: 0 }, operand: Constant { number: 4, value: 2 } }, \
+        Link { number: 5, operation: Minus { overflow: 1 }, operand: Constant { number: 6, value: 3 } }] }, \
+        representation: Integer, width: None }], ends_line: true }] }, \
+        end: Place { line: 1, column: 45 } }]",
+    ),
+    (
+        "program p(output); begin write(odd(abs(7)):8) end.",
+        "[Block { body: Compound { number: 0, statements: [Write { number: 1, parameters: [WriteParameter { value: Monadic { \
+        number: 2, operation: Odd, operand: Monadic { number: 3, operation: Abs, \
+        operand: Constant { number: 4, value: 7 } } }, representation: Boolean, \
+        width: Some(Width { value: Constant { number: 5, value: 8 }, site: 0 }) }], ends_line: false }] }, \
+        end: Place { line: 1, column: 47 } }]",
+    ),
+    (
+        "program p; var true: integer; begin true := 5 end.",
+        "[Block { body: Compound { number: 0, statements: [Assign { number: 1, target: Access { number: 2, root: 0 }, \
+        fits: RangeTest { site: 0, range: OrdinalRange { first: -2147483647, last: 2147483647 } }, \
+        value: Constant { number: 3, value: 5 } }] }, \
+        end: Place { line: 1, column: 47 } }]",
+    ),
+];
 
 #[test]
-fn operators_have_sites_of_their_kinds(rt: HostRuntime) -> Result<(), Fail> {
-    assert_sites(
-        &rt,
-        rt.alloc(),
-        b"program p; var x: integer; b: boolean; begin x := x * 2 div x mod 3; b := not (x <> 1) end.",
-        &[
-            (SiteKind::Subrange, 48),
-            (SiteKind::UndefinedVariable, 51),
-            (SiteKind::Overflow, 53),
-            (SiteKind::DivisionByZero, 57),
-            (SiteKind::UndefinedVariable, 61),
-            (SiteKind::ModByZeroOrLess, 63),
-            (SiteKind::Subrange, 72),
-            (SiteKind::UndefinedVariable, 80),
-        ],
-    )
+fn entries_stand_in_the_order_of_a_run(rt: HostRuntime) -> Result<(), Fail> {
+    all_hold(rt.alloc(), &BLOCKS, blocks_told)
 }
 
-// The site of a width stands behind that of its first token.
-#[test]
-fn a_width_has_a_site_at_its_first_token(rt: HostRuntime) -> Result<(), Fail> {
-    assert_sites(
-        &rt,
-        rt.alloc(),
-        b"program p(output); var x, y, z: integer; begin write(x:y, sqr(z):5) end.",
-        &[
-            (SiteKind::UndefinedVariable, 54),
-            (SiteKind::UndefinedVariable, 56),
-            (SiteKind::Width, 56),
-            (SiteKind::Overflow, 59),
-            (SiteKind::UndefinedVariable, 63),
-            (SiteKind::Width, 66),
-        ],
-    )
-}
-
-#[test]
-fn operators_are_entered_between_their_operands(rt: HostRuntime) -> Result<(), Fail> {
-    let alloc = rt.alloc();
-    let list = tokens(alloc, b"program p(output); begin writeln(1 + 2 - 3) end.")?;
-    let program = parse(alloc, &list)?;
-    let tree = resolve(alloc, &program)?;
-    assert_eq!(rt; tree.blocks.len(), 1);
-    let Stmt::Compound {
-        number: 0,
-        statements,
-    } = &tree.blocks[0].body
-    else {
-        panic!(rt; "no compound");
-    };
-    assert_eq!(rt; statements.len(), 1);
-    let Stmt::Write {
-        number: 1,
-        parameters,
-        ends_line: true,
-    } = &statements[0]
-    else {
-        panic!(rt; "no writeln");
-    };
-    assert_eq!(rt; parameters.len(), 1);
-    assert_eq!(rt; parameters[0].representation, Representation::Integer);
-    assert!(rt; parameters[0].width.is_none());
-    let Expr::Chain { first, rest } = &parameters[0].value else {
-        panic!(rt; "no chain");
-    };
-    assert!(rt; is_constant(first, 2, 1));
-    assert_eq!(rt; rest.len(), 2);
-    assert_eq!(rt;
-        (rest[0].number, rest[0].operation),
-        (3, Dyadic::Plus { overflow: 0 })
-    );
-    assert!(rt; is_constant(&rest[0].operand, 4, 2));
-    assert_eq!(rt;
-        (rest[1].number, rest[1].operation),
-        (5, Dyadic::Minus { overflow: 1 })
-    );
-    assert!(rt; is_constant(&rest[1].operand, 6, 3));
-    Ok(())
-}
-
-// Whether an expression is the constant with this number and this value.
-fn is_constant(expression: &Expr, entry: u32, constant: i32) -> bool {
-    match expression {
-        Expr::Constant { number, value } => *number == entry && *value == constant,
-        _ => false,
+/// Why a program has no typed tree; nothing where it has one.
+fn fault_told(alloc: Global, source: &&str) -> Result<String, Fail> {
+    match resolved(alloc, source)? {
+        Ok(_) => Ok(String::new(alloc)),
+        Err(fault) => Ok(format!(in alloc; "{fault}")?),
     }
 }
 
-#[test]
-fn a_width_is_entered_behind_its_value(rt: HostRuntime) -> Result<(), Fail> {
-    let alloc = rt.alloc();
-    let list = tokens(alloc, b"program p(output); begin write(odd(abs(7)):8) end.")?;
-    let program = parse(alloc, &list)?;
-    let tree = resolve(alloc, &program)?;
-    let Stmt::Compound { statements, .. } = &tree.blocks[0].body else {
-        panic!(rt; "no compound");
-    };
-    assert_eq!(rt; statements.len(), 1);
-    let Stmt::Write {
-        number: 1,
-        parameters,
-        ends_line: false,
-    } = &statements[0]
-    else {
-        panic!(rt; "no write");
-    };
-    assert_eq!(rt; parameters.len(), 1);
-    assert_eq!(rt; parameters[0].representation, Representation::Boolean);
-    let Expr::Monadic {
-        number: 2,
-        operation: Monadic::Odd,
-        operand,
-    } = &parameters[0].value
-    else {
-        panic!(rt; "no odd");
-    };
-    let Expr::Monadic {
-        number: 3,
-        operation: Monadic::Abs,
-        operand,
-    } = &**operand
-    else {
-        panic!(rt; "no abs");
-    };
-    assert!(rt; is_constant(operand, 4, 7));
-    let Some(width) = &parameters[0].width else {
-        panic!(rt; "no width");
-    };
-    assert!(rt; is_constant(&width.value, 5, 8));
-    assert_eq!(rt; width.site, 0);
-    Ok(())
+/// The same of statements, which stand on line 2.
+fn statement_told(alloc: Global, statements: &&str) -> Result<String, Fail> {
+    let source = program_of(alloc, "b: boolean; x: integer", statements)?;
+    fault_told(alloc, &source.as_str())
 }
 
-// What is told of a program of one line, and the place where its second part begins.
-fn told(alloc: Global, before: &str, after: &str) -> Result<(Result<(), TypeFault>, Place), Fail> {
-    let source = format!(in alloc; "{before}{after}")?;
-    let list = tokens(alloc, source.as_bytes())?;
-    let program = parse(alloc, &list)?;
-    let place = Place {
-        line: 1,
-        column: before.len() as u32 + 1,
-    };
-    Ok((resolve(alloc, &program).map(|_| ()), place))
-}
-
-// What is told of a statement of a program with a Boolean b and an integer x.
-fn told_of_statement(
-    alloc: Global,
-    before: &str,
-    after: &str,
-) -> Result<(Result<(), TypeFault>, Place), Fail> {
-    let before = format!(in alloc;
-        "program p(output); var b: boolean; x: integer; begin {before}"
-    )?;
-    let after = format!(in alloc; "{after} end.")?;
-    told(alloc, before.as_str(), after.as_str())
-}
+/// Types that don't fit, wrong parameters, and statements that break no rule.
+static STATEMENTS: [(&str, &str); 30] = [
+    ("b := 1", "2:3: types that don't fit"),
+    ("x := true", "2:3: types that don't fit"),
+    ("b := not 1", "2:6: types that don't fit"),
+    ("x := -true", "2:6: types that don't fit"),
+    ("b := 1 and true", "2:8: types that don't fit"),
+    ("b := true or 1", "2:11: types that don't fit"),
+    ("x := 1 + true", "2:8: types that don't fit"),
+    ("x := true div 1", "2:11: types that don't fit"),
+    ("b := 1 = true", "2:8: types that don't fit"),
+    ("b := true < 1", "2:11: types that don't fit"),
+    ("x := abs(true)", "2:10: types that don't fit"),
+    ("b := odd(b)", "2:10: types that don't fit"),
+    ("write(x:b)", "2:9: types that don't fit"),
+    ("write(x:(x = 1))", "2:9: types that don't fit"),
+    ("x := output", "2:6: types that don't fit"),
+    ("x := integer", "2:6: types that don't fit"),
+    ("x := b(1)", "2:6: types that don't fit"),
+    ("x", "2:1: types that don't fit"),
+    ("x := abs(1, 2)", "2:6: wrong parameters"),
+    ("x := abs(1:2)", "2:6: wrong parameters"),
+    ("x := abs", "2:6: wrong parameters"),
+    ("x := writeln", "2:6: wrong parameters"),
+    ("x := writeln(1)", "2:6: wrong parameters"),
+    ("abs(1)", "2:1: wrong parameters"),
+    ("write", "2:1: wrong parameters"),
+    ("write(output)", "2:1: wrong parameters"),
+    ("b := (1 = x) and not odd(x) or (false < b)", ""),
+    ("x := -sqr(x) mod 7 * abs(-maxint)", ""),
+    ("write(output, b:x + 1, x)", ""),
+    ("writeln; writeln(output); write(true)", ""),
+];
 
 #[test]
-fn types_that_do_not_fit_are_refused(rt: HostRuntime) -> Result<(), Fail> {
-    let cases = [
-        ("b ", ":= 1"),
-        ("x ", ":= true"),
-        ("b := ", "not 1"),
-        ("x := ", "-true"),
-        ("b := 1 ", "and true"),
-        ("b := true ", "or 1"),
-        ("x := 1 ", "+ true"),
-        ("x := true ", "div 1"),
-        ("b := 1 ", "= true"),
-        ("b := true ", "< 1"),
-        ("x := abs(", "true)"),
-        ("b := odd(", "b)"),
-        ("write(x:", "b)"),
-        ("write(x:", "(x = 1))"),
-        ("x := ", "output"),
-        ("x := ", "integer"),
-        ("x := ", "b(1)"),
-        ("", "x"),
-    ];
-    for (before, after) in cases {
-        let (answer, place) = told_of_statement(rt.alloc(), before, after)?;
-        assert_eq!(rt; answer, Err(TypeFault::Mismatch(place)));
+fn statements_that_break_a_rule_are_refused(rt: HostRuntime) -> Result<(), Fail> {
+    all_hold(rt.alloc(), &STATEMENTS, statement_told)
+}
+
+/// A write needs output, and a denoter is no name that its block defines.
+static PROGRAMS: [(&str, &str); 5] = [
+    (
+        "program p; begin write(1) end.",
+        "1:18: input or output is no program parameter",
+    ),
+    (
+        "program p; var x, Integer: integer; begin end.",
+        "1:28: types that don't fit",
+    ),
+    (
+        "program p; var x: integer; integer: boolean; begin end.",
+        "1:19: used before its declaration",
+    ),
+    ("program p; var x: real; begin end.", "1:19: not declared"),
+    (
+        "program p; var x: maxint; begin end.",
+        "1:19: types that don't fit",
+    ),
+];
+
+#[test]
+fn programs_that_break_a_rule_are_refused(rt: HostRuntime) -> Result<(), Fail> {
+    all_hold(rt.alloc(), &PROGRAMS, fault_told)
+}
+
+/// The number and the name of the kind with a number.
+fn kind_told(alloc: Global, number: &u8) -> Result<String, Fail> {
+    match SiteKind::with_number(*number) {
+        Some(kind) => Ok(format!(in alloc; "{} {}", kind.number(), kind.name())?),
+        None => Ok(String::new(alloc)),
     }
-    Ok(())
 }
 
-#[test]
-fn wrong_parameters_are_refused(rt: HostRuntime) -> Result<(), Fail> {
-    let cases = [
-        ("x := ", "abs(1, 2)"),
-        ("x := ", "abs(1:2)"),
-        ("x := ", "abs"),
-        ("x := ", "writeln"),
-        ("x := ", "writeln(1)"),
-        ("", "abs(1)"),
-        ("", "write"),
-        ("", "write(output)"),
-    ];
-    for (before, after) in cases {
-        let (answer, place) = told_of_statement(rt.alloc(), before, after)?;
-        assert_eq!(rt; answer, Err(TypeFault::WrongParameters(place)));
-    }
-    Ok(())
-}
-
-#[test]
-fn statements_without_a_broken_rule_are_typed(rt: HostRuntime) -> Result<(), Fail> {
-    let cases = [
-        "b := (1 = x) and not odd(x) or (false < b)",
-        "x := -sqr(x) mod 7 * abs(-maxint)",
-        "write(output, b:x + 1, x)",
-        "writeln; writeln(output); write(true)",
-    ];
-    for statement in cases {
-        let (answer, _) = told_of_statement(rt.alloc(), statement, "")?;
-        assert_eq!(rt; answer, Ok(()));
-    }
-    Ok(())
-}
-
-#[test]
-fn a_write_needs_output(rt: HostRuntime) -> Result<(), Fail> {
-    let (answer, place) = told(rt.alloc(), "program p; begin ", "write(1) end.")?;
-    assert_eq!(rt; answer, Err(TypeFault::NotProgramParameter(place)));
-    Ok(())
-}
-
-#[test]
-fn a_denoter_is_no_name_of_the_block(rt: HostRuntime) -> Result<(), Fail> {
-    let (answer, place) = told(
-        rt.alloc(),
-        "program p; var x, Integer: ",
-        "integer; begin end.",
-    )?;
-    assert_eq!(rt; answer, Err(TypeFault::Mismatch(place)));
-    let (answer, place) = told(
-        rt.alloc(),
-        "program p; var x: ",
-        "integer; integer: boolean; begin end.",
-    )?;
-    assert_eq!(rt; answer, Err(TypeFault::UsedBeforeDeclared(place)));
-    let (answer, place) = told(rt.alloc(), "program p; var x: ", "real; begin end.")?;
-    assert_eq!(rt; answer, Err(TypeFault::NotDeclared(place)));
-    let (answer, place) = told(rt.alloc(), "program p; var x: ", "maxint; begin end.")?;
-    assert_eq!(rt; answer, Err(TypeFault::Mismatch(place)));
-    Ok(())
-}
-
-#[test]
-fn required_names_may_be_redefined(rt: HostRuntime) -> Result<(), Fail> {
-    let alloc = rt.alloc();
-    let list = tokens(alloc, b"program p; var true: integer; begin true := 5 end.")?;
-    let program = parse(alloc, &list)?;
-    let tree = resolve(alloc, &program)?;
-    let Stmt::Compound { statements, .. } = &tree.blocks[0].body else {
-        panic!(rt; "no compound");
-    };
-    assert_eq!(rt; statements.len(), 1);
-    let Stmt::Assign {
-        number: 1,
-        target,
-        fits,
-        value,
-    } = &statements[0]
-    else {
-        panic!(rt; "no assignment");
-    };
-    assert_eq!(rt; (target.number, target.root), (2, 0));
-    assert_eq!(rt; fits.range.last, MAXINT);
-    assert!(rt; is_constant(value, 3, 5));
-    Ok(())
-}
+static KINDS: [(u8, &str); 15] = [
+    (0, ""),
+    (1, "1 index"),
+    (2, "2 subrange"),
+    (3, "3 undefined variable"),
+    (4, "4 undefined result"),
+    (5, "5 division by zero"),
+    (6, "6 mod by zero or less"),
+    (7, "7 case"),
+    (8, "8 chr"),
+    (9, "9 succ"),
+    (10, "10 pred"),
+    (11, "11 overflow"),
+    (12, "12 width"),
+    (13, "13 set member"),
+    (14, ""),
+];
 
 #[test]
 fn kinds_have_numbers_and_names(rt: HostRuntime) -> Result<(), Fail> {
-    let names = [
-        "index",
-        "subrange",
-        "undefined variable",
-        "undefined result",
-        "division by zero",
-        "mod by zero or less",
-        "case",
-        "chr",
-        "succ",
-        "pred",
-        "overflow",
-        "width",
-        "set member",
-    ];
-    for (index, name) in names.iter().enumerate() {
-        let number = index as u8 + 1;
-        let kind = SiteKind::with_number(number).ok_or("a number without a kind")?;
-        assert_eq!(rt; kind.number(), number);
-        assert_eq!(rt; kind.name(), *name);
-    }
-    assert_eq!(rt; SiteKind::with_number(0), None);
-    assert_eq!(rt; SiteKind::with_number(14), None);
-    Ok(())
+    all_hold(rt.alloc(), &KINDS, kind_told)
 }

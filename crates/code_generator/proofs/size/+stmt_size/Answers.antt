@@ -1,6 +1,6 @@
-use Rattle.std.proofs.Common.{ap, sym, ◌∙◌, length}
+use Rattle.std.proofs.Common.{ap, sym, ◌∙◌, length, arith}
 use Rattle.code_generator.specs.Code.{stmt_code, operand}
-use Rattle.code_generator.proofs.Pieces.{stmt_code-Compound, all_pieces}
+use Rattle.code_generator.proofs.Pieces.{stmt_code-Compound, length_one_more, all_pieces}
 use Rattle.code_generator.proofs.size.+stmt_size.Goals as goal
 
 pub returns-after-loop-statement : goal.returns-after-loop-statement
@@ -8,3 +8,8 @@ returns-after-loop-statement t c =
     let whole = ap stmt_code c.in-Compound.is ∙ stmt_code-Compound c.in-Compound.number c.in-Compound.statements in
     let statements = all_pieces stmt_code c.deref-statement-items.result.now c.in-Compound.statements.items c.loop-statement.statement-index c.loop-statement-test.false c.deref-statement-items.ensures.value in
     c.loop-statement.invariant ∙ ap (λ xs. operand (length xs)) (statements ∙ sym whole)
+
+pub loop-statement-preserved : goal.loop-statement-preserved
+loop-statement-preserved t c =
+    let more = length_one_more stmt_code c.deref-statement-items.result.now c.loop-statement.statement-index c.statement-item.result c.loop-statement-test.true c.statement-item.is in
+    omega arith

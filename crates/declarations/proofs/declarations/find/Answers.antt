@@ -20,6 +20,6 @@ returns-clause-told c =
     let same : c.find.result ≡ r = c.find.ensures ∙ search rules in
     refused_at c.find.result c.map_err.result _ (λ e. r ≡ Err e) _ c.map_err.ensures.cases
     (λ e f h is.
-      let here : f ≡ placed e place = search rules in
-      inr (subst (λ (q : Result Denotation ScopeFault). IsErrAnd q (λ error. f ≡ placed error place)) (sym is) here))
+    let here : f ≡ placed e place = search rules in
+    inr (subst (λ (q : Result Denotation ScopeFault). IsErrAnd q (λ error. f ≡ placed error place)) (sym is) here))
     (subst (λ (q : Result Denotation ScopeFault). IfErr c.find.result (λ e. q ≡ Err e)) same (own_error c.find.result))

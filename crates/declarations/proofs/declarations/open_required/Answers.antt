@@ -13,6 +13,6 @@ pub returns-in_err-declare-clause-refused : goal.returns-in_err-declare-clause-r
 returns-in_err-declare-clause-refused c =
     let memory : c.in_err-declare.field-0.0 ≡ Memory =
     ⊎_elim (λ m. m)
-    (λ stuck. absurd (required_stuck (λ p. (p.0.now, p.1)) _ c.loop-name.name-index _ _ _ _ refl c.loop-name-test.true c.in_ok-open.ensures c.loop-name.invariant stuck))
+    (λ stuck. absurd (required_stuck (λ p. (p.0.now, p.1)) _ c.loop-name.name-index _ _ _ _ refl c.loop-name-test.true c.in_ok-open.ensures.opened c.loop-name.invariant stuck))
     c.in_err-declare.ensures.refused in
     search rules

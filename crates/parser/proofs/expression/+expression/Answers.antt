@@ -4,7 +4,7 @@ use Rattle.lexer.specs.declared.token.Symbol.TheVariants as symbol
 use Rattle.parser.specs.declared.tree.Actual.{Actual}
 use Rattle.parser.specs.declared.cursor.Cursor.{Cursor}
 use Rattle.parser.specs.Cursor.{left}
-use Rattle.parser.specs.Rules.{BeginsExpr}
+use Rattle.parser.specs.Rules.{Read, BeginsExpr, BeginsActualList}
 use Rattle.parser.specs.Spelling.{Reads, mark, of_kind_at}
 use Rattle.parser.specs.Reading.{next_kind, NoSign, NoOperator, NoNext, Stops}
 use Rattle.parser.specs.WellFormed.{relation_level, sum_level, product_level, factor_level}
@@ -12,8 +12,8 @@ use Rattle.parser.proofs.Exact.{same_first, begins, stops_spent}
 use Rattle.parser.proofs.ExactLists.{parts_end}
 use Rattle.parser.proofs.ExactChains.{relation, sum, product, chain_parts, first_answer, operand_answer, goes_on, chain_begins, chain_left, chain_ends, read_whole}
 use Rattle.parser.proofs.ExactExpressions.{factor_parts, number_read, name_taken, negated_behind, negated_answer, parenthesized_answer, opened, inner_answer, signed_parts, sign_taken, sign_missed_at, term_answer}
-use Rattle.parser.proofs.ExactActuals.{not_taken, missed_if, actual_parts, value_answer, width_left, width_absent, width_taken, width_answer, actual_list_parts, actuals_begin, one_more_actual, actual_answer, actual_list_begins, actual_list_left, opened_actuals}
-use Rattle.parser.proofs.Statements.{taken, taken_if, fewer, actuals_go_on, actuals_closed}
+use Rattle.parser.proofs.ExactActuals.{missed_if, actual_parts, value_answer, width_left, width_absent, width_taken, width_answer, actual_list_parts, actual_answer, actual_list_begins, actual_list_goes_on, actual_list_left, opened_actuals}
+use Rattle.parser.proofs.Statements.{taken_if, fewer_if, ActualsGrow, actuals_grow_first, actuals_grow, actuals_closed}
 use Rattle.parser.proofs.Rules.{gives-Parenthesized, gives-Name, gives-Call, gives-Wide, chain_so_far, chain_goes_on, relation_answer}
 use Rattle.parser.proofs.expression.+expression.Goals as goal
 use Rattle.parser.proofs.expression.+expression.Goals.{factor-in-Some+in-Word-1, factor-in-None-1}
@@ -280,42 +280,43 @@ actuals-returns-clause-exact t c = λ depth actuals others h ends.
 
 -- ---- lists of actuals
 
-pub actual_list-loop-alloc-init : goal.actual_list-loop-alloc-init
-actual_list-loop-alloc-init t c = (
+pub actual_list-loop-actuals-init : goal.actual_list-loop-actuals-init
+actual_list-loop-actuals-init t c = (
   search rules,
-  search rules,
-  actual_list_begins c.args.levels c.args.cursor.now c.actual.new.cursor c.in_ok-actual.field-0 c.in_ok-actual.ensures.exact,
+  subst (λ xs. ActualsGrow c.args.levels c.args.cursor.now c.args.cursor.now xs) (sym c.new-actuals.ensures.items) (actuals_grow_first c.args.levels c.args.cursor.now),
+  actual_list_begins c.args.cursor.now.rest.now,
 )
 
-pub actual_list-loop-alloc-preserved : goal.actual_list-loop-alloc-preserved
-actual_list-loop-alloc-preserved t c =
-    let comma = taken c.loop-alloc.cursor c.take_symbol.new.self (kind.Symbol symbol.Comma) c.take_symbol.result (sym c.is_some.ensures ∙ c.loop-alloc-test.true) c.take_symbol.ensures.spelled in
-    let less = fewer (left c.take_symbol.new.self) (left c.loop-alloc.cursor) c.take_symbol.result (sym c.is_some.ensures ∙ c.loop-alloc-test.true) c.take_symbol.ensures.taken in (
-      omega (arith, c.in_ok-actual-2.ensures.left, c.loop-alloc.invariant.0),
-      actuals_go_on c.args.levels c.args.cursor.now c.loop-alloc.cursor c.take_symbol.new.self c.actual-in-loop-alloc.new.cursor c.loop-alloc.actuals.items _ comma.0 c.in_ok-actual-2.field-0
-          c.loop-alloc.invariant.1 comma.1 c.in_ok-actual-2.ensures.given c.in_ok-push-2.ensures.items,
-      actual_list_left c.args.levels comma.0 c.args.cursor.now.rest.now c.loop-alloc.cursor c.take_symbol.new.self c.actual-in-loop-alloc.new.cursor c.in_ok-actual-2.field-0
-          comma.1 c.in_ok-actual-2.ensures.exact c.loop-alloc.invariant.2,
+pub actual_list-loop-actuals-preserved : goal.actual_list-loop-actuals-preserved
+actual_list-loop-actuals-preserved t c =
+    let start = c.args.cursor.now in
+    let comma = taken_if c.actual.new.cursor c.take_symbol.new.self (kind.Symbol symbol.Comma) c.take_symbol.result c.is_none.result c.is_none.ensures c.if-is_none.false c.take_symbol.ensures.spelled in
+    let less = fewer_if (left c.take_symbol.new.self) (left c.actual.new.cursor) c.take_symbol.result c.is_none.result c.is_none.ensures c.if-is_none.false c.take_symbol.ensures.taken in
+    let list = subst (λ xs. Read (BeginsActualList c.args.levels) start c.actual.new.cursor xs) (sym c.in_ok-push.ensures.items) (c.loop-actuals.invariant.1 c.actual.new.cursor c.in_ok-actual.field-0 c.in_ok-actual.ensures.given) in (
+      omega (arith, c.in_ok-actual.ensures.left, c.loop-actuals.invariant.0),
+      actuals_grow c.args.levels start c.actual.new.cursor c.take_symbol.new.self c.push.new.self.items comma.0 list comma.1,
+      actual_list_goes_on comma.0 start.rest.now c.actual.new.cursor.rest.now c.take_symbol.new.self.rest.now comma.1
+          (actual_list_left c.args.levels start.rest.now c.loop-actuals.cursor c.actual.new.cursor c.in_ok-actual.field-0 c.in_ok-actual.ensures.exact c.loop-actuals.invariant.2),
     )
 
 pub actual_list-returns-in_err-actual-clause-exact : goal.actual_list-returns-in_err-actual-clause-exact
 actual_list-returns-in_err-actual-clause-exact t c = λ depth actuals others h ends.
-    let p = actuals_begin depth c.args.cursor.now.rest.now others actuals h in
-    let m : Stops c.args.levels depth c.in_err-actual.field-0.0 = actual_answer c.args.levels depth c.args.cursor.now c.actual.new.cursor others (Err c.in_err-actual.field-0.0) p ends c.in_err-actual.ensures.exact in
+    let p = c.loop-actuals.invariant.2 depth actuals others h ends in
+    let m : Stops c.args.levels depth c.in_err-actual.field-0.0 = actual_answer c.args.levels depth c.loop-actuals.cursor c.actual.new.cursor others (Err c.in_err-actual.field-0.0) p ends c.in_err-actual.ensures.exact in
     search rules
 
-pub actual_list-returns-in_err-actual-2-clause-exact : goal.actual_list-returns-in_err-actual-2-clause-exact
-actual_list-returns-in_err-actual-2-clause-exact t c = λ depth actuals others h ends.
-    let comma = taken c.loop-alloc.cursor c.take_symbol.new.self (kind.Symbol symbol.Comma) c.take_symbol.result (sym c.is_some.ensures ∙ c.loop-alloc-test.true) c.take_symbol.ensures.spelled in
-    let p = one_more_actual depth comma.0 c.loop-alloc.cursor.rest.now c.take_symbol.new.self.rest.now others comma.1 ends (c.loop-alloc.invariant.2 depth actuals others h ends) in
-    let m : Stops c.args.levels depth c.in_err-actual-2.field-0.0 =
-    actual_answer c.args.levels depth c.take_symbol.new.self c.actual-in-loop-alloc.new.cursor others (Err c.in_err-actual-2.field-0.0) p ends c.in_err-actual-2.ensures.exact in
-    search rules
+pub actual_list-returns-then-is_none-clause-given : goal.actual_list-returns-then-is_none-clause-given
+actual_list-returns-then-is_none-clause-given t c =
+    let start = c.args.cursor.now in
+    let none = missed_if c.actual.new.cursor c.take_symbol.new.self (kind.Symbol symbol.Comma) c.take_symbol.result c.is_none.result c.is_none.ensures c.if-is_none.true c.take_symbol.ensures.kept c.take_symbol.ensures.missed in
+    let list = subst (λ xs. Read (BeginsActualList c.args.levels) start c.actual.new.cursor xs) (sym c.in_ok-push.ensures.items) (c.loop-actuals.invariant.1 c.actual.new.cursor c.in_ok-actual.field-0 c.in_ok-actual.ensures.given) in
+    subst (λ k. Read (BeginsActualList c.args.levels) start k c.push.new.self.items) (sym none.0) list
 
-pub actual_list-returns-clause-exact : goal.actual_list-returns-clause-exact
-actual_list-returns-clause-exact t c = λ depth actuals others h ends.
-    let none = not_taken c.loop-alloc.cursor c.take_symbol.new.self (kind.Symbol symbol.Comma) c.take_symbol.result (sym c.is_some.ensures ∙ c.loop-alloc-test.false) c.take_symbol.ensures.kept c.take_symbol.ensures.missed in
-    ap (λ k. k.rest.now) none.0 ∙ parts_end Actual actual_list_parts depth c.loop-alloc.cursor.rest.now others none.1 (c.loop-alloc.invariant.2 depth actuals others h ends)
+pub actual_list-returns-then-is_none-clause-exact : goal.actual_list-returns-then-is_none-clause-exact
+actual_list-returns-then-is_none-clause-exact t c = λ depth actuals others h ends.
+    let none = missed_if c.actual.new.cursor c.take_symbol.new.self (kind.Symbol symbol.Comma) c.take_symbol.result c.is_none.result c.is_none.ensures c.if-is_none.true c.take_symbol.ensures.kept c.take_symbol.ensures.missed in
+    let left = actual_list_left c.args.levels c.args.cursor.now.rest.now c.loop-actuals.cursor c.actual.new.cursor c.in_ok-actual.field-0 c.in_ok-actual.ensures.exact c.loop-actuals.invariant.2 in
+    ap (λ k. k.rest.now) none.0 ∙ parts_end Actual actual_list_parts depth c.actual.new.cursor.rest.now others none.1 (left depth actuals others h ends)
 
 -- ---- an actual
 

@@ -1,10 +1,10 @@
 use Rattle.std.proofs.Common.{◌+◌, ◌*◌, ◌≤◌}
 use Rattle.parser.specs.Cursor.{left}
 use Rattle.parser.specs.WellFormed.{sum_level, product_level}
-use Rattle.parser.specs.Rules.{Read, BeginsActualList}
 use Rattle.parser.proofs.Rules.{IsChainSoFar}
 use Rattle.parser.proofs.ExactChains.{ChainLeft}
-use Rattle.parser.proofs.ExactActuals.{ActualsListLeft}
+use Rattle.parser.proofs.ExactActuals.{ActualNext}
+use Rattle.parser.proofs.Statements.{ActualsGrow}
 use Rattle.parser.proofs.expression.+expression.Given as goal
 
 abbrev pub decreases-expression : goal.decreases-expression
@@ -53,10 +53,9 @@ invariant-term-loop-operator l =
 abbrev pub decreases-term-loop-operator : goal.decreases-term-loop-operator
 decreases-term-loop-operator l = left l.cursor
 
-abbrev pub invariant-actual_list-loop-alloc : goal.invariant-actual_list-loop-alloc
-invariant-actual_list-loop-alloc l =
-    (left l.cursor ≤ left l.fn.cursor) × Read (BeginsActualList l.levels) l.fn.cursor l.cursor l.actuals.items
-    × ActualsListLeft l.fn.cursor.rest.now l.cursor.rest.now
+abbrev pub invariant-actual_list-loop-actuals : goal.invariant-actual_list-loop-actuals
+invariant-actual_list-loop-actuals l =
+    (left l.cursor ≤ left l.fn.cursor) × ActualsGrow l.levels l.fn.cursor l.cursor l.actuals.items × ActualNext l.fn.cursor.rest.now l.cursor.rest.now
 
-abbrev pub decreases-actual_list-loop-alloc : goal.decreases-actual_list-loop-alloc
-decreases-actual_list-loop-alloc l = left l.cursor
+abbrev pub decreases-actual_list-loop-actuals : goal.decreases-actual_list-loop-actuals
+decreases-actual_list-loop-actuals l = left l.cursor

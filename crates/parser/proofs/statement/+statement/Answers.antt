@@ -6,11 +6,12 @@ use Rattle.parser.specs.declared.tree.Stmt.{Stmt}
 use Rattle.parser.specs.Cursor.{left}
 use Rattle.parser.specs.Spelling.{Reads, of_kind_at}
 use Rattle.parser.specs.Reading.{next_kind, Stops, ReadWithin}
+use Rattle.parser.specs.Rules.{Read, BeginsStatements}
 use Rattle.parser.proofs.Exact.{same_first, stops_above}
 use Rattle.parser.proofs.ExactLists.{parts_end}
-use Rattle.parser.proofs.ExactActuals.{not_taken}
-use Rattle.parser.proofs.ExactStatements.{compounded, opened_compound, statement_list_parts, statements_begin, one_more_statement, statement_answer, statement_list_begins, statement_list_left}
-use Rattle.parser.proofs.Statements.{taken, fewer, statements_go_on, compound_closed, compound_stands}
+use Rattle.parser.proofs.ExactActuals.{missed_if}
+use Rattle.parser.proofs.ExactStatements.{compounded, opened_compound, statement_list_parts, statement_answer, statement_list_begins, statement_list_goes_on, statement_list_left}
+use Rattle.parser.proofs.Statements.{taken_if, fewer_if, StatementsGrow, statements_grow_first, statements_grow, compound_closed, compound_stands}
 use Rattle.parser.proofs.statement.+statement.Goals as goal
 
 pub compound-returns-clause-given : goal.compound-returns-clause-given
@@ -61,39 +62,40 @@ statement-returns-in-Some-Identifier-clause-exact t c = λ depth s others h ends
     let first : next_kind c.args.cursor.now.rest.now ≡ Some kind.Identifier = search rules in
     subst (λ n. ReadWithin n depth others c.simple.new.cursor c.simple.result) c.in_ok-levels.ensures.left (c.simple.ensures.exact first depth s others h ends)
 
-pub statements-loop-alloc-init : goal.statements-loop-alloc-init
-statements-loop-alloc-init t c = (
+pub statements-loop-statements-init : goal.statements-loop-statements-init
+statements-loop-statements-init t c = (
   search rules,
-  search rules,
-  statement_list_begins c.args.levels c.args.cursor.now c.statement.new.cursor c.in_ok-statement.field-0 c.in_ok-statement.ensures.exact,
+  subst (λ xs. StatementsGrow c.args.levels c.args.cursor.now c.args.cursor.now xs) (sym c.new-statements.ensures.items) (statements_grow_first c.args.levels c.args.cursor.now),
+  statement_list_begins c.args.cursor.now.rest.now,
 )
 
-pub statements-loop-alloc-preserved : goal.statements-loop-alloc-preserved
-statements-loop-alloc-preserved t c =
-    let semicolon = taken c.loop-alloc.cursor c.take_symbol.new.self (kind.Symbol symbol.Semicolon) c.take_symbol.result (sym c.is_some.ensures ∙ c.loop-alloc-test.true) c.take_symbol.ensures.spelled in
-    let less = fewer (left c.take_symbol.new.self) (left c.loop-alloc.cursor) c.take_symbol.result (sym c.is_some.ensures ∙ c.loop-alloc-test.true) c.take_symbol.ensures.taken in (
-      omega (arith, c.in_ok-statement-2.ensures.left, c.loop-alloc.invariant.0),
-      statements_go_on c.args.levels c.args.cursor.now c.loop-alloc.cursor c.take_symbol.new.self c.statement-in-loop-alloc.new.cursor c.loop-alloc.statements.items _ semicolon.0 c.in_ok-statement-2.field-0
-          c.loop-alloc.invariant.1 semicolon.1 c.in_ok-statement-2.ensures.given c.in_ok-push-2.ensures.items,
-      statement_list_left c.args.levels semicolon.0 c.args.cursor.now.rest.now c.loop-alloc.cursor c.take_symbol.new.self c.statement-in-loop-alloc.new.cursor c.in_ok-statement-2.field-0
-          semicolon.1 c.in_ok-statement-2.ensures.exact c.loop-alloc.invariant.2,
+pub statements-loop-statements-preserved : goal.statements-loop-statements-preserved
+statements-loop-statements-preserved t c =
+    let start = c.args.cursor.now in
+    let semicolon = taken_if c.statement.new.cursor c.take_symbol.new.self (kind.Symbol symbol.Semicolon) c.take_symbol.result c.is_none.result c.is_none.ensures c.if-is_none.false c.take_symbol.ensures.spelled in
+    let less = fewer_if (left c.take_symbol.new.self) (left c.statement.new.cursor) c.take_symbol.result c.is_none.result c.is_none.ensures c.if-is_none.false c.take_symbol.ensures.taken in
+    let list = subst (λ xs. Read (BeginsStatements c.args.levels) start c.statement.new.cursor xs) (sym c.in_ok-push.ensures.items) (c.loop-statements.invariant.1 c.statement.new.cursor c.in_ok-statement.field-0 c.in_ok-statement.ensures.given) in (
+      omega (arith, c.in_ok-statement.ensures.left, c.loop-statements.invariant.0),
+      statements_grow c.args.levels start c.statement.new.cursor c.take_symbol.new.self c.push.new.self.items semicolon.0 list semicolon.1,
+      statement_list_goes_on semicolon.0 start.rest.now c.statement.new.cursor.rest.now c.take_symbol.new.self.rest.now semicolon.1
+          (statement_list_left c.args.levels start.rest.now c.loop-statements.cursor c.statement.new.cursor c.in_ok-statement.field-0 c.in_ok-statement.ensures.exact c.loop-statements.invariant.2),
     )
 
 pub statements-returns-in_err-statement-clause-exact : goal.statements-returns-in_err-statement-clause-exact
 statements-returns-in_err-statement-clause-exact t c = λ depth statements others h ends.
-    let p = statements_begin depth c.args.cursor.now.rest.now others statements h in
-    let m : Stops c.args.levels depth c.in_err-statement.field-0.0 = statement_answer c.args.levels depth c.args.cursor.now c.statement.new.cursor others (Err c.in_err-statement.field-0.0) p ends c.in_err-statement.ensures.exact in
+    let p = c.loop-statements.invariant.2 depth statements others h ends in
+    let m : Stops c.args.levels depth c.in_err-statement.field-0.0 = statement_answer c.args.levels depth c.loop-statements.cursor c.statement.new.cursor others (Err c.in_err-statement.field-0.0) p ends c.in_err-statement.ensures.exact in
     search rules
 
-pub statements-returns-in_err-statement-2-clause-exact : goal.statements-returns-in_err-statement-2-clause-exact
-statements-returns-in_err-statement-2-clause-exact t c = λ depth statements others h ends.
-    let semicolon = taken c.loop-alloc.cursor c.take_symbol.new.self (kind.Symbol symbol.Semicolon) c.take_symbol.result (sym c.is_some.ensures ∙ c.loop-alloc-test.true) c.take_symbol.ensures.spelled in
-    let p = one_more_statement depth semicolon.0 c.loop-alloc.cursor.rest.now c.take_symbol.new.self.rest.now others semicolon.1 ends (c.loop-alloc.invariant.2 depth statements others h ends) in
-    let m : Stops c.args.levels depth c.in_err-statement-2.field-0.0 =
-    statement_answer c.args.levels depth c.take_symbol.new.self c.statement-in-loop-alloc.new.cursor others (Err c.in_err-statement-2.field-0.0) p ends c.in_err-statement-2.ensures.exact in
-    search rules
+pub statements-returns-then-is_none-clause-given : goal.statements-returns-then-is_none-clause-given
+statements-returns-then-is_none-clause-given t c =
+    let start = c.args.cursor.now in
+    let none = missed_if c.statement.new.cursor c.take_symbol.new.self (kind.Symbol symbol.Semicolon) c.take_symbol.result c.is_none.result c.is_none.ensures c.if-is_none.true c.take_symbol.ensures.kept c.take_symbol.ensures.missed in
+    let list = subst (λ xs. Read (BeginsStatements c.args.levels) start c.statement.new.cursor xs) (sym c.in_ok-push.ensures.items) (c.loop-statements.invariant.1 c.statement.new.cursor c.in_ok-statement.field-0 c.in_ok-statement.ensures.given) in
+    subst (λ k. Read (BeginsStatements c.args.levels) start k c.push.new.self.items) (sym none.0) list
 
-pub statements-returns-clause-exact : goal.statements-returns-clause-exact
-statements-returns-clause-exact t c = λ depth statements others h ends.
-    let none = not_taken c.loop-alloc.cursor c.take_symbol.new.self (kind.Symbol symbol.Semicolon) c.take_symbol.result (sym c.is_some.ensures ∙ c.loop-alloc-test.false) c.take_symbol.ensures.kept c.take_symbol.ensures.missed in
-    ap (λ k. k.rest.now) none.0 ∙ parts_end Stmt statement_list_parts depth c.loop-alloc.cursor.rest.now others none.1 (c.loop-alloc.invariant.2 depth statements others h ends)
+pub statements-returns-then-is_none-clause-exact : goal.statements-returns-then-is_none-clause-exact
+statements-returns-then-is_none-clause-exact t c = λ depth statements others h ends.
+    let none = missed_if c.statement.new.cursor c.take_symbol.new.self (kind.Symbol symbol.Semicolon) c.take_symbol.result c.is_none.result c.is_none.ensures c.if-is_none.true c.take_symbol.ensures.kept c.take_symbol.ensures.missed in
+    let left = statement_list_left c.args.levels c.args.cursor.now.rest.now c.loop-statements.cursor c.statement.new.cursor c.in_ok-statement.field-0 c.in_ok-statement.ensures.exact c.loop-statements.invariant.2 in
+    ap (λ k. k.rest.now) none.0 ∙ parts_end Stmt statement_list_parts depth c.statement.new.cursor.rest.now others none.1 (left depth statements others h ends)

@@ -1,7 +1,7 @@
 use Rattle.std.proofs.Common.{◌+◌, ◌*◌, ◌≤◌}
 use Rattle.parser.specs.Cursor.{left}
-use Rattle.parser.specs.Rules.{Read, BeginsStatements}
-use Rattle.parser.proofs.ExactStatements.{StatementsLeft}
+use Rattle.parser.proofs.ExactStatements.{StatementNext}
+use Rattle.parser.proofs.Statements.{StatementsGrow}
 use Rattle.parser.proofs.statement.+statement.Given as goal
 
 abbrev pub decreases-compound : goal.decreases-compound
@@ -13,10 +13,9 @@ decreases-statements l = 3 * l.levels + 1
 abbrev pub decreases-statement : goal.decreases-statement
 decreases-statement l = 3 * l.levels
 
-abbrev pub invariant-statements-loop-alloc : goal.invariant-statements-loop-alloc
-invariant-statements-loop-alloc l =
-    (left l.cursor ≤ left l.fn.cursor) × Read (BeginsStatements l.levels) l.fn.cursor l.cursor l.statements.items
-    × StatementsLeft l.fn.cursor.rest.now l.cursor.rest.now
+abbrev pub invariant-statements-loop-statements : goal.invariant-statements-loop-statements
+invariant-statements-loop-statements l =
+    (left l.cursor ≤ left l.fn.cursor) × StatementsGrow l.levels l.fn.cursor l.cursor l.statements.items × StatementNext l.fn.cursor.rest.now l.cursor.rest.now
 
-abbrev pub decreases-statements-loop-alloc : goal.decreases-statements-loop-alloc
-decreases-statements-loop-alloc l = left l.cursor
+abbrev pub decreases-statements-loop-statements : goal.decreases-statements-loop-statements
+decreases-statements-loop-statements l = left l.cursor

@@ -1,13 +1,21 @@
 use Rattle.std.proofs.Common.{subst}
 use Rattle.std.proofs.lemmas.Result.{err_from_is_err_and}
-use Rattle.parser.specs.Syntax.{IsTreeOf}
-use Rattle.report.proofs.RefusalLemmas.{refused_by, typing-refusal}
+use Rattle.parser.specs.Syntax.{IsTreeOf, IsFaultOf}
+use Rattle.report.proofs.RefusalLemmas.{refused_by, parsing-refusal, typing-refusal}
 use Rattle.report.proofs.compile.typed.Goals as goal
 
 pub returns-clause-typed : goal.returns-clause-typed
 returns-clause-typed c =
     let program = c.in_ok-program.program in
     (program, (c.in_ok-tokens.tokens.items, c.in_ok-tokens.ensures.list, subst (IsTreeOf program) c.deref.ensures.value c.in_ok-program.ensures.exact), c.in_ok-tree.ensures.typed)
+
+pub returns-in_err-program-clause-refused : goal.returns-in_err-program-clause-refused
+returns-in_err-program-clause-refused c = λ text.
+    let source = c.args.source.now in
+    let fault = c.in_err-program.field-0.0 in
+    let told = err_from_is_err_and c.from_residual-in_err-program.result c.from_residual-in_err-program.ensures.1 in
+    refused_by source text c.from_residual-in_err-program.result told.0 _ told.1 told.2
+    (parsing-refusal source text fault c.in_ok-tokens.tokens.items c.in_ok-tokens.ensures.list (subst (IsFaultOf fault) c.deref.ensures.value c.in_err-program.ensures.exact))
 
 pub returns-in_err-tree-clause-refused : goal.returns-in_err-tree-clause-refused
 returns-in_err-tree-clause-refused c = λ text.

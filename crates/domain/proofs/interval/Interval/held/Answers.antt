@@ -4,4 +4,4 @@ use Rattle.domain.proofs.interval.Interval.held.Goals as goal
 
 pub invariant_of-result : goal.invariant_of-result
 invariant_of-result c =
-    ((grind (arith, ints, clamps), grind (arith, ints, clamps)), (grind (arith, ints, clamps), grind (arith, ints, clamps)))
+    ((omega (arith, ints, clamps), omega (arith, ints, clamps)), (omega (arith, ints, clamps), omega (arith, ints, clamps)))

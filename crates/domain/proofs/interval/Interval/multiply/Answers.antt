@@ -1,7 +1,23 @@
-use Rattle.std.proofs.Common.{rules, ◌∙◌, sym, ◌*ℤ◌}
-use Rattle.domain.specs.Interval.{product}
-use Rattle.domain.specs.Ranges.{product-present, product-has, held-has}
+use Rattle.std.proofs.Common.{◌≡◌, rules, ap, subst, sym, ◌∙◌, ◌*ℤ◌}
+use Rattle.domain.specs.Interval.{Interval, HasMember, vacant, product, held}
+use Rattle.domain.specs.Ranges.{left-vacant, right-vacant, product-present, product-has, held-has}
 use Rattle.domain.proofs.interval.Interval.multiply.Goals as goal
+use Rattle.domain.proofs.interval.Interval.multiply.Goals.{then-is_empty-via-then-is_empty, then-is_empty-via-else-is_empty+then-is_empty-2}
+
+pub returns-then-is_empty-clause-ends : goal.returns-then-is_empty-clause-ends
+returns-then-is_empty-clause-ends c =
+    let a = c.args.self.now in
+    let b = c.args.other.now in
+    let none : vacant ≡ product a b = elim c.then-is_empty.branch [
+      | then-is_empty-via-then-is_empty w ↦ left-vacant a b _ (sym c.is_empty.ensures.answer ∙ w.if-is_empty.true)
+      | then-is_empty-via-else-is_empty+then-is_empty-2 w ↦
+          right-vacant a b _ (sym c.is_empty.ensures.answer ∙ w.if-is_empty.false) (sym w.is_empty-else-is_empty.ensures.answer ∙ w.if-is_empty-2.true)
+    ] in
+    ap held none
+
+pub returns-then-is_empty-clause-members : goal.returns-then-is_empty-clause-members
+returns-then-is_empty-clause-members c = λ x y left right fits.
+    subst (λ (i : Interval). HasMember i (x *ℤ y)) (sym (returns-then-is_empty-clause-ends c)) (held-has (product c.args.self.now c.args.other.now) (x *ℤ y) fits (product-has c.args.self.now c.args.other.now x y left right))
 
 pub returns-clause-ends : goal.returns-clause-ends
 returns-clause-ends c =

@@ -1,9 +1,14 @@
-use Rattle.std.proofs.Common.{◌≡◌, pos, ◌-ℤ◌, ◌≤ℤ◌, ◌<ℤ◌, int_le, true, false, arith, rules, refl, ap, sym, ◌∙◌}
+use Rattle.std.proofs.Common.{◌≡◌, pos, ◌-ℤ◌, ◌≤ℤ◌, ◌<ℤ◌, int_le, true, false, arith, rules, refl, ap, sym, subst, ◌∙◌}
 use Rattle.std.proofs.lemmas.Int.{ints, clamps}
-use Rattle.std.specs.Int.{int_min}
-use Rattle.domain.specs.Interval.{Interval, is_vacant, between, remainder}
-use Rattle.domain.specs.Ranges.{remainder-has}
+use Rattle.std.specs.Int.{int_min, int_rem_euclid}
+use Rattle.domain.specs.Interval.{Interval, HasMember, vacant, is_vacant, between, remainder}
+use Rattle.domain.specs.Ranges.{left-vacant, right-vacant, remainder-has}
 use Rattle.domain.proofs.interval.Interval.remainder.Goals as goal
+use Rattle.domain.proofs.interval.Interval.remainder.Goals.{then-is_empty-via-then-is_empty, then-is_empty-via-else-is_empty+then-is_empty-2, then-is_empty-via-else-is_empty+else-is_empty-2+then-last-lt1}
+
+-- no divisor is at least 1
+of_low_divisor : (a b : Interval) → is_vacant a ≡ false → is_vacant b ≡ false → b.last <ℤ pos 1 → vacant ≡ remainder a b
+of_low_divisor a b left right low = rw (left, right) (grind (arith, ints, clamps))
 
 -- the remainders where some dividend is negative
 of_negative : (a b c : Interval) → is_vacant a ≡ false → is_vacant b ≡ false → a.first <ℤ pos 0 → c ≡ between (pos 0) (b.last -ℤ pos 1) → c ≡ remainder a b
@@ -16,6 +21,22 @@ of_positive : (a b c : Interval) → is_vacant a ≡ false → is_vacant b ≡ f
 of_positive a b c left right sign whole =
     let test : int_le (pos 0) a.first ≡ true = grind (arith, ints) in
     whole ∙ rw (left, right, test) refl
+
+pub returns-then-is_empty-clause-ends : goal.returns-then-is_empty-clause-ends
+returns-then-is_empty-clause-ends c =
+    let a = c.args.self.now in
+    let b = c.args.divisor.now in
+    elim c.then-is_empty.branch [
+      | then-is_empty-via-then-is_empty w ↦ left-vacant a b _ (sym c.is_empty.ensures.answer ∙ w.if-is_empty.true)
+      | then-is_empty-via-else-is_empty+then-is_empty-2 w ↦
+          right-vacant a b _ (sym c.is_empty.ensures.answer ∙ w.if-is_empty.false) (sym w.is_empty-else-is_empty.ensures.answer ∙ w.if-is_empty-2.true)
+      | then-is_empty-via-else-is_empty+else-is_empty-2+then-last-lt1 w ↦
+          of_low_divisor a b (sym c.is_empty.ensures.answer ∙ w.if-is_empty.false) (sym w.is_empty-else-is_empty.ensures.answer ∙ w.if-is_empty-2.false) (omega (arith, ints))
+    ]
+
+pub returns-then-is_empty-clause-members : goal.returns-then-is_empty-clause-members
+returns-then-is_empty-clause-members c = λ x y left right present.
+    subst (λ (i : Interval). HasMember i (int_rem_euclid x y)) (sym (returns-then-is_empty-clause-ends c)) (remainder-has c.args.self.now c.args.divisor.now x y left right present)
 
 pub returns-then-first-lt0-clause-ends : goal.returns-then-first-lt0-clause-ends
 returns-then-first-lt0-clause-ends c =

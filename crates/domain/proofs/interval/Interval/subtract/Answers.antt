@@ -1,8 +1,24 @@
-use Rattle.std.proofs.Common.{arith, ap, sym, ◌∙◌, ◌-ℤ◌}
+use Rattle.std.proofs.Common.{◌≡◌, arith, ap, subst, sym, ◌∙◌, ◌-ℤ◌}
 use Rattle.std.proofs.lemmas.Int.{ints, clamps}
-use Rattle.domain.specs.Interval.{Interval, difference}
-use Rattle.domain.specs.Ranges.{difference-present, difference-has, held-has}
+use Rattle.domain.specs.Interval.{Interval, HasMember, vacant, difference, held}
+use Rattle.domain.specs.Ranges.{left-vacant, right-vacant, difference-present, difference-has, held-has}
 use Rattle.domain.proofs.interval.Interval.subtract.Goals as goal
+use Rattle.domain.proofs.interval.Interval.subtract.Goals.{then-is_empty-via-then-is_empty, then-is_empty-via-else-is_empty+then-is_empty-2}
+
+pub returns-then-is_empty-clause-ends : goal.returns-then-is_empty-clause-ends
+returns-then-is_empty-clause-ends c =
+    let a = c.args.self.now in
+    let b = c.args.other.now in
+    let none : vacant ≡ difference a b = elim c.then-is_empty.branch [
+      | then-is_empty-via-then-is_empty w ↦ left-vacant a b _ (sym c.is_empty.ensures.answer ∙ w.if-is_empty.true)
+      | then-is_empty-via-else-is_empty+then-is_empty-2 w ↦
+          right-vacant a b _ (sym c.is_empty.ensures.answer ∙ w.if-is_empty.false) (sym w.is_empty-else-is_empty.ensures.answer ∙ w.if-is_empty-2.true)
+    ] in
+    ap held none
+
+pub returns-then-is_empty-clause-members : goal.returns-then-is_empty-clause-members
+returns-then-is_empty-clause-members c = λ x y left right fits.
+    subst (λ (i : Interval). HasMember i (x -ℤ y)) (sym (returns-then-is_empty-clause-ends c)) (held-has (difference c.args.self.now c.args.other.now) (x -ℤ y) fits (difference-has c.args.self.now c.args.other.now x y left right))
 
 pub returns-clause-ends : goal.returns-clause-ends
 returns-clause-ends c =

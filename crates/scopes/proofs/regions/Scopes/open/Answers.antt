@@ -16,8 +16,8 @@ loop-name-preserved c = λ name.
     (same_from_all_zip _ c.name-item.result.items key.items c.in_ok-clone.ensures.cases.0 (λ x y h. h)) c.in_ok-insert.ensures.entries (c.loop-name.invariant name)
 
 -- all names are known
-pub returns : goal.returns
-returns c =
+pub returns-clause-opened : goal.returns-clause-opened
+returns-clause-opened c =
     let names = c.args.names.now in
     let all : take c.loop-name.name-index names ≡ names = take_all c.loop-name.name-index names (omega (arith, c.loop-name-test.false)) in
     record {

@@ -1,0 +1,9 @@
+use Rattle.std.proofs.Common.{arith}
+use Rattle.code_generator.specs.Code.{parameter_code}
+use Rattle.code_generator.proofs.Pieces.{length_one_more}
+use Rattle.code_generator.proofs.size.parameters_size.Goals as goal
+
+pub loop-parameter-preserved : goal.loop-parameter-preserved
+loop-parameter-preserved c =
+    let more = length_one_more parameter_code c.args.parameters.now c.loop-parameter.parameter-index c.parameter-item.result c.loop-parameter-test.true c.parameter-item.is in
+    omega arith

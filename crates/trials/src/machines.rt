@@ -1,0 +1,46 @@
+ghost use Rattle.std.specs.Prelude.{◌≤◌};
+
+use pcode_assembler::code::{Code, Site};
+use stack_machine::bytes::Counted;
+use stack_machine::machine::Machine;
+use stack_machine::stop::{MachineFault, Stop};
+use std::alloc::Global;
+use std::io;
+use std::test::Fail;
+
+/// The site of the checks in the codes that stand in tests.
+pub const CHECKED: Site = Site {
+    id: 0,
+    line: 1,
+    column: 8,
+    kind: 11,
+};
+
+/// How a run stops, in a word; none where it finishes.
+pub fn word_of(stop: Stop) -> &'static str {
+    match stop {
+        Stop::Finished => "",
+        Stop::Error(CHECKED) => "error",
+        Stop::More => "more",
+        Stop::StoreFull => "full",
+        Stop::WriteFailed => "failed",
+        Stop::Fault(MachineFault::Underflow) => "M1",
+        Stop::Fault(MachineFault::OutOfBounds) => "M2",
+        Stop::Fault(MachineFault::WrongKind) => "M3",
+        Stop::Fault(MachineFault::WrongDivisor) => "M4",
+        _ => "another stop",
+    }
+}
+
+/// What a run of the code writes, and behind it how it stops.
+pub fn run_told(alloc: Global, code: &Code, cells: u32, budget: u64) -> Result<String, Fail>
+    requires { (1 ≤ cells) × (cells ≤ 16777216) }
+{
+    let mut machine = Machine::new(alloc, cells)?;
+    let mut reader = Counted::new(io::empty());
+    let mut writer = Counted::new(Vec::new(alloc));
+    let word = word_of(machine.run(code, &mut reader, &mut writer, budget));
+    let mut told = String::from_utf8(writer.into_inner())?;
+    told.push_str(word)?;
+    Ok(told)
+}

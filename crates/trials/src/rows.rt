@@ -1,0 +1,21 @@
+use std::alloc::Global;
+use std::fmt::Debug;
+use std::test::Fail;
+
+/// Fails at the first row that doesn't give the text that stands beside it.
+pub fn all_hold<Row: Debug, F: Fn(Global, &Row) -> Result<String, Fail>>(
+    alloc: Global,
+    rows: &[(Row, &str)],
+    told: F,
+) -> Result<(), Fail>
+    requires { F.IsAlwaysCallable told }
+{
+    for (row, wanted) in rows {
+        let found = told(alloc, row)?;
+        if found.as_str() != *wanted {
+            let failure = format!(in alloc; "{found} in place of {wanted} for {row:?}")?;
+            return Err(Fail::new(failure));
+        }
+    }
+    Ok(())
+}
