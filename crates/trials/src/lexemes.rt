@@ -1,4 +1,5 @@
 use crate::rows::all_hold;
+use crate::sources::next_random;
 use lexer::token::Token;
 use lexer::{MAX_TEXT, tokens};
 use std::alloc::Global;
@@ -199,12 +200,6 @@ fn answers_any_byte(rt: HostRuntime) -> Result<(), Fail> {
     all_hold(rt.alloc(), &BYTES, bytes_told)
 }
 
-/// The next of a row of numbers that look random.
-fn next_random(seed: u64) -> u64 {
-    seed.wrapping_mul(6364136223846793005)
-        .wrapping_add(1442695040888963407)
-}
-
 #[test]
 fn answers_random_texts(rt: HostRuntime) -> Result<(), Fail> {
     let alloc = rt.alloc();
@@ -216,7 +211,8 @@ fn answers_random_texts(rt: HostRuntime) -> Result<(), Fail> {
             text.push(b"'{}(*)aZ09. \n\r:=<>^@,;_~\x7f!"[(seed >> 40) as usize % 26])?;
         }
         seed = next_random(seed);
-        let _ = tokens(alloc, &text);
+        // A list, or a fault other than want of memory.
+        assert!(rt; tokens(alloc, &text).map_or_else(|fault| fault.number() > 0, |_| true));
     }
     Ok(())
 }

@@ -49,3 +49,9 @@ pub fn sites_told(alloc: Global, sites: &[Site]) -> Result<String, Fail> {
     }
     Ok(told)
 }
+
+/// The next of a row of numbers that look random.
+pub fn next_random(seed: u64) -> u64 {
+    seed.wrapping_mul(6364136223846793005)
+        .wrapping_add(1442695040888963407)
+}

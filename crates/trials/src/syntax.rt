@@ -1,5 +1,5 @@
 use crate::rows::all_hold;
-use crate::sources::repeated;
+use crate::sources::{next_random, repeated};
 use lexer::place::Place;
 use lexer::token::{Kind, Symbol, Token, Word};
 use lexer::tokens;
@@ -327,12 +327,6 @@ static NESTS: [(Nest, &str); 14] = [
 #[test]
 fn nests_to_128_and_takes_long_lists(rt: HostRuntime) -> Result<(), Fail> {
     all_hold(rt.alloc(), &NESTS, nest_told)
-}
-
-/// The next of a row of numbers that look random.
-fn next_random(seed: u64) -> u64 {
-    seed.wrapping_mul(6364136223846793005)
-        .wrapping_add(1442695040888963407)
 }
 
 const PLACE: Place = Place {

@@ -72,24 +72,3 @@ impl Interval {
         }
     }
 }
-
-#[cfg(test)]
-mod tests {
-    use super::*;
-
-    #[test]
-    fn reckons_with_truth_values(rt: HostRuntime) {
-        let never = Interval::between(0, 0);
-        let always = Interval::between(1, 1);
-        let either = Interval::TRUTH_VALUES;
-        assert_eq!(rt; always.both(&always), always);
-        assert_eq!(rt; always.both(&either), either);
-        assert_eq!(rt; either.both(&never), never);
-        assert_eq!(rt; never.either(&never), never);
-        assert_eq!(rt; never.either(&either), either);
-        assert_eq!(rt; either.either(&always), always);
-        assert_eq!(rt; never.complement(), always);
-        assert_eq!(rt; always.complement(), never);
-        assert_eq!(rt; either.complement(), either);
-    }
-}
