@@ -1,6 +1,6 @@
 -- Where the declarations of a program are refused: a name that can't be defined, or a group that can't be passed, and
 -- the rule that the program breaks there.
-use Rattle.std.proofs.Common.{◌≡◌, ◌⊎◌, inl, inr, ⊎_elim, ℕ, ◌+◌, ◌<◌, Bool, true, false, List, [], ◌∷◌, ◌++◌, ◌≤◌, zero, suc, not, ◌&&◌, append-nil, if◌then◌else◌, Option, Some, None, is_some, Result, Ok, Err, MatchResult, IfErr, IsErrAnd, All, AllPairs, codes, nat_eq, map, take, drop, length, get_or, refl, sym, ap, subst, ◌∙◌, true≢false, append_assoc, length-append, arith}
+use Rattle.std.proofs.Common.{◌≡◌, ◌⊎◌, inl, inr, ⊎_elim, ℕ, ◌+◌, ◌<◌, Bool, true, false, List, [], ◌∷◌, ◌++◌, zero, suc, not, ◌&&◌, append-nil, if◌then◌else◌, Option, Some, None, is_some, Result, Ok, Err, MatchResult, IfErr, IsErrAnd, All, AllPairs, codes, nat_eq, map, take, drop, length, get_or, refl, sym, ap, subst, ◌∙◌, true≢false, append_assoc, length-append, arith}
 use Rattle.std.specs.List.{list_any}
 use Rattle.std.specs.Option.{option_map}
 use Rattle.std.specs.Cmp.Lexicographic.{pointwise}
@@ -12,7 +12,6 @@ use Rattle.parser.specs.declared.tree.Name.{Name}
 use Rattle.parser.specs.declared.tree.VariableGroup.{VariableGroup}
 use Rattle.parser.specs.declared.tree.TypeDenoter.{TypeDenoter}
 use Rattle.parser.specs.declared.tree.TypeDenoter.TheVariants as denoter
-use Rattle.typed_tree.specs.declared.tree.Tree.{Tree}
 use Rattle.types.specs.declared.form.TypeId.{TypeId}
 use Rattle.typed_tree.specs.declared.tree.Variable.{Variable as DeclaredVariable}
 use Rattle.scopes.specs.declared.denotation.Denotation.{Denotation}

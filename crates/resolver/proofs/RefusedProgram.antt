@@ -1,15 +1,12 @@
 -- A program whose statements a resolver refuses, though memory was left, has no typed tree.
-use Rattle.std.proofs.Common.{◌≡◌, ℕ, ◌+◌, ◌<◌, ◌≤◌, ◌⊎◌, inl, inr, Bool, true, false, nat_lt, List, [], ◌∷◌, ◌++◌, map, length, slice_get, Option, Some, None, append-nil, refl, sym, ap, subst, ◌∙◌, arith, ◌||◌, true≢false, if◌then◌else◌, Ok, ok_or}
-use Rattle.std.specs.List.{flat_map, list_any}
+use Rattle.std.proofs.Common.{◌≡◌, ℕ, ◌<◌, ◌⊎◌, inl, inr, Bool, true, false, nat_lt, List, [], map, length, slice_get, Option, Some, None, append-nil, sym, ap, subst, ◌∙◌, arith, Ok, ok_or}
+use Rattle.std.specs.List.{flat_map}
 use Rattle.std.proofs.lemmas.List.{length-map}
 use Rattle.std.proofs.lemmas.Bool.Decides.{nat_tests}
 use Rattle.parser.specs.declared.tree.Program.{Program}
-use Rattle.parser.specs.declared.tree.Name.{Name}
 use Rattle.parser.specs.declared.tree.Stmt.{Stmt as SyntaxStmt}
 use Rattle.scopes.specs.declared.denotation.Denotation.{Denotation}
-use Rattle.scopes.specs.declared.denotation.Denotation.TheVariants as denotes
 use Rattle.resolver.specs.declared.resolver.Resolver.{Resolver}
-use Rattle.types.specs.declared.form.TypeId.{TypeId}
 use Rattle.scopes.specs.Scopes.{Region, found}
 use Rattle.typed_tree.specs.declared.tree.Variable.{Variable as DeclaredVariable}
 use Rattle.std.specs.declared.alloc.Global.{Global}

@@ -1,5 +1,5 @@
 -- The typed tree of a program, from what a resolver made of its statements.
-use Rattle.std.proofs.Common.{◌≡◌, ◌<◌, ◌≤◌, ◌⊎◌, inl, inr, Some, Bool, true, false, List, [], ◌∷◌, ◌++◌, map, length, IsTrue, All, codes, append-nil, refl, sym, ap, subst, ◌∙◌, arith}
+use Rattle.std.proofs.Common.{◌≡◌, ◌<◌, ◌≤◌, ◌⊎◌, inl, inr, Bool, true, false, List, [], ◌∷◌, ◌++◌, map, length, IsTrue, All, append-nil, refl, sym, ap, subst, ◌∙◌, arith}
 use Rattle.std.specs.List.{range_with_len, flat_map}
 use Rattle.parser.specs.declared.tree.Program.{Program}
 use Rattle.parser.specs.declared.tree.Stmt.{Stmt as SyntaxStmt}
@@ -10,7 +10,6 @@ use Rattle.typed_tree.specs.declared.tree.Stmt.TheOpen as stmt_layer
 use Rattle.typed_tree.specs.declared.tree.Stmt.TheViews.{out-Stmt}
 use Rattle.typed_tree.specs.declared.tree.Tree.{Tree}
 use Rattle.types.specs.Types.{required_forms}
-use Rattle.scopes.specs.declared.denotation.Denotation.TheVariants as denotes
 use Rattle.typed_tree.specs.Ids.{AreInOrder}
 use Rattle.typed_tree.specs.WellFormed.{IsWellFormed}
 use Rattle.typed_tree.specs.Entries.{entries_of, entries_of_statement, sites_of, sites_of_statement}

@@ -1,14 +1,12 @@
 -- Typing (ISO 7185:1990, 6.2.2, 6.4, 6.7 to 6.10): which typed tree a program has, if it breaks no rule of names and types.
 -- Parentheses are gone, each name is bound, and sites stand in the order of places and then of kinds.
 -- It does not say which of several broken rules is told.
-use Rattle.std.specs.Prelude.{◌≡◌, cond, not, ℕ, ℤ, pos, ◌<◌, ◌≤◌, ◌&&◌, ◌++◌, if◌then◌else◌, Bool, true, false, IsTrue, List, [], ◌∷◌, Option, Some, None, All, codes, map, length, drop, nat_eq, slice_get, flat_map, option_map, ◌⊎◌}
+use Rattle.std.specs.Prelude.{◌≡◌, cond, not, ℕ, ℤ, pos, ◌<◌, ◌≤◌, ◌&&◌, ◌++◌, if◌then◌else◌, Bool, true, false, IsTrue, List, [], ◌∷◌, Option, Some, None, All, map, length, drop, nat_eq, slice_get, flat_map, ◌⊎◌}
 use Rattle.std.specs.List.{range_with_len, list_all}
 use Rattle.std.specs.Ordering.{int_eq}
 use Rattle.lexer.specs.declared.place.Place.{Place}
 use Rattle.parser.specs.declared.tree.Program.{Program}
 use Rattle.parser.specs.declared.tree.Name.{Name}
-use Rattle.parser.specs.declared.tree.TypeDenoter.{TypeDenoter}
-use Rattle.parser.specs.declared.tree.TypeDenoter.TheVariants as denoter
 use Rattle.parser.specs.declared.tree.Sign.{Sign as SyntaxSign}
 use Rattle.parser.specs.declared.tree.Sign.TheVariants as syntax_sign
 use Rattle.parser.specs.declared.tree.Operator.{Operator}
@@ -35,7 +33,6 @@ use Rattle.types.specs.declared.form.OrdinalRange.{OrdinalRange}
 use Rattle.types.specs.declared.form.TypeId.{TypeId}
 use Rattle.typed_tree.specs.declared.tree.Tree.{Tree}
 use Rattle.typed_tree.specs.declared.tree.Block.{Block}
-use Rattle.typed_tree.specs.declared.tree.Variable.{Variable as DeclaredVariable}
 use Rattle.typed_tree.specs.declared.tree.Monadic.{Monadic}
 use Rattle.typed_tree.specs.declared.tree.Monadic.TheVariants as monadic
 use Rattle.typed_tree.specs.declared.tree.Dyadic.{Dyadic}

@@ -1,4 +1,4 @@
-use Rattle.std.proofs.Common.{rules, ◌≡◌, ◌⊎◌, inr, ◌∙◌, sym, subst, refl, Result, Ok, Err, IfErr, IsErrAnd}
+use Rattle.std.proofs.Common.{rules, ◌≡◌, inr, ◌∙◌, sym, subst, refl, Result, Ok, Err, IfErr, IsErrAnd}
 use Rattle.scopes.specs.declared.denotation.Denotation.{Denotation}
 use Rattle.scopes.specs.declared.fault.ScopeFault.{ScopeFault}
 use Rattle.scopes.specs.Scopes.{found}
