@@ -9,7 +9,7 @@ use std::io;
 use std::test::Fail;
 
 /// The site of the checks in the codes that stand in tests.
-pub const CHECKED: Site = Site {
+pub(crate) const CHECKED: Site = Site {
     id: 0,
     line: 1,
     column: 8,
@@ -17,7 +17,7 @@ pub const CHECKED: Site = Site {
 };
 
 /// How a run stops, in a word; none where it finishes.
-pub fn word_of(stop: Stop) -> &'static str {
+pub(crate) fn word_of(stop: Stop) -> &'static str {
     match stop {
         Stop::Finished => "",
         Stop::Error(CHECKED) => "error",
@@ -33,7 +33,7 @@ pub fn word_of(stop: Stop) -> &'static str {
 }
 
 /// What a run of the code writes, and behind it how it stops.
-pub fn run_told(alloc: Global, code: &Code, cells: u32, budget: u64) -> Result<String, Fail>
+pub(crate) fn run_told(alloc: Global, code: &Code, cells: u32, budget: u64) -> Result<String, Fail>
     requires { (1 ≤ cells) × (cells ≤ 16777216) }
 {
     let mut machine = Machine::new(alloc, cells)?;

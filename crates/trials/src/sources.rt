@@ -8,25 +8,29 @@ use typed_tree::site::Site;
 use typed_tree::tree::Tree;
 
 /// The typed tree of a program, or why it has none.
-pub fn resolved(alloc: Global, source: &str) -> Result<Result<Tree, TypeFault>, Fail> {
+pub(crate) fn resolved(alloc: Global, source: &str) -> Result<Result<Tree, TypeFault>, Fail> {
     let list = tokens(alloc, source.as_bytes())?;
     let program = parse(alloc, &list)?;
     Ok(resolve(alloc, &program))
 }
 
 /// A program that may write, with its variables on the first line and its statements on the second.
-pub fn program_of(alloc: Global, variables: &str, statements: &str) -> Result<String, AllocError> {
+pub(crate) fn program_of(
+    alloc: Global,
+    variables: &str,
+    statements: &str,
+) -> Result<String, AllocError> {
     format!(in alloc; "program p(output); var {variables}; begin\n{statements}\nend.")
 }
 
 /// The typed tree of such a program.
-pub fn tree_of(alloc: Global, variables: &str, statements: &str) -> Result<Tree, Fail> {
+pub(crate) fn tree_of(alloc: Global, variables: &str, statements: &str) -> Result<Tree, Fail> {
     let source = program_of(alloc, variables, statements)?;
     Ok(resolved(alloc, source.as_str())??)
 }
 
 /// A text and behind it another so many times.
-pub fn repeated(
+pub(crate) fn repeated(
     alloc: Global,
     before: &str,
     middle: &str,
@@ -41,7 +45,7 @@ pub fn repeated(
 }
 
 /// The places and the kinds of sites.
-pub fn sites_told(alloc: Global, sites: &[Site]) -> Result<String, Fail> {
+pub(crate) fn sites_told(alloc: Global, sites: &[Site]) -> Result<String, Fail> {
     let mut told = String::new(alloc);
     for site in sites {
         let (place, kind) = (site.place, site.kind.name());
@@ -51,7 +55,7 @@ pub fn sites_told(alloc: Global, sites: &[Site]) -> Result<String, Fail> {
 }
 
 /// The next of a row of numbers that look random.
-pub fn next_random(seed: u64) -> u64 {
+pub(crate) fn next_random(seed: u64) -> u64 {
     seed.wrapping_mul(6364136223846793005)
         .wrapping_add(1442695040888963407)
 }
