@@ -1,10 +1,10 @@
 //! `pcom [--go] SOURCE` compiles a Pascal program, names each place at which it can fail, and runs it.
 #![tactic(auto)]
 
+use command_line::{PcomWords, WordsFault, pcom_words};
 use report::compile::{Compiled, compile};
 use report::fault::Fault;
 use report::text::{fault_text, lines, stop_text};
-use report::words::{PcomWords, WordsFault, pcom_words};
 use stack_machine::bytes::Counted;
 use stack_machine::machine::Machine;
 use std::io::{ErrorKind, Write};

@@ -24,9 +24,9 @@ pub enum Fault {
     Typing(TypeFault),
     #[error("certificate:{0}")]
     Certificate(ReadFault),
-    #[error("{0:?}")]
+    #[error("{0}")]
     Check(CheckFault),
-    #[error("{0:?}")]
+    #[error("{0}")]
     Generate(GenFault),
 }
 

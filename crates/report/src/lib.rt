@@ -4,4 +4,3 @@
 pub mod compile;
 pub mod fault;
 pub mod text;
-pub mod words;

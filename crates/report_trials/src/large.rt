@@ -20,39 +20,50 @@ fn texts_up_to_a_mebibyte_are_taken(rt: HostRuntime) -> Result<(), Fail> {
     Ok(())
 }
 
-// How deep a source nests: compounds in the program's compound, and parentheses right of a `:=` in the innermost.
-fn nested(alloc: Global, compounds: usize, parentheses: usize) -> Result<Vec<u8>, AllocError> {
-    repeated(
-        alloc,
-        &[
-            ("program p; var x: integer; begin ", 1),
-            ("begin ", compounds),
-            ("x := ", 1),
-            ("(", parentheses),
-            ("1", 1),
-            (")", parentheses),
-            (" end", compounds),
-            (" end.", 1),
-        ],
-    )
-}
+// How deep a source nests: so many compounds in the program's compound, and in the innermost a statement of a target, so
+// many openings, what stands innermost, and as many closings.
+type Nest = (usize, [&'static str; 4], usize, &'static str);
 
-// Compounds and parentheses, and the line of the refusal, if there is one. The program's compound is the first level,
-// and the assignment the last but the parentheses. It stands behind 33 characters and 6 for each compound, and the first
-// parenthesis 5 columns on.
-static DEPTHS: [(usize, usize, &str); 6] = [
-    (0, 126, ""),
-    (0, 127, "1:165: refused P2\n"),
-    (126, 0, ""),
-    (127, 0, "1:796: refused P2\n"),
-    (60, 66, ""),
-    (60, 67, "1:465: refused P2\n"),
+const PARENTHESES: [&str; 4] = ["x := ", "(", "1", ")"];
+
+const ACTUALS: [&str; 4] = ["x := ", "abs(", "1", ")"];
+
+const NEGATIONS: [&str; 4] = ["y := ", "not ", "true", ""];
+
+const NOTHING: [&str; 4] = ["", "", "", ""];
+
+// Each with the line of its refusal, if there is one. The program's compound is the first level, and the innermost statement
+// the last but what opens in it. It stands behind 45 characters and 6 for each compound, and what it opens 5 columns on; the
+// token behind an empty statement stands a column on.
+static DEPTHS: [Nest; 12] = [
+    (0, PARENTHESES, 126, ""),
+    (0, PARENTHESES, 127, "1:177: refused P2\n"),
+    (0, ACTUALS, 126, ""),
+    (0, ACTUALS, 127, "1:559: refused P2\n"),
+    (0, NEGATIONS, 126, ""),
+    (0, NEGATIONS, 127, "1:559: refused P2\n"),
+    (126, NOTHING, 0, ""),
+    (127, NOTHING, 0, "1:809: refused P2\n"),
+    (126, PARENTHESES, 0, ""),
+    (127, PARENTHESES, 0, "1:808: refused P2\n"),
+    (60, PARENTHESES, 66, ""),
+    (60, PARENTHESES, 67, "1:477: refused P2\n"),
 ];
 
-fn nests_so(alloc: Global, row: &(usize, usize, &str)) -> Result<bool, Fail> {
-    let source = nested(alloc, row.0, row.1)?;
-    let (line, _) = refusal(alloc, &source, None)?;
-    Ok(line.as_slice() == row.2.as_bytes())
+fn nests_so(alloc: Global, row: &Nest) -> Result<bool, Fail> {
+    let (compounds, [target, opening, innermost, closing], times, wanted) = *row;
+    let parts = [
+        ("program p; var x: integer; y: Boolean; begin ", 1),
+        ("begin ", compounds),
+        (target, 1),
+        (opening, times),
+        (innermost, 1),
+        (closing, times),
+        (" end", compounds),
+        (" end.", 1),
+    ];
+    let (line, _) = refusal(alloc, &repeated(alloc, &parts)?, None)?;
+    Ok(line.as_slice() == wanted.as_bytes())
 }
 
 #[test]

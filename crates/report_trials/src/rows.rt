@@ -1,9 +1,9 @@
 use crate::shown::{CELLS, all_hold, interpreted, is_same_end, refusal, show};
+use command_line::{WordsFault, pcom_words};
 use pcode_assembler::code::{Point, Site};
 use report::compile::compile;
 use report::fault::Fault;
 use report::text::{fault_text, stop_text};
-use report::words::{WordsFault, pcom_words};
 use stack_machine::stop::{InputFault, MachineFault, Stop};
 use std::alloc::Global;
 use std::test::Fail;
@@ -352,6 +352,94 @@ fn is_refused_certificate(alloc: Global, row: &(&str, &str)) -> Result<bool, Fai
 fn certificates_are_read(rt: HostRuntime) -> Result<(), Fail> {
     compile(rt.alloc(), LEAST, Some(b"pcert 1\n"))?;
     all_hold(rt.alloc(), &CERTIFICATES, is_refused_certificate)
+}
+
+// Sources and certificates, and the sentence of the fault.
+static SENTENCES: [(&str, &str, &str); 19] = [
+    ("?", "pcert 1\n", "1:1: a byte that begins no token"),
+    ("{", "pcert 1\n", "1:1: a comment that doesn't close"),
+    (
+        "'",
+        "pcert 1\n",
+        "1:1: a string that doesn't close in its line",
+    ),
+    ("''", "pcert 1\n", "1:1: a string without an element"),
+    ("2147483648", "pcert 1\n", "1:1: a number above 2147483647"),
+    ("1a", "pcert 1\n", "1:1: a number that touches a letter"),
+    (
+        "'\t'",
+        "pcert 1\n",
+        "1:2: a byte in a string that is no printable character",
+    ),
+    ("", "pcert 1\n", "1:1: no program"),
+    (
+        "nil",
+        "pcert 1\n",
+        "1:1: a form that this language leaves out",
+    ),
+    (
+        "program p; var a, a: integer; begin end.",
+        "pcert 1\n",
+        "1:19: declared twice in one block",
+    ),
+    (
+        "program p; var a: t; t: integer; begin end.",
+        "pcert 1\n",
+        "1:19: used before its declaration",
+    ),
+    (
+        "program p; begin read end.",
+        "pcert 1\n",
+        "1:18: not declared",
+    ),
+    (
+        "program p; var a: integer; begin a := integer end.",
+        "pcert 1\n",
+        "1:39: types that don't fit",
+    ),
+    (
+        "program p; begin integer := 1 end.",
+        "pcert 1\n",
+        "1:18: not a variable",
+    ),
+    (
+        "program p; var a: integer; begin a := writeln end.",
+        "pcert 1\n",
+        "1:39: wrong parameters",
+    ),
+    (
+        "program p(input); begin end.",
+        "pcert 1\n",
+        "1:11: input or output is no program parameter",
+    ),
+    (
+        "program p; begin end.",
+        "pcert 2\n",
+        "certificate:1: no certificate",
+    ),
+    (
+        "program p; begin end.",
+        "pcert 1\nproc 0\n",
+        "certificate:2: no line of a certificate",
+    ),
+    (
+        "program p; begin end.",
+        "pcert 1",
+        "certificate:1: a line without its end",
+    ),
+];
+
+fn is_fault_told(alloc: Global, row: &(&str, &str, &str)) -> Result<bool, Fail> {
+    match compile(alloc, row.0.as_bytes(), Some(row.1.as_bytes())) {
+        Err(Fault::Memory) => Err(Fault::Memory.into()),
+        Err(fault) => Ok(format!(in alloc; "{fault}")?.as_str() == row.2),
+        Ok(_) => Ok(false),
+    }
+}
+
+#[test]
+fn faults_have_their_sentences(rt: HostRuntime) -> Result<(), Fail> {
+    all_hold(rt.alloc(), &SENTENCES, is_fault_told)
 }
 
 const INDEX: Site = Site {

@@ -54,3 +54,15 @@ returns-in_err-certificate-clause-refused c =
     let told = err_from_is_err_and c.from_residual-in_err-certificate.result c.from_residual-in_err-certificate.ensures.1 in
     refused_by source text c.from_residual-in_err-certificate.result told.0 _ told.1 told.2
     (certificate-refusal source text c.in_ok-tree.tree c.in_err-certificate.field-0.0 c.in_ok-tree.ensures.typed (search rules))
+
+pub returns-clause-full : goal.returns-clause-full
+returns-clause-full c = c.in_ok-full.ensures.instructions
+
+pub returns-clause-sites : goal.returns-clause-sites
+returns-clause-sites c = c.in_ok-full.ensures.sites
+
+pub returns-clause-points : goal.returns-clause-points
+returns-clause-points c = c.in_ok-full.ensures.points
+
+pub returns-clause-follows : goal.returns-clause-follows
+returns-clause-follows c = c.in_ok-full.ensures.follows c.in_ok-tree.ensures.well_formed

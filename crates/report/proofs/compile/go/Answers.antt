@@ -1,7 +1,7 @@
 use Rattle.std.proofs.lemmas.Result.{err_from_is_err_and}
 use Rattle.report.specs.Refusals.{text_of}
 use Rattle.report.proofs.RefusalLemmas.{refused_by}
-use Rattle.std.proofs.Common.{subst}
+use Rattle.std.proofs.Common.{rules, subst}
 use Rattle.stack_machine.specs.Does.{Tells}
 use Rattle.stack_machine.specs.Run.{machine}
 use Rattle.report.proofs.compile.go.Goals as goal
@@ -32,3 +32,6 @@ returns-in_err-compiled-clause-refused g c =
     let text = text_of c.args.certificate in
     let told = err_from_is_err_and c.from_residual.result c.from_residual.ensures.1 in
     refused_by source text c.from_residual.result told.0 c.in_err-compiled.field-0.0 told.1 told.2 c.in_err-compiled.ensures.refused
+
+pub returns-clause-unwritten : goal.returns-clause-unwritten
+returns-clause-unwritten g c = search rules

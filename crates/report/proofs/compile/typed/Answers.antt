@@ -1,4 +1,4 @@
-use Rattle.std.proofs.Common.{subst}
+use Rattle.std.proofs.Common.{rules, subst}
 use Rattle.std.proofs.lemmas.Result.{err_from_is_err_and}
 use Rattle.parser.specs.Syntax.{IsTreeOf, IsFaultOf}
 use Rattle.report.proofs.RefusalLemmas.{refused_by, parsing-refusal, typing-refusal}
@@ -24,3 +24,6 @@ returns-in_err-tree-clause-refused c = λ text.
     let told = err_from_is_err_and c.from_residual-in_err-tree.result c.from_residual-in_err-tree.ensures.1 in
     refused_by source text c.from_residual-in_err-tree.result told.0 _ told.1 told.2
     (typing-refusal source text c.in_err-tree.field-0.0 program (c.in_ok-tokens.tokens.items, c.in_ok-tokens.ensures.list, subst (IsTreeOf program) c.deref.ensures.value c.in_ok-program.ensures.exact) c.in_err-tree.ensures.refused)
+
+pub returns-clause-refused : goal.returns-clause-refused
+returns-clause-refused c = search rules

@@ -9,7 +9,7 @@ use std::io;
 use std::test::Fail;
 
 /// The site of the checks in the codes that stand in tests.
-pub(crate) const CHECKED: Site = Site {
+pub const CHECKED: Site = Site {
     id: 0,
     line: 1,
     column: 8,
@@ -17,7 +17,7 @@ pub(crate) const CHECKED: Site = Site {
 };
 
 /// How a run stops, in a word; none where it finishes.
-pub(crate) fn word_of(stop: Stop) -> &'static str {
+pub fn word_of(stop: Stop) -> &'static str {
     match stop {
         Stop::Finished => "",
         Stop::Error(CHECKED) => "error",
@@ -33,7 +33,7 @@ pub(crate) fn word_of(stop: Stop) -> &'static str {
 }
 
 /// What a run of the code writes, and behind it how it stops.
-pub(crate) fn run_told(alloc: Global, code: &Code, cells: u32, budget: u64) -> Result<String, Fail>
+pub fn run_told(alloc: Global, code: &Code, cells: u32, budget: u64) -> Result<String, Fail>
     requires { (1 ≤ cells) × (cells ≤ 16777216) }
 {
     let mut machine = Machine::new(alloc, cells)?;

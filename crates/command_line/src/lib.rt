@@ -1,3 +1,12 @@
+//! The words of the command `pcom`.
+#![tactic(auto)]
+
+ghost use Rattle.std.specs.Prelude.{◌≡◌, MatchResult, map};
+ghost use Rattle.clap.specs.Words.{kind_of};
+ghost use Rattle.clap.specs.declared.error.kind.ErrorKind.TheVariants as ErrorKind;
+ghost use Rattle.command_line.specs.Words.{AreSaid, IsWordsFault, words_fault};
+ghost use Rattle.command_line.specs.declared.WordsFault.TheVariants.{Memory};
+
 use clap::{Arg, ArgAction, Command};
 use std::alloc::{AllocError, Global};
 
@@ -19,12 +28,16 @@ pub enum WordsFault {
 }
 
 impl From<AllocError> for WordsFault {
+    ghost from_gives = { λ _ e. e ≡ Memory };
+
     fn from(_error: AllocError) -> WordsFault {
         WordsFault::Memory
     }
 }
 
 impl From<clap::Error> for WordsFault {
+    ghost from_gives = { λ error e. e ≡ words_fault (kind_of error) error };
+
     fn from(error: clap::Error) -> WordsFault {
         match error.kind() {
             clap::error::ErrorKind::OutOfMemory => WordsFault::Memory,
@@ -34,7 +47,9 @@ impl From<clap::Error> for WordsFault {
 }
 
 /// Reads the words of `pcom [--go] SOURCE`, the program's name first.
-pub fn pcom_words<'a>(alloc: Global, words: &'a [&'a str]) -> Result<PcomWords<'a>, WordsFault> {
+pub fn pcom_words<'a>(alloc: Global, words: &'a [&'a str]) -> Result<PcomWords<'a>, WordsFault>
+    ensures { MatchResult result (AreSaid (map (λ w. w.now) words.entry.now)) (IsWordsFault (map (λ w. w.now) words.entry.now)) }
+{
     let go = Arg::new(alloc, "go")
         .long("go")
         .help("Runs the program")

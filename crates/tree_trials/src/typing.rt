@@ -1,7 +1,7 @@
-use crate::rows::all_hold;
 use crate::sources::{program_of, resolved, sites_told, tree_of};
 use std::alloc::Global;
 use std::test::Fail;
+use test_words::rows::all_hold;
 use typed_tree::site::{Site, SiteKind};
 use typed_tree::sites;
 

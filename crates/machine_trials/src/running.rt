@@ -1,5 +1,3 @@
-use crate::machines::{CHECKED, run_told, word_of};
-use crate::rows::all_hold;
 use pcode_assembler::code::Code;
 use pcode_assembler::instr::Instr;
 use stack_machine::bytes::{Counted, Feed};
@@ -8,6 +6,8 @@ use stack_machine::machine::Machine;
 use std::alloc::{AllocError, Global};
 use std::io;
 use std::test::Fail;
+use test_words::machines::{CHECKED, run_told, word_of};
+use test_words::rows::all_hold;
 
 fn code_of(alloc: Global, instructions: &[Instr]) -> Result<Code, AllocError> {
     Ok(Code {

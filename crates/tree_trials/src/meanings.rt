@@ -1,9 +1,9 @@
-use crate::rows::all_hold;
 use crate::sources::tree_of;
 use meaning::interpret;
 use meaning::outcome::{Ending, Outcome};
 use std::alloc::Global;
 use std::test::Fail;
+use test_words::rows::all_hold;
 
 /// What a run of a program writes, and behind it how it ends: nothing where it finishes, `!` and the id of the site
 /// where it errs.

@@ -1,5 +1,3 @@
-use crate::rows::all_hold;
-use crate::sources::{next_random, repeated};
 use lexer::place::Place;
 use lexer::token::{Kind, Symbol, Token, Word};
 use lexer::tokens;
@@ -8,6 +6,8 @@ use parser::parse;
 use parser::tree::{Expr, Operator, Stmt};
 use std::alloc::{AllocError, Global};
 use std::test::Fail;
+use test_words::rows::all_hold;
+use test_words::texts::{next_random, repeated};
 
 /// The number and the place of the fault of a text; nothing where it has a tree.
 fn fault_told(alloc: Global, text: &&str) -> Result<String, Fail> {

@@ -29,21 +29,6 @@ pub(crate) fn tree_of(alloc: Global, variables: &str, statements: &str) -> Resul
     Ok(resolved(alloc, source.as_str())??)
 }
 
-/// A text and behind it another so many times.
-pub(crate) fn repeated(
-    alloc: Global,
-    before: &str,
-    middle: &str,
-    count: usize,
-) -> Result<String, AllocError> {
-    let mut text = String::new(alloc);
-    text.push_str(before)?;
-    for _ in 0..count {
-        text.push_str(middle)?;
-    }
-    Ok(text)
-}
-
 /// The places and the kinds of sites.
 pub(crate) fn sites_told(alloc: Global, sites: &[Site]) -> Result<String, Fail> {
     let mut told = String::new(alloc);
@@ -52,10 +37,4 @@ pub(crate) fn sites_told(alloc: Global, sites: &[Site]) -> Result<String, Fail> 
         told.push_str(format!(in alloc; "{place} {kind}; ")?.as_str())?;
     }
     Ok(told)
-}
-
-/// The next of a row of numbers that look random.
-pub(crate) fn next_random(seed: u64) -> u64 {
-    seed.wrapping_mul(6364136223846793005)
-        .wrapping_add(1442695040888963407)
 }

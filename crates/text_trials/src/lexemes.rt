@@ -1,9 +1,9 @@
-use crate::rows::all_hold;
-use crate::sources::next_random;
 use lexer::token::Token;
 use lexer::{MAX_TEXT, tokens};
 use std::alloc::Global;
 use std::test::Fail;
+use test_words::rows::all_hold;
+use test_words::texts::next_random;
 
 /// How many tokens a text has, or the number of its fault and the place.
 fn outcome_told(alloc: Global, text: &&[u8]) -> Result<String, Fail> {

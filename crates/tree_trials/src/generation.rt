@@ -1,10 +1,10 @@
-use crate::machines::run_told;
-use crate::rows::all_hold;
 use crate::sources::tree_of;
 use code_generator::generate::generate;
 use pcode_assembler::code::Code;
 use std::alloc::Global;
 use std::test::Fail;
+use test_words::machines::run_told;
+use test_words::rows::all_hold;
 use typed_tree::tree::{Expr, Representation, Stmt, Tree, WriteParameter};
 
 /// The code of a program with two variables.

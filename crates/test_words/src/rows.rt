@@ -3,7 +3,7 @@ use std::fmt::Debug;
 use std::test::Fail;
 
 /// Fails at the first row that doesn't give the text that stands beside it.
-pub(crate) fn all_hold<Row: Debug, F: Fn(Global, &Row) -> Result<String, Fail>>(
+pub fn all_hold<Row: Debug, F: Fn(Global, &Row) -> Result<String, Fail>>(
     alloc: Global,
     rows: &[(Row, &str)],
     told: F,

@@ -1,10 +1,11 @@
-use crate::rows::all_hold;
-use crate::sources::{repeated, sites_told, tree_of};
+use crate::sources::{sites_told, tree_of};
 use cert_checker::fault::CheckFault;
 use cert_checker::{Verdict, check};
 use certificate::{Certificate, Version};
 use std::alloc::Global;
 use std::test::Fail;
+use test_words::rows::all_hold;
+use test_words::texts::repeated;
 use typed_tree::tree::{Stmt, Tree};
 use types::{MAXINT, OrdinalRange};
 

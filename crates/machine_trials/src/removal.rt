@@ -1,9 +1,9 @@
-use crate::rows::all_hold;
 use check_remover::remove::remove;
 use pcode_assembler::code::{Code, Site};
 use pcode_assembler::instr::Instr;
 use std::alloc::{AllocError, Global};
 use std::test::Fail;
+use test_words::rows::all_hold;
 
 const FITS: Site = Site {
     id: 0,

@@ -1,8 +1,8 @@
-use crate::rows::all_hold;
 use domain::Domain;
 use domain::interval::Interval;
 use std::alloc::Global;
 use std::test::Fail;
+use test_words::rows::all_hold;
 
 /// What is done with one range or with two.
 #[derive(Debug, Clone, Copy)]
