@@ -32,7 +32,7 @@ pub enum Refusal {
     StringByte { offset: usize },
 }
 
-/// What a text that isn't empty begins with, and its length.
+/// What a text begins with, and its length. An empty text, of which `tokens` never asks, is refused.
 pub fn next_piece(text: &[u8]) -> Result<(Piece, usize), Refusal>
     ensures exact { result ≡ piece_at text.now }
     ensures cut { IfOk result (λ found. (0 < found.1) × (found.1 ≤ length text.now)) }

@@ -3,11 +3,11 @@ ghost use Rattle.std.specs.Prelude.{◌≡◌, ◌+◌, ◌^◌, ◌<◌, ◌≤
 use std::fmt;
 
 /// Where a byte stands in a text: its line and its column in bytes, both from 1. Byte 10 ends a line.
-#[derive(Clone, Copy, Debug, PartialEq, Eq, PartialOrd, Ord)]
+#[derive(Clone, Copy, Debug, PartialEq, Eq)]
 pub struct Place {
-    /// From 1 to 1,048,577.
+    /// From 1 to 1,048,577, which is just past the longest text of line ends alone.
     pub line: u32,
-    /// From 1 to 1,048,577.
+    /// From 1 to 1,048,577, which is just past the longest text of one line.
     pub column: u32,
 }
 

@@ -16,7 +16,8 @@ use std::alloc::Global;
 /// The syntax tree that the tokens spell (6.2 to 6.10), its parentheses kept. P3 where a token
 /// stands that only forms left out have: the first of these, before all else. Otherwise P1 at the
 /// first token with which no program goes on, or just past the last, or P2 where the nesting passes
-/// `MAX_NESTING`; nesting alone is never P1.
+/// `MAX_NESTING`; nesting alone is never P1. The clauses leave the places of P1 and P2 open, and let
+/// P2 stand where P1 might.
 pub fn parse<'a>(alloc: Global, tokens: &[Token<'a>]) -> Result<Program<'a>, ParseFault>
     ensures left_out { MatchOption (first_left_out tokens.now) (IfErr result IsOfRules)
         (λ place. result ≡ Err (ParseFault.LeftOut place)) }

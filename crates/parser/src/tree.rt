@@ -61,14 +61,14 @@ pub enum Stmt<'a> {
 }
 
 /// A sign (6.7.2.2).
-#[derive(Clone, Copy, Debug, PartialEq, Eq)]
+#[derive(Clone, Copy, Debug)]
 pub enum Sign {
     Plus,
     Minus,
 }
 
 /// An operator between two operands (6.7.2.1).
-#[derive(Clone, Copy, Debug, PartialEq, Eq)]
+#[derive(Clone, Copy, Debug)]
 pub enum Operator {
     Plus,
     Minus,

@@ -4,7 +4,7 @@ ghost use Rattle.typed_tree.specs.Sites.{number_of, name_of, kind_of};
 use lexer::place::Place;
 
 /// A kind of error that a program may commit (ISO 7185:1990, 3.1), in the order of the numbers 1 to 13.
-#[derive(Clone, Copy, Debug, PartialEq, Eq, PartialOrd, Ord)]
+#[derive(Clone, Copy, Debug, PartialEq, Eq)]
 pub enum SiteKind {
     /// An index outside its type.
     Index = 1,

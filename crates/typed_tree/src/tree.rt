@@ -28,7 +28,7 @@ pub struct Block {
 }
 
 /// A declared variable, by its number in the order of declarations over the program.
-#[derive(Clone, Copy, Debug, PartialEq, Eq)]
+#[derive(Clone, Copy, Debug)]
 pub struct Variable {
     /// The number of the block that declares it.
     pub block: u32,
@@ -36,7 +36,7 @@ pub struct Variable {
 }
 
 /// A variable access (ISO 7185:1990, 6.5.1): an entry of its own.
-#[derive(Clone, Copy, Debug, PartialEq, Eq)]
+#[derive(Clone, Copy, Debug)]
 pub struct Access {
     /// Its number in the order of entry over the program.
     pub number: u32,
@@ -45,7 +45,7 @@ pub struct Access {
 }
 
 /// A test that an ordinal lies in the range of a type, at a site.
-#[derive(Clone, Copy, Debug, PartialEq, Eq)]
+#[derive(Clone, Copy, Debug)]
 pub struct RangeTest {
     pub site: u32,
     /// Within -2147483647 to 2147483647.
@@ -87,7 +87,7 @@ pub struct WriteParameter {
 }
 
 /// How a value is written, by its type (6.9.3.3, 6.9.3.5).
-#[derive(Clone, Copy, Debug, PartialEq, Eq)]
+#[derive(Clone, Copy, Debug)]
 pub enum Representation {
     Integer,
     Boolean,
@@ -101,7 +101,7 @@ pub struct Width {
 }
 
 /// An operation on one operand: a sign (6.7.2.2), `not` (6.7.2.3), or a required function (6.6.6.2, 6.6.6.5).
-#[derive(Clone, Copy, Debug, PartialEq, Eq)]
+#[derive(Clone, Copy, Debug)]
 pub enum Monadic {
     Plus,
     Minus,
@@ -113,7 +113,7 @@ pub enum Monadic {
 }
 
 /// An operation on two operands (6.7.2.1).
-#[derive(Clone, Copy, Debug, PartialEq, Eq)]
+#[derive(Clone, Copy, Debug)]
 pub enum Dyadic {
     /// The result is tested at the site `overflow`, as for the next two.
     Plus { overflow: u32 },
@@ -129,7 +129,7 @@ pub enum Dyadic {
 }
 
 /// A relation of two ordinals (6.7.2.5).
-#[derive(Clone, Copy, Debug, PartialEq, Eq)]
+#[derive(Clone, Copy, Debug)]
 pub enum Relation {
     Equal,
     NotEqual,

@@ -69,3 +69,6 @@ loop-rest-preserved c =
       ],
       c.after-place.ensures.place ∙ (λ i. place_after (c.loop-rest.invariant.5 i) (front i)) ∙ sym (place_more start text pieces rest found leaves),
     )
+
+pub loop-rest-init : goal.loop-rest-init
+loop-rest-init c = search rules

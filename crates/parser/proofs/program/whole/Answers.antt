@@ -14,3 +14,6 @@ pub returns-clause-exact : goal.returns-clause-exact
 returns-clause-exact c = refused c.args.cursor.now.rest.now c.no_program.result
     (λ depth tree h. let m : c.program.new.cursor.rest.now ≡ [] = c.in_ok-program.ensures.exact depth tree [] h tt in
     let no : Some c.in-Some.field-0 ≡ None = sym c.in-Some.is ∙ c.peek.ensures ∙ ap next_kind m in cc)
+
+pub returns-in-None-clause-exact : goal.returns-in-None-clause-exact
+returns-in-None-clause-exact c = search rules

@@ -33,3 +33,6 @@ returns-in_err-parameters-clause-refused c =
     (parameters_refused c.args.self.now c.enter.new.self c.written.new.self c.args.procedure c.args.actuals.now c.in_ok-written.written.now c.in_ok-number.number
     c.in_ok-number.ensures.typed c.written.ensures.adds c.in_ok-written.ensures.typed)
     c.in_err-parameters.ensures.refused
+
+pub returns-clause-has_output : goal.returns-clause-has_output
+returns-clause-has_output c = search rules
