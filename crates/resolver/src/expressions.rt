@@ -17,14 +17,14 @@ use typed_tree::tree::{Dyadic, Expr, Link, Monadic, Relation};
 use types::{MAXINT, TypeId, TypeTable};
 
 /// An expression and the type of its value.
-#[derive(Debug, Drop)]
+#[derive(Drop)]
 pub(crate) struct Typed {
     pub(crate) expression: Expr,
     pub(crate) type_id: TypeId,
 }
 
 /// The operators of a chain with their right operands, and the type of its value.
-#[derive(Debug, Drop)]
+#[derive(Drop)]
 struct TypedLinks {
     links: Vec<Link>,
     type_id: TypeId,

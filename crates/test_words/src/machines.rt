@@ -1,4 +1,6 @@
-ghost use Rattle.std.specs.Prelude.{◌≤◌};
+ghost use Rattle.std.specs.Prelude.{◌≡◌, ◌≤◌, IfOk, string_bytes};
+ghost use Rattle.stack_machine.specs.Run.{machine};
+ghost use Rattle.test_words.specs.Runs.{IsToldRun, word_of};
 
 use pcode_assembler::code::{Code, Site};
 use stack_machine::bytes::Counted;
@@ -17,7 +19,9 @@ pub const CHECKED: Site = Site {
 };
 
 /// How a run stops, in a word; none where it finishes.
-pub fn word_of(stop: Stop) -> &'static str {
+pub fn word_of(stop: Stop) -> &'static str
+    ensures { result.now ≡ word_of stop }
+{
     match stop {
         Stop::Finished => "",
         Stop::Error(CHECKED) => "error",
@@ -35,6 +39,7 @@ pub fn word_of(stop: Stop) -> &'static str {
 /// What a run of the code writes, and behind it how it stops.
 pub fn run_told(alloc: Global, code: &Code, cells: u32, budget: u64) -> Result<String, Fail>
     requires { (1 ≤ cells) × (cells ≤ 16777216) }
+    ensures { IfOk result (λ told. IsToldRun (string_bytes told) (λ input. machine code.now input cells budget)) }
 {
     let mut machine = Machine::new(alloc, cells)?;
     let mut reader = Counted::new(io::empty());

@@ -1,3 +1,6 @@
+ghost use Rattle.std.specs.Prelude.{All, OnOk};
+ghost use Rattle.test_words.specs.Rows.{GivesText};
+
 use std::alloc::Global;
 use std::fmt::Debug;
 use std::test::Fail;
@@ -9,6 +12,7 @@ pub fn all_hold<Row: Debug, F: Fn(Global, &Row) -> Result<String, Fail>>(
     told: F,
 ) -> Result<(), Fail>
     requires { F.IsAlwaysCallable told }
+    ensures { OnOk result (All (λ row. GivesText (F.post told alloc) row.0 row.1.now) rows.now) }
 {
     for (row, wanted) in rows {
         let found = told(alloc, row)?;

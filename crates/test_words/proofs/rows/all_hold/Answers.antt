@@ -1,0 +1,33 @@
+use Rattle.std.proofs.Common.{◌≡◌, refl, subst, ℕ, arith, rules, List, Result, Ok, String, string_bytes, Bor}
+use Rattle.std.specs.declared.alloc.Global.{Global}
+use Rattle.std.proofs.lemmas.List.Elements.{AllWithin-more, at_read}
+use Rattle.test_words.specs.Rows.{GivesText}
+use Rattle.test_words.proofs.rows.all_hold.Goals as goal
+
+-- a call at a reference that answered with this text gave it
+gave :
+    {Row E : Type 0} (post : Bor Row → Result (String Global) E → Type 0) (shown : Bor Row)
+    (answer : Result (String Global) E) (text : String Global) (bytes : List ℕ) →
+    post shown answer → answer ≡ Ok text → string_bytes text ≡ bytes → GivesText post shown.now bytes
+gave post shown answer text bytes met was same = (shown, text, refl, subst (post shown) was met, same)
+
+-- the row of this turn gave its text, too
+pub loop-row-preserved : goal.loop-row-preserved
+loop-row-preserved g c =
+    let post = goal.F-post g c.args.told c.args.alloc in
+    let gives = λ (row : g.row.Row.Denot × Bor (List ℕ)). GivesText post row.0 row.1.now in
+    let rows = c.args.rows.now in
+    let index = c.loop-row.row-index in
+    let row = c.loop-row-item.result in
+    let text = c.in_ok-found.found in
+    record {
+      callable = c.loop-row.invariant.callable;
+      given =
+          AllWithin-more gives rows 0 index c.loop-row.invariant.given
+          (at_read rows gives index row (omega arith) c.loop-row-item.is
+          (gave post _ c.told.result text row.1.now c.told.ensures c.in_ok-found.was (search rules)));
+    }
+
+-- all rows were taken
+pub returns : goal.returns
+returns g c = λ k d h. c.loop-row.invariant.given k d (omega arith) (omega arith)
