@@ -117,8 +117,12 @@ two_ids x y p q (suc zero) (suc (suc n)) d e below other same = absurd (omega ar
 pub fits : (a : Arg) (letter : ℕ) (rest : Text) → a.id.now ≡ letter ∷ rest → (letter ≡ 104 → ⊥) → (letter ≡ 118 → ⊥)
     → IsPlainArg a → a.global ≡ false → FitsChain a
 fits a letter rest id no_help no_version plain global =
-    let first : (t : Text) → a.id.now ≡ t → slice_index t 0 ≡ letter = λ t same. rw (← same, id) refl in
-    (plain, global, (λ empty. let bad : letter ∷ rest ≡ [] = sym id ∙ empty in cc), (λ auto. elim auto [
-      | inl h ↦ no_help (sym (first _ h))
-      | inr h ↦ no_version (sym (first _ h))
-    ]))
+    let first : (t : Text) → a.id.now ≡ t → slice_index t 0 ≡ letter = λ t same. rw (← same, id) refl in (
+      plain,
+      global,
+      (λ empty. let bad : letter ∷ rest ≡ [] = sym id ∙ empty in cc),
+      (λ auto. elim auto [
+        | inl h ↦ no_help (sym (first _ h))
+        | inr h ↦ no_version (sym (first _ h))
+      ]),
+    )
