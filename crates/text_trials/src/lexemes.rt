@@ -1,19 +1,27 @@
+use lexer::fault::LexFault;
+use lexer::place::Place;
 use lexer::token::Token;
 use lexer::{MAX_TEXT, tokens};
-use std::alloc::Global;
+use std::alloc::{AllocError, Global};
 use std::test::Fail;
 use test_words::rows::all_hold;
 use test_words::texts::next_random;
 
-/// How many tokens a text has, or the number of its fault and the place.
+/// What stands for the place of a fault without one.
+pub(crate) const NOWHERE: Place = Place { line: 0, column: 0 };
+
+/// The number and the place of a fault.
+pub(crate) fn fault_told(alloc: Global, fault: LexFault) -> Result<String, AllocError> {
+    let place = fault.place().unwrap_or(NOWHERE);
+    format!(in alloc; "L{} {place}", fault.number())
+}
+
+/// How many tokens a text has, or its fault.
 fn outcome_told(alloc: Global, text: &&[u8]) -> Result<String, Fail> {
-    match tokens(alloc, *text) {
-        Ok(list) => Ok(format!(in alloc; "{}", list.len())?),
-        Err(fault) => {
-            let place = fault.place().ok_or("a fault without a place")?;
-            Ok(format!(in alloc; "L{} {place}", fault.number())?)
-        }
-    }
+    Ok(match tokens(alloc, *text) {
+        Ok(list) => format!(in alloc; "{}", list.len()),
+        Err(fault) => fault_told(alloc, fault),
+    }?)
 }
 
 /// Texts, and their first fault.
@@ -53,18 +61,25 @@ fn tells_the_first_fault(rt: HostRuntime) -> Result<(), Fail> {
     all_hold(rt.alloc(), &FAULTS, outcome_told)
 }
 
-/// The place, the kind and the spelling of each token of a text.
+/// The place, the kind and the spelling of each token of a text, or its fault.
 fn tokens_told(alloc: Global, text: &&str) -> Result<String, Fail> {
+    Ok(match tokens(alloc, text.as_bytes()) {
+        Ok(list) => list_told(alloc, &list),
+        Err(fault) => fault_told(alloc, fault),
+    }?)
+}
+
+fn list_told(alloc: Global, list: &[Token<'_>]) -> Result<String, AllocError> {
     let mut told = String::new(alloc);
-    for token in &tokens(alloc, text.as_bytes())? {
+    for token in list {
         told.push_str(token_told(alloc, token)?.as_str())?;
     }
     Ok(told)
 }
 
-fn token_told(alloc: Global, token: &Token<'_>) -> Result<String, Fail> {
-    let spelling = str::from_utf8(token.text)?;
-    Ok(format!(in alloc; "{} {:?} {spelling}; ", token.place, token.kind)?)
+fn token_told(alloc: Global, token: &Token<'_>) -> Result<String, AllocError> {
+    let spelling = str::from_utf8(token.text).unwrap_or("no text");
+    format!(in alloc; "{} {:?} {spelling}; ", token.place, token.kind)
 }
 
 /// A text is cut where a token is longest.
@@ -135,25 +150,32 @@ fn knows_each_symbol_and_word(rt: HostRuntime) -> Result<(), Fail> {
     all_hold(rt.alloc(), &KINDS, tokens_told)
 }
 
-/// A text of most bytes, each alike, and the same with one more.
-fn long_told(alloc: Global, byte: &u8) -> Result<String, Fail> {
-    let mut text = vec![in alloc; *byte; MAX_TEXT]?;
-    let most = outcome_told(alloc, &text.as_slice())?;
-    text.push(*byte)?;
-    let more = outcome_told(alloc, &text.as_slice())?;
-    Ok(format!(in alloc; "{most}, {more}")?)
+/// What a text of so many bytes gives, each alike.
+fn long_told(alloc: Global, row: &(u8, usize)) -> Result<String, Fail> {
+    let text = vec![in alloc; row.0; row.1]?;
+    outcome_told(alloc, &text.as_slice())
 }
 
-static LONG: [(u8, &str); 9] = [
-    (b' ', "0, L7 1:1"),
-    (b'a', "1, L7 1:1"),
-    (b'0', "1, L7 1:1"),
-    (b'{', "L2 1:1, L7 1:1"),
-    (b'\'', "1, L7 1:1"),
-    (b'(', "1048576, L7 1:1"),
-    (b'\n', "0, L7 1:1"),
-    (b'9', "L5 1:1, L7 1:1"),
-    (b'<', "1048576, L7 1:1"),
+/// Texts of most bytes, and of one more.
+static LONG: [((u8, usize), &str); 18] = [
+    ((b' ', MAX_TEXT), "0"),
+    ((b' ', MAX_TEXT + 1), "L7 1:1"),
+    ((b'a', MAX_TEXT), "1"),
+    ((b'a', MAX_TEXT + 1), "L7 1:1"),
+    ((b'0', MAX_TEXT), "1"),
+    ((b'0', MAX_TEXT + 1), "L7 1:1"),
+    ((b'{', MAX_TEXT), "L2 1:1"),
+    ((b'{', MAX_TEXT + 1), "L7 1:1"),
+    ((b'\'', MAX_TEXT), "1"),
+    ((b'\'', MAX_TEXT + 1), "L7 1:1"),
+    ((b'(', MAX_TEXT), "1048576"),
+    ((b'(', MAX_TEXT + 1), "L7 1:1"),
+    ((b'\n', MAX_TEXT), "0"),
+    ((b'\n', MAX_TEXT + 1), "L7 1:1"),
+    ((b'9', MAX_TEXT), "L5 1:1"),
+    ((b'9', MAX_TEXT + 1), "L7 1:1"),
+    ((b'<', MAX_TEXT), "1048576"),
+    ((b'<', MAX_TEXT + 1), "L7 1:1"),
 ];
 
 #[test]
@@ -161,16 +183,18 @@ fn takes_long_texts(rt: HostRuntime) -> Result<(), Fail> {
     all_hold(rt.alloc(), &LONG, long_told)
 }
 
+/// The number of the fault of a text; none where it has tokens.
+fn number_of(alloc: Global, text: &[u8]) -> Option<u8> {
+    Some(tokens(alloc, text).err()?.number())
+}
+
 /// The number of the fault of each of sixteen bytes alone, or 0.
 fn bytes_told(alloc: Global, sixteenth: &u8) -> Result<String, Fail> {
     let mut told = String::new(alloc);
     for low in 0..16u8 {
         let byte = sixteenth.wrapping_mul(16).wrapping_add(low);
-        let number = match tokens(alloc, &[byte]) {
-            Ok(_) => 0,
-            Err(fault) => fault.number(),
-        };
-        told.push_str(format!(in alloc; "{number}")?.as_str())?;
+        let number = number_of(alloc, &[byte]).unwrap_or(0);
+        told.push(char::from(b'0'.wrapping_add(number)))?;
     }
     Ok(told)
 }
@@ -200,19 +224,24 @@ fn answers_any_byte(rt: HostRuntime) -> Result<(), Fail> {
     all_hold(rt.alloc(), &BYTES, bytes_told)
 }
 
+fn random_text(alloc: Global, seed: &mut u64) -> Result<Vec<u8>, AllocError> {
+    let mut text = Vec::new(alloc);
+    for _ in 0..*seed % 64 {
+        *seed = next_random(*seed);
+        text.push(b"'{}(*)aZ09. \n\r:=<>^@,;_~\x7f!"[(*seed >> 40) as usize % 26])?;
+    }
+    Ok(text)
+}
+
 #[test]
 fn answers_random_texts(rt: HostRuntime) -> Result<(), Fail> {
     let alloc = rt.alloc();
     let mut seed = 1;
     for _ in 0..1000 {
-        let mut text = Vec::new(alloc);
-        for _ in 0..seed % 64 {
-            seed = next_random(seed);
-            text.push(b"'{}(*)aZ09. \n\r:=<>^@,;_~\x7f!"[(seed >> 40) as usize % 26])?;
-        }
+        let text = random_text(alloc, &mut seed)?;
         seed = next_random(seed);
         // A list, or a fault other than want of memory.
-        assert!(rt; tokens(alloc, &text).map_or_else(|fault| fault.number() > 0, |_| true));
+        assert!(rt; number_of(alloc, &text) != Some(0));
     }
     Ok(())
 }

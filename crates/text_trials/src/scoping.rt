@@ -1,4 +1,4 @@
-use scopes::{Denotation, Scopes};
+use scopes::{Denotation, ScopeFault, Scopes};
 use std::alloc::Global;
 use std::process::Abort;
 use std::test::Fail;
@@ -15,59 +15,59 @@ enum Step {
     Close,
 }
 
-// Each step with what it tells: the root that a name denotes, or the fault.
-static STEPS: [(Step, &str); 12] = [
-    (Step::Find("a"), "NotDeclared"),
-    (Step::Open(&["a", "b"]), ""),
-    (Step::Declare("a", 0), ""),
-    (Step::Open(&["a"]), ""),
-    (Step::Find("a"), "UsedBeforeDeclared"),
-    (Step::Declare("a", 1), ""),
-    (Step::Find("a"), "1"),
-    (Step::Find("b"), "UsedBeforeDeclared"),
-    (Step::Find("c"), "NotDeclared"),
-    (Step::Declare("a", 2), "DeclaredTwice"),
-    (Step::Close, ""),
-    (Step::Find("a"), "0"),
+// What a step gives: the root that a name denotes, where it asks for a name.
+type Given = Result<Option<u32>, ScopeFault>;
+
+static STEPS: [(Step, Given); 12] = [
+    (Step::Find("a"), Err(ScopeFault::NotDeclared)),
+    (Step::Open(&["a", "b"]), Ok(None)),
+    (Step::Declare("a", 0), Ok(None)),
+    (Step::Open(&["a"]), Ok(None)),
+    (Step::Find("a"), Err(ScopeFault::UsedBeforeDeclared)),
+    (Step::Declare("a", 1), Ok(None)),
+    (Step::Find("a"), Ok(Some(1))),
+    (Step::Find("b"), Err(ScopeFault::UsedBeforeDeclared)),
+    (Step::Find("c"), Err(ScopeFault::NotDeclared)),
+    (Step::Declare("a", 2), Err(ScopeFault::DeclaredTwice)),
+    (Step::Close, Ok(None)),
+    (Step::Find("a"), Ok(Some(0))),
 ];
 
-fn open(alloc: Global, scopes: &mut Scopes, names: &[&str]) -> Result<(), Fail> {
+fn opened(alloc: Global, scopes: &mut Scopes, names: &[&str]) -> Given {
     let mut known = Vec::new(alloc);
     for name in names {
         known.push(Vec::from_slice(alloc, name.as_bytes())?)?;
     }
     scopes.open(alloc, &known)?;
-    Ok(())
+    Ok(None)
 }
 
-fn declared(alloc: Global, scopes: &mut Scopes, name: &str, root: u32) -> Result<String, Fail> {
+fn declared(alloc: Global, scopes: &mut Scopes, name: &str, root: u32) -> Given {
     let variable = Denotation::Variable {
         root,
         type_id: TypeTable::INTEGER,
     };
-    let name = Vec::from_slice(alloc, name.as_bytes())?;
-    match scopes.declare(name, variable) {
-        Ok(()) => Ok(String::new(alloc)),
-        Err(fault) => Ok(format!(in alloc; "{fault:?}")?),
+    scopes.declare(Vec::from_slice(alloc, name.as_bytes())?, variable)?;
+    Ok(None)
+}
+
+fn found(scopes: &Scopes, name: &str) -> Given {
+    match scopes.find(name.as_bytes())? {
+        Denotation::Variable { root, .. } => Ok(Some(root)),
+        _ => Ok(None),
     }
 }
 
-fn found(alloc: Global, scopes: &Scopes, name: &str) -> Result<String, Fail> {
-    match scopes.find(name.as_bytes()) {
-        Ok(Denotation::Variable { root, .. }) => Ok(format!(in alloc; "{root}")?),
-        Ok(other) => Ok(format!(in alloc; "{other:?}")?),
-        Err(fault) => Ok(format!(in alloc; "{fault:?}")?),
-    }
-}
-
-fn told(alloc: Global, scopes: &mut Scopes, step: Step) -> Result<String, Fail> {
+fn given(alloc: Global, scopes: &mut Scopes, step: Step) -> Given {
     match step {
-        Step::Open(names) => open(alloc, scopes, names)?,
-        Step::Declare(name, root) => return declared(alloc, scopes, name, root),
-        Step::Find(name) => return found(alloc, scopes, name),
-        Step::Close => scopes.close(),
+        Step::Open(names) => opened(alloc, scopes, names),
+        Step::Declare(name, root) => declared(alloc, scopes, name, root),
+        Step::Find(name) => found(scopes, name),
+        Step::Close => {
+            scopes.close();
+            Ok(None)
+        }
     }
-    Ok(String::new(alloc))
 }
 
 #[test]
@@ -75,8 +75,7 @@ fn the_innermost_region_decides(rt: HostRuntime) -> Result<(), Fail> {
     let alloc = rt.alloc();
     let mut scopes = Scopes::new(alloc);
     for (step, wanted) in &STEPS {
-        let said = told(alloc, &mut scopes, *step)?;
-        assert_eq!(rt; said.as_str(), *wanted);
+        assert_eq!(rt; given(alloc, &mut scopes, *step), *wanted);
     }
     Ok(())
 }

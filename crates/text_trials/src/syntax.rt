@@ -1,24 +1,57 @@
+use crate::lexemes::{self, NOWHERE};
 use lexer::place::Place;
 use lexer::token::{Kind, Symbol, Token, Word};
 use lexer::tokens;
 use parser::fault::ParseFault;
 use parser::parse;
-use parser::tree::{Expr, Operator, Stmt};
+use parser::tree::{Expr, Link, Operator, Program, Stmt};
 use std::alloc::{AllocError, Global};
 use std::test::Fail;
 use test_words::rows::all_hold;
 use test_words::texts::{next_random, repeated};
 
-/// The number and the place of the fault of a text; nothing where it has a tree.
-fn fault_told(alloc: Global, text: &&str) -> Result<String, Fail> {
-    let list = tokens(alloc, text.as_bytes())?;
-    match parse(alloc, &list) {
-        Ok(_) => Ok(String::new(alloc)),
-        Err(fault) => {
-            let place = fault.place().ok_or("a fault without a place")?;
-            Ok(format!(in alloc; "P{} {place}", fault.number())?)
-        }
+/// The number and the place of a fault.
+fn fault_told(alloc: Global, fault: ParseFault) -> Result<String, AllocError> {
+    let place = fault.place().unwrap_or(NOWHERE);
+    format!(in alloc; "P{} {place}", fault.number())
+}
+
+/// What is asked of a text that has a tree.
+#[derive(Clone, Copy)]
+enum Asked {
+    /// The whole tree.
+    Tree,
+    /// The operators of the assignment that it begins with.
+    Operators,
+}
+
+/// What is asked of a text, or its fault.
+fn told(alloc: Global, text: &str, asked: Asked) -> Result<String, AllocError> {
+    match tokens(alloc, text.as_bytes()) {
+        Ok(list) => list_told(alloc, &list, asked),
+        Err(fault) => lexemes::fault_told(alloc, fault),
     }
+}
+
+fn list_told(alloc: Global, list: &[Token<'_>], asked: Asked) -> Result<String, AllocError> {
+    match parse(alloc, list) {
+        Ok(program) => program_told(alloc, &program, asked),
+        Err(fault) => fault_told(alloc, fault),
+    }
+}
+
+fn program_told(alloc: Global, program: &Program<'_>, asked: Asked) -> Result<String, AllocError> {
+    match (asked, program.block.statements.first()) {
+        (Asked::Operators, Some(Stmt::Assign { value, .. })) => {
+            format!(in alloc; "{:?}", operators(value))
+        }
+        _ => format!(in alloc; "{program:?}"),
+    }
+}
+
+/// The tree of a text, or its fault.
+fn tree_told(alloc: Global, text: &&str) -> Result<String, Fail> {
+    Ok(told(alloc, text, Asked::Tree)?)
 }
 
 static FAULTS: [(&str, &str); 39] = [
@@ -65,13 +98,7 @@ static FAULTS: [(&str, &str); 39] = [
 
 #[test]
 fn tells_the_fault(rt: HostRuntime) -> Result<(), Fail> {
-    all_hold(rt.alloc(), &FAULTS, fault_told)
-}
-
-fn tree_told(alloc: Global, text: &&str) -> Result<String, Fail> {
-    let list = tokens(alloc, text.as_bytes())?;
-    let program = parse(alloc, &list)?;
-    Ok(format!(in alloc; "{program:?}")?)
+    all_hold(rt.alloc(), &FAULTS, tree_told)
 }
 
 /// A tree keeps what stands in the text, the widths too.
@@ -131,35 +158,27 @@ fn operator(expression: &Expr<'_>) -> Option<Operator> {
     }
 }
 
+/// The operator of what stands behind the first operator of a chain.
+fn behind(rest: &[Link<'_>]) -> Option<Operator> {
+    operator(&rest.first()?.operand)
+}
+
 type Operators = (Option<Operator>, Option<Operator>, Option<Operator>);
 
 /// The operator of an expression, of what it begins with and of what stands behind its operator.
 fn operators(expression: &Expr<'_>) -> Operators {
     match expression {
-        Expr::Chain { first, rest } => {
-            let behind = rest.first().and_then(|link| operator(&link.operand));
-            (operator(expression), operator(first), behind)
-        }
+        Expr::Chain { first, rest } => { (operator(expression), operator(first), behind(rest)) }
         Expr::Signed { term, .. } => (None, operator(term), None),
         Expr::Not { operand, .. } => (None, operator(operand), None),
         _ => (None, None, None),
     }
 }
 
+/// The operators of an expression, or the fault of a program that assigns it.
 fn operators_told(alloc: Global, expression: &&str) -> Result<String, Fail> {
     let text = format!(in alloc; "program p; begin x := {expression} end.")?;
-    let found = operators_of(alloc, text.as_bytes())?;
-    Ok(format!(in alloc; "{found:?}")?)
-}
-
-/// The operators of the assignment that a program begins with.
-fn operators_of(alloc: Global, text: &[u8]) -> Result<Operators, Fail> {
-    let list = tokens(alloc, text)?;
-    let program = parse(alloc, &list)?;
-    match program.block.statements.first() {
-        Some(Stmt::Assign { value, .. }) => Ok(operators(value)),
-        _ => Err(Fail::new("no assignment")),
-    }
+    Ok(told(alloc, text.as_str(), Asked::Operators)?)
 }
 
 static PRECEDENCES: [(&str, &str); 11] = [
@@ -181,12 +200,11 @@ fn binds_by_precedence(rt: HostRuntime) -> Result<(), Fail> {
     all_hold(rt.alloc(), &PRECEDENCES, operators_told)
 }
 
-/// The number of the fault of a text, or 0.
-fn number_of(alloc: Global, text: &str) -> Result<u8, Fail> {
-    let list = tokens(alloc, text.as_bytes())?;
-    match parse(alloc, &list) {
-        Ok(_) => Ok(0),
-        Err(fault) => Ok(fault.number()),
+/// The number of the fault of a list, or 0.
+fn list_number(alloc: Global, list: &[Token<'_>]) -> u8 {
+    match parse(alloc, list).err() {
+        Some(fault) => fault.number(),
+        None => 0,
     }
 }
 
@@ -201,18 +219,28 @@ type Nest = (
     usize,
 );
 
-fn nested(alloc: Global, nest: &Nest, count: usize) -> Result<u8, Fail> {
+fn nested(alloc: Global, nest: &Nest, count: usize) -> Result<String, AllocError> {
     let (before, open, inner, close, after, ..) = *nest;
     let opened = repeated(alloc, before, open, count)?;
     let closed = repeated(alloc, inner, close, count)?;
-    let text = format!(in alloc; "{opened}{closed}{after}")?;
-    number_of(alloc, text.as_str())
+    format!(in alloc; "{opened}{closed}{after}")
+}
+
+/// The number of the fault at so many levels, and more than any where the text has no tokens.
+fn number_at(alloc: Global, nest: &Nest, count: usize) -> u8 {
+    match nested(alloc, nest, count) {
+        Ok(text) => match tokens(alloc, text.as_bytes()) {
+            Ok(list) => list_number(alloc, &list),
+            Err(_) => u8::MAX,
+        },
+        Err(_) => u8::MAX,
+    }
 }
 
 /// The numbers of the faults at both numbers of levels.
 fn nest_told(alloc: Global, nest: &Nest) -> Result<String, Fail> {
-    let first = nested(alloc, nest, nest.5)?;
-    let second = nested(alloc, nest, nest.6)?;
+    let first = number_at(alloc, nest, nest.5);
+    let second = number_at(alloc, nest, nest.6);
     Ok(format!(in alloc; "{first} {second}")?)
 }
 
@@ -362,23 +390,45 @@ fn token(kind: Kind, text: &'static [u8]) -> Token<'static> {
     }
 }
 
+/// How a program begins.
+const BEGINNING: [Kind; 4] = [
+    Kind::Word(Word::Program),
+    Kind::Identifier,
+    Kind::Symbol(Symbol::Semicolon),
+    Kind::Word(Word::Begin),
+];
+
 /// How a program begins, as far as the seed says.
 fn beginning(alloc: Global, seed: u64) -> Result<Vec<Token<'static>>, AllocError> {
-    let mut list = vec![in alloc;
-        token(Kind::Word(Word::Program), b"a"),
-        token(Kind::Identifier, b"a"),
-        token(Kind::Symbol(Symbol::Semicolon), b"a"),
-        token(Kind::Word(Word::Begin), b"a"),
-    ]?;
-    list.truncate((seed >> 60) as usize);
+    let mut list = Vec::new(alloc);
+    for kind in &BEGINNING[..((seed >> 60) as usize).min(4)] {
+        list.push(token(*kind, b"a"))?;
+    }
     Ok(list)
+}
+
+fn has_nil(list: &[Token<'_>]) -> bool {
+    for token in list {
+        if matches!(token.kind, Kind::Word(Word::Nil)) {
+            return true;
+        }
+    }
+    false
 }
 
 /// Whether a list is left out exactly where it has the word nil.
 fn is_left_out_for_nil(alloc: Global, list: &[Token<'_>]) -> bool {
     let fault = parse(alloc, list).err();
-    let has_nil = list.iter().any(|token| token.kind == Kind::Word(Word::Nil));
-    (fault == Some(ParseFault::LeftOut(PLACE))) == has_nil
+    (fault == Some(ParseFault::LeftOut(PLACE))) == has_nil(list)
+}
+
+fn random_list(alloc: Global, seed: &mut u64) -> Result<Vec<Token<'static>>, AllocError> {
+    let mut list = beginning(alloc, *seed)?;
+    for _ in 0..*seed >> 58 {
+        *seed = next_random(*seed);
+        list.push(token(KINDS[(*seed >> 60) as usize], b""))?;
+    }
+    Ok(list)
 }
 
 #[test]
@@ -386,11 +436,7 @@ fn answers_any_list(rt: HostRuntime) -> Result<(), Fail> {
     let alloc = rt.alloc();
     let mut seed = 1;
     for _ in 0..1000 {
-        let mut list = beginning(alloc, seed)?;
-        for _ in 0..seed >> 58 {
-            seed = next_random(seed);
-            list.push(token(KINDS[(seed >> 60) as usize], b""))?;
-        }
+        let list = random_list(alloc, &mut seed)?;
         seed = next_random(seed);
         assert!(rt; is_left_out_for_nil(alloc, &list));
     }

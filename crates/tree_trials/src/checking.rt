@@ -1,11 +1,12 @@
-use crate::sources::{sites_told, tree_of};
+use crate::sources::{fault_told, sites_told, tree_of};
 use cert_checker::fault::CheckFault;
 use cert_checker::{Verdict, check};
 use certificate::{Certificate, Version};
-use std::alloc::Global;
+use std::alloc::{AllocError, Global};
 use std::test::Fail;
 use test_words::rows::all_hold;
 use test_words::texts::repeated;
+use typed_tree::fault::TypeFault;
 use typed_tree::tree::{Stmt, Tree};
 use types::{MAXINT, OrdinalRange};
 
@@ -14,7 +15,7 @@ type Row = (i32, i32, &'static str);
 
 /// The tree of such a program, in which u isn't in the table of variables: it may hold any integer, and each use of it
 /// is open.
-fn tree_of_row(alloc: Global, row: &Row) -> Result<Tree, Fail> {
+fn tree_of_row(alloc: Global, row: &Row) -> Result<Tree, TypeFault> {
     let (first, last, statements) = *row;
     let mut tree = tree_of(alloc, "b: Boolean; x, y, u: integer", statements)?;
     tree.variables.pop();
@@ -37,16 +38,42 @@ fn narrow(body: &mut Stmt, range: OrdinalRange) {
     }
 }
 
-fn checked(alloc: Global, tree: Tree) -> Result<Verdict, CheckFault> {
+fn checked(alloc: Global, tree: &Tree) -> Result<Verdict, TypeFault> {
     let certificate = Certificate {
         version: Version::One,
     };
-    check(alloc, &tree, &certificate)
+    match check(alloc, tree, &certificate) {
+        Ok(verdict) => Ok(verdict),
+        Err(CheckFault::Memory) => Err(TypeFault::Memory),
+    }
+}
+
+/// What is asked of a verdict.
+#[derive(Clone, Copy)]
+enum Asked {
+    OpenSites,
+    Visits,
+}
+
+fn verdict_told(alloc: Global, tree: &Tree, asked: Asked) -> Result<String, AllocError> {
+    match checked(alloc, tree) {
+        Ok(verdict) => match asked {
+            Asked::OpenSites => sites_told(alloc, &verdict.open_sites),
+            Asked::Visits => format!(in alloc; "{}", verdict.visits),
+        },
+        Err(fault) => fault_told(alloc, fault),
+    }
+}
+
+fn told(alloc: Global, tree: Result<Tree, TypeFault>, asked: Asked) -> Result<String, AllocError> {
+    match tree {
+        Ok(tree) => verdict_told(alloc, &tree, asked),
+        Err(fault) => fault_told(alloc, fault),
+    }
 }
 
 fn open_told(alloc: Global, row: &Row) -> Result<String, Fail> {
-    let open = checked(alloc, tree_of_row(alloc, row)?)?.open_sites;
-    sites_told(alloc, &open)
+    Ok(told(alloc, tree_of_row(alloc, row), Asked::OpenSites)?)
 }
 
 /// Statements, and their open sites.
@@ -139,8 +166,8 @@ fn leaves_open_where_a_run_may_err(rt: HostRuntime) -> Result<(), Fail> {
 }
 
 fn visits_told(alloc: Global, statements: &&str) -> Result<String, Fail> {
-    let visits = checked(alloc, tree_of(alloc, "x, y: integer", statements)?)?.visits;
-    Ok(format!(in alloc; "{visits}")?)
+    let tree = tree_of(alloc, "x, y: integer", statements);
+    Ok(told(alloc, tree, Asked::Visits)?)
 }
 
 /// Statements, and how many entries they and the compound that holds them have.
@@ -158,21 +185,28 @@ fn counts_each_entry_once(rt: HostRuntime) -> Result<(), Fail> {
     all_hold(rt.alloc(), &VISITS, visits_told)
 }
 
-#[test]
-fn tells_no_site_that_is_not_in_the_table(rt: HostRuntime) -> Result<(), Fail> {
-    let alloc = rt.alloc();
+/// The verdict of a program with a site that isn't in the table.
+fn verdict_of_fewer_sites(alloc: Global) -> Result<Verdict, TypeFault> {
     let mut tree = tree_of_row(alloc, &(0, 0, "u := 1; write(u); write(y)"))?;
     tree.sites.truncate(2);
-    let open = checked(alloc, tree)?.open_sites;
+    checked(alloc, &tree)
+}
+
+#[test]
+fn tells_no_site_that_is_not_in_the_table(rt: HostRuntime) -> Result<(), Fail> {
+    let open = verdict_of_fewer_sites(rt.alloc())?.open_sites;
     assert!(rt; open.len() == 1 && open[0].id == 1);
     Ok(())
 }
 
+fn verdict_of_long_chain(alloc: Global) -> Result<Verdict, TypeFault> {
+    let statement = repeated(alloc, "x := 0", "+1", 300_000)?;
+    checked(alloc, &tree_of(alloc, "x: integer", statement.as_str())?)
+}
+
 #[test]
 fn takes_a_long_chain(rt: HostRuntime) -> Result<(), Fail> {
-    let alloc = rt.alloc();
-    let statement = repeated(alloc, "x := 0", "+1", 300_000)?;
-    let verdict = checked(alloc, tree_of(alloc, "x: integer", statement.as_str())?)?;
+    let verdict = verdict_of_long_chain(rt.alloc())?;
     assert!(rt; verdict.open_sites.is_empty() && verdict.visits == 600_004);
     Ok(())
 }

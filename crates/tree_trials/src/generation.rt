@@ -1,21 +1,32 @@
 use crate::sources::tree_of;
+use code_generator::fault::GenFault;
 use code_generator::generate::generate;
 use pcode_assembler::code::Code;
-use std::alloc::Global;
+use std::alloc::{AllocError, Global};
 use std::test::Fail;
 use test_words::machines::run_told;
 use test_words::rows::all_hold;
+use typed_tree::fault::TypeFault;
 use typed_tree::tree::{Expr, Representation, Stmt, Tree, WriteParameter};
 
-/// The code of a program with two variables.
-fn code_of(alloc: Global, statements: &str) -> Result<Code, Fail> {
-    let tree = tree_of(alloc, "a, b: integer", statements)?;
-    Ok(generate(alloc, &tree)?)
+/// The code of a program with two variables. Each program of a test has a typed tree: one without would count as one
+/// for which there is no memory.
+fn code_of(alloc: Global, statements: &str) -> Result<Code, GenFault> {
+    match tree_of(alloc, "a, b: integer", statements) {
+        Ok(tree) => generate(alloc, &tree),
+        Err(_) => Err(GenFault::Memory),
+    }
+}
+
+fn instructions_told(alloc: Global, code: Result<Code, GenFault>) -> Result<String, AllocError> {
+    match code {
+        Ok(code) => format!(in alloc; "{:?}", code.instructions),
+        Err(fault) => format!(in alloc; "{fault}"),
+    }
 }
 
 fn code_told(alloc: Global, statements: &&str) -> Result<String, Fail> {
-    let instructions = code_of(alloc, statements)?.instructions;
-    Ok(format!(in alloc; "{instructions:?}")?)
+    Ok(instructions_told(alloc, code_of(alloc, statements))?)
 }
 
 /// A sign comes after its term, a divisor is checked before the quotient, each width behind its value, and a square
@@ -84,7 +95,7 @@ fn code_runs(rt: HostRuntime) -> Result<(), Fail> {
 }
 
 /// A writeln of one parameter, and of so many more of three instructions each.
-fn long_tree(alloc: Global, statement: &str, more: usize) -> Result<Tree, Fail> {
+fn long_tree(alloc: Global, statement: &str, more: usize) -> Result<Tree, TypeFault> {
     let mut tree = tree_of(alloc, "a, b: integer", statement)?;
     for block in &mut tree.blocks {
         lengthen(&mut block.body, more)?;
@@ -92,15 +103,20 @@ fn long_tree(alloc: Global, statement: &str, more: usize) -> Result<Tree, Fail> 
     Ok(tree)
 }
 
-fn lengthen(body: &mut Stmt, more: usize) -> Result<(), Fail> {
+fn lengthen(body: &mut Stmt, more: usize) -> Result<(), AllocError> {
     if let Stmt::Compound { statements, .. } = body {
         for statement in statements {
             if let Stmt::Write { parameters, .. } = statement {
-                for _ in 0..more {
-                    parameters.push(one())?;
-                }
+                extend(parameters, more)?;
             }
         }
+    }
+    Ok(())
+}
+
+fn extend(parameters: &mut Vec<WriteParameter>, more: usize) -> Result<(), AllocError> {
+    for _ in 0..more {
+        parameters.push(one())?;
     }
     Ok(())
 }
@@ -116,10 +132,15 @@ fn one() -> WriteParameter {
     }
 }
 
+fn size_of(alloc: Global, row: &(&str, usize)) -> Result<usize, GenFault> {
+    match long_tree(alloc, row.0, row.1) {
+        Ok(tree) => Ok(generate(alloc, &tree)?.instructions.len()),
+        Err(_) => Err(GenFault::Memory),
+    }
+}
+
 fn size_told(alloc: Global, row: &(&str, usize)) -> Result<String, Fail> {
-    let tree = long_tree(alloc, row.0, row.1)?;
-    let size = generate(alloc, &tree).map(|code| code.instructions.len());
-    Ok(format!(in alloc; "{size:?}")?)
+    Ok(format!(in alloc; "{:?}", size_of(alloc, row))?)
 }
 
 /// Code has a million instructions at most; a sign is a fourth instruction of its parameter.

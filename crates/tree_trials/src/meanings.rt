@@ -1,27 +1,41 @@
-use crate::sources::tree_of;
+use crate::sources::{fault_told, tree_of};
 use meaning::interpret;
 use meaning::outcome::{Ending, Outcome};
-use std::alloc::Global;
+use std::alloc::{AllocError, Global};
 use std::test::Fail;
 use test_words::rows::all_hold;
+use typed_tree::tree::Tree;
 
 /// What a run of a program writes, and behind it how it ends: nothing where it finishes, `!` and the id of the site
 /// where it errs.
 fn run_told(alloc: Global, statements: &&str) -> Result<String, Fail> {
-    let outcome = interpret(alloc, &tree_of(alloc, "x: integer", statements)?, b"", 0)?;
-    outcome_told(outcome)
+    Ok(statements_told(alloc, statements)?)
 }
 
-fn outcome_told(outcome: Outcome) -> Result<String, Fail> {
-    let mut told = String::from_utf8(outcome.output)?;
-    told.push_str(match outcome.ending {
+fn statements_told(alloc: Global, statements: &str) -> Result<String, AllocError> {
+    match tree_of(alloc, "x: integer", statements) {
+        Ok(tree) => tree_told(alloc, &tree),
+        Err(fault) => fault_told(alloc, fault),
+    }
+}
+
+fn tree_told(alloc: Global, tree: &Tree) -> Result<String, AllocError> {
+    outcome_told(alloc, &interpret(alloc, tree, b"", 0)?)
+}
+
+fn outcome_told(alloc: Global, outcome: &Outcome) -> Result<String, AllocError> {
+    let written = str::from_utf8(&outcome.output).unwrap_or("no text");
+    format!(in alloc; "{written}{}", word_of(outcome.ending))
+}
+
+fn word_of(ending: Ending) -> &'static str {
+    match ending {
         Ending::Finished => "",
         Ending::Error(0) => "!0",
         Ending::Error(1) => "!1",
         Ending::Error(2) => "!2",
         _ => "another ending",
-    })?;
-    Ok(told)
+    }
 }
 
 /// Programs, and what they write.
@@ -100,100 +114,122 @@ fn programs_write_what_they_should(rt: HostRuntime) -> Result<(), Fail> {
     all_hold(rt.alloc(), &RUNS, run_told)
 }
 
-/// The right operands of the tables, in order: about 0 and the root of maxint, and the ends of integer.
+/// The operands of the tables, in order: about 0 and the root of maxint, and the ends of integer.
 const OPERANDS: [i32; 7] = [-2147483647, -1, 0, 1, 46340, 46341, 2147483647];
 
-/// What a left operand and an operator give with each right operand, in a width of 1.
-fn operands_told(alloc: Global, row: &(i32, &str)) -> Result<String, Fail> {
+/// What an operator gives in a width of 1, for each left operand in order with each right operand in order.
+fn operator_told(alloc: Global, operator: &&str) -> Result<String, Fail> {
     let mut told = String::new(alloc);
-    for right in OPERANDS {
-        told.push_str(operated(alloc, row.0, row.1, right)?.as_str())?;
+    for place in 0..49usize {
+        let (left, right) = (OPERANDS[place / 7], OPERANDS[place % 7]);
+        told.push_str(operated(alloc, left, operator, right)?.as_str())?;
         told.push(' ')?;
     }
     Ok(told)
 }
 
-fn operated(alloc: Global, left: i32, operator: &str, right: i32) -> Result<String, Fail> {
+fn operated(alloc: Global, left: i32, operator: &str, right: i32) -> Result<String, AllocError> {
     let statement = format!(in alloc; "write(({left}) {operator} ({right}):1)")?;
-    run_told(alloc, &statement.as_str())
+    statements_told(alloc, statement.as_str())
 }
 
 /// Products as python3 tells, with none outside integer; quotients: python3's floor of the magnitudes, with the sign
-/// put back, and none by 0; moduli as python3's % tells, with none by what is less than 1.
-static OPERATORS: [((i32, &str), &str); 63] = [
-    ((-2147483647, "*"), "!0 2147483647 0 -2147483647 !0 !0 !0 "),
-    ((-1, "*"), "2147483647 1 0 -1 -46340 -46341 -2147483647 "),
-    ((0, "*"), "0 0 0 0 0 0 0 "),
-    ((1, "*"), "-2147483647 -1 0 1 46340 46341 2147483647 "),
-    ((46340, "*"), "!0 -46340 0 46340 2147395600 2147441940 !0 "),
-    ((46341, "*"), "!0 -46341 0 46341 2147441940 !0 !0 "),
-    ((2147483647, "*"), "!0 -2147483647 0 2147483647 !0 !0 !0 "),
+/// put back, and none by 0; moduli as python3's % tells, with none by what is less than 1. By hand: the operands stand
+/// in order, so they are related as their positions are.
+static OPERATORS: [(&str, &str); 9] = [
     (
-        (-2147483647, "div"),
-        "1 2147483647 !0 -2147483647 -46341 -46340 -1 ",
+        "*",
+        "!0 2147483647 0 -2147483647 !0 !0 !0 \
+        2147483647 1 0 -1 -46340 -46341 -2147483647 \
+        0 0 0 0 0 0 0 \
+        -2147483647 -1 0 1 46340 46341 2147483647 \
+        !0 -46340 0 46340 2147395600 2147441940 !0 \
+        !0 -46341 0 46341 2147441940 !0 !0 \
+        !0 -2147483647 0 2147483647 !0 !0 !0 ",
     ),
-    ((-1, "div"), "0 1 !0 -1 0 0 0 "),
-    ((0, "div"), "0 0 !0 0 0 0 0 "),
-    ((1, "div"), "0 -1 !0 1 0 0 0 "),
-    ((46340, "div"), "0 -46340 !0 46340 1 0 0 "),
-    ((46341, "div"), "0 -46341 !0 46341 1 1 0 "),
     (
-        (2147483647, "div"),
-        "-1 -2147483647 !0 2147483647 46341 46340 1 ",
+        "div",
+        "1 2147483647 !0 -2147483647 -46341 -46340 -1 \
+        0 1 !0 -1 0 0 0 \
+        0 0 !0 0 0 0 0 \
+        0 -1 !0 1 0 0 0 \
+        0 -46340 !0 46340 1 0 0 \
+        0 -46341 !0 46341 1 1 0 \
+        -1 -2147483647 !0 2147483647 46341 46340 1 ",
     ),
-    ((-2147483647, "mod"), "!0 !0 !0 0 4633 4634 0 "),
-    ((-1, "mod"), "!0 !0 !0 0 46339 46340 2147483646 "),
-    ((0, "mod"), "!0 !0 !0 0 0 0 0 "),
-    ((1, "mod"), "!0 !0 !0 0 1 1 1 "),
-    ((46340, "mod"), "!0 !0 !0 0 0 46340 46340 "),
-    ((46341, "mod"), "!0 !0 !0 0 1 0 46341 "),
-    ((2147483647, "mod"), "!0 !0 !0 0 41707 41707 0 "),
-    // By hand: the operands stand in order, so they are related as their positions are.
-    ((-2147483647, "="), "t f f f f f f "),
-    ((-1, "="), "f t f f f f f "),
-    ((0, "="), "f f t f f f f "),
-    ((1, "="), "f f f t f f f "),
-    ((46340, "="), "f f f f t f f "),
-    ((46341, "="), "f f f f f t f "),
-    ((2147483647, "="), "f f f f f f t "),
-    ((-2147483647, "<>"), "f t t t t t t "),
-    ((-1, "<>"), "t f t t t t t "),
-    ((0, "<>"), "t t f t t t t "),
-    ((1, "<>"), "t t t f t t t "),
-    ((46340, "<>"), "t t t t f t t "),
-    ((46341, "<>"), "t t t t t f t "),
-    ((2147483647, "<>"), "t t t t t t f "),
-    ((-2147483647, "<"), "f t t t t t t "),
-    ((-1, "<"), "f f t t t t t "),
-    ((0, "<"), "f f f t t t t "),
-    ((1, "<"), "f f f f t t t "),
-    ((46340, "<"), "f f f f f t t "),
-    ((46341, "<"), "f f f f f f t "),
-    ((2147483647, "<"), "f f f f f f f "),
-    ((-2147483647, ">"), "f f f f f f f "),
-    ((-1, ">"), "t f f f f f f "),
-    ((0, ">"), "t t f f f f f "),
-    ((1, ">"), "t t t f f f f "),
-    ((46340, ">"), "t t t t f f f "),
-    ((46341, ">"), "t t t t t f f "),
-    ((2147483647, ">"), "t t t t t t f "),
-    ((-2147483647, "<="), "t t t t t t t "),
-    ((-1, "<="), "f t t t t t t "),
-    ((0, "<="), "f f t t t t t "),
-    ((1, "<="), "f f f t t t t "),
-    ((46340, "<="), "f f f f t t t "),
-    ((46341, "<="), "f f f f f t t "),
-    ((2147483647, "<="), "f f f f f f t "),
-    ((-2147483647, ">="), "t f f f f f f "),
-    ((-1, ">="), "t t f f f f f "),
-    ((0, ">="), "t t t f f f f "),
-    ((1, ">="), "t t t t f f f "),
-    ((46340, ">="), "t t t t t f f "),
-    ((46341, ">="), "t t t t t t f "),
-    ((2147483647, ">="), "t t t t t t t "),
+    (
+        "mod",
+        "!0 !0 !0 0 4633 4634 0 \
+        !0 !0 !0 0 46339 46340 2147483646 \
+        !0 !0 !0 0 0 0 0 \
+        !0 !0 !0 0 1 1 1 \
+        !0 !0 !0 0 0 46340 46340 \
+        !0 !0 !0 0 1 0 46341 \
+        !0 !0 !0 0 41707 41707 0 ",
+    ),
+    (
+        "=",
+        "t f f f f f f \
+        f t f f f f f \
+        f f t f f f f \
+        f f f t f f f \
+        f f f f t f f \
+        f f f f f t f \
+        f f f f f f t ",
+    ),
+    (
+        "<>",
+        "f t t t t t t \
+        t f t t t t t \
+        t t f t t t t \
+        t t t f t t t \
+        t t t t f t t \
+        t t t t t f t \
+        t t t t t t f ",
+    ),
+    (
+        "<",
+        "f t t t t t t \
+        f f t t t t t \
+        f f f t t t t \
+        f f f f t t t \
+        f f f f f t t \
+        f f f f f f t \
+        f f f f f f f ",
+    ),
+    (
+        ">",
+        "f f f f f f f \
+        t f f f f f f \
+        t t f f f f f \
+        t t t f f f f \
+        t t t t f f f \
+        t t t t t f f \
+        t t t t t t f ",
+    ),
+    (
+        "<=",
+        "t t t t t t t \
+        f t t t t t t \
+        f f t t t t t \
+        f f f t t t t \
+        f f f f t t t \
+        f f f f f t t \
+        f f f f f f t ",
+    ),
+    (
+        ">=",
+        "t f f f f f f \
+        t t f f f f f \
+        t t t f f f f \
+        t t t t f f f \
+        t t t t t f f \
+        t t t t t t f \
+        t t t t t t t ",
+    ),
 ];
 
 #[test]
 fn operators_give_what_the_tables_say(rt: HostRuntime) -> Result<(), Fail> {
-    all_hold(rt.alloc(), &OPERATORS, operands_told)
+    all_hold(rt.alloc(), &OPERATORS, operator_told)
 }

@@ -1,40 +1,50 @@
+use lexer::token::Token;
 use lexer::tokens;
 use parser::parse;
 use resolver::resolve;
 use std::alloc::{AllocError, Global};
-use std::test::Fail;
 use typed_tree::fault::TypeFault;
 use typed_tree::site::Site;
 use typed_tree::tree::Tree;
 
-/// The typed tree of a program, or why it has none.
-pub(crate) fn resolved(alloc: Global, source: &str) -> Result<Result<Tree, TypeFault>, Fail> {
-    let list = tokens(alloc, source.as_bytes())?;
-    let program = parse(alloc, &list)?;
-    Ok(resolve(alloc, &program))
+/// The typed tree of a source, or why it has none. Each source of a test has a syntax tree: one without would count as
+/// one for which there is no memory.
+pub(crate) fn resolved(alloc: Global, source: &str) -> Result<Tree, TypeFault> {
+    match tokens(alloc, source.as_bytes()) {
+        Ok(list) => list_resolved(alloc, &list),
+        Err(_) => Err(TypeFault::Memory),
+    }
 }
 
-/// A program that may write, with its variables on the first line and its statements on the second.
-pub(crate) fn program_of(
-    alloc: Global,
-    variables: &str,
-    statements: &str,
-) -> Result<String, AllocError> {
-    format!(in alloc; "program p(output); var {variables}; begin\n{statements}\nend.")
+fn list_resolved(alloc: Global, list: &[Token<'_>]) -> Result<Tree, TypeFault> {
+    match parse(alloc, list) {
+        Ok(program) => resolve(alloc, &program),
+        Err(_) => Err(TypeFault::Memory),
+    }
 }
 
-/// The typed tree of such a program.
-pub(crate) fn tree_of(alloc: Global, variables: &str, statements: &str) -> Result<Tree, Fail> {
-    let source = program_of(alloc, variables, statements)?;
-    Ok(resolved(alloc, source.as_str())??)
+/// The typed tree of a program that may write, with its variables on the first line and its statements on the second.
+pub(crate) fn tree_of(alloc: Global, variables: &str, statements: &str) -> Result<Tree, TypeFault> {
+    let source = format!(in alloc;
+        "program p(output); var {variables}; begin\n{statements}\nend."
+    )?;
+    resolved(alloc, source.as_str())
+}
+
+/// Why a source has no typed tree.
+pub(crate) fn fault_told(alloc: Global, fault: TypeFault) -> Result<String, AllocError> {
+    format!(in alloc; "{fault}")
 }
 
 /// The places and the kinds of sites.
-pub(crate) fn sites_told(alloc: Global, sites: &[Site]) -> Result<String, Fail> {
+pub(crate) fn sites_told(alloc: Global, sites: &[Site]) -> Result<String, AllocError> {
     let mut told = String::new(alloc);
     for site in sites {
-        let (place, kind) = (site.place, site.kind.name());
-        told.push_str(format!(in alloc; "{place} {kind}; ")?.as_str())?;
+        told.push_str(site_told(alloc, site)?.as_str())?;
     }
     Ok(told)
+}
+
+fn site_told(alloc: Global, site: &Site) -> Result<String, AllocError> {
+    format!(in alloc; "{} {}; ", site.place, site.kind.name())
 }

@@ -1,22 +1,22 @@
-use crate::sources::{program_of, resolved, sites_told, tree_of};
-use std::alloc::Global;
+use crate::sources::{self, resolved, sites_told, tree_of};
+use std::alloc::{AllocError, Global};
 use std::test::Fail;
 use test_words::rows::all_hold;
+use typed_tree::fault::TypeFault;
 use typed_tree::site::{Site, SiteKind};
 use typed_tree::sites;
 
 /// The sites of a program, whose ids count up from 0.
 fn program_told(alloc: Global, statements: &&str) -> Result<String, Fail> {
-    let list = sites_of(alloc, statements)?;
-    if !count_up(&list) {
-        return Err(Fail::new("ids out of order"));
-    }
-    sites_told(alloc, &list)
+    let tree = tree_of(alloc, "x, y, z: integer; b: boolean", statements)?;
+    Ok(ordered_told(alloc, sites(&tree))?)
 }
 
-fn sites_of(alloc: Global, statements: &str) -> Result<Vec<Site>, Fail> {
-    let tree = tree_of(alloc, "x, y, z: integer; b: boolean", statements)?;
-    Ok(sites(&tree).to_vec(alloc)?)
+fn ordered_told(alloc: Global, list: &[Site]) -> Result<String, AllocError> {
+    match count_up(list) {
+        true => sites_told(alloc, list),
+        false => String::from_str(alloc, "ids out of order"),
+    }
 }
 
 fn count_up(list: &[Site]) -> bool {
@@ -54,8 +54,10 @@ fn sites_stand_in_the_order_of_the_text(rt: HostRuntime) -> Result<(), Fail> {
 
 /// The blocks of a program.
 fn blocks_told(alloc: Global, source: &&str) -> Result<String, Fail> {
-    let blocks = resolved(alloc, source)??.blocks;
-    Ok(format!(in alloc; "{blocks:?}")?)
+    Ok(match resolved(alloc, source) {
+        Ok(tree) => format!(in alloc; "{:?}", tree.blocks),
+        Err(fault) => sources::fault_told(alloc, fault),
+    }?)
 }
 
 /// Operators are entered between their operands, a width behind its value, and a required name may be redefined.
@@ -93,16 +95,20 @@ fn entries_stand_in_the_order_of_a_run(rt: HostRuntime) -> Result<(), Fail> {
 
 /// Why a program has no typed tree; nothing where it has one.
 fn fault_told(alloc: Global, source: &&str) -> Result<String, Fail> {
-    match resolved(alloc, source)? {
-        Ok(_) => Ok(String::new(alloc)),
-        Err(fault) => Ok(format!(in alloc; "{fault}")?),
+    Ok(why_told(alloc, resolved(alloc, source).err())?)
+}
+
+fn why_told(alloc: Global, why: Option<TypeFault>) -> Result<String, AllocError> {
+    match why {
+        Some(fault) => sources::fault_told(alloc, fault),
+        None => Ok(String::new(alloc)),
     }
 }
 
 /// The same of statements, which stand on line 2.
 fn statement_told(alloc: Global, statements: &&str) -> Result<String, Fail> {
-    let source = program_of(alloc, "b: boolean; x: integer", statements)?;
-    fault_told(alloc, &source.as_str())
+    let tree = tree_of(alloc, "b: boolean; x: integer", statements);
+    Ok(why_told(alloc, tree.err())?)
 }
 
 /// Types that don't fit, wrong parameters, and statements that break no rule.
@@ -172,10 +178,10 @@ fn programs_that_break_a_rule_are_refused(rt: HostRuntime) -> Result<(), Fail> {
 
 /// The number and the name of the kind with a number.
 fn kind_told(alloc: Global, number: &u8) -> Result<String, Fail> {
-    match SiteKind::with_number(*number) {
-        Some(kind) => Ok(format!(in alloc; "{} {}", kind.number(), kind.name())?),
+    Ok(match SiteKind::with_number(*number) {
+        Some(kind) => format!(in alloc; "{} {}", kind.number(), kind.name()),
         None => Ok(String::new(alloc)),
-    }
+    }?)
 }
 
 static KINDS: [(u8, &str); 15] = [
