@@ -5,7 +5,7 @@ use Rattle.std.specs.Bool.{if◌then◌else◌}
 use Rattle.std.specs.List.{position, position_or_len}
 use Rattle.std.specs.Result.{result_err}
 use Rattle.std.proofs.Common.{Result, Ok, Err, codes}
-use Rattle.certificate.specs.Text.{Line, lines, with_front, fault_of_lines, first_fault, spelling, or_else, line_fault}
+use Rattle.certificate.specs.Text.{Line, lines, with_front, fault_of_lines, first_fault, fault_from, spelling, or_else, line_fault}
 use Rattle.certificate.specs.declared.Certificate.{Certificate}
 use Rattle.certificate.specs.declared.Version.{Version}
 use Rattle.certificate.specs.declared.Version.TheVariants.{One}
@@ -136,3 +136,11 @@ lines-found text rest end found rest_is =
 pub lines-not_found : (text rest : List ℕ) → 0 < length text → position ends text ≡ None → rest ≡ [] → lines text ≡ record { bytes = text; ended = false } ∷ lines rest
 lines-not_found text rest some none rest_is =
     lines-unended text some (position-none _ (length text) _ refl none) ∙ ap (λ more. record { bytes = text; ended = false } ∷ lines more) (sym rest_is)
+
+-- the fault of a second line is the text's first, where the first line has none
+pub second-fault : (text below rest : List ℕ) (first second : Line) (fault : ReadFault) → lines text ≡ first ∷ lines below → lines below ≡ second ∷ lines rest → line_fault 1 first ≡ None → Some fault ≡ line_fault 2 second → Some fault ≡ first_fault text
+second-fault text below rest first second fault first_is second_is none is =
+    sym
+    (ap fault_of_lines (first_is ∙ ap (λ more. first ∷ more) second_is)
+    ∙ ap (λ one. or_else one (fault_from 2 (second ∷ lines rest))) none
+    ∙ ap (λ one. or_else one (fault_from 3 (lines rest))) (sym is))

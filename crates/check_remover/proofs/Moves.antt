@@ -1,8 +1,9 @@
 -- The new places of a list are those of the definition.
-use Rattle.std.proofs.Common.{◌≡◌, ℕ, ◌-◌, ◌≤◌, Bool, List, length, take, min, ap, ◌∙◌, arith, slice_index}
+use Rattle.std.proofs.Common.{◌≡◌, ℕ, ◌+◌, ◌-◌, ◌<◌, ◌≤◌, Bool, true, false, cond, List, [], ◌∷◌, ◌++◌, length, take, get_or, min, ap, sym, ◌∙◌, arith, slice_index}
 use Rattle.std.specs.Prelude.{count_by, map, filter}
 use Rattle.std.proofs.Math.Path.{fun_ext}
-use Rattle.std.proofs.lemmas.List.{take_min, length-take}
+use Rattle.std.proofs.lemmas.List.{take_min, length-take, map-append, append-nil}
+use Rattle.std.proofs.lemmas.List.Elements.{filter_more}
 use Rattle.std.proofs.lemmas.List.Sums.{count_by-le-length}
 use Rattle.pcode_assembler.specs.declared.instr.Instr.{Instr}
 use Rattle.check_remover.specs.Strip.{stays, moved_place, moved, strip_by}
@@ -37,3 +38,19 @@ kept-strip_by test is_open code rest places same h e =
     let to : new_place places ≡ moved_place test code = fun_ext (new_place-moved test code places h) in
     let tests : test ≡ is_open = fun_ext same in
     e ∙ ap (λ f. map (moved f) (filter (stays test) code)) to ∙ ap (λ t. strip_by t code) tests
+
+-- one instruction more is kept
+pub kept_more : (test : Instr → Bool) (to : Instr → Instr) (code before after : List Instr) (i : ℕ) (d : Instr) → i < length code → before ≡ map to (filter test (take i code)) → test (get_or code i d) ≡ true → after ≡ before ++ to (get_or code i d) ∷ [] → after ≡ map to (filter test (take (i + 1) code))
+kept_more test to code before after i d within so_far stays more =
+    let front = filter test (take i code) in
+    let x = get_or code i d in
+    more ∙ ap (λ l. l ++ to x ∷ []) so_far ∙ sym (map-append to front (x ∷ []))
+    ∙ ap (λ b. map to (front ++ cond b (x ∷ []) [])) (sym stays) ∙ ap (map to) (sym (filter_more test code i d within))
+
+-- one instruction more is left out
+pub left_out : (test : Instr → Bool) (to : Instr → Instr) (code before after : List Instr) (i : ℕ) (d : Instr) → i < length code → before ≡ map to (filter test (take i code)) → test (get_or code i d) ≡ false → after ≡ before → after ≡ map to (filter test (take (i + 1) code))
+left_out test to code before after i d within so_far goes same =
+    let front = filter test (take i code) in
+    let x = get_or code i d in
+    same ∙ so_far ∙ sym (ap (map to) (append-nil front))
+    ∙ ap (λ b. map to (front ++ cond b (x ∷ []) [])) (sym goes) ∙ ap (map to) (sym (filter_more test code i d within))

@@ -32,6 +32,10 @@ not_unlike a b r is unlike = same_text a b (not_false _ (sym is ∙ unlike))
     not_false true h = refl
     not_false false h = absurd (true≢false h)
 
+-- a text that is unlike another isn't the same
+pub not_same : (a b : List ℕ) (r : Bool) → r ≡ not (pointwise nat_eq a b) → r ≡ true → a ≡ b → ⊥
+not_same a b r is unlike same = true≢false (sym unlike ∙ is ∙ ap not ((bytes_eq-Decides a b).1 same))
+
 -- what a number is that was taken from a longer one
 pub number_is : {E : Type 0} (F : Type 0) (r : Result ℕ E) (P : E → Type 0) (long short limit : ℕ) → is_ok r ≡ true
     → MatchResult r (λ x. ◌≡◌ {A = Result ℕ F} (Ok short) (Ok x)) P → OkIff r (long < limit) long → (short ≡ long) × (long < limit)

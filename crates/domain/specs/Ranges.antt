@@ -1,7 +1,7 @@
 -- Proofs of the laws of ranges, which the `impl` of `Domain` and the methods of `Interval` name. No promise rests on
 -- reading them.
-use Rattle.std.proofs.Common.{◌≡◌, ◌⊎◌, inl, inr, ⊎_elim, ℤ, pos, ◌+ℤ◌, ◌-ℤ◌, ◌*ℤ◌, neg_ℤ, ◌≤ℤ◌, ◌<ℤ◌, int_le, int_lt, int_div, Bool, true, false, cond, not, ◌||◌, ◌&&◌, arith, refl, ap, sym, ◌∙◌}
-use Rattle.std.proofs.lemmas.Int.{ints, clamps, by_lt_z}
+use Rattle.std.proofs.Common.{◌≡◌, ◌⊎◌, inl, inr, ⊎_elim, ℤ, pos, negsuc, ◌+ℤ◌, ◌-ℤ◌, ◌*ℤ◌, neg_ℤ, ◌≤ℤ◌, ◌<ℤ◌, int_le, int_lt, int_div, Bool, true, false, cond, not, ◌||◌, ◌&&◌, arith, refl, ap, sym, ◌∙◌, ◌↔◌, IsTrue, w64, to_z, of_z}
+use Rattle.std.proofs.lemmas.Int.{ints, clamps, by_lt_z, to_z-of_z}
 use Rattle.std.proofs.lemmas.Bool.{cond_both, false_from_ne_true, false≢true, not-true, not_from_false, and_parts, and_from, and_left, and_right, or_parts, or_from, or_left, or_right, or_cases}
 use Rattle.std.specs.Int.{int_min, int_max, int_rem_euclid}
 use Rattle.std.specs.Ordering.{int_eq}
@@ -82,7 +82,7 @@ left-vacant a b r left = rw left refl
 pub right-vacant : (a b r : Interval) → is_vacant a ≡ false → is_vacant b ≡ true → vacant ≡ cond (is_vacant a || is_vacant b) vacant r
 right-vacant a b r left right = rw (left, right) refl
 
-same_ends : (r : Interval) (first last : ℤ) → r.first ≡ first → r.last ≡ last → ◌≡◌ {A = Interval} r (record { first = first; last = last })
+pub same_ends : (r : Interval) (first last : ℤ) → r.first ≡ first → r.last ≡ last → ◌≡◌ {A = Interval} r (record { first = first; last = last })
 same_ends r first last first_is last_is =
     ap (λ (z : ℤ). let i : Interval = record { first = z; last = r.last } in i) first_is
     ∙ ap (λ (z : ℤ). let i : Interval = record { first = first; last = z } in i) last_is
@@ -445,3 +445,84 @@ ends-true a present outside =
     (λ above. (true-is a.first (inr above), true-is a.last (inr (omega (arith, ints)))))
     (λ below. (true-is a.first (inl (omega (arith, ints))), true-is a.last (inl below)))
     (zero-outside a outside)
+
+-- ---- what the code's tests and ends say
+
+-- an end is read as it was written
+pub as_is : (z : ℤ) → IsEnd z → to_z w64 (of_z w64 z) ≡ z
+as_is (pos n) (low, high) = to_z-of_z w64 (pos n) (record { sfits = omega (arith, ints) })
+as_is (negsuc n) (low, high) = to_z-of_z w64 (negsuc n) (record { sfits = omega (arith, ints) })
+
+pub less_one : (z : ℤ) → IsEnd z → pos 1 ≤ℤ z → to_z w64 (of_z w64 (to_z w64 (of_z w64 z) -ℤ pos 1)) ≡ z -ℤ pos 1
+less_one z fits least =
+    ap (λ x. to_z w64 (of_z w64 (x -ℤ pos 1))) (as_is z fits) ∙ as_is (z -ℤ pos 1) (omega (arith, ints), omega (arith, ints))
+
+pub same_le : (x y x' y' : ℤ) → x ≡ x' → y ≡ y' → int_le x y ≡ int_le x' y'
+same_le x y x' y' x-is y-is = λ i. int_le (x-is i) (y-is i)
+
+pub same_lt : (x y x' y' : ℤ) → x ≡ x' → y ≡ y' → int_lt x y ≡ int_lt x' y'
+same_lt x y x' y' x-is y-is = λ i. int_lt (x-is i) (y-is i)
+
+pub same_min : (x y x' y' : ℤ) → x ≡ x' → y ≡ y' → int_min x y ≡ int_min x' y'
+same_min x y x' y' x-is y-is = λ i. int_min (x-is i) (y-is i)
+
+pub same_max : (x y x' y' : ℤ) → x ≡ x' → y ≡ y' → int_max x y ≡ int_max x' y'
+same_max x y x' y' x-is y-is = λ i. int_max (x-is i) (y-is i)
+
+pub same_product : (x y x' y' : ℤ) → x ≡ x' → y ≡ y' → nearest_end (x *ℤ y) ≡ nearest_end (x' *ℤ y')
+same_product x y x' y' x-is y-is = λ i. nearest_end (x-is i *ℤ y-is i)
+
+pub same_span : (p q p' q' : ℤ) → p ≡ p' → q ≡ q' → span p q ≡ span p' q'
+same_span p q p' q' p-is q-is = λ i. span (p-is i) (q-is i)
+
+pub same_between : (p q p' q' : ℤ) → p ≡ p' → q ≡ q' → between p q ≡ between p' q'
+same_between p q p' q' p-is q-is = λ i. between (p-is i) (q-is i)
+
+-- a test that a range is vacant says that it has no number
+pub vacant-tells : (a : Interval) (test : Bool) → test ≡ is_vacant a → IsTrue test ↔ ((z : ℤ) → ¬ HasMember a z)
+vacant-tells a test is = (
+  λ holds z has. false≢true (sym (has-present a z has) ∙ sym is ∙ holds),
+  λ none. is ∙ by_lt_z a.last a.first (λ below. grind (arith, ints)) (λ ordered. absurd (none a.first (omega (arith, ints), ordered))),
+)
+
+-- a test for a number says that the range has it
+pub member-tells : (a : Interval) (z : ℤ) (test : Bool) → test ≡ has_number a z → IsTrue test ↔ HasMember a z
+member-tells a z test is = (
+  λ holds.
+      let each = and_parts (int_le a.first z) (int_le z a.last) (sym is ∙ holds) in
+      (grind (arith, ints), grind (arith, ints)),
+  λ has. is ∙ grind (arith, ints),
+)
+
+pub has-low : (a : Interval) (z : ℤ) (test : Bool) → int_le a.first z ≡ true → test ≡ int_le z a.last → test ≡ has_number a z
+has-low a z test low is = is ∙ rw low refl
+
+pub has-below : (a : Interval) (z : ℤ) (test : Bool) → test ≡ int_le a.first z → test ≡ false → test ≡ has_number a z
+has-below a z test is none = none ∙ rw (sym is ∙ none) refl
+
+pub included-low : (a b : Interval) (test : Bool) → is_vacant a ≡ false → int_le b.first a.first ≡ true → test ≡ int_le a.last b.last → test ≡ is_included a b
+included-low a b test present low is = is ∙ rw (present, low) refl
+
+pub included-below : (a b : Interval) (test : Bool) → is_vacant a ≡ false → test ≡ int_le b.first a.first → test ≡ false → test ≡ is_included a b
+included-below a b test present is none = none ∙ rw (present, sym is ∙ none) refl
+
+pub joined-present : (a b r : Interval) → is_vacant a ≡ false → is_vacant b ≡ false → r.first ≡ int_min a.first b.first → r.last ≡ int_max a.last b.last → r ≡ joined a b
+joined-present a b r left right first last =
+    same_ends r (int_min a.first b.first) (int_max a.last b.last) first last ∙ rw (left, right) refl
+
+pub common-none : (a b : Interval) → int_lt (int_min a.last b.last) (int_max a.first b.first) ≡ true → vacant ≡ common a b
+common-none a b below = rw below refl
+
+pub common-present : (a b r : Interval) → int_lt (int_min a.last b.last) (int_max a.first b.first) ≡ false → r.first ≡ int_max a.first b.first → r.last ≡ int_min a.last b.last → r ≡ common a b
+common-present a b r ordered first last =
+    same_ends r (int_max a.first b.first) (int_min a.last b.last) first last ∙ rw ordered refl
+
+pub absolute-with_zero : (a r : Interval) → is_vacant a ≡ false → has_number a (pos 0) ≡ true → r.first ≡ pos 0 → r.last ≡ size a → r ≡ absolute a
+absolute-with_zero a r present holds first last = same_ends r (pos 0) (size a) first last ∙ rw (present, holds) refl
+
+pub absolute-apart : (a r : Interval) (p q : ℤ) → is_vacant a ≡ false → has_number a (pos 0) ≡ false → r ≡ span p q → p ≡ magnitude a.first → q ≡ magnitude a.last → r ≡ absolute a
+absolute-apart a r p q present outside whole p-is q-is =
+    whole ∙ same_span p q (magnitude a.first) (magnitude a.last) p-is q-is ∙ rw (present, outside) refl
+
+pub complement-present : (a r : Interval) (never always : Bool) → is_vacant a ≡ false → never ≡ never_true a → always ≡ always_true a → r ≡ truths never (not always) → r ≡ complement a
+complement-present a r never always present never-is always-is whole = whole ∙ rw (never-is, always-is, present) refl

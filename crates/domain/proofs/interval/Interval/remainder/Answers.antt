@@ -1,8 +1,8 @@
-use Rattle.std.proofs.Common.{◌≡◌, pos, ◌-ℤ◌, ◌≤ℤ◌, ◌<ℤ◌, int_le, true, false, arith, rules, refl, ap, sym, subst, ◌∙◌}
-use Rattle.std.proofs.lemmas.Int.{ints, clamps}
+use Rattle.std.proofs.Common.{◌≡◌, pos, ◌-ℤ◌, ◌≤ℤ◌, ◌<ℤ◌, int_le, true, false, w64, arith, refl, ap, sym, subst, ◌∙◌}
+use Rattle.std.proofs.lemmas.Int.{ints, clamps, to_z-of_z}
 use Rattle.std.specs.Int.{int_min, int_rem_euclid}
 use Rattle.domain.specs.Interval.{Interval, HasMember, vacant, is_vacant, between, remainder}
-use Rattle.domain.specs.Ranges.{left-vacant, right-vacant, remainder-has}
+use Rattle.domain.specs.Ranges.{left-vacant, right-vacant, remainder-has, as_is, less_one, same_min, same_between}
 use Rattle.domain.proofs.interval.Interval.remainder.Goals as goal
 use Rattle.domain.proofs.interval.Interval.remainder.Goals.{then-is_empty-via-then-is_empty, then-is_empty-via-else-is_empty+then-is_empty-2, then-is_empty-via-else-is_empty+else-is_empty-2+then-last-lt1}
 
@@ -40,9 +40,11 @@ returns-then-is_empty-clause-members c = λ x y left right present.
 
 pub returns-then-first-lt0-clause-ends : goal.returns-then-first-lt0-clause-ends
 returns-then-first-lt0-clause-ends c =
+    let last = c.last-greatest.result in
+    let greatest = less_one last c.last-greatest.ensures.bounds (omega (arith, ints)) ∙ ap (λ x. x -ℤ pos 1) c.last-greatest.ensures.value in
     of_negative c.args.self.now c.args.divisor.now c.between_ends.result
     (sym c.is_empty.ensures.answer ∙ c.if-is_empty.false) (sym c.is_empty-else-is_empty.ensures.answer ∙ c.if-is_empty-2.false)
-    (omega (arith, ints)) (search rules)
+    (omega (arith, ints)) (c.between_ends.ensures ∙ same_between (pos 0) _ (pos 0) _ refl greatest)
 
 pub returns-then-first-lt0-clause-members : goal.returns-then-first-lt0-clause-members
 returns-then-first-lt0-clause-members c = λ x y left right present.
@@ -50,11 +52,13 @@ returns-then-first-lt0-clause-members c = λ x y left right present.
 
 pub returns-clause-ends : goal.returns-clause-ends
 returns-clause-ends c =
-    let last : c.min.result ≡ int_min (c.args.divisor.now.last -ℤ pos 1) c.args.self.now.last = omega (arith, ints, clamps) in
-    let whole : c.between_ends-2.result ≡ between (pos 0) c.min.result = search rules in
+    let last = c.last-greatest.result in
+    let greatest = less_one last c.last-greatest.ensures.bounds (omega (arith, ints)) ∙ ap (λ x. x -ℤ pos 1) c.last-greatest.ensures.value in
+    let own = as_is c.last-2.result c.last-2.ensures.bounds ∙ c.last-2.ensures.value in
+    let least = to_z-of_z w64 c.min.result (record { sfits = c.min.type_inv }) ∙ c.min.ensures.value ∙ same_min _ _ _ _ greatest own in
     of_positive c.args.self.now c.args.divisor.now c.between_ends-2.result
     (sym c.is_empty.ensures.answer ∙ c.if-is_empty.false) (sym c.is_empty-else-is_empty.ensures.answer ∙ c.if-is_empty-2.false)
-    (omega (arith, ints)) (whole ∙ ap (between (pos 0)) last)
+    (omega (arith, ints)) (c.between_ends-2.ensures ∙ same_between (pos 0) _ (pos 0) _ refl least)
 
 pub returns-clause-members : goal.returns-clause-members
 returns-clause-members c = λ x y left right present.

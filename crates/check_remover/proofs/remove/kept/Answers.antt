@@ -1,0 +1,17 @@
+use Rattle.std.proofs.Common.{◌∷◌, ◌++◌, [], sym, ap, ◌∙◌}
+use Rattle.check_remover.proofs.Moves.{kept_more, left_out}
+use Rattle.check_remover.proofs.remove.kept.Goals as goal
+use Rattle.check_remover.proofs.remove.kept.Goals.{then-is_kept+in_ok-push, else-is_kept}
+
+pub loop-instr-preserved : goal.loop-instr-preserved
+loop-instr-preserved c =
+    let rest = c.loop-instr.rest.items in
+    elim c.if-is_kept.branch [
+      | then-is_kept+in_ok-push w ↦
+          kept_more _ _ c.args.code.now rest _ c.loop-instr.instr-index _ c.loop-instr-test.true c.loop-instr.invariant
+          (sym c.is_kept.ensures ∙ w.if-is_kept.true)
+          (ap (λ v. v.items) w.rest-is ∙ w.in_ok-push.ensures.items ∙ ap (λ i. rest ++ i ∷ []) w.with_moved_jump.ensures)
+      | else-is_kept w ↦
+          left_out _ _ c.args.code.now rest _ c.loop-instr.instr-index _ c.loop-instr-test.true c.loop-instr.invariant
+          (sym c.is_kept.ensures ∙ w.if-is_kept.false) (ap (λ v. v.items) w.rest-is)
+    ]

@@ -1,0 +1,7 @@
+use Rattle.std.proofs.Common.{ap, ◌∙◌}
+use Rattle.domain.specs.Interval.{Interval}
+use Rattle.domain.specs.Ranges.{as_is}
+use Rattle.domain.proofs.interval.Interval.first.Goals as goal
+
+pub returns-clause-value : goal.returns-clause-value
+returns-clause-value c = as_is c.self.inside.first c.self.invariant.0 ∙ ap (λ (i : Interval). i.first) c.self.view_is
