@@ -71,11 +71,15 @@ static ROWS: [((&[Instr], &[Site]), &str); 4] = [
 ];
 
 fn told(alloc: Global, row: &(&[Instr], &[Site])) -> Result<String, Fail> {
-    let stripped = remove(alloc, &code_of(alloc, row.0)?, row.1)?;
-    if stripped.sites.as_slice() != SITES.as_slice() {
-        return Err(Fail::new("another table of sites"));
+    instructions_told(alloc, &remove(alloc, &code_of(alloc, row.0)?, row.1)?)
+}
+
+fn instructions_told(alloc: Global, code: &Code) -> Result<String, Fail> {
+    if code.sites.as_slice() == SITES.as_slice() {
+        Ok(format!(in alloc; "{:?}", code.instructions)?)
+    } else {
+        Err(Fail::new("another table of sites"))
     }
-    Ok(format!(in alloc; "{:?}", stripped.instructions)?)
 }
 
 fn code_of(alloc: Global, instructions: &[Instr]) -> Result<Code, AllocError> {

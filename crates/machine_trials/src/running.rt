@@ -142,6 +142,10 @@ fn narrow_told(alloc: Global, row: &NarrowRow) -> Result<String, Fail> {
         offered: Vec::new(alloc),
     };
     let (writer, word) = run_to(alloc, row.0, narrow)?;
+    writer_told(alloc, &writer, word)
+}
+
+fn writer_told(alloc: Global, writer: &Counted<Narrow>, word: &str) -> Result<String, Fail> {
     let failures = writer.failures();
     let narrow = writer.inner();
     let (count, last, offered) = (narrow.taken.len(), narrow.taken.last(), &narrow.offered);
@@ -196,13 +200,23 @@ fn operators_told(alloc: Global, row: &OperatorRow) -> Result<String, Fail> {
     let mut told = String::new(alloc);
     for left in row.1 {
         for right in row.2 {
-            for operator in row.0 {
-                told.push_str(operated(alloc, *operator, *left, *right)?.as_str())?;
-                told.push(' ')?;
-            }
+            tell_operators(alloc, row.0, (*left, *right), &mut told)?;
         }
     }
     Ok(told)
+}
+
+fn tell_operators(
+    alloc: Global,
+    operators: &[Instr],
+    (left, right): (i32, i32),
+    told: &mut String,
+) -> Result<(), Fail> {
+    for operator in operators {
+        told.push_str(operated(alloc, *operator, left, right)?.as_str())?;
+        told.push(' ')?;
+    }
+    Ok(())
 }
 
 type OperatorRow = (&'static [Instr], &'static [i32], &'static [i32]);
@@ -505,12 +519,13 @@ fn checks_zero_products_and_squares(rt: HostRuntime) -> Result<(), Fail> {
 }
 
 #[test]
-fn counts_the_failures_of_a_reader(rt: HostRuntime) -> Result<(), Fail> {
+fn counts_the_failures_of_a_reader(rt: HostRuntime) {
     let mut reader = Counted::new(b"ab".as_slice());
     let mut piece = [0u8; 4];
-    let counts = (reader.read(&mut piece)?, reader.read(&mut piece)?);
-    assert!(rt; counts == (2, 0) && reader.failures() == 0 && reader.inner().is_empty());
-    Ok(())
+    let first = reader.read(&mut piece).ok();
+    let second = reader.read(&mut piece).ok();
+    assert!(rt; first == Some(2) && second == Some(0));
+    assert!(rt; reader.failures() == 0 && reader.inner().is_empty());
 }
 
 #[test]

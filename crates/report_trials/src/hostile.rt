@@ -1,7 +1,6 @@
 ghost use Rattle.std.specs.Prelude.{◌<◌};
 
-use crate::shown::{interpreted, is_same_end, refusal, show};
-use report::compile::compile;
+use crate::shown::{agreed, refusal};
 use stack_machine::stop::Stop;
 use std::alloc::{AllocError, Global};
 use std::test::Fail;
@@ -94,28 +93,98 @@ fn text_of_bytes(alloc: Global, numbers: &mut Numbers) -> Result<Vec<u8>, AllocE
     Ok(text)
 }
 
-#[test]
-fn any_text_is_answered(rt: HostRuntime) -> Result<(), Fail> {
-    let alloc = rt.alloc();
+// Whether a text compiles. Fails where it is neither compiled nor refused.
+fn is_taken(alloc: Global, text: &[u8]) -> Result<bool, Fail> {
+    Ok(refusal(alloc, text, None)?.is_empty())
+}
+
+// How many of 2,000 texts of pieces compile; as many texts of bytes are tried.
+fn random_texts_taken(alloc: Global) -> Result<u32, Fail> {
     let mut numbers = Numbers { state: 1983 };
     let mut taken = 0u32;
     for _ in 0..2_000 {
-        let text = text_of_bytes(alloc, &mut numbers)?;
-        let (line, status) = refusal(alloc, &text, None)?;
-        assert_eq!(rt; status == 2, line.ends_with(b"\n"));
-        let text = text_of_pieces(alloc, &mut numbers)?;
-        let (_, status) = refusal(alloc, &text, None)?;
-        assert!(rt; status == 2 || status == 0);
-        taken = taken.saturating_add(u32::from(status == 0));
+        is_taken(alloc, &text_of_bytes(alloc, &mut numbers)?)?;
+        if is_taken(alloc, &text_of_pieces(alloc, &mut numbers)?)? {
+            taken = taken.saturating_add(1);
+        }
     }
+    Ok(taken)
+}
+
+#[test]
+fn any_text_is_answered(rt: HostRuntime) -> Result<(), Fail> {
     // Nearly all of them are refused.
-    assert!(rt; taken < 100);
+    assert!(rt; random_texts_taken(rt.alloc())? < 100);
     for byte in 0..=255u8 {
-        let text = [byte];
-        let (_, status) = refusal(alloc, &text, None)?;
-        assert_eq!(rt; status, 2);
+        assert!(rt; !is_taken(rt.alloc(), &[byte])?);
     }
     Ok(())
+}
+
+// What may stand for a letter. The capital letters in it stand for further texts.
+static CHOICES: [(u8, &[&str]); 14] = [
+    // At most seven statements.
+    (
+        b'P',
+        &["", "S", "SS", "SSS", "SSSS", "SSSSS", "SSSSSS", "SSSSSSS"],
+    ),
+    (
+        b'S',
+        &[
+            "writeln(IW); ",
+            "writeln; ",
+            "write(BW, a); ",
+            "D := B; ",
+            "D := B; ",
+            "V := I; ",
+            "V := I; ",
+        ],
+    ),
+    // A width.
+    (b'W', &[":3", ":a", ":b - 1", "", "", ""]),
+    // An expression of type integer, of one or two operators, and one of one operator at most.
+    (
+        b'I',
+        &[
+            "N", "abs(J)", "sqr(J)", "(-J)", "(JOJ)", "(JOJ)", "(JOJ)", "(JOJ)",
+        ],
+    ),
+    (
+        b'J',
+        &[
+            "N", "abs(N)", "sqr(N)", "(-N)", "(NON)", "(NON)", "(NON)", "(NON)",
+        ],
+    ),
+    (
+        b'N',
+        &["maxint", "1", "(2 - 3)", "46341", "a", "a", "V", "V"],
+    ),
+    (b'V', &["a", "b", "c"]),
+    (b'O', &[" + ", " - ", " * ", " div ", " mod ", " - "]),
+    // An expression of type Boolean, of one or two operators, and one of one operator at most.
+    (b'B', &["T", "not U", "(ULU)", "odd(J)", "(JRJ)", "(JRJ)"]),
+    (b'U', &["T", "not T", "(TLT)", "odd(J)", "(JRJ)", "(JRJ)"]),
+    (b'T', &["false", "e", "d", "d"]),
+    (b'D', &["d", "e"]),
+    (b'L', &[" and ", " or "]),
+    (b'R', &[" = ", " <> ", " < ", " > ", " <= ", " >= "]),
+];
+
+// Puts one of the texts for a letter behind the rest, its end first.
+fn choose(numbers: &mut Numbers, letter: u8, rest: &mut Vec<u8>) -> Result<(), AllocError> {
+    for byte in choice(numbers, letter).bytes().rev() {
+        rest.push(byte)?;
+    }
+    Ok(())
+}
+
+fn choice(numbers: &mut Numbers, letter: u8) -> &'static str {
+    for (own, texts) in &CHOICES {
+        if *own == letter && !texts.is_empty() {
+            return texts[numbers.below(texts.len())];
+        }
+    }
+    ""
 }
 
 // A program of a few assignments and writings over three integers and two Booleans.
@@ -124,192 +193,33 @@ fn program(alloc: Global, numbers: &mut Numbers) -> Result<Vec<u8>, AllocError> 
         alloc,
         b"program p(output); var a, b, c: integer; d, e: Boolean; begin a := 3; d := true; ",
     )?;
-    for _ in 0..numbers.below(8) {
-        statement(numbers, &mut text)?;
-        text.extend_from_slice(b"; ")?;
+    // What is still to be written, its end first.
+    let mut rest = Vec::from_slice(alloc, b".dneP")?;
+    for _ in 0..10_000 {
+        let Some(byte) = rest.pop() else {
+            break;
+        };
+        if byte.is_ascii_uppercase() {
+            choose(numbers, byte, &mut rest)?;
+        } else {
+            text.push(byte)?;
+        }
     }
-    text.extend_from_slice(b"end.")?;
     Ok(text)
 }
 
-fn statement(numbers: &mut Numbers, text: &mut Vec<u8>) -> Result<(), AllocError> {
-    match numbers.below(7) {
-        0 => {
-            text.extend_from_slice(b"writeln(")?;
-            integer(numbers, text)?;
-            width(numbers, text)?;
-            text.extend_from_slice(b")")
-        }
-        1 => text.extend_from_slice(b"writeln"),
-        2 => {
-            text.extend_from_slice(b"write(")?;
-            boolean(numbers, text)?;
-            width(numbers, text)?;
-            text.extend_from_slice(b", a)")
-        }
-        3 | 4 => {
-            text.push(b'd' + numbers.below(2) as u8)?;
-            text.extend_from_slice(b" := ")?;
-            boolean(numbers, text)
-        }
-        _ => {
-            text.push(b'a' + numbers.below(3) as u8)?;
-            text.extend_from_slice(b" := ")?;
-            integer(numbers, text)
+// Whether a program ends in an error. Fails where that isn't at an open site.
+fn errs(alloc: Global, source: &[u8]) -> Result<bool, Fail> {
+    let shown = agreed(alloc, source, 1_000)?;
+    let Stop::Error(site) = shown.stop else {
+        return Ok(false);
+    };
+    for open in &shown.verdict.open_sites {
+        if open.id == site.id {
+            return Ok(true);
         }
     }
-}
-
-fn width(numbers: &mut Numbers, text: &mut Vec<u8>) -> Result<(), AllocError> {
-    match numbers.below(6) {
-        0 => text.extend_from_slice(b":3"),
-        1 => text.extend_from_slice(b":a"),
-        2 => text.extend_from_slice(b":b - 1"),
-        _ => Ok(()),
-    }
-}
-
-const SUMS: [&str; 6] = [" + ", " - ", " * ", " div ", " mod ", " - "];
-
-const RELATIONS: [&str; 6] = [" = ", " <> ", " < ", " > ", " <= ", " >= "];
-
-const LOGICAL: [&str; 2] = [" and ", " or "];
-
-// An expression of type integer, of one operator at most.
-fn shallow(numbers: &mut Numbers, text: &mut Vec<u8>) -> Result<(), AllocError> {
-    match numbers.below(8) {
-        0 => number(numbers, text),
-        1 => {
-            text.extend_from_slice(b"abs(")?;
-            number(numbers, text)?;
-            text.extend_from_slice(b")")
-        }
-        2 => {
-            text.extend_from_slice(b"sqr(")?;
-            number(numbers, text)?;
-            text.extend_from_slice(b")")
-        }
-        3 => {
-            text.extend_from_slice(b"(-")?;
-            number(numbers, text)?;
-            text.extend_from_slice(b")")
-        }
-        _ => {
-            text.extend_from_slice(b"(")?;
-            number(numbers, text)?;
-            text.extend_from_slice(SUMS[numbers.below(6)].as_bytes())?;
-            number(numbers, text)?;
-            text.extend_from_slice(b")")
-        }
-    }
-}
-
-// An expression of type integer, of one or two operators.
-fn integer(numbers: &mut Numbers, text: &mut Vec<u8>) -> Result<(), AllocError> {
-    match numbers.below(8) {
-        0 => number(numbers, text),
-        1 => {
-            text.extend_from_slice(b"abs(")?;
-            shallow(numbers, text)?;
-            text.extend_from_slice(b")")
-        }
-        2 => {
-            text.extend_from_slice(b"sqr(")?;
-            shallow(numbers, text)?;
-            text.extend_from_slice(b")")
-        }
-        3 => {
-            text.extend_from_slice(b"(-")?;
-            shallow(numbers, text)?;
-            text.extend_from_slice(b")")
-        }
-        _ => {
-            text.extend_from_slice(b"(")?;
-            shallow(numbers, text)?;
-            text.extend_from_slice(SUMS[numbers.below(6)].as_bytes())?;
-            shallow(numbers, text)?;
-            text.extend_from_slice(b")")
-        }
-    }
-}
-
-// An expression of type Boolean, of one operator at most.
-fn shallow_truth(numbers: &mut Numbers, text: &mut Vec<u8>) -> Result<(), AllocError> {
-    match numbers.below(6) {
-        0 => truth(numbers, text),
-        1 => {
-            text.extend_from_slice(b"not ")?;
-            truth(numbers, text)
-        }
-        2 => {
-            text.extend_from_slice(b"(")?;
-            truth(numbers, text)?;
-            text.extend_from_slice(LOGICAL[numbers.below(2)].as_bytes())?;
-            truth(numbers, text)?;
-            text.extend_from_slice(b")")
-        }
-        3 => {
-            text.extend_from_slice(b"odd(")?;
-            shallow(numbers, text)?;
-            text.extend_from_slice(b")")
-        }
-        _ => {
-            text.extend_from_slice(b"(")?;
-            shallow(numbers, text)?;
-            text.extend_from_slice(RELATIONS[numbers.below(6)].as_bytes())?;
-            shallow(numbers, text)?;
-            text.extend_from_slice(b")")
-        }
-    }
-}
-
-// An expression of type Boolean, of one or two operators.
-fn boolean(numbers: &mut Numbers, text: &mut Vec<u8>) -> Result<(), AllocError> {
-    match numbers.below(6) {
-        0 => truth(numbers, text),
-        1 => {
-            text.extend_from_slice(b"not ")?;
-            shallow_truth(numbers, text)
-        }
-        2 => {
-            text.extend_from_slice(b"(")?;
-            shallow_truth(numbers, text)?;
-            text.extend_from_slice(LOGICAL[numbers.below(2)].as_bytes())?;
-            shallow_truth(numbers, text)?;
-            text.extend_from_slice(b")")
-        }
-        3 => {
-            text.extend_from_slice(b"odd(")?;
-            shallow(numbers, text)?;
-            text.extend_from_slice(b")")
-        }
-        _ => {
-            text.extend_from_slice(b"(")?;
-            shallow(numbers, text)?;
-            text.extend_from_slice(RELATIONS[numbers.below(6)].as_bytes())?;
-            shallow(numbers, text)?;
-            text.extend_from_slice(b")")
-        }
-    }
-}
-
-fn number(numbers: &mut Numbers, text: &mut Vec<u8>) -> Result<(), AllocError> {
-    match numbers.below(8) {
-        0 => text.extend_from_slice(b"maxint"),
-        1 => text.extend_from_slice(b"1"),
-        2 => text.extend_from_slice(b"(2 - 3)"),
-        3 => text.extend_from_slice(b"46341"),
-        4 | 5 => text.extend_from_slice(b"a"),
-        _ => Ok(text.push(b'a' + numbers.below(3) as u8)?),
-    }
-}
-
-fn truth(numbers: &mut Numbers, text: &mut Vec<u8>) -> Result<(), AllocError> {
-    match numbers.below(4) {
-        0 => text.extend_from_slice(b"false"),
-        1 => text.extend_from_slice(b"e"),
-        _ => text.extend_from_slice(b"d"),
-    }
+    Err(Fail::new("an error at a site that isn't open"))
 }
 
 #[test]
@@ -319,21 +229,7 @@ fn generated_programs_agree_and_err_at_open_sites_alone(rt: HostRuntime) -> Resu
     let mut errors = 0u32;
     for _ in 0..400 {
         let source = program(alloc, &mut numbers)?;
-        let compiled = compile(alloc, &source, None)?;
-        let shown = show(alloc, &source, 1_000, u64::MAX)?;
-        let (written, ending) = interpreted(alloc, &source)?;
-        assert_eq!(rt; shown.output.as_slice(), written.as_slice());
-        assert!(rt; is_same_end(shown.stop, ending));
-        if let Stop::Error(site) = shown.stop {
-            errors = errors.saturating_add(1);
-            assert!(rt;
-                compiled
-                    .verdict
-                    .open_sites
-                    .iter()
-                    .any(|open| open.id == site.id)
-            );
-        }
+        errors = errors.saturating_add(u32::from(errs(alloc, &source)?));
     }
     // Some of them err, and some don't.
     assert!(rt; errors > 40 && errors < 380);

@@ -1,190 +1,113 @@
-use crate::shown::{CELLS, all_hold, interpreted, is_same_end, refusal, show};
-use command_line::{WordsFault, pcom_words};
+use crate::shown::{agreed_told, checked, refusal, stop_told, visits};
+use command_line::{PcomWords, WordsFault, pcom_words};
 use pcode_assembler::code::{Point, Site};
-use report::compile::compile;
 use report::fault::Fault;
-use report::text::{fault_text, stop_text};
+use report::text::fault_text;
 use stack_machine::stop::{InputFault, MachineFault, Stop};
 use std::alloc::Global;
 use std::test::Fail;
+use test_words::rows::all_hold;
 
-// A source, what is told of it, what it writes, the line of its stop, and the status.
-type Row = (&'static str, &'static str, &'static str, &'static str, u8);
-
-static ROWS: [Row; 23] = [
+// Sources, and beside each what is told of it, what it writes, the line of its stop, and the status.
+static ROWS: [(&str, &str); 23] = [
     (
         "program p(output); var x, y: integer; begin x := 7; y := x - 10; writeln(x + y, -x) end.",
-        "",
-        "         4        -7\n",
-        "",
-        0,
+        "|         4        -7\n||0",
     ),
     (
         "program p(output); var x: integer; begin writeln(x) end.",
-        "1:50: possible error: undefined variable\n",
-        "",
-        "1:50: error: undefined variable\n",
-        4,
+        "1:50: possible error: undefined variable\n||1:50: error: undefined variable\n|4",
     ),
     (
         "program p; var x: integer; begin x := 2147483647; x := x + 1 end.",
-        "1:58: possible error: overflow\n",
-        "",
-        "1:58: error: overflow\n",
-        4,
+        "1:58: possible error: overflow\n||1:58: error: overflow\n|4",
     ),
-    ("program p(output); begin end.", "", "", "", 0),
+    ("program p(output); begin end.", "|||0"),
     (
         "program p; var x: integer; begin x := 2147483647; x := x - 1 end.",
-        "",
-        "",
-        "",
-        0,
+        "|||0",
     ),
     (
         "program p; var x, y: integer; begin x := 5; y := x + 2147483643 end.",
-        "1:52: possible error: overflow\n",
-        "",
-        "1:52: error: overflow\n",
-        4,
+        "1:52: possible error: overflow\n||1:52: error: overflow\n|4",
     ),
     (
         "program p(output); var x, y: integer; begin x := maxint; x := x + 1; writeln(y) end.",
-        "1:65: possible error: overflow\n",
-        "",
-        "1:65: error: overflow\n",
-        4,
+        "1:65: possible error: overflow\n||1:65: error: overflow\n|4",
     ),
     (
         "program p(output); begin writeln(1 - 2 - 3, -(1 - 2), -1 - 2) end.",
-        "",
-        "        -4         1        -3\n",
-        "",
-        0,
+        "|        -4         1        -3\n||0",
     ),
     (
         "program p(output); var x: integer; begin x := -2147483647; writeln(x, x - 1) end.",
-        "1:73: possible error: overflow\n",
-        "-2147483647",
-        "1:73: error: overflow\n",
-        4,
+        "1:73: possible error: overflow\n|-2147483647|1:73: error: overflow\n|4",
     ),
     (
         "program p(output); begin writeln(-7 div 2, -7 mod 2, (-7) mod 2) end.",
-        "",
-        "        -3        -1         1\n",
-        "",
-        0,
+        "|        -3        -1         1\n||0",
     ),
     (
         "program p(output); begin write(true:2, 5:1) end.",
-        "",
-        "tr5",
-        "",
-        0,
+        "|tr5||0",
     ),
     (
         "program p(output); begin write(5:0) end.",
-        "1:34: possible error: width\n",
-        "",
-        "1:34: error: width\n",
-        4,
+        "1:34: possible error: width\n||1:34: error: width\n|4",
     ),
     (
         "program p(output); var x: integer; begin x := 3; writeln(10 div x, 10 mod x) end.",
-        "",
-        "         3         1\n",
-        "",
-        0,
+        "|         3         1\n||0",
     ),
     (
         "program p(output); var x: integer; begin x := 0; writeln(10 div x) end.",
-        "1:61: possible error: division by zero\n",
-        "",
-        "1:61: error: division by zero\n",
-        4,
+        "1:61: possible error: division by zero\n||1:61: error: division by zero\n|4",
     ),
     (
         "program p(output); var x: integer; begin x := -1; writeln(5 mod x) end.",
-        "1:61: possible error: mod by zero or less\n",
-        "",
-        "1:61: error: mod by zero or less\n",
-        4,
+        "1:61: possible error: mod by zero or less\n||1:61: error: mod by zero or less\n|4",
     ),
     (
         "program p(output); var b: Boolean; begin b := 1 < 2; writeln(b, not b, b and (2 < 1), b or (2 < 1)) end.",
-        "",
-        " truefalsefalse true\n",
-        "",
-        0,
+        "| truefalsefalse true\n||0",
     ),
     (
         "program p(output); var z: integer; begin z := 0; writeln((1 > 2) and (1 div z = 1)) end.",
-        "1:73: possible error: division by zero\n",
-        "",
-        "1:73: error: division by zero\n",
-        4,
+        "1:73: possible error: division by zero\n||1:73: error: division by zero\n|4",
     ),
     (
         "program p(output); begin writeln(sqr(-46340), abs(-7), odd(-3), odd(4)) end.",
-        "",
-        "2147395600         7 truefalse\n",
-        "",
-        0,
+        "|2147395600         7 truefalse\n||0",
     ),
     (
         "program p(output); var x: integer; begin x := 46341; writeln(sqr(x)) end.",
-        "1:62: possible error: overflow\n",
-        "",
-        "1:62: error: overflow\n",
-        4,
+        "1:62: possible error: overflow\n||1:62: error: overflow\n|4",
     ),
     (
         "program p(output); var x: integer; begin x := -46341; writeln(x * x) end.",
-        "1:65: possible error: overflow\n",
-        "",
-        "1:65: error: overflow\n",
-        4,
+        "1:65: possible error: overflow\n||1:65: error: overflow\n|4",
     ),
     (
         "program p(output); var true: integer; begin true := 5; writeln(true:1) end.",
-        "",
-        "5\n",
-        "",
-        0,
+        "|5\n||0",
     ),
     (
         "program p(output); var w: integer; begin w := 3; write(7:w, false:w + 5, -12:1); writeln end.",
-        "",
-        "  7   false-12\n",
-        "",
-        0,
+        "|  7   false-12\n||0",
     ),
     (
         "program p(output); begin writeln(2 + 3 * 4:1, 7 - 2 - 1:2, 1 = 1:4, (1 < 2) = (2 < 1):5) end.",
-        "",
-        "14 4truefalse\n",
-        "",
-        0,
+        "|14 4truefalse\n||0",
     ),
 ];
 
-// Whether the machine and the interpreter do what the row says.
-fn runs_so(alloc: Global, row: &Row) -> Result<bool, Fail> {
-    let (source, report, output, line, status) = *row;
-    let shown = show(alloc, source.as_bytes(), CELLS, u64::MAX)?;
-    let (told, ended) = stop_text(alloc, &shown.stop);
-    let (written, ending) = interpreted(alloc, source.as_bytes())?;
-    let is_told = shown.report.as_slice() == report.as_bytes();
-    let is_written = shown.output.as_slice() == output.as_bytes();
-    let is_ended = told.as_slice() == line.as_bytes() && ended == status;
-    let is_meant = written.as_slice() == output.as_bytes() && is_same_end(shown.stop, ending);
-    Ok(is_told && is_written && is_ended && is_meant)
+fn run_told(alloc: Global, source: &&str) -> Result<String, Fail> {
+    agreed_told(alloc, source.as_bytes())
 }
 
 #[test]
 fn rows_run_as_the_rules_say(rt: HostRuntime) -> Result<(), Fail> {
-    all_hold(rt.alloc(), &ROWS, runs_so)
+    all_hold(rt.alloc(), &ROWS, run_told)
 }
 
 // Sources, and how many statements and expressions they have.
@@ -201,14 +124,14 @@ static VISITS: [(&str, u64); 4] = [
     ("program p(output); begin write(not odd(-1)) end.", 6),
 ];
 
-fn has_visits(alloc: Global, row: &(&str, u64)) -> Result<bool, Fail> {
-    let compiled = compile(alloc, row.0.as_bytes(), None)?;
-    Ok(compiled.verdict.visits == row.1)
-}
-
 #[test]
 fn each_entry_is_visited_once(rt: HostRuntime) -> Result<(), Fail> {
-    all_hold(rt.alloc(), &VISITS, has_visits)
+    for (source, wanted) in &VISITS {
+        if visits(rt.alloc(), source.as_bytes())? != *wanted {
+            return Err(Fail::new(*source));
+        }
+    }
+    Ok(())
 }
 
 // Sources, and the line of their refusal.
@@ -322,18 +245,20 @@ static REFUSALS: [(&str, &str); 38] = [
     ("program p(input); begin end.", "1:11: refused K8\n"),
 ];
 
-fn is_refused(alloc: Global, row: &(&str, &str)) -> Result<bool, Fail> {
-    let (told, status) = refusal(alloc, row.0.as_bytes(), None)?;
-    Ok(told.as_slice() == row.1.as_bytes() && status == 2)
+fn refusal_of(alloc: Global, source: &&str) -> Result<String, Fail> {
+    refusal(alloc, source.as_bytes(), None)
 }
 
 #[test]
 fn refusals_stand_at_their_places(rt: HostRuntime) -> Result<(), Fail> {
-    all_hold(rt.alloc(), &REFUSALS, is_refused)
+    all_hold(rt.alloc(), &REFUSALS, refusal_of)
 }
 
-// Certificates, and the line of their refusal.
-static CERTIFICATES: [(&str, &str); 5] = [
+const LEAST: &str = "program p; begin end.";
+
+// Certificates of the least program, and the line of their refusal; none at the plain one.
+static CERTIFICATES: [(&str, &str); 6] = [
+    ("pcert 1\n", ""),
     ("", "certificate:1: refused F1\n"),
     ("pcert 2\n", "certificate:1: refused F1\n"),
     ("pcert 1", "certificate:1: refused F5\n"),
@@ -341,105 +266,91 @@ static CERTIFICATES: [(&str, &str); 5] = [
     ("pcert 1\nproc 0", "certificate:2: refused F5\n"),
 ];
 
-const LEAST: &[u8] = b"program p; begin end.";
-
-fn is_refused_certificate(alloc: Global, row: &(&str, &str)) -> Result<bool, Fail> {
-    let (told, status) = refusal(alloc, LEAST, Some(row.0.as_bytes()))?;
-    Ok(told.as_slice() == row.1.as_bytes() && status == 2)
+fn certificate_refusal(alloc: Global, certificate: &&str) -> Result<String, Fail> {
+    refusal(alloc, LEAST.as_bytes(), Some(certificate.as_bytes()))
 }
 
 #[test]
 fn certificates_are_read(rt: HostRuntime) -> Result<(), Fail> {
-    compile(rt.alloc(), LEAST, Some(b"pcert 1\n"))?;
-    all_hold(rt.alloc(), &CERTIFICATES, is_refused_certificate)
+    all_hold(rt.alloc(), &CERTIFICATES, certificate_refusal)
 }
 
 // Sources and certificates, and the sentence of the fault.
-static SENTENCES: [(&str, &str, &str); 19] = [
-    ("?", "pcert 1\n", "1:1: a byte that begins no token"),
-    ("{", "pcert 1\n", "1:1: a comment that doesn't close"),
+static SENTENCES: [((&str, &str), &str); 19] = [
+    (("?", "pcert 1\n"), "1:1: a byte that begins no token"),
+    (("{", "pcert 1\n"), "1:1: a comment that doesn't close"),
     (
-        "'",
-        "pcert 1\n",
+        ("'", "pcert 1\n"),
         "1:1: a string that doesn't close in its line",
     ),
-    ("''", "pcert 1\n", "1:1: a string without an element"),
-    ("2147483648", "pcert 1\n", "1:1: a number above 2147483647"),
-    ("1a", "pcert 1\n", "1:1: a number that touches a letter"),
+    (("''", "pcert 1\n"), "1:1: a string without an element"),
     (
-        "'\t'",
-        "pcert 1\n",
+        ("2147483648", "pcert 1\n"),
+        "1:1: a number above 2147483647",
+    ),
+    (("1a", "pcert 1\n"), "1:1: a number that touches a letter"),
+    (
+        ("'\t'", "pcert 1\n"),
         "1:2: a byte in a string that is no printable character",
     ),
-    ("", "pcert 1\n", "1:1: no program"),
+    (("", "pcert 1\n"), "1:1: no program"),
     (
-        "nil",
-        "pcert 1\n",
+        ("nil", "pcert 1\n"),
         "1:1: a form that this language leaves out",
     ),
     (
-        "program p; var a, a: integer; begin end.",
-        "pcert 1\n",
+        ("program p; var a, a: integer; begin end.", "pcert 1\n"),
         "1:19: declared twice in one block",
     ),
     (
-        "program p; var a: t; t: integer; begin end.",
-        "pcert 1\n",
+        ("program p; var a: t; t: integer; begin end.", "pcert 1\n"),
         "1:19: used before its declaration",
     ),
     (
-        "program p; begin read end.",
-        "pcert 1\n",
+        ("program p; begin read end.", "pcert 1\n"),
         "1:18: not declared",
     ),
     (
-        "program p; var a: integer; begin a := integer end.",
-        "pcert 1\n",
+        (
+            "program p; var a: integer; begin a := integer end.",
+            "pcert 1\n",
+        ),
         "1:39: types that don't fit",
     ),
     (
-        "program p; begin integer := 1 end.",
-        "pcert 1\n",
+        ("program p; begin integer := 1 end.", "pcert 1\n"),
         "1:18: not a variable",
     ),
     (
-        "program p; var a: integer; begin a := writeln end.",
-        "pcert 1\n",
+        (
+            "program p; var a: integer; begin a := writeln end.",
+            "pcert 1\n",
+        ),
         "1:39: wrong parameters",
     ),
     (
-        "program p(input); begin end.",
-        "pcert 1\n",
+        ("program p(input); begin end.", "pcert 1\n"),
         "1:11: input or output is no program parameter",
     ),
+    ((LEAST, "pcert 2\n"), "certificate:1: no certificate"),
     (
-        "program p; begin end.",
-        "pcert 2\n",
-        "certificate:1: no certificate",
-    ),
-    (
-        "program p; begin end.",
-        "pcert 1\nproc 0\n",
+        (LEAST, "pcert 1\nproc 0\n"),
         "certificate:2: no line of a certificate",
     ),
-    (
-        "program p; begin end.",
-        "pcert 1",
-        "certificate:1: a line without its end",
-    ),
+    ((LEAST, "pcert 1"), "certificate:1: a line without its end"),
 ];
 
-fn is_fault_told(alloc: Global, row: &(&str, &str, &str)) -> Result<bool, Fail> {
-    match compile(alloc, row.0.as_bytes(), Some(row.1.as_bytes())) {
+fn sentence_of(alloc: Global, row: &(&str, &str)) -> Result<String, Fail> {
+    match checked(alloc, row.0.as_bytes(), Some(row.1.as_bytes())) {
         Err(Fault::Memory) => Err(Fault::Memory.into()),
-        Err(fault) => Ok(format!(in alloc; "{fault}")?.as_str() == row.2),
-        Ok(_) => Ok(false),
+        Err(fault) => Ok(format!(in alloc; "{fault}")?),
+        Ok(_) => Ok(String::new(alloc)),
     }
 }
 
 #[test]
 fn faults_have_their_sentences(rt: HostRuntime) -> Result<(), Fail> {
-    all_hold(rt.alloc(), &SENTENCES, is_fault_told)
+    all_hold(rt.alloc(), &SENTENCES, sentence_of)
 }
 
 const INDEX: Site = Site {
@@ -463,111 +374,106 @@ const POINT: Point = Point {
 };
 
 // Stops, with their lines and their statuses.
-static STOPS: [(Stop, &str, u8); 16] = [
-    (Stop::Finished, "", 0),
-    (Stop::Error(INDEX), "1:58: error: index\n", 4),
-    (Stop::Error(SET_MEMBER), "1:58: error: set member\n", 4),
+static STOPS: [(Stop, &str); 16] = [
+    (Stop::Finished, "|0"),
+    (Stop::Error(INDEX), "1:58: error: index\n|4"),
+    (Stop::Error(SET_MEMBER), "1:58: error: set member\n|4"),
     (
         Stop::Input {
             point: POINT,
             fault: InputFault::EndOfInput,
         },
-        "1:95: input: end of input\n",
-        5,
+        "1:95: input: end of input\n|5",
     ),
     (
         Stop::Input {
             point: POINT,
             fault: InputFault::NotANumber,
         },
-        "1:95: input: not a number\n",
-        5,
+        "1:95: input: not a number\n|5",
     ),
     (
         Stop::Input {
             point: POINT,
             fault: InputFault::NumberTooLarge,
         },
-        "1:95: input: number too large\n",
-        5,
+        "1:95: input: number too large\n|5",
     ),
     (
         Stop::Input {
             point: POINT,
             fault: InputFault::OutsideType,
         },
-        "1:95: input: value outside the type\n",
-        5,
+        "1:95: input: value outside the type\n|5",
     ),
     (
         Stop::Input {
             point: POINT,
             fault: InputFault::NotACharacter,
         },
-        "1:95: input: not a character\n",
-        5,
+        "1:95: input: not a character\n|5",
     ),
-    (Stop::More, "budget used up\n", 3),
-    (Stop::StoreFull, "store full\n", 6),
-    (
-        Stop::Fault(MachineFault::Underflow),
-        "machine fault M1\n",
-        7,
-    ),
+    (Stop::More, "budget used up\n|3"),
+    (Stop::StoreFull, "store full\n|6"),
+    (Stop::Fault(MachineFault::Underflow), "machine fault M1\n|7"),
     (
         Stop::Fault(MachineFault::OutOfBounds),
-        "machine fault M2\n",
-        7,
+        "machine fault M2\n|7",
     ),
-    (
-        Stop::Fault(MachineFault::WrongKind),
-        "machine fault M3\n",
-        7,
-    ),
+    (Stop::Fault(MachineFault::WrongKind), "machine fault M3\n|7"),
     (
         Stop::Fault(MachineFault::WrongDivisor),
-        "machine fault M4\n",
-        7,
+        "machine fault M4\n|7",
     ),
-    (Stop::ReadFailed, "read failed\n", 3),
-    (Stop::WriteFailed, "write failed\n", 3),
+    (Stop::ReadFailed, "read failed\n|3"),
+    (Stop::WriteFailed, "write failed\n|3"),
 ];
-
-fn is_stop_told(alloc: Global, row: &(Stop, &str, u8)) -> Result<bool, Fail> {
-    let (told, status) = stop_text(alloc, &row.0);
-    Ok(told.as_slice() == row.1.as_bytes() && status == row.2)
-}
 
 #[test]
 fn every_stop_has_its_line(rt: HostRuntime) -> Result<(), Fail> {
-    all_hold(rt.alloc(), &STOPS, is_stop_told)
+    all_hold(rt.alloc(), &STOPS, stop_told)
 }
 
 #[test]
 fn want_of_memory_has_its_line(rt: HostRuntime) {
     let (told, status) = fault_text(rt.alloc(), &Fault::Memory);
-    assert_eq!(rt; told.as_slice(), b"no memory\n".as_slice());
-    assert_eq!(rt; status, 3);
+    assert!(rt; told.as_slice() == b"no memory\n".as_slice() && status == 3);
 }
 
-// Words, and whether they ask for a run; none where they are refused.
-static WORDS: [(&[&str], Option<bool>); 5] = [
-    (&["pcom", "--go", "x.pas"], Some(true)),
-    (&["pcom", "x.pas"], Some(false)),
-    (&["pcom"], None),
-    (&["pcom", "--stop", "x.pas"], None),
-    (&["pcom", "x.pas", "y.pas"], None),
+// Words, and what they ask for.
+static WORDS: [(&[&str], &str); 5] = [
+    (&["pcom", "--go", "x.pas"], "run x.pas"),
+    (&["pcom", "x.pas"], "x.pas"),
+    (&["pcom"], "refused"),
+    (&["pcom", "--stop", "x.pas"], "refused"),
+    (&["pcom", "x.pas", "y.pas"], "refused"),
 ];
 
-fn are_words_read(alloc: Global, row: &(&[&str], Option<bool>)) -> Result<bool, Fail> {
-    Ok(match pcom_words(alloc, row.0) {
-        Ok(words) => words.source == "x.pas" && row.1 == Some(words.go),
-        Err(WordsFault::Words(error)) => error.exit_code() == 2 && row.1.is_none(),
-        Err(WordsFault::Memory) => return Err(Fault::Memory.into()),
-    })
+fn words_told(alloc: Global, words: &&[&str]) -> Result<String, Fail> {
+    let told = match pcom_words(alloc, words) {
+        Ok(words) => asked(&words),
+        Err(fault) => refused(&fault),
+    };
+    Ok(String::from_str(alloc, told)?)
+}
+
+fn asked(words: &PcomWords<'_>) -> &'static str {
+    match (words.source == "x.pas", words.go) {
+        (true, true) => "run x.pas",
+        (true, false) => "x.pas",
+        _ => "another source",
+    }
+}
+
+fn refused(fault: &WordsFault) -> &'static str {
+    match fault {
+        WordsFault::Words(error) if error.exit_code() == 2 => "refused",
+        WordsFault::Words(_) => "another status",
+        WordsFault::Memory => "no memory",
+    }
 }
 
 #[test]
 fn words_are_read(rt: HostRuntime) -> Result<(), Fail> {
-    all_hold(rt.alloc(), &WORDS, are_words_read)
+    all_hold(rt.alloc(), &WORDS, words_told)
 }

@@ -1,90 +1,171 @@
-//! What the tests share: sources that are compiled, run and shown.
+//! What the tests share: sources that are compiled, run and told as texts.
 
 ghost use Rattle.std.specs.Prelude.{◌≤◌};
 
+use cert_checker::Verdict;
 use meaning::interpret;
-use meaning::outcome::Ending;
+use meaning::outcome::{Ending, Outcome};
 use report::compile::{compile, go};
 use report::fault::Fault;
-use report::text::{fault_text, lines};
+use report::text::{fault_text, lines, stop_text};
 use stack_machine::bytes::Counted;
 use stack_machine::stop::Stop;
 use std::alloc::{AllocError, Global};
-use std::fmt::Debug;
 use std::test::Fail;
 
 pub(crate) const CELLS: u32 = 1_000_000;
 
-/// Fails at the first row that doesn't hold.
-pub(crate) fn all_hold<Row: Debug, F: Fn(Global, &Row) -> Result<bool, Fail>>(
-    alloc: Global,
-    rows: &[Row],
-    holds: F,
-) -> Result<(), Fail>
-    requires { F.IsAlwaysCallable holds }
-{
-    for row in rows {
-        if !holds(alloc, row)? {
-            return Err(Fail::new(format!(in alloc; "{row:?} doesn't hold")?));
-        }
-    }
-    Ok(())
-}
-
 // What a run of a source shows.
-#[derive(Debug, Drop)]
+#[derive(Drop)]
 pub(crate) struct Shown {
-    pub(crate) report: Vec<u8>,
+    pub(crate) verdict: Verdict,
     pub(crate) output: Vec<u8>,
     pub(crate) stop: Stop,
+}
+
+// Compiles and runs a source without input, and gives the output back behind what was written to it.
+pub(crate) fn run_into(
+    alloc: Global,
+    output: Vec<u8>,
+    source: &[u8],
+    certificate: Option<&[u8]>,
+    cells: u32,
+    budget: u64,
+) -> (Result<(Verdict, Stop), Fault>, Vec<u8>)
+    requires { (1 ≤ cells) × (cells ≤ 16777216) }
+{
+    let mut reader = Counted::new(b"".as_slice());
+    let mut writer = Counted::new(output);
+    let ran = go(
+        alloc,
+        source,
+        certificate,
+        &mut reader,
+        &mut writer,
+        cells,
+        budget,
+    );
+    (ran, writer.into_inner())
 }
 
 // Compiles and runs a source without input. The writer is a vector, so it fails for want of memory alone.
 pub(crate) fn show(alloc: Global, source: &[u8], cells: u32, budget: u64) -> Result<Shown, Fault>
     requires { (1 ≤ cells) × (cells ≤ 16777216) }
 {
-    let mut reader = Counted::new(b"".as_slice());
-    let mut writer = Counted::new(Vec::new(alloc));
-    let (verdict, stop) = go(alloc, source, None, &mut reader, &mut writer, cells, budget)?;
+    let (ran, output) = run_into(alloc, Vec::new(alloc), source, None, cells, budget);
+    let (verdict, stop) = ran?;
     if stop == Stop::WriteFailed {
         return Err(Fault::Memory);
     }
     Ok(Shown {
-        report: lines(alloc, &verdict)?,
-        output: writer.into_inner(),
+        verdict,
+        output,
         stop,
     })
 }
 
-// What the reference interpreter writes for a source that compiles, and how it ends.
-pub(crate) fn interpreted(alloc: Global, source: &[u8]) -> Result<(Vec<u8>, Ending), Fault> {
+// What the reference interpreter does with a source that compiles.
+fn interpreted(alloc: Global, source: &[u8]) -> Result<Outcome, Fault> {
     let compiled = compile(alloc, source, None)?;
-    let outcome = interpret(alloc, &compiled.tree, b"", 1_000)?;
-    Ok((outcome.output, outcome.ending))
+    Ok(interpret(alloc, &compiled.tree, b"", 1_000)?)
 }
 
-// The line and the status of a refusal; an empty line where the source compiles. Want of memory is no refusal.
-pub(crate) fn refusal(
-    alloc: Global,
-    source: &[u8],
-    certificate: Option<&[u8]>,
-) -> Result<(Vec<u8>, u8), Fault> {
-    match compile(alloc, source, certificate) {
-        Ok(_) => Ok((Vec::new(alloc), 0)),
-        Err(Fault::Memory) => Err(Fault::Memory),
-        Err(fault) => {
-            let (line, status) = fault_text(alloc, &fault);
-            Ok((Vec::from_slice(alloc, line.as_slice())?, status))
-        }
-    }
+// Whether the interpreter writes what a run shows, and ends as it stops.
+fn is_meant(outcome: &Outcome, shown: &Shown) -> bool {
+    outcome.output.as_slice() == shown.output.as_slice() && is_same_end(shown.stop, outcome.ending)
 }
 
 // Whether a machine's stop and a meaning's ending are the same end.
-pub(crate) fn is_same_end(stop: Stop, ending: Ending) -> bool {
+fn is_same_end(stop: Stop, ending: Ending) -> bool {
     match (stop, ending) {
         (Stop::Finished, Ending::Finished) => true,
         (Stop::Error(site), Ending::Error(id)) => site.id == id,
         _ => false,
+    }
+}
+
+// What a run without a limit to its steps shows. Fails where the interpreter does something else.
+pub(crate) fn agreed(alloc: Global, source: &[u8], cells: u32) -> Result<Shown, Fail>
+    requires { (1 ≤ cells) × (cells ≤ 16777216) }
+{
+    let shown = show(alloc, source, cells, u64::MAX)?;
+    if is_meant(&interpreted(alloc, source)?, &shown) {
+        Ok(shown)
+    } else {
+        Err(Fail::new("the interpreter does something else"))
+    }
+}
+
+// Some texts behind one another.
+fn joined(alloc: Global, parts: &[&[u8]]) -> Result<String, Fail> {
+    let mut text = Vec::new(alloc);
+    for part in parts {
+        text.extend_from_slice(part)?;
+    }
+    Ok(String::from_utf8(text)?)
+}
+
+// The line of a stop, a bar and the status.
+pub(crate) fn stop_told(alloc: Global, stop: &Stop) -> Result<String, Fail> {
+    let (line, status) = stop_text(alloc, stop);
+    joined(
+        alloc,
+        &[line.as_slice(), b"|", &[b'0'.saturating_add(status)]],
+    )
+}
+
+// The lines of the open sites, the output, and the line and the status of the stop, with bars between them.
+pub(crate) fn shown_told(alloc: Global, shown: &Shown) -> Result<String, Fail> {
+    let sites = lines(alloc, &shown.verdict)?;
+    let stop = stop_told(alloc, &shown.stop)?;
+    let parts = [
+        sites.as_slice(),
+        b"|",
+        shown.output.as_slice(),
+        b"|",
+        stop.as_bytes(),
+    ];
+    joined(alloc, &parts)
+}
+
+// What a run on ample cells shows, told.
+pub(crate) fn agreed_told(alloc: Global, source: &[u8]) -> Result<String, Fail> {
+    shown_told(alloc, &agreed(alloc, source, CELLS)?)
+}
+
+// What compiling finds out of a source.
+pub(crate) fn checked(
+    alloc: Global,
+    source: &[u8],
+    certificate: Option<&[u8]>,
+) -> Result<Verdict, Fault> {
+    Ok(compile(alloc, source, certificate)?.verdict)
+}
+
+// How many statements and expressions a source has.
+pub(crate) fn visits(alloc: Global, source: &[u8]) -> Result<u64, Fault> {
+    Ok(checked(alloc, source, None)?.visits)
+}
+
+// The line of a refusal; an empty text where the source compiles. Fails for want of memory, and where the line has no
+// end or the status isn't that of a refusal.
+pub(crate) fn refusal(
+    alloc: Global,
+    source: &[u8],
+    certificate: Option<&[u8]>,
+) -> Result<String, Fail> {
+    match checked(alloc, source, certificate) {
+        Ok(_) => Ok(String::new(alloc)),
+        Err(fault) => refusal_told(alloc, &fault),
+    }
+}
+
+fn refusal_told(alloc: Global, fault: &Fault) -> Result<String, Fail> {
+    let (line, status) = fault_text(alloc, fault);
+    if status == 2 && line.as_slice().ends_with(b"\n") {
+        joined(alloc, &[line.as_slice()])
+    } else {
+        Err(Fail::new("no line of a refusal"))
     }
 }
 
