@@ -4,8 +4,9 @@ use crate::shown::{agreed, refusal};
 use stack_machine::stop::Stop;
 use std::alloc::{AllocError, Global};
 use std::test::Fail;
+use test_words::texts::next_random;
 
-// Numbers that look random: a linear congruential generator.
+// Numbers that look random.
 #[derive(Drop)]
 struct Numbers {
     state: u64,
@@ -13,10 +14,7 @@ struct Numbers {
 
 impl Numbers {
     fn next(&mut self) -> usize {
-        self.state = self
-            .state
-            .wrapping_mul(6_364_136_223_846_793_005)
-            .wrapping_add(1_442_695_040_888_963_407);
+        self.state = next_random(self.state);
         (self.state >> 40) as usize
     }
 

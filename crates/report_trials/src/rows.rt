@@ -452,7 +452,8 @@ static WORDS: [(&[&str], &str); 5] = [
 fn words_told(alloc: Global, words: &&[&str]) -> Result<String, Fail> {
     let told = match pcom_words(alloc, words) {
         Ok(words) => asked(&words),
-        Err(fault) => refused(&fault),
+        Err(WordsFault::Words(error)) => refused(error.exit_code()),
+        Err(WordsFault::Memory) => return Err(Fault::Memory.into()),
     };
     Ok(String::from_str(alloc, told)?)
 }
@@ -465,11 +466,11 @@ fn asked(words: &PcomWords<'_>) -> &'static str {
     }
 }
 
-fn refused(fault: &WordsFault) -> &'static str {
-    match fault {
-        WordsFault::Words(error) if error.exit_code() == 2 => "refused",
-        WordsFault::Words(_) => "another status",
-        WordsFault::Memory => "no memory",
+fn refused(status: i32) -> &'static str {
+    if status == 2 {
+        "refused"
+    } else {
+        "another status"
     }
 }
 

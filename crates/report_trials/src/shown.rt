@@ -156,6 +156,7 @@ pub(crate) fn refusal(
 ) -> Result<String, Fail> {
     match checked(alloc, source, certificate) {
         Ok(_) => Ok(String::new(alloc)),
+        Err(Fault::Memory) => Err(Fault::Memory.into()),
         Err(fault) => refusal_told(alloc, &fault),
     }
 }
