@@ -1,7 +1,9 @@
 -- What the words `pcom [--go] SOURCE` say: the matches that a command of these two arguments has on them, by clap's own
 -- definitions.
 use Rattle.std.specs.Prelude.{◌≡◌, ⊤, Bool, true, false, codes, List, [], Option, Some, None}
-use Rattle.clap.specs.Words.{App, IsAmong, Rule, Text, first_of, kind_of, matches_of, new_app, new_rule, one_of, with_rule}
+use Rattle.clap.specs.Words.{App, IsAmong, Rule, Text, first_of, kind_of, matches_of, new_app, new_rule, one_of, rule_of, with_rule}
+use Rattle.clap.specs.Built.{IsPlainArg}
+use Rattle.clap.specs.declared.builder.arg.Arg.{Arg}
 use Rattle.clap.specs.Simple.{on_top}
 use Rattle.clap.specs.Faults.{fault_of}
 use Rattle.clap.specs.declared.error.Error.{Error}
@@ -24,6 +26,12 @@ go = record (new_rule (codes "go")) { long = Some (codes "go"); action = Some Se
 -- the one value, which has to be there
 abbrev pub source : Rule
 source = record (new_rule (codes "source")) { value_names = 1; required = true; action = Some Set }
+
+-- an argument of clap's that is built by such a rule, and has nothing else
+pub record IsArgument (wanted : Rule) (arg : Arg) : Type 0 where
+  pub rule : rule_of arg ≡ wanted
+  pub plain : IsPlainArg arg
+  pub own : arg.global ≡ false
 
 -- the command, which also knows `--help` and `--version`
 abbrev pub pcom : App

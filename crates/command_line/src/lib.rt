@@ -3,8 +3,9 @@
 
 ghost use Rattle.std.specs.Prelude.{◌≡◌, MatchResult, map};
 ghost use Rattle.clap.specs.Words.{kind_of};
+ghost use Rattle.clap.specs.Built.{TakesValue};
 ghost use Rattle.clap.specs.declared.error.kind.ErrorKind.TheVariants as ErrorKind;
-ghost use Rattle.command_line.specs.Words.{AreSaid, IsWordsFault, words_fault};
+ghost use Rattle.command_line.specs.Words.{AreSaid, IsArgument, IsWordsFault, words_fault, go, source};
 ghost use Rattle.command_line.specs.declared.WordsFault.TheVariants.{Memory};
 
 use clap::{Arg, ArgAction, Command};
@@ -50,22 +51,35 @@ impl From<clap::Error> for WordsFault {
 pub fn pcom_words<'a>(alloc: Global, words: &'a [&'a str]) -> Result<PcomWords<'a>, WordsFault>
     ensures { MatchResult result (AreSaid (map (λ w. w.now) words.entry.now)) (IsWordsFault (map (λ w. w.now) words.entry.now)) }
 {
-    let go = Arg::new(alloc, "go")
-        .long("go")
-        .help("Runs the program")
-        .action(ArgAction::SetTrue);
-    let source = Arg::new(alloc, "source")
-        .value_name("SOURCE")
-        .help("The Pascal source")
-        .required(true)
-        .action(ArgAction::Set);
     let command = Command::new(alloc, "pcom")
         .version("0.1.0")
-        .arg(go)?
-        .arg(source)?;
+        .arg(go_argument(alloc))?
+        .arg(source_argument(alloc))?;
     let matches = command.try_get_matches_from(words)?;
     Ok(PcomWords {
         source: matches.get_str("source").unwrap_or(""),
         go: matches.get_flag("go"),
     })
+}
+
+// The flag `--go`.
+fn go_argument(alloc: Global) -> Arg<'static>
+    ensures { IsArgument go result }
+{
+    Arg::new(alloc, "go")
+        .long("go")
+        .help("Runs the program")
+        .action(ArgAction::SetTrue)
+}
+
+// The one value, which has to be there.
+fn source_argument(alloc: Global) -> Arg<'static>
+    ensures argument { IsArgument source result }
+    ensures value { TakesValue result }
+{
+    Arg::new(alloc, "source")
+        .value_name("SOURCE")
+        .help("The Pascal source")
+        .required(true)
+        .action(ArgAction::Set)
 }
