@@ -1,6 +1,6 @@
 use domain::Domain;
 use domain::interval::Interval;
-use std::alloc::Global;
+use std::alloc::{AllocError, Global};
 use std::test::Fail;
 use test_words::rows::all_hold;
 
@@ -102,13 +102,13 @@ fn made(own: &Interval, operation: Operation, other: &Interval) -> Interval {
     }
 }
 
-fn told(alloc: Global, row: &Row) -> Result<String, Fail> {
+fn told(alloc: Global, row: &Row) -> Result<String, AllocError> {
     let (own, operation, other) = *row;
     let made = made(&range(own), operation, &range(other));
     if made.is_empty() {
-        return Ok(String::from_str(alloc, "none")?);
+        return String::from_str(alloc, "none");
     }
-    Ok(format!(in alloc; "{}..{}", made.first(), made.last())?)
+    format!(in alloc; "{}..{}", made.first(), made.last())
 }
 
 #[test]

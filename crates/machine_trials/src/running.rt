@@ -134,7 +134,7 @@ fn run_to(
 }
 
 /// How many bytes were taken, and the last of them, what each call offered, how often the writer failed, and the stop.
-fn narrow_told(alloc: Global, row: &NarrowRow) -> Result<String, Fail> {
+fn narrow_told(alloc: Global, row: &NarrowRow) -> Result<String, AllocError> {
     let narrow = Narrow {
         at_once: row.1,
         in_all: row.2,
@@ -145,11 +145,11 @@ fn narrow_told(alloc: Global, row: &NarrowRow) -> Result<String, Fail> {
     writer_told(alloc, &writer, word)
 }
 
-fn writer_told(alloc: Global, writer: &Counted<Narrow>, word: &str) -> Result<String, Fail> {
+fn writer_told(alloc: Global, writer: &Counted<Narrow>, word: &str) -> Result<String, AllocError> {
     let failures = writer.failures();
     let narrow = writer.inner();
     let (count, last, offered) = (narrow.taken.len(), narrow.taken.last(), &narrow.offered);
-    Ok(format!(in alloc; "{count} {last:?} of {offered:?}, failures: {failures} {word}")?)
+    format!(in alloc; "{count} {last:?} of {offered:?}, failures: {failures} {word}")
 }
 
 /// `7` in a width of 5000.

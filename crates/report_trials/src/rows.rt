@@ -340,9 +340,9 @@ static SENTENCES: [((&str, &str), &str); 19] = [
     ((LEAST, "pcert 1"), "certificate:1: a line without its end"),
 ];
 
-fn sentence_of(alloc: Global, row: &(&str, &str)) -> Result<String, Fail> {
+fn sentence_of(alloc: Global, row: &(&str, &str)) -> Result<String, Fault> {
     match checked(alloc, row.0.as_bytes(), Some(row.1.as_bytes())) {
-        Err(Fault::Memory) => Err(Fault::Memory.into()),
+        Err(Fault::Memory) => Err(Fault::Memory),
         Err(fault) => Ok(format!(in alloc; "{fault}")?),
         Ok(_) => Ok(String::new(alloc)),
     }
@@ -449,11 +449,11 @@ static WORDS: [(&[&str], &str); 5] = [
     (&["pcom", "x.pas", "y.pas"], "refused"),
 ];
 
-fn words_told(alloc: Global, words: &&[&str]) -> Result<String, Fail> {
+fn words_told(alloc: Global, words: &&[&str]) -> Result<String, Fault> {
     let told = match pcom_words(alloc, words) {
         Ok(words) => asked(&words),
         Err(WordsFault::Words(error)) => refused(error.exit_code()),
-        Err(WordsFault::Memory) => return Err(Fault::Memory.into()),
+        Err(WordsFault::Memory) => return Err(Fault::Memory),
     };
     Ok(String::from_str(alloc, told)?)
 }

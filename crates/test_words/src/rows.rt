@@ -6,11 +6,13 @@ use std::fmt::Debug;
 use std::test::Fail;
 
 /// Fails at the first row that doesn't give the text that stands beside it.
-pub fn all_hold<Row: Debug, F: Fn(Global, &Row) -> Result<String, Fail>>(
+pub fn all_hold<Row: Debug, E, F: Fn(Global, &Row) -> Result<String, E>>(
     alloc: Global,
     rows: &[(Row, &str)],
     told: F,
 ) -> Result<(), Fail>
+where
+    Fail: From<E>,
     requires { F.IsAlwaysCallable told }
     ensures { OnOk result (All (λ row. GivesText (F.post told alloc) row.0 row.1.now) rows.now) }
 {

@@ -17,11 +17,11 @@ pub(crate) fn fault_told(alloc: Global, fault: LexFault) -> Result<String, Alloc
 }
 
 /// How many tokens a text has, or its fault.
-fn outcome_told(alloc: Global, text: &&[u8]) -> Result<String, Fail> {
-    Ok(match tokens(alloc, *text) {
+fn outcome_told(alloc: Global, text: &&[u8]) -> Result<String, AllocError> {
+    match tokens(alloc, *text) {
         Ok(list) => format!(in alloc; "{}", list.len()),
         Err(fault) => fault_told(alloc, fault),
-    }?)
+    }
 }
 
 /// Texts, and their first fault.
@@ -62,11 +62,11 @@ fn tells_the_first_fault(rt: HostRuntime) -> Result<(), Fail> {
 }
 
 /// The place, the kind and the spelling of each token of a text, or its fault.
-fn tokens_told(alloc: Global, text: &&str) -> Result<String, Fail> {
-    Ok(match tokens(alloc, text.as_bytes()) {
+fn tokens_told(alloc: Global, text: &&str) -> Result<String, AllocError> {
+    match tokens(alloc, text.as_bytes()) {
         Ok(list) => list_told(alloc, &list),
         Err(fault) => fault_told(alloc, fault),
-    }?)
+    }
 }
 
 fn list_told(alloc: Global, list: &[Token<'_>]) -> Result<String, AllocError> {
@@ -151,7 +151,7 @@ fn knows_each_symbol_and_word(rt: HostRuntime) -> Result<(), Fail> {
 }
 
 /// What a text of so many bytes gives, each alike.
-fn long_told(alloc: Global, row: &(u8, usize)) -> Result<String, Fail> {
+fn long_told(alloc: Global, row: &(u8, usize)) -> Result<String, AllocError> {
     let text = vec![in alloc; row.0; row.1]?;
     outcome_told(alloc, &text.as_slice())
 }
@@ -189,7 +189,7 @@ fn number_of(alloc: Global, text: &[u8]) -> Option<u8> {
 }
 
 /// The number of the fault of each of sixteen bytes alone, or 0.
-fn bytes_told(alloc: Global, sixteenth: &u8) -> Result<String, Fail> {
+fn bytes_told(alloc: Global, sixteenth: &u8) -> Result<String, AllocError> {
     let mut told = String::new(alloc);
     for low in 0..16u8 {
         let byte = sixteenth.wrapping_mul(16).wrapping_add(low);

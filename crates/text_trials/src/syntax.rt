@@ -50,8 +50,8 @@ fn program_told(alloc: Global, program: &Program<'_>, asked: Asked) -> Result<St
 }
 
 /// The tree of a text, or its fault.
-fn tree_told(alloc: Global, text: &&str) -> Result<String, Fail> {
-    Ok(told(alloc, text, Asked::Tree)?)
+fn tree_told(alloc: Global, text: &&str) -> Result<String, AllocError> {
+    told(alloc, text, Asked::Tree)
 }
 
 static FAULTS: [(&str, &str); 39] = [
@@ -176,9 +176,9 @@ fn operators(expression: &Expr<'_>) -> Operators {
 }
 
 /// The operators of an expression, or the fault of a program that assigns it.
-fn operators_told(alloc: Global, expression: &&str) -> Result<String, Fail> {
+fn operators_told(alloc: Global, expression: &&str) -> Result<String, AllocError> {
     let text = format!(in alloc; "program p; begin x := {expression} end.")?;
-    Ok(told(alloc, text.as_str(), Asked::Operators)?)
+    told(alloc, text.as_str(), Asked::Operators)
 }
 
 static PRECEDENCES: [(&str, &str); 11] = [
@@ -238,10 +238,10 @@ fn number_at(alloc: Global, nest: &Nest, count: usize) -> u8 {
 }
 
 /// The numbers of the faults at both numbers of levels.
-fn nest_told(alloc: Global, nest: &Nest) -> Result<String, Fail> {
+fn nest_told(alloc: Global, nest: &Nest) -> Result<String, AllocError> {
     let first = number_at(alloc, nest, nest.5);
     let second = number_at(alloc, nest, nest.6);
-    Ok(format!(in alloc; "{first} {second}")?)
+    format!(in alloc; "{first} {second}")
 }
 
 static NESTS: [(Nest, &str); 14] = [

@@ -72,8 +72,8 @@ fn told(alloc: Global, tree: Result<Tree, TypeFault>, asked: Asked) -> Result<St
     }
 }
 
-fn open_told(alloc: Global, row: &Row) -> Result<String, Fail> {
-    Ok(told(alloc, tree_of_row(alloc, row), Asked::OpenSites)?)
+fn open_told(alloc: Global, row: &Row) -> Result<String, AllocError> {
+    told(alloc, tree_of_row(alloc, row), Asked::OpenSites)
 }
 
 /// Statements, and their open sites.
@@ -165,9 +165,9 @@ fn leaves_open_where_a_run_may_err(rt: HostRuntime) -> Result<(), Fail> {
     all_hold(rt.alloc(), &ROWS, open_told)
 }
 
-fn visits_told(alloc: Global, statements: &&str) -> Result<String, Fail> {
+fn visits_told(alloc: Global, statements: &&str) -> Result<String, AllocError> {
     let tree = tree_of(alloc, "x, y: integer", statements);
-    Ok(told(alloc, tree, Asked::Visits)?)
+    told(alloc, tree, Asked::Visits)
 }
 
 /// Statements, and how many entries they and the compound that holds them have.

@@ -25,8 +25,8 @@ fn instructions_told(alloc: Global, code: Result<Code, GenFault>) -> Result<Stri
     }
 }
 
-fn code_told(alloc: Global, statements: &&str) -> Result<String, Fail> {
-    Ok(instructions_told(alloc, code_of(alloc, statements))?)
+fn code_told(alloc: Global, statements: &&str) -> Result<String, AllocError> {
+    instructions_told(alloc, code_of(alloc, statements))
 }
 
 /// A sign comes after its term, a divisor is checked before the quotient, each width behind its value, and a square
@@ -139,8 +139,8 @@ fn size_of(alloc: Global, row: &(&str, usize)) -> Result<usize, GenFault> {
     }
 }
 
-fn size_told(alloc: Global, row: &(&str, usize)) -> Result<String, Fail> {
-    Ok(format!(in alloc; "{:?}", size_of(alloc, row))?)
+fn size_told(alloc: Global, row: &(&str, usize)) -> Result<String, AllocError> {
+    format!(in alloc; "{:?}", size_of(alloc, row))
 }
 
 /// Code has a million instructions at most; a sign is a fourth instruction of its parameter.

@@ -7,7 +7,7 @@ use typed_tree::site::{Site, SiteKind};
 use typed_tree::sites;
 
 /// The sites of a program, whose ids count up from 0.
-fn program_told(alloc: Global, statements: &&str) -> Result<String, Fail> {
+fn program_told(alloc: Global, statements: &&str) -> Result<String, TypeFault> {
     let tree = tree_of(alloc, "x, y, z: integer; b: boolean", statements)?;
     Ok(ordered_told(alloc, sites(&tree))?)
 }
@@ -53,11 +53,11 @@ fn sites_stand_in_the_order_of_the_text(rt: HostRuntime) -> Result<(), Fail> {
 }
 
 /// The blocks of a program.
-fn blocks_told(alloc: Global, source: &&str) -> Result<String, Fail> {
-    Ok(match resolved(alloc, source) {
+fn blocks_told(alloc: Global, source: &&str) -> Result<String, AllocError> {
+    match resolved(alloc, source) {
         Ok(tree) => format!(in alloc; "{:?}", tree.blocks),
         Err(fault) => sources::fault_told(alloc, fault),
-    }?)
+    }
 }
 
 /// Operators are entered between their operands, a width behind its value, and a required name may be redefined.
@@ -94,8 +94,8 @@ fn entries_stand_in_the_order_of_a_run(rt: HostRuntime) -> Result<(), Fail> {
 }
 
 /// Why a program has no typed tree; nothing where it has one.
-fn fault_told(alloc: Global, source: &&str) -> Result<String, Fail> {
-    Ok(why_told(alloc, resolved(alloc, source).err())?)
+fn fault_told(alloc: Global, source: &&str) -> Result<String, AllocError> {
+    why_told(alloc, resolved(alloc, source).err())
 }
 
 fn why_told(alloc: Global, why: Option<TypeFault>) -> Result<String, AllocError> {
@@ -106,9 +106,9 @@ fn why_told(alloc: Global, why: Option<TypeFault>) -> Result<String, AllocError>
 }
 
 /// The same of statements, which stand on line 2.
-fn statement_told(alloc: Global, statements: &&str) -> Result<String, Fail> {
+fn statement_told(alloc: Global, statements: &&str) -> Result<String, AllocError> {
     let tree = tree_of(alloc, "b: boolean; x: integer", statements);
-    Ok(why_told(alloc, tree.err())?)
+    why_told(alloc, tree.err())
 }
 
 /// Types that don't fit, wrong parameters, and statements that break no rule.
@@ -177,11 +177,11 @@ fn programs_that_break_a_rule_are_refused(rt: HostRuntime) -> Result<(), Fail> {
 }
 
 /// The number and the name of the kind with a number.
-fn kind_told(alloc: Global, number: &u8) -> Result<String, Fail> {
-    Ok(match SiteKind::with_number(*number) {
+fn kind_told(alloc: Global, number: &u8) -> Result<String, AllocError> {
+    match SiteKind::with_number(*number) {
         Some(kind) => format!(in alloc; "{} {}", kind.number(), kind.name()),
         None => Ok(String::new(alloc)),
-    }?)
+    }
 }
 
 static KINDS: [(u8, &str); 15] = [
