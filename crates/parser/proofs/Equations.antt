@@ -9,6 +9,7 @@ use Rattle.lexer.specs.declared.token.Kind.TheVariants as kind
 use Rattle.lexer.specs.declared.token.Symbol.TheVariants as symbol
 use Rattle.lexer.specs.declared.token.Word.TheVariants as word
 use Rattle.parser.specs.declared.tree.Name.{Name}
+use Rattle.parser.specs.declared.tree.Sign.{Sign}
 use Rattle.parser.specs.declared.tree.Expr.{Expr}
 use Rattle.parser.specs.declared.tree.Actual.{Actual}
 use Rattle.parser.specs.declared.tree.Link.{Link}
@@ -62,6 +63,33 @@ form-Parenthesized p b = ap form.expr_form (sym (tree.rolls-Parenthesized p b)) 
 pub levels-Parenthesized : (p : Place) (b : Box Expr Global) → nest.expr_levels (tree.Parenthesized p b) ≡ 1 + nest.expr_levels b.value
 levels-Parenthesized p b = ap nest.expr_levels (sym (tree.rolls-Parenthesized p b)) ∙ levels_of (expr.Parenthesized p b)
 
+pub spelling-Number : (v : ℕ) (p : Place) → spell.expr_spelling (tree.Number v p) ≡ spell.of_kind_at (kind.Number v) p ∷ []
+spelling-Number v p = ap spell.expr_spelling (sym (tree.rolls-Number v p)) ∙ spelling_of (expr.Number v p)
+
+pub form-Number : (v : ℕ) (p : Place) → form.expr_form (tree.Number v p) ≡ record { level = form.factor_level; well = true }
+form-Number v p = ap form.expr_form (sym (tree.rolls-Number v p)) ∙ form_of (expr.Number v p)
+
+pub levels-Number : (v : ℕ) (p : Place) → nest.expr_levels (tree.Number v p) ≡ 0
+levels-Number v p = ap nest.expr_levels (sym (tree.rolls-Number v p)) ∙ levels_of (expr.Number v p)
+
+pub spelling-Not : (p : Place) (b : Box Expr Global) → spell.expr_spelling (tree.Not p b) ≡ spell.of_kind_at (kind.Word word.Not) p ∷ spell.expr_spelling b.value
+spelling-Not p b = ap spell.expr_spelling (sym (tree.rolls-Not p b)) ∙ spelling_of (expr.Not p b)
+
+pub form-Not : (p : Place) (b : Box Expr Global) → form.expr_form (tree.Not p b) ≡ record { level = form.factor_level; well = form.fits form.factor_level (form.expr_form b.value) }
+form-Not p b = ap form.expr_form (sym (tree.rolls-Not p b)) ∙ form_of (expr.Not p b)
+
+pub levels-Not : (p : Place) (b : Box Expr Global) → nest.expr_levels (tree.Not p b) ≡ 1 + nest.expr_levels b.value
+levels-Not p b = ap nest.expr_levels (sym (tree.rolls-Not p b)) ∙ levels_of (expr.Not p b)
+
+pub spelling-Signed : (s : Sign) (p : Place) (b : Box Expr Global) → spell.expr_spelling (tree.Signed s p b) ≡ spell.sign s p ∷ spell.expr_spelling b.value
+spelling-Signed s p b = ap spell.expr_spelling (sym (tree.rolls-Signed s p b)) ∙ spelling_of (expr.Signed s p b)
+
+pub form-Signed : (s : Sign) (p : Place) (b : Box Expr Global) → form.expr_form (tree.Signed s p b) ≡ record { level = form.signed_level; well = form.fits form.product_level (form.expr_form b.value) }
+form-Signed s p b = ap form.expr_form (sym (tree.rolls-Signed s p b)) ∙ form_of (expr.Signed s p b)
+
+pub levels-Signed : (s : Sign) (p : Place) (b : Box Expr Global) → nest.expr_levels (tree.Signed s p b) ≡ nest.expr_levels b.value
+levels-Signed s p b = ap nest.expr_levels (sym (tree.rolls-Signed s p b)) ∙ levels_of (expr.Signed s p b)
+
 pub spelling-Chain : (b : Box Expr Global) (v : Vec Link Global) → spell.expr_spelling (tree.Chain b v) ≡ spell.expr_spelling b.value ++ spell.joined (map spell.link_spelling v.items)
 spelling-Chain b v = ap spell.expr_spelling (sym (tree.rolls-Chain b v)) ∙ spelling_of (expr.Chain b v)
 
@@ -112,3 +140,30 @@ form-Compound v = ap form.is_statement (sym (statement.rolls-Compound v)) ∙ fo
 
 pub levels-Compound : (v : Vec Stmt Global) → nest.stmt_levels (statement.Compound v) ≡ 1 + nest.deepest (map nest.stmt_levels v.items)
 levels-Compound v = ap nest.stmt_levels (sym (statement.rolls-Compound v)) ∙ fold-roll-Stmt ℕ nest.stmt_step (stmt.Compound v)
+
+pub spelling-Empty : spell.stmt_spelling statement.Empty ≡ []
+spelling-Empty = ap spell.stmt_spelling (sym statement.rolls-Empty) ∙ fold-roll-Stmt spell.Spelling spell.stmt_step stmt.Empty
+
+pub form-Empty : form.is_statement statement.Empty ≡ true
+form-Empty = ap form.is_statement (sym statement.rolls-Empty) ∙ fold-roll-Stmt Bool form.stmt_step stmt.Empty
+
+pub levels-Empty : nest.stmt_levels statement.Empty ≡ 1
+levels-Empty = ap nest.stmt_levels (sym statement.rolls-Empty) ∙ fold-roll-Stmt ℕ nest.stmt_step stmt.Empty
+
+pub spelling-Assign : (n : Name) (p : Place) (e : Expr) → spell.stmt_spelling (statement.Assign n p e) ≡ spell.identifier n ∷ spell.of_kind_at (kind.Symbol symbol.Becomes) p ∷ spell.expr_spelling e
+spelling-Assign n p e = ap spell.stmt_spelling (sym (statement.rolls-Assign n p e)) ∙ fold-roll-Stmt spell.Spelling spell.stmt_step (stmt.Assign n p e)
+
+pub form-Assign : (n : Name) (p : Place) (e : Expr) → form.is_statement (statement.Assign n p e) ≡ form.is_expression e
+form-Assign n p e = ap form.is_statement (sym (statement.rolls-Assign n p e)) ∙ fold-roll-Stmt Bool form.stmt_step (stmt.Assign n p e)
+
+pub levels-Assign : (n : Name) (p : Place) (e : Expr) → nest.stmt_levels (statement.Assign n p e) ≡ 1 + nest.expr_levels e
+levels-Assign n p e = ap nest.stmt_levels (sym (statement.rolls-Assign n p e)) ∙ fold-roll-Stmt ℕ nest.stmt_step (stmt.Assign n p e)
+
+pub spelling-Call : (n : Name) (v : Vec Actual Global) → spell.stmt_spelling (statement.Call n v) ≡ spell.identifier n ∷ spell.in_parentheses (map spell.actual_spelling v.items)
+spelling-Call n v = ap spell.stmt_spelling (sym (statement.rolls-Call n v)) ∙ fold-roll-Stmt spell.Spelling spell.stmt_step (stmt.Call n v)
+
+pub form-Call : (n : Name) (v : Vec Actual Global) → form.is_statement (statement.Call n v) ≡ list_all form.is_actual v.items
+form-Call n v = ap form.is_statement (sym (statement.rolls-Call n v)) ∙ fold-roll-Stmt Bool form.stmt_step (stmt.Call n v)
+
+pub levels-Call : (n : Name) (v : Vec Actual Global) → nest.stmt_levels (statement.Call n v) ≡ 1 + nest.deepest (map nest.actual_levels v.items)
+levels-Call n v = ap nest.stmt_levels (sym (statement.rolls-Call n v)) ∙ fold-roll-Stmt ℕ nest.stmt_step (stmt.Call n v)

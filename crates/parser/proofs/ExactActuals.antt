@@ -1,8 +1,7 @@
 -- The rules of actuals read each spelling of their form.
-use Rattle.std.proofs.Common.{◌≡◌, ℕ, ◌+◌, ◌≤◌, Bool, true, List, [], ◌∷◌, map, Option, Some, None, is_some, not, false, IfNone, Result, Ok, refl, subst, sym, ap, ◌∙◌, arith}
+use Rattle.std.proofs.Common.{◌≡◌, ℕ, ◌+◌, ◌≤◌, true, List, [], ◌∷◌, map, Option, Some, None, Result, Ok, refl, subst, sym, ap, ◌∙◌, arith}
 use Rattle.std.proofs.lemmas.List.{append-nil}
 use Rattle.lexer.specs.declared.place.Place.{Place}
-use Rattle.lexer.specs.declared.token.Kind.{Kind}
 use Rattle.lexer.specs.declared.token.Kind.TheVariants as kind
 use Rattle.lexer.specs.declared.token.Symbol.TheVariants as symbol
 use Rattle.lexer.specs.declared.token.Token.{Token}
@@ -21,14 +20,6 @@ use Rattle.parser.proofs.Equations.{spelling-Alone, form-Alone, levels-Alone, sp
 use Rattle.parser.proofs.Exact.{parted, begins, same_first, within_above}
 use Rattle.parser.proofs.ExactChains.{close_ends, comma_ends, colon_ends}
 use Rattle.parser.proofs.ExactLists.{Parts, PartsLeft, PartThenOthers, ComesBehind, one_more, no_more, parts_begin, parts_go_on, comes_behind}
-
--- no token was taken where the call answered none
-pub not_taken : (a b : Cursor) (k : Kind) (o : Option Place) → is_some o ≡ false → IfNone o (b ≡ a) → IfNone o (¬ (next_kind a.rest.now ≡ Some k)) → (b ≡ a) × ¬ (next_kind a.rest.now ≡ Some k)
-not_taken a b k None none kept missed = (kept, missed)
-not_taken a b k (Some place) none kept missed = cc
-
-pub missed_if : (a b : Cursor) (k : Kind) (o : Option Place) (none : Bool) → is_some o ≡ not none → none ≡ true → IfNone o (b ≡ a) → IfNone o (¬ (next_kind a.rest.now ≡ Some k)) → (b ≡ a) × ¬ (next_kind a.rest.now ≡ Some k)
-missed_if a b k o none e h kept missed = not_taken a b k o (e ∙ ap not h) kept missed
 
 -- ---- an actual
 
@@ -197,3 +188,8 @@ opened_actuals levels p a b c (e ∷ es) k ends h =
       closed = r.2;
       closes = begins (mark symbol.CloseParenthesis) [] r.0 c r.2;
     }
+
+-- where no parenthesis comes there are no actuals
+pub no_actuals : (levels : ℕ) (a b : Cursor) (others : List Token) (actuals : List Actual) → b ≡ a → NoNext (kind.Symbol symbol.OpenParenthesis) a.rest.now → BeginsActuals levels a.rest.now others actuals → b.rest.now ≡ others
+no_actuals levels a b others [] same none h = ap (λ (k : Cursor). k.rest.now) same ∙ h.spelled
+no_actuals levels a b others (x ∷ xs) same none h = absurd (none (begins (mark symbol.OpenParenthesis) _ a.rest.now others h.spelled))

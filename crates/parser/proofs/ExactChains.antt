@@ -1,6 +1,6 @@
 -- The rules of chains read each spelling of their form: what comes behind an operand, and where a chain goes on or ends.
 -- All levels are alike.
-use Rattle.std.proofs.Common.{◌≡◌, ℕ, ◌+◌, ◌≤◌, max, Bool, true, false, ◌&&◌, ◌||◌, nat_le, nat_lt, nat_eq, List, [], ◌∷◌, ◌++◌, map, length, Some, Result, Ok, Err, MatchResult, refl, subst, sym, ap, ◌∙◌, arith}
+use Rattle.std.proofs.Common.{◌≡◌, ℕ, ◌+◌, ◌≤◌, max, Bool, true, false, ◌&&◌, ◌||◌, nat_le, nat_lt, nat_eq, List, [], ◌∷◌, ◌++◌, map, length, Some, Result, Ok, refl, subst, sym, ap, ◌∙◌, arith}
 use Rattle.std.specs.List.{list_all}
 use Rattle.std.proofs.lemmas.Bool.{le-leb, leb-true, leb-false, ltb-true, eqb-true}
 use Rattle.lexer.specs.declared.place.Place.{Place}
@@ -10,8 +10,9 @@ use Rattle.lexer.specs.declared.token.Symbol.TheVariants as symbol
 use Rattle.lexer.specs.declared.token.Word.TheVariants as word
 use Rattle.lexer.specs.declared.token.Token.{Token}
 use Rattle.parser.specs.declared.fault.ParseFault.{ParseFault}
-use Rattle.parser.specs.declared.fault.ParseFault.TheVariants.{Memory}
 use Rattle.parser.specs.declared.cursor.Cursor.{Cursor}
+use Rattle.parser.specs.declared.operator.Level.{Level}
+use Rattle.parser.specs.declared.operator.Level.TheVariants.{Relation, Sum, Product}
 use Rattle.parser.specs.declared.tree.Operator.{Operator}
 use Rattle.parser.specs.declared.tree.Operator.TheVariants as op
 use Rattle.parser.specs.declared.tree.Expr.{Expr}
@@ -26,8 +27,9 @@ use Rattle.parser.specs.WellFormed.{Form, LinkForm, expr_form, is_actual, link_f
 use Rattle.parser.specs.WellFormed as form
 use Rattle.parser.specs.Nesting.{expr_levels, actual_levels, link_levels, deepest}
 use Rattle.parser.specs.Nesting as nest
-use Rattle.parser.specs.Reading.{next_kind, NoOperator, Ends, Stops, ReadWithin, ReadsDeep}
-use Rattle.parser.specs.Rules.{BeginsExpr, IsChain}
+use Rattle.parser.specs.Level.{level_number}
+use Rattle.parser.specs.Reading.{next_kind, NoOperator, Ends, ReadWithin, ReadsDeep}
+use Rattle.parser.specs.Rules.{BeginsExpr, BeginsLinks}
 use Rattle.parser.proofs.Lists.{and_left, and_right, and_true, length_map}
 use Rattle.parser.proofs.Equations.{spelling_of, form_of, levels_of, spelling-Link, form-Link, levels-Link}
 use Rattle.parser.proofs.Exact.{parted, begins, same_first, start_below, other_start}
@@ -88,6 +90,11 @@ operator_is_level op.Less = relation
 operator_is_level op.Greater = relation
 operator_is_level op.LessOrEqual = relation
 operator_is_level op.GreaterOrEqual = relation
+
+pub level_is : (level : Level) → IsLevel (level_number level)
+level_is Relation = relation
+level_is Sum = sum
+level_is Product = product
 
 pub level_below : (level : ℕ) → IsLevel level → level ≤ 3
 level_below level relation = omega arith
@@ -344,25 +351,37 @@ pub operand_answer : (level levels depth : ℕ) (a b : Cursor) (others : List To
 operand_answer level levels depth a b others answer is g ends reads =
     reads depth g.operand g.middle g.begun (operand_ends level (operand_level level) depth g.middle others (operand_above level is) (operand_below level is) ends g.chain)
 
--- what is left of each expression that may stand there
-abbrev pub ChainLeft : ℕ → List Token → List Token → Type 0
-ChainLeft level start now = (depth : ℕ) (e : Expr) (others : List Token) → BeginsExpr level depth start others e → Ends level others → Chain level depth now others
-
--- behind the first operand
-pub chain_begins : (level levels : ℕ) (a b : Cursor) (first : Expr) → IsLevel level → ReadsDeep levels (BeginsExpr (first_level level)) (Ends (first_level level)) a b (Ok first) → ChainLeft level a.rest.now b.rest.now
-chain_begins level levels a b first is reads depth e others h ends =
+-- where an expression's first operand was read, the operators behind it are left
+pub chain_behind : (level levels depth : ℕ) (a b : Cursor) (first e : Expr) (others : List Token) → IsLevel level → ReadsDeep levels (BeginsExpr (first_level level)) (Ends (first_level level)) a b (Ok first)
+    → BeginsExpr level depth a.rest.now others e → Ends level others → Chain level depth b.rest.now others
+chain_behind level levels depth a b first e others is reads h ends =
     let p = chain_parts level depth a.rest.now others e is h in
     subst (λ x. Chain level depth x others) (sym (first_answer level levels depth a b others (Ok first) is p ends reads)) p.chain
 
--- behind one more
-pub chain_left : (level levels : ℕ) (o : Operator) (p : Place) (start : List Token) (a b c : Cursor) (operand : Expr) → IsLevel level → operator_level o ≡ level → Reads a.rest.now (operator o p ∷ []) b.rest.now
-    → ReadsDeep levels (BeginsExpr (operand_level level)) (Ends (operand_level level)) b c (Ok operand) → ChainLeft level start a.rest.now → ChainLeft level start c.rest.now
-chain_left level levels o p start a b c operand is at k reads left depth e others h ends =
-    let g = goes_on level depth o p a.rest.now b.rest.now others at k ends (left depth e others h ends) in
-    subst (λ x. Chain level depth x others) (sym (operand_answer level levels depth b c others (Ok operand) is g ends reads)) g.chain
+-- the operators of a chain
+pub links_of : (level levels : ℕ) (a c : List Token) (h : Chain level levels a c) → BeginsLinks level levels a c h.links
+links_of level levels a c h = record { spelled = h.spelled; formed = h.formed; few = h.few; nests = h.nests }
 
--- the answer of a chain read to its end
-pub read_whole : (levels depth : ℕ) (others : List Token) (new : Cursor) (first : Expr) (rest : List Link) (answer : Result Expr ParseFault) → new.rest.now ≡ others
-    → MatchResult answer (IsChain first rest) (λ fault. fault ≡ Memory) → ReadWithin levels depth others new answer
-read_whole levels depth others new first rest (Ok e) h k = h
-read_whole levels depth others new first rest (Err fault) h k = subst (λ f. Stops levels depth f) (sym k) tt
+-- what is left behind these operators: the others, of a relation none
+pub record ChainStill (level : ℕ) (rest : List Link) (levels : ℕ) (tokens others : List Token) : Type 0 where
+  pub chain : Chain level levels tokens others
+  pub last : level ≡ relation_level → ¬ (rest ≡ []) → tokens ≡ others
+
+-- what is left of each of the operators that may stand there
+abbrev pub LinksLeft : ℕ → List Link → List Token → List Token → Type 0
+LinksLeft level rest start now = (depth : ℕ) (links : List Link) (others : List Token) → BeginsLinks level depth start others links → Ends level others → ChainStill level rest depth now others
+
+-- before the first
+pub links_begin : (level : ℕ) (rest : List Link) (start : List Token) → rest ≡ [] → LinksLeft level rest start start
+links_begin level rest start none depth links others h ends = record {
+  chain = record { links = links; spelled = h.spelled; formed = h.formed; few = h.few; nests = h.nests };
+  last = λ _ some. absurd (some none);
+}
+
+-- behind one more
+pub links_left : (level levels : ℕ) (rest grown : List Link) (o : Operator) (p : Place) (start : List Token) (a b c : Cursor) (operand : Expr) → IsLevel level → operator_level o ≡ level → Reads a.rest.now (operator o p ∷ []) b.rest.now
+    → ReadsDeep levels (BeginsExpr (operand_level level)) (Ends (operand_level level)) b c (Ok operand) → LinksLeft level rest start a.rest.now → LinksLeft level grown start c.rest.now
+links_left level levels rest grown o p start a b c operand is at k reads left depth links others h ends =
+    let g = goes_on level depth o p a.rest.now b.rest.now others at k ends (left depth links others h ends).chain in
+    let same : c.rest.now ≡ g.middle = operand_answer level levels depth b c others (Ok operand) is g ends reads in
+    record { chain = subst (λ x. Chain level depth x others) (sym same) g.chain; last = λ z _. same ∙ g.last z }

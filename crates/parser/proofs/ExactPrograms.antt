@@ -27,7 +27,7 @@ use Rattle.parser.specs.Reading.{next_kind, Anything, NoNext, Next, BeginsStatem
 use Rattle.parser.specs.Syntax.{most, IsRefused}
 use Rattle.parser.proofs.Exact.{parted, begins, same_first}
 use Rattle.parser.proofs.Lists.{and_left, and_right, length_map}
-use Rattle.parser.proofs.Reading.{both}
+use Rattle.parser.proofs.Reading.{both, reads_no_more, reads_fewer}
 use Rattle.parser.proofs.Led.{led, list_begins, led_next, led_some, led_ends}
 
 -- no token of one kind comes where one of another does
@@ -199,6 +199,14 @@ groups_go_on_with start a left next groups others h ends =
 pub group_first : (a c : List Token) (g : VariableGroup) → BeginsGroup a c g → Next kind.Identifier a
 group_first a c g h = let p = group_begins a c g h in names_first a p.middle p.names p.begun
 
+-- behind a group fewer tokens are left
+pub group_fewer : (a c : List Token) (g : VariableGroup) → BeginsGroup a c g → length c < length a
+group_fewer a c g h =
+    let p = group_begins a c g h in
+    let names = reads_no_more (separated symbol.Comma (identifiers p.names)) a p.middle p.begun.spelled in
+    let behind = reads_fewer (mark symbol.Colon) (identifier p.type ∷ mark symbol.Semicolon ∷ []) p.middle c p.behind in
+    omega arith
+
 groups_stop : (a c : List Token) (gs : List VariableGroup) → Reads a (joined (map group_spelling gs)) c → list_all is_group gs ≡ true → NoNext kind.Identifier a → a ≡ c
 groups_stop a c [] h f none = h
 groups_stop a c (g ∷ gs) h f none = let p = groups_part a c g gs h f in absurd (none (group_first a p.middle p.group p.begun))
@@ -223,6 +231,11 @@ parameters_opened p a b c (n ∷ ns) k h ends =
     let r = parted (separated symbol.Comma (identifiers (n ∷ ns))) (mark symbol.CloseParenthesis ∷ []) b c
     (same_first (of_kind_at (kind.Symbol symbol.OpenParenthesis) p) (mark symbol.OpenParenthesis) (separated symbol.Comma (identifiers (n ∷ ns)) ++ mark symbol.CloseParenthesis ∷ []) a b c k h).1 in
     record { names = n ∷ ns; middle = r.0; begun = record { some = omega arith; spelled = r.1 }; closed = r.2 }
+
+-- where none comes there are none
+pub no_parameters : (a b : Cursor) (others : List Token) (names : List Name) → b ≡ a → NoNext (kind.Symbol symbol.OpenParenthesis) a.rest.now → BeginsParameters a.rest.now others names → b.rest.now ≡ others
+no_parameters a b others [] same none h = ap (λ (k : Cursor). k.rest.now) same ∙ h
+no_parameters a b others (n ∷ ns) same none h = absurd (none (begins (mark symbol.OpenParenthesis) _ a.rest.now others h))
 
 -- at the parenthesis the names end
 pub parameters_names_end : (a c : List Token) (o : NamesThenClosed a c) → NoNext (kind.Symbol symbol.Comma) o.middle
@@ -375,3 +388,16 @@ refused tokens Memory f = tt
 refused tokens (NoProgram place) f = λ tree formed spelled. f (nesting tree) tree (record { spelled = spelled; formed = formed; nests = omega arith })
 refused tokens (TooDeep place) f = λ tree h. let deep = f most tree (record { spelled = h.spelled; formed = h.well_formed; nests = h.nests }) in absurd (omega arith)
 refused tokens (LeftOut place) f = λ tree formed spelled. f (nesting tree) tree (record { spelled = spelled; formed = formed; nests = omega arith })
+
+-- what stands behind the name of a program, as the tree spells it
+abbrev behind_name : Program → Spelling
+behind_name t = in_parentheses (identifiers t.parameters.items) ++ mark symbol.Semicolon ∷ block_spelling t.block ++ mark symbol.Period ∷ []
+
+-- a program begins with its word symbol
+pub program_first : (levels : ℕ) (a : List Token) (t : Program) → BeginsProgram levels a [] t → Next (kind.Word word.Program) a
+program_first levels a t h = begins (word_symbol word.Program) (identifier t.name ∷ behind_name t) a [] h.spelled
+
+-- and behind it a name stands
+pub program_named : (levels : ℕ) (p : Place) (a b : List Token) (t : Program) → Reads a (of_kind_at (kind.Word word.Program) p ∷ []) b → BeginsProgram levels a [] t → Next kind.Identifier b
+program_named levels p a b t opened h =
+    begins (identifier t.name) (behind_name t) b [] (same_first (of_kind_at (kind.Word word.Program) p) (word_symbol word.Program) (identifier t.name ∷ behind_name t) a b [] opened h.spelled).1

@@ -1,3 +1,4 @@
+pub mod Chains
 pub mod Equations
 pub mod Exact
 pub mod ExactActuals

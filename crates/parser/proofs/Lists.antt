@@ -1,5 +1,5 @@
 -- Lists that grow by one at the end.
-use Rattle.std.proofs.Common.{◌≡◌, ℕ, ◌≤◌, max, Bool, true, false, ◌&&◌, List, [], ◌∷◌, ◌++◌, map, fold, length, refl, ap, arith}
+use Rattle.std.proofs.Common.{◌≡◌, ℕ, ◌≤◌, max, Bool, true, false, ◌&&◌, List, [], ◌∷◌, ◌++◌, map, fold, length, refl, ap, subst, sym, arith}
 use Rattle.std.specs.List.{list_all}
 use Rattle.parser.specs.Nesting.{deepest}
 
@@ -39,3 +39,10 @@ all_mapped f (x ∷ xs) = ap (λ b. f x && b) (all_mapped f xs)
 pub length_map : {A B : Type 0} (f : A → B) (xs : List A) → length (map f xs) ≡ length xs
 length_map f [] = refl
 length_map f (x ∷ xs) = let e = length_map f xs in omega arith
+
+-- what holds of a list holds of one that equals it: with one more, or empty
+pub pushed : {A : Type 0} (P : List A → Type 0) (xs grown : List A) (x : A) → grown ≡ xs ++ x ∷ [] → P (xs ++ x ∷ []) → P grown
+pushed P xs grown x e h = subst P (sym e) h
+
+pub emptied : {A : Type 0} (P : List A → Type 0) (xs : List A) → xs ≡ [] → P [] → P xs
+emptied P xs e h = subst P (sym e) h

@@ -17,7 +17,8 @@ use Rattle.parser.specs.declared.tree.Block.{Block}
 use Rattle.parser.specs.Cursor.{Took}
 use Rattle.parser.specs.Spelling.{of_kind_at, mark, word_symbol, identifier, identifiers, stmt_spelling, separated, joined, in_parentheses, group_spelling, variables_spelling, block_spelling}
 use Rattle.parser.specs.WellFormed.{is_group, is_statement, has_items}
-use Rattle.parser.specs.Rules.{Read, BeginsList, BeginsGroup, BeginsGroups, BeginsVariables, BeginsCompound, BeginsBlock, BeginsProgram}
+use Rattle.parser.specs.Rules.{Read, BeginsList, BeginsGroup, BeginsGroups, BeginsVariables, BeginsCompound, BeginsBlock, Stop}
+use Rattle.parser.specs.Syntax.{most, IsTreeOf}
 use Rattle.parser.proofs.Lists.{map_push, all_push, and_true, length_map}
 use Rattle.parser.proofs.Reading.{both, without_place, joined_push}
 use Rattle.parser.proofs.Statements.{list_goes_on, some_grown}
@@ -92,16 +93,16 @@ block_stands levels inner a b c variables statements end less declared given = r
 }
 
 -- a program
-pub program_stands : (levels : ℕ) (a b c d e f g : Cursor) (p q r : Place) (name : Name) (parameters : Vec Name Global) (block : Block)
+pub program_stands : (a b c d e f : Cursor) (p q : Place) (name : Name) (parameters : Vec Name Global) (block : Block)
     → Took a b (of_kind_at (kind.Word word.Program) p ∷ []) → Took b c (identifier name ∷ []) → Took c d (in_parentheses (identifiers parameters.items)) → Took d e (of_kind_at (kind.Symbol symbol.Semicolon) q ∷ [])
-    → Read (BeginsBlock levels) e f block → Took f g (of_kind_at (kind.Symbol symbol.Period) r ∷ []) → Read (BeginsProgram levels) a g (record { name = name; parameters = parameters; block = block })
-program_stands levels a b c d e f g p q r name parameters block opened named listed semicolon given period = record {
-  spelled = both ((word_symbol word.Program ∷ identifier name ∷ in_parentheses (identifiers parameters.items)) ++ mark symbol.Semicolon ∷ block_spelling block) (mark symbol.Period ∷ []) a.rest.now f.rest.now g.rest.now
+    → Read (BeginsBlock most) e f block → Stop f.rest.now → IsTreeOf (record { name = name; parameters = parameters; block = block }) a.rest.now
+program_stands a b c d e f p q name parameters block opened named listed semicolon given period = record {
+  well_formed = given.formed;
+  nests = given.nests;
+  spelled = both ((word_symbol word.Program ∷ identifier name ∷ in_parentheses (identifiers parameters.items)) ++ mark symbol.Semicolon ∷ block_spelling block) (mark symbol.Period ∷ []) a.rest.now f.rest.now []
       (both (word_symbol word.Program ∷ identifier name ∷ in_parentheses (identifiers parameters.items)) (mark symbol.Semicolon ∷ block_spelling block) a.rest.now d.rest.now f.rest.now
       (both (word_symbol word.Program ∷ []) (identifier name ∷ in_parentheses (identifiers parameters.items)) a.rest.now b.rest.now d.rest.now (without_place (kind.Word word.Program) p [] a.rest.now b.rest.now opened)
       (both (identifier name ∷ []) (in_parentheses (identifiers parameters.items)) b.rest.now c.rest.now d.rest.now named listed))
       (both (mark symbol.Semicolon ∷ []) (block_spelling block) d.rest.now e.rest.now f.rest.now (without_place (kind.Symbol symbol.Semicolon) q [] d.rest.now e.rest.now semicolon) given.spelled))
-      (without_place (kind.Symbol symbol.Period) r [] f.rest.now g.rest.now period);
-  formed = given.formed;
-  nests = given.nests;
+      period;
 }

@@ -1,11 +1,12 @@
 -- Spellings that are read one behind another.
-use Rattle.std.proofs.Common.{◌≡◌, ◌<◌, List, [], ◌∷◌, length, arith, ◌++◌, refl, subst, sym, ap, ◌∙◌, append_assoc}
+use Rattle.std.proofs.Common.{◌≡◌, ◌<◌, ◌≤◌, List, [], ◌∷◌, length, arith, ◌++◌, refl, subst, sym, ap, ◌∙◌, append_assoc}
 use Rattle.std.proofs.lemmas.List.{append-nil}
 use Rattle.lexer.specs.declared.place.Place.{Place}
 use Rattle.lexer.specs.declared.token.Kind.{Kind}
 use Rattle.lexer.specs.declared.token.Symbol.{Symbol}
 use Rattle.lexer.specs.declared.token.Symbol.TheVariants as symbol
 use Rattle.lexer.specs.declared.token.Token.{Token}
+use Rattle.parser.specs.declared.cursor.Cursor.{Cursor}
 use Rattle.parser.specs.Spelling.{Lexeme, Spelling, IsSpelledBy, Reads, of_kind, of_kind_at, separated, joined, mark, in_parentheses}
 
 -- one token
@@ -44,3 +45,15 @@ separated_more m (one ∷ others) last h = separated_push m one others last
 pub in_parentheses_some : (all : List Spelling) → 0 < length all → in_parentheses all ≡ mark symbol.OpenParenthesis ∷ separated symbol.Comma all ++ mark symbol.CloseParenthesis ∷ []
 in_parentheses_some [] h = absurd (omega arith)
 in_parentheses_some (one ∷ others) h = refl
+
+-- what is left is no more than before, and less behind a token
+pub reads_no_more : (s : Spelling) (a b : List Token) → Reads a s b → length b ≤ length a
+reads_no_more [] a b h = let e = ap length h in omega arith
+reads_no_more (l ∷ s) a b h = let e = ap length h.2 in let m = reads_no_more s h.1 b h.4 in omega arith
+
+pub reads_fewer : (l : Lexeme) (s : Spelling) (a b : List Token) → Reads a (l ∷ s) b → length b < length a
+reads_fewer l s a b h = let e = ap length h.2 in let m = reads_no_more s h.1 b h.4 in omega arith
+
+-- what holds of a state holds of one that equals it
+pub unchanged : (P : Cursor → Type 0) (a b : Cursor) → b ≡ a → P a → P b
+unchanged P a b e h = subst P (sym e) h

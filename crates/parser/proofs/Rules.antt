@@ -1,7 +1,7 @@
 -- What the rules give, form by form.
-use Rattle.std.proofs.Common.{◌≡◌, ℕ, ◌+◌, ◌≤◌, max, Bool, true, false, ◌&&◌, ◌||◌, nat_lt, nat_eq, List, [], ◌∷◌, ◌++◌, map, length, Some, Result, Ok, Err, IfOk, MatchResult, refl, subst, sym, ap, ◌∙◌, append_assoc, arith}
-use Rattle.std.proofs.lemmas.List.{append-nil}
+use Rattle.std.proofs.Common.{◌≡◌, ℕ, ◌+◌, ◌≤◌, max, Bool, true, false, ◌&&◌, ◌||◌, nat_lt, nat_eq, List, [], ◌∷◌, ◌++◌, map, length, Some, refl, subst, sym, ap, ◌∙◌, arith, Result, Ok, Err, None, MatchResult}
 use Rattle.std.proofs.lemmas.Bool.{lt-ltb, ltb-false, eq-eqb}
+use Rattle.std.proofs.lemmas.List.{append-nil}
 use Rattle.std.specs.List.{list_all}
 use Rattle.std.specs.declared.alloc.Global.{Global}
 use Rattle.std.specs.declared.boxed.Box.{Box}
@@ -9,25 +9,26 @@ use Rattle.std.specs.declared.vec.Vec.{Vec}
 use Rattle.lexer.specs.declared.place.Place.{Place}
 use Rattle.lexer.specs.declared.token.Kind.TheVariants as kind
 use Rattle.lexer.specs.declared.token.Symbol.TheVariants as symbol
+use Rattle.lexer.specs.declared.token.Word.TheVariants as word
 use Rattle.parser.specs.declared.fault.ParseFault.{ParseFault}
-use Rattle.parser.specs.declared.fault.ParseFault.TheVariants.{Memory}
 use Rattle.parser.specs.declared.cursor.Cursor.{Cursor}
 use Rattle.parser.specs.declared.tree.Name.{Name}
+use Rattle.parser.specs.declared.tree.Sign.{Sign}
 use Rattle.parser.specs.declared.tree.Operator.{Operator}
 use Rattle.parser.specs.declared.tree.Expr.{Expr}
 use Rattle.parser.specs.declared.tree.Actual.{Actual}
 use Rattle.parser.specs.declared.tree.Link.{Link}
 use Rattle.parser.specs.declared.tree.Expr.TheVariants as tree
 use Rattle.parser.specs.declared.tree.Expr.TheViews.{roll-Link, roll-Actual}
-use Rattle.parser.specs.Cursor.{Took}
-use Rattle.parser.specs.Spelling.{expr_spelling, link_spelling, actual_spelling, joined, in_parentheses, of_kind_at, mark, identifier, operator}
-use Rattle.parser.specs.WellFormed.{Form, LinkForm, expr_form, link_form, chain_form, is_actual, is_expression, has_items, is_link, fits, operator_level, first_level, operand_level, relation_level, sum_level, factor_level}
+use Rattle.parser.specs.Cursor.{Took, IsOfRules}
+use Rattle.parser.specs.Spelling.{expr_spelling, link_spelling, actual_spelling, joined, in_parentheses, of_kind_at, mark, identifier, operator, sign}
+use Rattle.parser.specs.WellFormed.{Form, LinkForm, expr_form, link_form, chain_form, is_actual, is_expression, has_items, is_link, fits, operator_level, first_level, operand_level, relation_level, signed_level, product_level, factor_level}
 use Rattle.parser.specs.Nesting.{expr_levels, link_levels, deepest}
-use Rattle.parser.specs.Rules.{Read, BeginsExpr, BeginsActual, BeginsActuals, IsChain}
-use Rattle.parser.proofs.Equations.{spelling-Name, form-Name, levels-Name, spelling-Function, form-Function, levels-Function, spelling-Parenthesized, form-Parenthesized, levels-Parenthesized, spelling-Chain, form-Chain, levels-Chain, spelling-Link, form-Link, levels-Link, spelling-Wide, form-Wide, levels-Wide}
+use Rattle.parser.specs.Rules.{Read, BeginsExpr, BeginsActual, BeginsActuals, BeginsLinks}
+use Rattle.parser.proofs.Equations.{spelling-Number, form-Number, levels-Number, spelling-Not, form-Not, levels-Not, spelling-Signed, form-Signed, levels-Signed, spelling-Alone, form-Alone, levels-Alone, spelling-Name, form-Name, levels-Name, spelling-Function, form-Function, levels-Function, spelling-Parenthesized, form-Parenthesized, levels-Parenthesized, spelling-Chain, form-Chain, levels-Chain, spelling-Link, form-Link, levels-Link, spelling-Wide, form-Wide, levels-Wide}
 use Rattle.parser.proofs.Lists.{map_push, all_push, deepest_push, all_mapped, and_true, and_left, length_map}
 use Rattle.parser.proofs.Reading.{both, without_place, joined_push}
-use Rattle.parser.proofs.ExactChains.{fits_if, link_level}
+use Rattle.parser.proofs.ExactChains.{fits_if, fits_level, fits_well, link_level}
 
 -- an expression in parentheses
 pub gives-Parenthesized : (levels inner_levels : ℕ) (a b c d : Cursor) (p q : Place) (box : Box Expr Global) (inner : Expr)
@@ -40,6 +41,43 @@ gives-Parenthesized levels inner_levels a b c d p q box inner less opened given 
   formed = subst (λ f. fits factor_level f ≡ true) (sym (form-Parenthesized p box)) (subst (λ x. fits relation_level (expr_form x) ≡ true) (sym e) given.formed);
   nests = let n : expr_levels (tree.Parenthesized p box) ≡ 1 + expr_levels inner = levels-Parenthesized p box ∙ ap (λ x. 1 + expr_levels x) e in let m = given.nests in omega arith;
 }
+
+-- a number
+pub gives-Number : (levels v : ℕ) (p : Place) (a b : Cursor) → Took a b (of_kind_at (kind.Number v) p ∷ []) → Read (BeginsExpr factor_level levels) a b (tree.Number v p)
+gives-Number levels v p a b taken = record {
+  spelled = subst (λ s. Took a b s) (sym (spelling-Number v p)) taken;
+  formed = subst (λ f. fits factor_level f ≡ true) (sym (form-Number v p)) refl;
+  nests = let e = levels-Number v p in omega arith;
+}
+
+-- a factor behind `not`
+pub gives-Not : (levels inner : ℕ) (a b c : Cursor) (p : Place) (box : Box Expr Global) (operand : Expr) → inner + 1 ≡ levels → Took a b (of_kind_at (kind.Word word.Not) p ∷ []) → Read (BeginsExpr factor_level inner) b c operand
+    → box.value ≡ operand → Read (BeginsExpr factor_level levels) a c (tree.Not p box)
+gives-Not levels inner a b c p box operand less taken given e = record {
+  spelled = subst (λ s. Took a c s) (sym (spelling-Not p box ∙ ap (λ x. of_kind_at (kind.Word word.Not) p ∷ expr_spelling x) e))
+      (both (of_kind_at (kind.Word word.Not) p ∷ []) (expr_spelling operand) a.rest.now b.rest.now c.rest.now taken given.spelled);
+  formed = subst (λ f. fits factor_level f ≡ true) (sym (form-Not p box)) (subst (λ x. fits factor_level (expr_form x) ≡ true) (sym e) given.formed);
+  nests = let n : expr_levels (tree.Not p box) ≡ 1 + expr_levels operand = levels-Not p box ∙ ap (λ x. 1 + expr_levels x) e in let m = given.nests in omega arith;
+}
+
+-- a term behind a sign
+pub gives-Signed : (levels : ℕ) (a b c : Cursor) (s : Sign) (p : Place) (box : Box Expr Global) (term : Expr) → Took a b (sign s p ∷ []) → Read (BeginsExpr product_level levels) b c term
+    → box.value ≡ term → Read (BeginsExpr signed_level levels) a c (tree.Signed s p box)
+gives-Signed levels a b c s p box term taken given e = record {
+  spelled = subst (λ x. Took a c x) (sym (spelling-Signed s p box ∙ ap (λ x. sign s p ∷ expr_spelling x) e))
+      (both (sign s p ∷ []) (expr_spelling term) a.rest.now b.rest.now c.rest.now taken given.spelled);
+  formed = subst (λ f. fits signed_level f ≡ true) (sym (form-Signed s p box)) (subst (λ x. fits product_level (expr_form x) ≡ true) (sym e) given.formed);
+  nests = let n : expr_levels (tree.Signed s p box) ≡ expr_levels term = levels-Signed s p box ∙ ap expr_levels e in let m = given.nests in omega arith;
+}
+
+-- and one without
+pub gives-Unsigned : (levels : ℕ) (a b c : Cursor) (answer : Result Expr ParseFault) → b ≡ a → MatchResult answer (Read (BeginsExpr product_level levels) b c) IsOfRules → MatchResult answer (Read (BeginsExpr signed_level levels) a c) IsOfRules
+gives-Unsigned levels a b c (Ok e) same given = record {
+  spelled = subst (λ k. Took k c (expr_spelling e)) same given.spelled;
+  formed = let n = fits_level product_level (expr_form e) given.formed in fits_if signed_level (expr_form e) (omega arith) (fits_well product_level (expr_form e) given.formed);
+  nests = given.nests;
+}
+gives-Unsigned levels a b c (Err fault) same given = given
 
 no_items : {A : Type 0} (xs : List A) → length xs ≡ 0 → xs ≡ []
 no_items [] h = refl
@@ -70,6 +108,18 @@ gives-Call levels a b c n v taken given some = record {
   nests = let e = levels-Function n v in let m = given.nests in omega arith;
 }
 
+-- no actuals
+pub gives-None : (levels : ℕ) (a b : Cursor) (actuals : List Actual) → b ≡ a → actuals ≡ [] → Read (BeginsActuals levels) a b actuals
+gives-None levels a b actuals same none = subst (λ xs. Read (BeginsActuals levels) a b xs) (sym none) (record { spelled = ap (λ (k : Cursor). k.rest.now) (sym same); formed = refl; nests = omega arith })
+
+-- an actual without a width
+pub gives-Narrow : (levels inner : ℕ) (a b c : Cursor) (e : Expr) → inner + 1 ≡ levels → Read (BeginsExpr relation_level inner) a b e → c ≡ b → Read (BeginsActual levels) a c (roll-Actual (record { value = e; width = None }))
+gives-Narrow levels inner a b c e less given same = record {
+  spelled = subst (λ s. Took a c s) (sym (spelling-Alone e ∙ append-nil (expr_spelling e))) (subst (λ k. Took a k (expr_spelling e)) (sym same) given.spelled);
+  formed = form-Alone e ∙ and_true (is_expression e) true given.formed refl;
+  nests = let n = levels-Alone e in let m = given.nests in omega arith;
+}
+
 -- an actual with its width
 pub gives-Wide : (levels inner : ℕ) (a b c d : Cursor) (e w : Expr) (p : Place) → inner + 1 ≡ levels → Read (BeginsExpr relation_level inner) a b e → Took b c (of_kind_at (kind.Symbol symbol.Colon) p ∷ [])
     → Read (BeginsExpr relation_level inner) c d w → Read (BeginsActual levels) a d (roll-Actual (record { value = e; width = Some w }))
@@ -82,29 +132,11 @@ gives-Wide levels inner a b c d e w p less given colon wide = record {
 
 -- ---- chains
 
--- a first operand, and operators with their operands so far
-pub record IsChainSoFar (level levels : ℕ) (old new : Cursor) (first : Expr) (rest : List Link) : Type 0 where
-  pub spelled : Took old new (expr_spelling first ++ joined (map link_spelling rest))
-  pub first_formed : fits (first_level level) (expr_form first) ≡ true
-  pub rest_formed : list_all (is_link level) (map link_form rest) ≡ true
-  pub first_nests : expr_levels first ≤ levels
-  pub rest_nests : deepest (map link_levels rest) ≤ levels
-
--- the first operand alone
-pub chain_so_far : (level levels : ℕ) (a b : Cursor) (first : Expr) (rest : List Link) → Read (BeginsExpr (first_level level) levels) a b first → rest ≡ [] → IsChainSoFar level levels a b first rest
-chain_so_far level levels a b first rest given none = record {
-  spelled = subst (λ xs. Took a b (expr_spelling first ++ joined (map link_spelling xs))) (sym none) (subst (λ s. Took a b s) (sym (append-nil (expr_spelling first))) given.spelled);
-  first_formed = given.formed;
-  rest_formed = subst (λ xs. list_all (is_link level) (map link_form xs) ≡ true) (sym none) refl;
-  first_nests = given.nests;
-  rest_nests = subst (λ xs. deepest (map link_levels xs) ≤ levels) (sym none) (omega arith);
-}
-
 -- one more operator with its operand
-pub chain_goes_on : (level levels : ℕ) (a b c d : Cursor) (first : Expr) (rest grown : List Link) (o : Operator) (p : Place) (operand : Expr)
-    → operator_level o ≡ level → IsChainSoFar level levels a b first rest → Took b c (operator o p ∷ []) → Read (BeginsExpr (operand_level level) levels) c d operand
-    → grown ≡ rest ++ roll-Link (record { operator = o; place = p; operand = operand }) ∷ [] → IsChainSoFar level levels a d first grown
-chain_goes_on level levels a b c d first rest grown o p operand is so_far taken given e =
+pub links_go_on : (level levels : ℕ) (a b c d : Cursor) (rest grown : List Link) (o : Operator) (p : Place) (operand : Expr)
+    → operator_level o ≡ level → Read (BeginsLinks level levels) a b rest → (level ≡ relation_level → rest ≡ []) → Took b c (operator o p ∷ []) → Read (BeginsExpr (operand_level level) levels) c d operand
+    → grown ≡ rest ++ roll-Link (record { operator = o; place = p; operand = operand }) ∷ [] → Read (BeginsLinks level levels) a d grown
+links_go_on level levels a b c d rest grown o p operand is so_far none taken given e =
     let link : Link = roll-Link (record { operator = o; place = p; operand = operand }) in
     let spelled : map link_spelling grown ≡ map link_spelling rest ++ (operator o p ∷ expr_spelling operand) ∷ [] =
     ap (map link_spelling) e ∙ map_push link_spelling rest link ∙ ap (λ x. map link_spelling rest ++ x ∷ []) (spelling-Link (record { operator = o; place = p; operand = operand })) in
@@ -113,43 +145,15 @@ chain_goes_on level levels a b c d first rest grown o p operand is so_far taken 
     ap (map link_form) e ∙ map_push link_form rest link ∙ ap (λ x. map link_form rest ++ x ∷ []) (form-Link (record { operator = o; place = p; operand = operand })) in
     let nests : map link_levels grown ≡ map link_levels rest ++ expr_levels operand ∷ [] =
     ap (map link_levels) e ∙ map_push link_levels rest link ∙ ap (λ x. map link_levels rest ++ x ∷ []) (levels-Link (record { operator = o; place = p; operand = operand })) in
-    let all : expr_spelling first ++ joined (map link_spelling grown) ≡ (expr_spelling first ++ joined (map link_spelling rest)) ++ operator o p ∷ expr_spelling operand =
-    ap (λ x. expr_spelling first ++ joined x) spelled ∙ ap (λ x. expr_spelling first ++ x) (joined_push (map link_spelling rest) (operator o p ∷ expr_spelling operand))
-    ∙ sym (append_assoc (expr_spelling first) (joined (map link_spelling rest)) (operator o p ∷ expr_spelling operand)) in
     record {
-      spelled = subst (λ x. Took a d x) (sym all) (both (expr_spelling first ++ joined (map link_spelling rest)) (operator o p ∷ expr_spelling operand) a.rest.now b.rest.now d.rest.now so_far.spelled
+      spelled = subst (λ x. Took a d x) (sym (ap joined spelled ∙ joined_push (map link_spelling rest) (operator o p ∷ expr_spelling operand)))
+          (both (joined (map link_spelling rest)) (operator o p ∷ expr_spelling operand) a.rest.now b.rest.now d.rest.now so_far.spelled
           (both (operator o p ∷ []) (expr_spelling operand) b.rest.now c.rest.now d.rest.now taken given.spelled));
-      first_formed = so_far.first_formed;
-      rest_formed = subst (λ x. list_all (is_link level) x ≡ true) (sym formed)
-          (all_push (is_link level) (map link_form rest) form so_far.rest_formed (and_true (nat_eq (operator_level o) level) (fits (operand_level level) (expr_form operand)) (eq-eqb (operator_level o) level is) given.formed));
-      first_nests = so_far.first_nests;
-      rest_nests = subst (λ x. deepest x ≤ levels) (sym nests) (deepest_push levels (map link_levels rest) (expr_levels operand) so_far.rest_nests given.nests);
+      formed = subst (λ x. list_all (is_link level) x ≡ true) (sym formed)
+          (all_push (is_link level) (map link_form rest) form so_far.formed (and_true (nat_eq (operator_level o) level) (fits (operand_level level) (expr_form operand)) (eq-eqb (operator_level o) level is) given.formed));
+      few = λ z. subst (λ xs. length xs ≤ 1) (sym (e ∙ ap (λ xs. xs ++ link ∷ []) (none z))) (omega arith);
+      nests = subst (λ x. deepest x ≤ levels) (sym nests) (deepest_push levels (map link_levels rest) (expr_levels operand) so_far.nests given.nests);
     }
-
--- the whole chain
-pub chain_given : (level levels : ℕ) (a b : Cursor) (first : Expr) (rest : List Link) (e : Expr) → IsChainSoFar level levels a b first rest → (level ≡ relation_level → length rest ≤ 1) → IsChain first rest e → Read (BeginsExpr level levels) a b e
-chain_given level levels a b first rest e so_far few is = record {
-  spelled = subst (λ s. Took a b s) (sym is.spelled) so_far.spelled;
-  formed = is.formed level so_far.first_formed so_far.rest_formed few;
-  nests = let n = is.nests in let f = so_far.first_nests in let r = so_far.rest_nests in omega arith;
-}
-
-pub chain_answer : (level levels : ℕ) (a b : Cursor) (first : Expr) (rest : List Link) (answer : Result Expr ParseFault) → IsChainSoFar level levels a b first rest → (level ≡ relation_level → length rest ≤ 1)
-    → MatchResult answer (IsChain first rest) (λ fault. fault ≡ Memory) → IfOk answer (Read (BeginsExpr level levels) a b)
-chain_answer level levels a b first rest (Ok e) so_far few is = chain_given level levels a b first rest e so_far few is
-chain_answer level levels a b first rest (Err fault) so_far few is = tt
-
-one_link : (rest grown : List Link) (l : Link) → rest ≡ [] → grown ≡ rest ++ l ∷ [] → length grown ≤ 1
-one_link rest grown l none e = subst (λ xs. length xs ≤ 1) (sym (e ∙ ap (λ xs. xs ++ l ∷ []) none)) (omega arith)
-
--- a relation
-pub relation_answer : (levels : ℕ) (a b c d : Cursor) (first operand : Expr) (rest grown : List Link) (o : Operator) (p : Place) (answer : Result Expr ParseFault)
-    → Read (BeginsExpr sum_level levels) a b first → operator_level o ≡ relation_level → Took b c (operator o p ∷ []) → Read (BeginsExpr sum_level levels) c d operand → rest ≡ []
-    → grown ≡ rest ++ roll-Link (record { operator = o; place = p; operand = operand }) ∷ [] → MatchResult answer (IsChain first grown) (λ fault. fault ≡ Memory) → IfOk answer (Read (BeginsExpr relation_level levels) a d)
-relation_answer levels a b c d first operand rest grown o p answer given is taken behind none e chain =
-    chain_answer relation_level levels a d first grown answer
-    (chain_goes_on relation_level levels a b c d first rest grown o p operand is (chain_so_far relation_level levels a b first rest given none) taken behind e)
-    (λ _. one_link rest grown (roll-Link (record { operator = o; place = p; operand = operand })) none e) chain
 
 few_tells_if : (level n : ℕ) (b : Bool) → nat_lt relation_level level ≡ b → (level ≡ relation_level → n ≤ 0) → b || nat_eq n 0 ≡ true
 few_tells_if level n true e few = refl
@@ -174,10 +178,21 @@ forms_chain_of level first (l ∷ ls) some f all few =
     forms_chain level first (link_form l) (map link_form ls) f all (λ z. let k = few z in let m = length_map link_form ls in omega arith)
     (link_level level (link_form l) (and_left (is_link level (link_form l)) (list_all (is_link level) (map link_form ls)) all))
 
--- a chain with operators
-pub chain_stands : (first : Expr) (box : Box Expr Global) (v : Vec Link Global) → box.value ≡ first → ¬ (v.items ≡ []) → IsChain first v.items (tree.Chain box v)
-chain_stands first box v e some = record {
-  spelled = spelling-Chain box v ∙ ap (λ x. expr_spelling x ++ joined (map link_spelling v.items)) e;
-  formed = λ level f all few. subst (λ x. fits level x ≡ true) (sym (form-Chain box v)) (subst (λ x. fits level (chain_form (expr_form x) (map link_form v.items)) ≡ true) (sym e) (forms_chain_of level (expr_form first) v.items some f all few));
-  nests = levels-Chain box v ∙ ap (λ x. max (expr_levels x) (deepest (map link_levels v.items))) e;
+-- a first operand with operators behind it
+pub gives-Chain : (level levels : ℕ) (a b c : Cursor) (first : Expr) (box : Box Expr Global) (v : Vec Link Global) → box.value ≡ first → ¬ (v.items ≡ []) → Read (BeginsExpr (first_level level) levels) a b first
+    → Read (BeginsLinks level levels) b c v.items → Read (BeginsExpr level levels) a c (tree.Chain box v)
+gives-Chain level levels a b c first box v e some given links = record {
+  spelled = subst (λ s. Took a c s) (sym (spelling-Chain box v ∙ ap (λ x. expr_spelling x ++ joined (map link_spelling v.items)) e))
+      (both (expr_spelling first) (joined (map link_spelling v.items)) a.rest.now b.rest.now c.rest.now given.spelled links.spelled);
+  formed = subst (λ x. fits level x ≡ true) (sym (form-Chain box v)) (subst (λ x. fits level (chain_form (expr_form x) (map link_form v.items)) ≡ true) (sym e) (forms_chain_of level (expr_form first) v.items some given.formed links.formed links.few));
+  nests = let n : expr_levels (tree.Chain box v) ≡ max (expr_levels first) (deepest (map link_levels v.items)) = levels-Chain box v ∙ ap (λ x. max (expr_levels x) (deepest (map link_levels v.items))) e in
+      let f = given.nests in let r = links.nests in omega arith;
+}
+
+-- a first operand alone
+pub gives-Alone : (level levels : ℕ) (a b : Cursor) (first : Expr) → Read (BeginsExpr (first_level level) levels) a b first → Read (BeginsExpr level levels) a b first
+gives-Alone level levels a b first given = record {
+  spelled = given.spelled;
+  formed = let n = fits_level (first_level level) (expr_form first) given.formed in fits_if level (expr_form first) (omega arith) (fits_well (first_level level) (expr_form first) given.formed);
+  nests = given.nests;
 }

@@ -1,37 +1,28 @@
 -- What the rules of lists and statements give.
-use Rattle.std.proofs.Common.{◌≡◌, ℕ, ◌+◌, ◌<◌, ◌≤◌, true, List, [], ◌∷◌, ◌++◌, length, map, Option, Some, None, is_some, Bool, not, false, IfSome, OnSome, subst, sym, ap, ◌∙◌, refl, arith}
+use Rattle.std.proofs.Common.{◌≡◌, ℕ, ◌+◌, ◌<◌, ◌≤◌, true, List, [], ◌∷◌, ◌++◌, length, map, subst, sym, ap, ◌∙◌, refl, arith}
 use Rattle.std.specs.List.{list_all}
 use Rattle.std.specs.declared.alloc.Global.{Global}
 use Rattle.std.specs.declared.vec.Vec.{Vec}
 use Rattle.lexer.specs.declared.place.Place.{Place}
 use Rattle.std.proofs.lemmas.Bool.{lt-ltb}
-use Rattle.lexer.specs.declared.token.Kind.{Kind}
 use Rattle.lexer.specs.declared.token.Kind.TheVariants as kind
 use Rattle.lexer.specs.declared.token.Symbol.{Symbol}
 use Rattle.lexer.specs.declared.token.Symbol.TheVariants as symbol
 use Rattle.lexer.specs.declared.token.Word.TheVariants as word
 use Rattle.parser.specs.declared.cursor.Cursor.{Cursor}
 use Rattle.parser.specs.declared.tree.Actual.{Actual}
+use Rattle.parser.specs.declared.tree.Expr.{Expr}
+use Rattle.parser.specs.declared.tree.Name.{Name}
 use Rattle.parser.specs.declared.tree.Stmt.{Stmt}
 use Rattle.parser.specs.declared.tree.Stmt.TheVariants as statement
 use Rattle.parser.specs.Cursor.{Took}
-use Rattle.parser.specs.Spelling.{Spelling, actual_spelling, stmt_spelling, of_kind_at, mark, word_symbol, separated, in_parentheses}
-use Rattle.parser.specs.WellFormed.{is_actual, is_statement, has_items}
+use Rattle.parser.specs.Spelling.{Spelling, expr_spelling, identifier, actual_spelling, stmt_spelling, of_kind_at, mark, word_symbol, separated, in_parentheses}
+use Rattle.parser.specs.WellFormed.{relation_level, is_actual, is_statement, has_items}
 use Rattle.parser.specs.Nesting.{actual_levels, stmt_levels, deepest}
-use Rattle.parser.specs.Rules.{Read, BeginsList, BeginsActual, BeginsActualList, BeginsActuals, BeginsStmt, BeginsStatements, BeginsCompound}
-use Rattle.parser.proofs.Equations.{spelling-Compound, form-Compound, levels-Compound}
+use Rattle.parser.specs.Rules.{Read, BeginsExpr, BeginsList, BeginsActual, BeginsActualList, BeginsActuals, BeginsStmt, BeginsStatements, BeginsCompound}
+use Rattle.parser.proofs.Equations.{spelling-Empty, form-Empty, levels-Empty, spelling-Assign, form-Assign, levels-Assign, spelling-Call, form-Call, levels-Call, spelling-Compound, form-Compound, levels-Compound}
 use Rattle.parser.proofs.Lists.{map_push, all_push, deepest_push, all_mapped, and_true, length_map}
 use Rattle.parser.proofs.Reading.{both, without_place, without_last_place, separated_more, in_parentheses_some}
-
--- a token was taken where the call answered its place
-pub taken_if : (a b : Cursor) (k : Kind) (o : Option Place) (none : Bool) → is_some o ≡ not none → none ≡ false → IfSome o (λ place. Took a b (of_kind_at k place ∷ [])) → (place : Place) × Took a b (of_kind_at k place ∷ [])
-taken_if a b k None none e h t = cc
-taken_if a b k (Some place) none e h t = (place, t)
-
--- and then fewer are left
-pub fewer_if : (m n : ℕ) (o : Option Place) (none : Bool) → is_some o ≡ not none → none ≡ false → OnSome o (m < n) → m < n
-fewer_if m n None none e h t = cc
-fewer_if m n (Some place) none e h t = t
 
 pub some_grown : {A : Type 0} (xs : List A) (x : A) → 0 < length (xs ++ x ∷ [])
 some_grown [] x = omega arith
@@ -135,4 +126,31 @@ compound_stands levels inner a b end v less given = record {
   spelled = subst (λ s. Took a b s) (sym (spelling-Compound v)) (without_last_place (kind.Word word.End) end (word_symbol word.Begin ∷ separated symbol.Semicolon (map stmt_spelling v.items)) a.rest.now b.rest.now given.spelled);
   formed = form-Compound v ∙ and_true (has_items (map is_statement v.items)) (list_all (λ b. b) (map is_statement v.items)) (has v.items given.some) (all_mapped is_statement v.items ∙ given.formed);
   nests = let e = levels-Compound v in let n = given.nests in omega arith;
+}
+
+-- the empty statement
+pub gives-Empty : (levels inner : ℕ) (a : Cursor) → inner + 1 ≡ levels → Read (BeginsStmt levels) a a statement.Empty
+gives-Empty levels inner a less = record {
+  spelled = subst (λ s. Took a a s) (sym spelling-Empty) refl;
+  formed = form-Empty;
+  nests = let e = levels-Empty in omega arith;
+}
+
+-- an assignment
+pub gives-Assign : (levels : ℕ) (a b c d : Cursor) (n : Name) (p : Place) (value : Expr) → Took a b (identifier n ∷ []) → Took b c (of_kind_at (kind.Symbol symbol.Becomes) p ∷ []) → Read (BeginsExpr relation_level levels) c d value
+    → Read (BeginsStmt (levels + 1)) a d (statement.Assign n p value)
+gives-Assign levels a b c d n p value named becomes given = record {
+  spelled = subst (λ s. Took a d s) (sym (spelling-Assign n p value)) (both (identifier n ∷ []) (of_kind_at (kind.Symbol symbol.Becomes) p ∷ expr_spelling value) a.rest.now b.rest.now d.rest.now named
+      (both (of_kind_at (kind.Symbol symbol.Becomes) p ∷ []) (expr_spelling value) b.rest.now c.rest.now d.rest.now becomes given.spelled));
+  formed = form-Assign n p value ∙ given.formed;
+  nests = let e = levels-Assign n p value in let m = given.nests in omega arith;
+}
+
+-- the call of a procedure
+pub gives-Called : (levels : ℕ) (a b c d : Cursor) (n : Name) (v : Vec Actual Global) → Took a b (identifier n ∷ []) → c ≡ b → Read (BeginsActuals levels) c d v.items → Read (BeginsStmt (levels + 1)) a d (statement.Call n v)
+gives-Called levels a b c d n v named same given = record {
+  spelled = subst (λ s. Took a d s) (sym (spelling-Call n v)) (both (identifier n ∷ []) (in_parentheses (map actual_spelling v.items)) a.rest.now b.rest.now d.rest.now named
+      (subst (λ k. Took k d (in_parentheses (map actual_spelling v.items))) same given.spelled));
+  formed = form-Call n v ∙ given.formed;
+  nests = let e = levels-Call n v in let m = given.nests in omega arith;
 }

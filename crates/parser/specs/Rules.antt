@@ -1,7 +1,7 @@
 -- What the rules of the parser read: tokens that begin with a spelling of the rule's form, well formed and nested within
 -- the levels that are left. Each of these says: the tokens begin with such a thing, and then the others are left.
 -- This doesn't say when a rule refuses its tokens: see Reading.
-use Rattle.std.specs.Prelude.{◌≡◌, ℕ, ◌+◌, ◌<◌, ◌≤◌, true, List, [], ◌∷◌, ◌++◌, map, max, length}
+use Rattle.std.specs.Prelude.{◌≡◌, ℕ, ◌+◌, ◌<◌, ◌≤◌, true, List, [], ◌∷◌, ◌++◌, map, length}
 use Rattle.std.specs.List.{list_all}
 use Rattle.lexer.specs.declared.place.Place.{Place}
 use Rattle.lexer.specs.declared.token.Kind.TheVariants as kind
@@ -12,14 +12,19 @@ use Rattle.lexer.specs.declared.token.Word.TheVariants as word
 use Rattle.parser.specs.declared.cursor.Cursor.{Cursor}
 use Rattle.parser.specs.declared.tree.Expr.{Expr}
 use Rattle.parser.specs.declared.tree.Link.{Link}
+use Rattle.parser.specs.declared.tree.Operator.{Operator}
+use Rattle.parser.specs.declared.operator.Level.{Level}
 use Rattle.parser.specs.declared.tree.Actual.{Actual}
 use Rattle.parser.specs.declared.tree.Stmt.{Stmt}
 use Rattle.parser.specs.declared.tree.Name.{Name}
 use Rattle.parser.specs.declared.tree.VariableGroup.{VariableGroup}
 use Rattle.parser.specs.declared.tree.Block.{Block}
 use Rattle.parser.specs.declared.tree.Program.{Program}
-use Rattle.parser.specs.Spelling.{Spelling, Reads, expr_spelling, link_spelling, actual_spelling, stmt_spelling, joined, identifiers, group_spelling, variables_spelling, block_spelling, program_spelling, separated, in_parentheses, word_symbol, of_kind_at}
-use Rattle.parser.specs.WellFormed.{expr_form, link_form, fits, relation_level, first_level, is_link, is_actual, is_statement, is_group, is_block, is_program}
+use Rattle.parser.specs.Spelling.{Spelling, Reads, expr_spelling, link_spelling, actual_spelling, stmt_spelling, joined, identifiers, group_spelling, variables_spelling, block_spelling, program_spelling, separated, in_parentheses, word_symbol, of_kind_at, mark, operator}
+use Rattle.parser.specs.WellFormed.{expr_form, link_form, fits, operator_level, relation_level, is_link, is_actual, is_statement, is_group, is_block, is_program}
+use Rattle.parser.specs.Cursor.{Took}
+use Rattle.parser.specs.Level.{level_number}
+use Rattle.parser.specs.Reading.{NoOperator}
 use Rattle.parser.specs.Nesting.{expr_levels, link_levels, actual_levels, stmt_levels, deepest, nesting}
 
 -- a rule read this from the old state to the new one
@@ -32,12 +37,28 @@ pub record BeginsExpr (level levels : ℕ) (tokens others : List Token) (e : Exp
   pub formed : fits level (expr_form e) ≡ true
   pub nests : expr_levels e ≤ levels
 
--- a first operand with the operators and operands behind it, whatever the level of their chain
-pub record IsChain (first : Expr) (rest : List Link) (e : Expr) : Type 0 where
-  pub spelled : expr_spelling e ≡ expr_spelling first ++ joined (map link_spelling rest)
-  pub formed : (level : ℕ) → fits (first_level level) (expr_form first) ≡ true → list_all (is_link level) (map link_form rest) ≡ true
-      → (level ≡ relation_level → length rest ≤ 1) → fits level (expr_form e) ≡ true
-  pub nests : expr_levels e ≡ max (expr_levels first) (deepest (map link_levels rest))
+-- operators of this level, each with the operand behind it: of a relation one at most
+pub record BeginsLinks (level levels : ℕ) (tokens others : List Token) (links : List Link) : Type 0 where
+  pub spelled : Reads tokens (joined (map link_spelling links)) others
+  pub formed : list_all (is_link level) (map link_form links) ≡ true
+  pub few : level ≡ relation_level → length links ≤ 1
+  pub nests : deepest (map link_levels links) ≤ levels
+
+-- these were read, and where there are none no operator of the level comes
+pub record ReadLinks (level : Level) (levels : ℕ) (old new : Cursor) (links : List Link) : Type 0 where
+  pub begun : Read (BeginsLinks (level_number level) levels) old new links
+  pub none : links ≡ [] → NoOperator (level_number level) old.rest.now
+
+-- behind these one more operator of the level was read
+pub record LinksGoOn (level : Level) (links : List Link) (old new : Cursor) (o : Operator) (place : Place) : Type 0 where
+  pub alike : operator_level o ≡ level_number level
+  pub spelled : Took old new (operator o place ∷ [])
+  pub few : level_number level ≡ relation_level → links ≡ []
+
+-- behind these none was: none comes, or they are a relation's, which has one alone
+pub data LinksEnd (level : Level) (links : List Link) (old new : Cursor) : Type 0 where
+  missed : new ≡ old → NoOperator (level_number level) old.rest.now → LinksEnd level links old new
+  related : new ≡ old → level_number level ≡ relation_level → ¬ (links ≡ []) → LinksEnd level links old new
 
 -- one or more parts with a symbol between each two
 pub record BeginsList (m : Symbol) (tokens others : List Token) (parts : List Spelling) : Type 0 where
@@ -116,3 +137,7 @@ pub record BeginsProgram (levels : ℕ) (tokens others : List Token) (p : Progra
   pub spelled : Reads tokens (program_spelling p) others
   pub formed : is_program p ≡ true
   pub nests : nesting p ≤ levels
+
+-- the period of a program, the last of the tokens
+abbrev pub Stop : List Token → Type 0
+Stop tokens = Reads tokens (mark symbol.Period ∷ []) []

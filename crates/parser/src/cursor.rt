@@ -1,4 +1,4 @@
-ghost use Rattle.std.specs.Prelude.{◌≡◌, ◌<◌, ◌≤◌, [], ◌∷◌, IfSome, IfOk, ℕ, ◌↔◌, IsTrue, OnSome, OnOk, IfErr, IfNone};
+ghost use Rattle.std.specs.Prelude.{◌≡◌, [], ◌∷◌, IfSome, IfOk, ℕ, ◌↔◌, IsTrue, IfErr, IfNone, MatchBool};
 
 use crate::fault::ParseFault;
 use crate::operator::{Level, level_of, operator_of};
@@ -18,7 +18,7 @@ impl<'t, 'a> Cursor<'t, 'a> {
     ghost use Rattle.parser.specs.Spelling.{of_kind_at, identifier, sign, operator};
     ghost use Rattle.parser.specs.WellFormed.{operator_level};
     ghost use Rattle.parser.specs.Level.{level_number};
-    ghost use Rattle.parser.specs.Cursor.{left, place_of_next, IsOfRules, Took};
+    ghost use Rattle.parser.specs.Cursor.{place_of_next, IsOfRules, Took};
     ghost use Rattle.parser.specs.Reading.{next_kind, NoSign, NoOperator};
 
     pub fn new(tokens: &'t [Token<'a>]) -> Self
@@ -34,7 +34,10 @@ impl<'t, 'a> Cursor<'t, 'a> {
     pub fn peek(&self) -> Option<Kind>
         ensures { result ≡ next_kind self.now.rest.now }
     {
-        Some(self.rest.first()?.kind)
+        match self.rest {
+            [] => None,
+            [token, ..] => Some(token.kind),
+        }
     }
 
     /// Where the next token stands, or the end.
@@ -56,7 +59,6 @@ impl<'t, 'a> Cursor<'t, 'a> {
 
     /// Takes the next token if it is of this kind, and answers its place.
     pub fn take(&mut self, kind: Kind) -> Option<Place>
-        ensures taken { OnSome result (left self.new < left self.old) }
         ensures kept { IfNone result (self.new ≡ self.old) }
         ensures missed { IfNone result (¬ (next_kind self.old.rest.now ≡ Some kind)) }
         ensures spelled { IfSome result
@@ -73,7 +75,6 @@ impl<'t, 'a> Cursor<'t, 'a> {
     }
 
     pub fn take_word(&mut self, word: Word) -> Option<Place>
-        ensures taken { OnSome result (left self.new < left self.old) }
         ensures kept { IfNone result (self.new ≡ self.old) }
         ensures missed { IfNone result (¬ (next_kind self.old.rest.now ≡ Some (Kind.Word word))) }
         ensures spelled { IfSome result
@@ -83,7 +84,6 @@ impl<'t, 'a> Cursor<'t, 'a> {
     }
 
     pub fn take_symbol(&mut self, symbol: Symbol) -> Option<Place>
-        ensures taken { OnSome result (left self.new < left self.old) }
         ensures kept { IfNone result (self.new ≡ self.old) }
         ensures missed { IfNone result (¬ (next_kind self.old.rest.now ≡ Some (Kind.Symbol symbol))) }
         ensures spelled { IfSome result
@@ -93,7 +93,6 @@ impl<'t, 'a> Cursor<'t, 'a> {
     }
 
     pub fn expect_word(&mut self, word: Word) -> Result<Place, ParseFault>
-        ensures taken { OnOk result (left self.new < left self.old) }
         ensures kept { IfErr result (λ fault. (self.new ≡ self.old) × IsOfRules fault) }
         ensures missed { IfErr result (λ _. ¬ (next_kind self.old.rest.now ≡ Some (Kind.Word word))) }
         ensures spelled { IfOk result
@@ -103,7 +102,6 @@ impl<'t, 'a> Cursor<'t, 'a> {
     }
 
     pub fn expect_symbol(&mut self, symbol: Symbol) -> Result<Place, ParseFault>
-        ensures taken { OnOk result (left self.new < left self.old) }
         ensures kept { IfErr result (λ fault. (self.new ≡ self.old) × IsOfRules fault) }
         ensures missed { IfErr result (λ _. ¬ (next_kind self.old.rest.now ≡ Some (Kind.Symbol symbol))) }
         ensures spelled { IfOk result
@@ -114,7 +112,6 @@ impl<'t, 'a> Cursor<'t, 'a> {
 
     /// Takes an identifier, if one is next.
     pub fn take_name(&mut self) -> Option<Name<'a>>
-        ensures taken { OnSome result (left self.new < left self.old) }
         ensures kept { IfNone result (self.new ≡ self.old) }
         ensures missed { IfNone result (¬ (next_kind self.old.rest.now ≡ Some Kind.Identifier)) }
         ensures spelled { IfSome result (λ name. Took self.old self.new (identifier name ∷ [])) }
@@ -139,7 +136,6 @@ impl<'t, 'a> Cursor<'t, 'a> {
     }
 
     pub fn expect_name(&mut self) -> Result<Name<'a>, ParseFault>
-        ensures taken { OnOk result (left self.new < left self.old) }
         ensures kept { IfErr result (λ fault. (self.new ≡ self.old) × IsOfRules fault) }
         ensures missed { IfErr result (λ _. ¬ (next_kind self.old.rest.now ≡ Some Kind.Identifier)) }
         ensures spelled { IfOk result (λ name. Took self.old self.new (identifier name ∷ [])) }
@@ -149,7 +145,6 @@ impl<'t, 'a> Cursor<'t, 'a> {
 
     /// Takes a number, if one is next.
     pub fn take_number(&mut self) -> Option<(u32, Place)>
-        ensures taken { OnSome result (left self.new < left self.old) }
         ensures kept { IfNone result (self.new ≡ self.old) }
         ensures missed { IfNone result ((v : ℕ) → ¬ (next_kind self.old.rest.now ≡ Some (Kind.Number v))) }
         ensures spelled { IfSome result
@@ -169,7 +164,6 @@ impl<'t, 'a> Cursor<'t, 'a> {
 
     /// Takes a sign, if one is next.
     pub fn take_sign(&mut self) -> Option<(Sign, Place)>
-        ensures taken { OnSome result (left self.new < left self.old) }
         ensures kept { IfNone result (self.new ≡ self.old) }
         ensures missed { IfNone result (NoSign self.old.rest.now) }
         ensures spelled { IfSome result
@@ -182,9 +176,17 @@ impl<'t, 'a> Cursor<'t, 'a> {
         Some((Sign::Minus, place))
     }
 
+    /// Whether an operator of this level is next.
+    pub fn has_operator(&self, level: Level) -> bool
+        ensures { MatchBool result (¬ NoOperator (level_number level) self.now.rest.now)
+            (NoOperator (level_number level) self.now.rest.now) }
+    {
+        let mut ahead = *self;
+        ahead.take_operator(level).is_some()
+    }
+
     /// Takes an operator of this level, if one is next.
     pub fn take_operator(&mut self, level: Level) -> Option<(Operator, Place)>
-        ensures taken { OnSome result (left self.new < left self.old) }
         ensures kept { IfNone result (self.new ≡ self.old) }
         ensures missed { IfNone result (NoOperator (level_number level) self.old.rest.now) }
         ensures level { IfSome result (λ found. operator_level found.0 ≡ level_number level) }

@@ -1,68 +1,108 @@
-ghost use Rattle.std.specs.Prelude.{◌≡◌, ◌≤◌, IfOk, MatchResult, Some};
-ghost use Rattle.parser.specs.Cursor.{left, IsOfRules};
-ghost use Rattle.parser.specs.declared.fault.ParseFault.TheVariants.{Memory};
+ghost use Rattle.std.specs.Prelude.{◌≡◌, MatchResult, IfSome, IfNone, Some};
+ghost use Rattle.parser.specs.Cursor.{IsOfRules};
+ghost use Rattle.parser.specs.Level.{level_number};
 ghost use Rattle.parser.specs.Reading.{next_kind, ReadsDeep, Ends, EndsActual, Closes, NoNext};
-ghost use Rattle.parser.specs.Rules.{Read, BeginsExpr, BeginsActual, BeginsActualList, BeginsActuals, IsChain};
-ghost use Rattle.parser.specs.WellFormed.{relation_level, sum_level, signed_level, product_level, factor_level};
+ghost use Rattle.parser.specs.Rules.{Read, BeginsExpr, BeginsActual, BeginsActualList, BeginsActuals, BeginsLinks, ReadLinks, LinksEnd, LinksGoOn};
+ghost use Rattle.parser.specs.WellFormed.{first_level, operand_level, signed_level, factor_level};
 
 use crate::cursor::Cursor;
 use crate::fault::ParseFault;
 use crate::nesting::inside;
 use crate::operator::Level;
-use crate::tree::{Actual, Expr, Link};
+use crate::tree::{Actual, Expr, Link, Operator};
+use lexer::place::Place;
 use lexer::token::{Kind, Symbol, Word};
 use std::alloc::Global;
 
 // expression = simple [relation simple]
-/// An expression, below which `levels` levels are left (6.7.1).
+// simple = signed {("+" | "-" | "or") term}
+// term = factor {("*" | "div" | "mod" | "and") factor}
+/// An expression, a simple expression or a term, by the level of its operators (6.7.1). Below it
+/// `levels` levels are left.
 #[cycle(expression)]
 pub fn expression<'a>(
     alloc: Global,
     cursor: &mut Cursor<'_, 'a>,
     levels: u32,
+    level: Level,
 ) -> Result<Expr<'a>, ParseFault>
-    ensures left { MatchResult result (λ _. left cursor.new ≤ left cursor.old) IsOfRules }
-    ensures given { IfOk result (Read (BeginsExpr relation_level levels) cursor.old cursor.new) }
-    ensures exact { ReadsDeep levels (BeginsExpr relation_level) (Ends relation_level)
+    ensures given { MatchResult result
+        (Read (BeginsExpr (level_number level) levels) cursor.old cursor.new) IsOfRules }
+    ensures exact { ReadsDeep levels (BeginsExpr (level_number level)) (Ends (level_number level))
         cursor.old cursor.new result }
 {
-    let first = simple(alloc, cursor, levels)?;
-    let Some((operator, place)) = cursor.take_operator(Level::Relation) else {
+    let first = first_operand(alloc, cursor, levels, level)?;
+    if !cursor.has_operator(level) {
         return Ok(first);
-    };
-    let operand = simple(alloc, cursor, levels)?;
-    let mut rest = Vec::new(alloc);
-    rest.push(Link {
-        operator,
-        place,
-        operand,
-    })?;
-    chained(alloc, first, rest)
+    }
+    let first = Box::new(alloc, first)?;
+    let rest = links(alloc, cursor, levels, level)?;
+    Ok(Expr::Chain { first, rest })
 }
 
-// simple = signed {("+" | "-" | "or") term}
+/// The operators of this level that come next, each with the operand behind it.
 #[cycle(expression)]
-fn simple<'a>(
+fn links<'a>(
     alloc: Global,
     cursor: &mut Cursor<'_, 'a>,
     levels: u32,
-) -> Result<Expr<'a>, ParseFault>
-    ensures left { MatchResult result (λ _. left cursor.new ≤ left cursor.old) IsOfRules }
-    ensures given { IfOk result (Read (BeginsExpr sum_level levels) cursor.old cursor.new) }
-    ensures exact { ReadsDeep levels (BeginsExpr sum_level) (Ends sum_level)
+    level: Level,
+) -> Result<Vec<Link<'a>>, ParseFault>
+    ensures given { MatchResult result
+        (λ found. ReadLinks level levels cursor.old cursor.new found.items) IsOfRules }
+    ensures exact { ReadsDeep levels (BeginsLinks (level_number level)) (Ends (level_number level))
         cursor.old cursor.new result }
 {
-    let first = signed(alloc, cursor, levels)?;
-    let mut rest = Vec::new(alloc);
-    while let Some((operator, place)) = cursor.take_operator(Level::Sum) {
-        let operand = term(alloc, cursor, levels)?;
-        rest.push(Link {
+    let mut links = Vec::new(alloc);
+    while let Some((operator, place)) = next_operator(cursor, level, &links) {
+        let operand = operand(alloc, cursor, levels, level)?;
+        links.push(Link {
             operator,
             place,
             operand,
         })?;
     }
-    chained(alloc, first, rest)
+    Ok(links)
+}
+
+/// The first operand of a chain of this level.
+#[cycle(expression)]
+fn first_operand<'a>(
+    alloc: Global,
+    cursor: &mut Cursor<'_, 'a>,
+    levels: u32,
+    level: Level,
+) -> Result<Expr<'a>, ParseFault>
+    ensures given { MatchResult result
+        (Read (BeginsExpr (first_level (level_number level)) levels) cursor.old cursor.new) IsOfRules }
+    ensures exact { ReadsDeep levels (BeginsExpr (first_level (level_number level)))
+        (Ends (first_level (level_number level))) cursor.old cursor.new result }
+{
+    match level {
+        Level::Relation => expression(alloc, cursor, levels, Level::Sum),
+        Level::Sum => signed(alloc, cursor, levels),
+        Level::Product => factor(alloc, cursor, levels),
+    }
+}
+
+/// The operand behind an operator of this level.
+#[cycle(expression)]
+fn operand<'a>(
+    alloc: Global,
+    cursor: &mut Cursor<'_, 'a>,
+    levels: u32,
+    level: Level,
+) -> Result<Expr<'a>, ParseFault>
+    ensures given { MatchResult result
+        (Read (BeginsExpr (operand_level (level_number level)) levels) cursor.old cursor.new) IsOfRules }
+    ensures exact { ReadsDeep levels (BeginsExpr (operand_level (level_number level)))
+        (Ends (operand_level (level_number level))) cursor.old cursor.new result }
+{
+    match level {
+        Level::Relation => expression(alloc, cursor, levels, Level::Sum),
+        Level::Sum => expression(alloc, cursor, levels, Level::Product),
+        Level::Product => factor(alloc, cursor, levels),
+    }
 }
 
 // signed = [sign] term
@@ -72,40 +112,19 @@ fn signed<'a>(
     cursor: &mut Cursor<'_, 'a>,
     levels: u32,
 ) -> Result<Expr<'a>, ParseFault>
-    ensures left { MatchResult result (λ _. left cursor.new ≤ left cursor.old) IsOfRules }
-    ensures given { IfOk result (Read (BeginsExpr signed_level levels) cursor.old cursor.new) }
+    ensures given { MatchResult result
+        (Read (BeginsExpr signed_level levels) cursor.old cursor.new) IsOfRules }
     ensures exact { ReadsDeep levels (BeginsExpr signed_level) (Ends signed_level)
         cursor.old cursor.new result }
 {
     match cursor.take_sign() {
-        None => term(alloc, cursor, levels),
+        None => expression(alloc, cursor, levels, Level::Product),
         Some((sign, place)) => Ok(Expr::Signed {
             sign,
             place,
-            term: Box::new(alloc, term(alloc, cursor, levels)?)?,
+            term: Box::new(alloc, expression(alloc, cursor, levels, Level::Product)?)?,
         }),
     }
-}
-
-// term = factor {("*" | "div" | "mod" | "and") factor}
-#[cycle(expression)]
-fn term<'a>(alloc: Global, cursor: &mut Cursor<'_, 'a>, levels: u32) -> Result<Expr<'a>, ParseFault>
-    ensures left { MatchResult result (λ _. left cursor.new ≤ left cursor.old) IsOfRules }
-    ensures given { IfOk result (Read (BeginsExpr product_level levels) cursor.old cursor.new) }
-    ensures exact { ReadsDeep levels (BeginsExpr product_level) (Ends product_level)
-        cursor.old cursor.new result }
-{
-    let first = factor(alloc, cursor, levels)?;
-    let mut rest = Vec::new(alloc);
-    while let Some((operator, place)) = cursor.take_operator(Level::Product) {
-        let operand = factor(alloc, cursor, levels)?;
-        rest.push(Link {
-            operator,
-            place,
-            operand,
-        })?;
-    }
-    chained(alloc, first, rest)
 }
 
 // factor = number | named | "not" factor | parenthesized
@@ -115,8 +134,8 @@ fn factor<'a>(
     cursor: &mut Cursor<'_, 'a>,
     levels: u32,
 ) -> Result<Expr<'a>, ParseFault>
-    ensures left { MatchResult result (λ _. left cursor.new ≤ left cursor.old) IsOfRules }
-    ensures given { IfOk result (Read (BeginsExpr factor_level levels) cursor.old cursor.new) }
+    ensures given { MatchResult result
+        (Read (BeginsExpr factor_level levels) cursor.old cursor.new) IsOfRules }
     ensures exact { ReadsDeep levels (BeginsExpr factor_level) (Ends factor_level)
         cursor.old cursor.new result }
 {
@@ -145,8 +164,8 @@ fn named<'a>(
     cursor: &mut Cursor<'_, 'a>,
     levels: u32,
 ) -> Result<Expr<'a>, ParseFault>
-    ensures left { MatchResult result (λ _. left cursor.new ≤ left cursor.old) IsOfRules }
-    ensures given { IfOk result (Read (BeginsExpr factor_level levels) cursor.old cursor.new) }
+    ensures given { MatchResult result
+        (Read (BeginsExpr factor_level levels) cursor.old cursor.new) IsOfRules }
     ensures exact { next_kind cursor.old.rest.now ≡ Some Kind.Identifier →
         ReadsDeep levels (BeginsExpr factor_level) (Ends factor_level)
         cursor.old cursor.new result }
@@ -166,19 +185,17 @@ fn parenthesized<'a>(
     cursor: &mut Cursor<'_, 'a>,
     levels: u32,
 ) -> Result<Expr<'a>, ParseFault>
-    ensures left { MatchResult result (λ _. left cursor.new ≤ left cursor.old) IsOfRules }
-    ensures given { IfOk result (Read (BeginsExpr factor_level levels) cursor.old cursor.new) }
+    ensures given { MatchResult result
+        (Read (BeginsExpr factor_level levels) cursor.old cursor.new) IsOfRules }
     ensures exact { next_kind cursor.old.rest.now ≡ Some (Kind.Symbol Symbol.OpenParenthesis) →
         ReadsDeep levels (BeginsExpr factor_level) (Ends factor_level)
         cursor.old cursor.new result }
 {
     let open = cursor.expect_symbol(Symbol::OpenParenthesis)?;
-    let inner = expression(alloc, cursor, inside(levels, open)?)?;
+    let levels = inside(levels, open)?;
+    let inner = Box::new(alloc, expression(alloc, cursor, levels, Level::Relation)?)?;
     cursor.expect_symbol(Symbol::CloseParenthesis)?;
-    Ok(Expr::Parenthesized {
-        open,
-        inner: Box::new(alloc, inner)?,
-    })
+    Ok(Expr::Parenthesized { open, inner })
 }
 
 // actuals = ["(" actual_list ")"]
@@ -189,14 +206,14 @@ pub fn actuals<'a>(
     cursor: &mut Cursor<'_, 'a>,
     levels: u32,
 ) -> Result<Vec<Actual<'a>>, ParseFault>
-    ensures left { MatchResult result (λ _. left cursor.new ≤ left cursor.old) IsOfRules }
-    ensures given { IfOk result (λ found. Read (BeginsActuals levels) cursor.old cursor.new found.items) }
+    ensures given { MatchResult result
+        (λ found. Read (BeginsActuals levels) cursor.old cursor.new found.items) IsOfRules }
     ensures exact { ReadsDeep levels BeginsActuals (NoNext (Kind.Symbol Symbol.OpenParenthesis))
         cursor.old cursor.new result }
 {
-    if cursor.take_symbol(Symbol::OpenParenthesis).is_none() {
+    let Some(_) = cursor.take_symbol(Symbol::OpenParenthesis) else {
         return Ok(Vec::new(alloc));
-    }
+    };
     let actuals = actual_list(alloc, cursor, levels)?;
     cursor.expect_symbol(Symbol::CloseParenthesis)?;
     Ok(actuals)
@@ -209,17 +226,16 @@ fn actual_list<'a>(
     cursor: &mut Cursor<'_, 'a>,
     levels: u32,
 ) -> Result<Vec<Actual<'a>>, ParseFault>
-    ensures left { MatchResult result (λ _. left cursor.new ≤ left cursor.old) IsOfRules }
-    ensures given { IfOk result
-        (λ found. Read (BeginsActualList levels) cursor.old cursor.new found.items) }
+    ensures given { MatchResult result
+        (λ found. Read (BeginsActualList levels) cursor.old cursor.new found.items) IsOfRules }
     ensures exact { ReadsDeep levels BeginsActualList Closes cursor.old cursor.new result }
 {
     let mut actuals = Vec::new(alloc);
     loop {
         actuals.push(actual(alloc, cursor, levels)?)?;
-        if cursor.take_symbol(Symbol::Comma).is_none() {
+        let Some(_) = cursor.take_symbol(Symbol::Comma) else {
             return Ok(actuals);
-        }
+        };
     }
 }
 
@@ -230,31 +246,33 @@ fn actual<'a>(
     cursor: &mut Cursor<'_, 'a>,
     levels: u32,
 ) -> Result<Actual<'a>, ParseFault>
-    ensures left { MatchResult result (λ _. left cursor.new ≤ left cursor.old) IsOfRules }
-    ensures given { IfOk result (Read (BeginsActual levels) cursor.old cursor.new) }
+    ensures given { MatchResult result (Read (BeginsActual levels) cursor.old cursor.new) IsOfRules }
     ensures exact { ReadsDeep levels BeginsActual EndsActual cursor.old cursor.new result }
 {
     let levels = inside(levels, cursor.place())?;
-    let value = expression(alloc, cursor, levels)?;
-    if cursor.take_symbol(Symbol::Colon).is_none() {
+    let value = expression(alloc, cursor, levels, Level::Relation)?;
+    let Some(_) = cursor.take_symbol(Symbol::Colon) else {
         return Ok(Actual { value, width: None });
-    }
-    let width = expression(alloc, cursor, levels)?;
+    };
+    let width = expression(alloc, cursor, levels, Level::Relation)?;
     Ok(Actual {
         value,
         width: Some(width),
     })
 }
 
-/// A first operand with the operators behind it, or alone where there are none.
-fn chained<'a>(alloc: Global, first: Expr<'a>, rest: Vec<Link<'a>>) -> Result<Expr<'a>, ParseFault>
-    ensures { MatchResult result (IsChain first.entry rest.entry.items) (λ fault. fault ≡ Memory) }
+/// Takes an operator of this level behind these, if one is next. A relation has one alone.
+fn next_operator(
+    cursor: &mut Cursor<'_, '_>,
+    level: Level,
+    links: &[Link<'_>],
+) -> Option<(Operator, Place)>
+    ensures ended { IfNone result (LinksEnd level links.now cursor.old cursor.new) }
+    ensures goes_on { IfSome result
+        (λ found. LinksGoOn level links.now cursor.old cursor.new found.0 found.1) }
 {
-    if rest.is_empty() {
-        return Ok(first);
+    if level == Level::Relation && !links.is_empty() {
+        return None;
     }
-    Ok(Expr::Chain {
-        first: Box::new(alloc, first)?,
-        rest,
-    })
+    cursor.take_operator(level)
 }

@@ -1,6 +1,6 @@
-ghost use Rattle.std.specs.Prelude.{◌≡◌, ◌<◌, ◌≤◌, IfOk, IfErr, MatchOption, MatchResult};
-ghost use Rattle.parser.specs.Cursor.{left, IsOfRules, Took};
-ghost use Rattle.parser.specs.Rules.{Read, BeginsList, BeginsNames, BeginsParameters, BeginsGroup, BeginsGroups, BeginsVariables, BeginsBlock, BeginsProgram};
+ghost use Rattle.std.specs.Prelude.{◌≡◌, IfErr, MatchOption, MatchResult};
+ghost use Rattle.parser.specs.Cursor.{IsOfRules};
+ghost use Rattle.parser.specs.Rules.{Read, BeginsList, BeginsNames, BeginsParameters, BeginsGroup, BeginsGroups, BeginsVariables, BeginsBlock, Stop};
 ghost use Rattle.parser.specs.Reading.{ReadsEach, ReadsDeep, NoNext, BeginsStatementPart, Anything};
 ghost use Rattle.parser.specs.Syntax.{first_left_out, is_left_out, IsTreeOf, IsRefused, Answers};
 
@@ -25,7 +25,7 @@ pub fn parse<'a>(alloc: Global, tokens: &[Token<'a>]) -> Result<Program<'a>, Par
 {
     match first_left_out(tokens) {
         Some(place) => Err(ParseFault::LeftOut(place)),
-        None => whole(alloc, &mut Cursor::new(tokens)),
+        None => program(alloc, &mut Cursor::new(tokens)),
     }
 }
 
@@ -51,30 +51,18 @@ fn is_left_out(kind: Kind) -> bool
     )
 }
 
-/// A program and nothing behind it.
-fn whole<'a>(alloc: Global, cursor: &mut Cursor<'_, 'a>) -> Result<Program<'a>, ParseFault>
-    ensures fault { IfErr result IsOfRules }
-    ensures exact { MatchResult result (λ tree. IsTreeOf tree cursor.old.rest.now) (IsRefused cursor.old.rest.now) }
-{
-    let program = program(alloc, cursor)?;
-    match cursor.peek() {
-        None => Ok(program),
-        Some(_) => Err(cursor.no_program()),
-    }
-}
-
 // program = "program" name parameters ";" block "."
+/// A program and nothing behind it.
 fn program<'a>(alloc: Global, cursor: &mut Cursor<'_, 'a>) -> Result<Program<'a>, ParseFault>
-    ensures left { MatchResult result (λ _. left cursor.new ≤ left cursor.old) IsOfRules }
-    ensures given { IfOk result (Read (BeginsProgram MAX_NESTING) cursor.old cursor.new) }
-    ensures exact { ReadsDeep MAX_NESTING BeginsProgram Anything cursor.old cursor.new result }
+    ensures given { MatchResult result (λ tree. IsTreeOf tree cursor.old.rest.now) IsOfRules }
+    ensures refused { IfErr result (IsRefused cursor.old.rest.now) }
 {
     cursor.expect_word(Word::Program)?;
     let name = cursor.expect_name()?;
     let parameters = parameters(alloc, cursor)?;
     cursor.expect_symbol(Symbol::Semicolon)?;
     let block = block(alloc, cursor, MAX_NESTING)?;
-    cursor.expect_symbol(Symbol::Period)?;
+    stop(cursor)?;
     Ok(Program {
         name,
         parameters,
@@ -82,16 +70,27 @@ fn program<'a>(alloc: Global, cursor: &mut Cursor<'_, 'a>) -> Result<Program<'a>
     })
 }
 
+/// The period of a program and nothing behind it.
+fn stop(cursor: &mut Cursor<'_, '_>) -> Result<(), ParseFault>
+    ensures given { MatchResult result (λ _. Stop cursor.old.rest.now) IsOfRules }
+    ensures missed { IfErr result (λ _. ¬ Stop cursor.old.rest.now) }
+{
+    cursor.expect_symbol(Symbol::Period)?;
+    match cursor.peek() {
+        None => Ok(()),
+        Some(_) => Err(cursor.no_program()),
+    }
+}
+
 // parameters = ["(" names ")"]
 fn parameters<'a>(alloc: Global, cursor: &mut Cursor<'_, 'a>) -> Result<Vec<Name<'a>>, ParseFault>
-    ensures left { MatchResult result (λ _. left cursor.new ≤ left cursor.old) IsOfRules }
-    ensures given { IfOk result (λ found. Read BeginsParameters cursor.old cursor.new found.items) }
+    ensures given { MatchResult result (λ found. Read BeginsParameters cursor.old cursor.new found.items) IsOfRules }
     ensures exact { ReadsEach BeginsParameters (NoNext (Kind.Symbol Symbol.OpenParenthesis))
         cursor.old cursor.new result }
 {
-    if cursor.take_symbol(Symbol::OpenParenthesis).is_none() {
+    let Some(_) = cursor.take_symbol(Symbol::OpenParenthesis) else {
         return Ok(Vec::new(alloc));
-    }
+    };
     let names = names(alloc, cursor)?;
     cursor.expect_symbol(Symbol::CloseParenthesis)?;
     Ok(names)
@@ -99,17 +98,15 @@ fn parameters<'a>(alloc: Global, cursor: &mut Cursor<'_, 'a>) -> Result<Vec<Name
 
 // names = name {"," name}
 fn names<'a>(alloc: Global, cursor: &mut Cursor<'_, 'a>) -> Result<Vec<Name<'a>>, ParseFault>
-    ensures left { MatchResult result (λ _. left cursor.new < left cursor.old) IsOfRules }
-    ensures given { IfOk result
-        (λ found. Read BeginsNames cursor.old cursor.new found.items) }
+    ensures given { MatchResult result (λ found. Read BeginsNames cursor.old cursor.new found.items) IsOfRules }
     ensures exact { ReadsEach BeginsNames (NoNext (Kind.Symbol Symbol.Comma)) cursor.old cursor.new result }
 {
     let mut names = Vec::new(alloc);
     loop {
         names.push(cursor.expect_name()?)?;
-        if cursor.take_symbol(Symbol::Comma).is_none() {
+        let Some(_) = cursor.take_symbol(Symbol::Comma) else {
             return Ok(names);
-        }
+        };
     }
 }
 
@@ -120,8 +117,7 @@ fn block<'a>(
     cursor: &mut Cursor<'_, 'a>,
     levels: u32,
 ) -> Result<Block<'a>, ParseFault>
-    ensures left { MatchResult result (λ _. left cursor.new ≤ left cursor.old) IsOfRules }
-    ensures given { IfOk result (Read (BeginsBlock levels) cursor.old cursor.new) }
+    ensures given { MatchResult result (Read (BeginsBlock levels) cursor.old cursor.new) IsOfRules }
     ensures exact { ReadsDeep levels BeginsBlock Anything cursor.old cursor.new result }
 {
     let variables = variables(alloc, cursor)?;
@@ -139,13 +135,12 @@ fn variables<'a>(
     alloc: Global,
     cursor: &mut Cursor<'_, 'a>,
 ) -> Result<Vec<VariableGroup<'a>>, ParseFault>
-    ensures left { MatchResult result (λ _. left cursor.new ≤ left cursor.old) IsOfRules }
-    ensures given { IfOk result (λ found. Read BeginsVariables cursor.old cursor.new found.items) }
+    ensures given { MatchResult result (λ found. Read BeginsVariables cursor.old cursor.new found.items) IsOfRules }
     ensures exact { ReadsEach BeginsVariables BeginsStatementPart cursor.old cursor.new result }
 {
-    if cursor.take_word(Word::Var).is_none() {
+    let Some(_) = cursor.take_word(Word::Var) else {
         return Ok(Vec::new(alloc));
-    }
+    };
     groups(alloc, cursor)
 }
 
@@ -154,8 +149,7 @@ fn groups<'a>(
     alloc: Global,
     cursor: &mut Cursor<'_, 'a>,
 ) -> Result<Vec<VariableGroup<'a>>, ParseFault>
-    ensures left { MatchResult result (λ _. left cursor.new ≤ left cursor.old) IsOfRules }
-    ensures given { IfOk result (λ found. Read BeginsGroups cursor.old cursor.new found.items) }
+    ensures given { MatchResult result (λ found. Read BeginsGroups cursor.old cursor.new found.items) IsOfRules }
     ensures exact { ReadsEach BeginsGroups (NoNext Kind.Identifier) cursor.old cursor.new result }
 {
     let mut groups = Vec::new(alloc);
@@ -169,8 +163,7 @@ fn groups<'a>(
 
 // group = names ":" name ";"
 fn group<'a>(alloc: Global, cursor: &mut Cursor<'_, 'a>) -> Result<VariableGroup<'a>, ParseFault>
-    ensures left { MatchResult result (λ _. left cursor.new < left cursor.old) IsOfRules }
-    ensures given { IfOk result (Read BeginsGroup cursor.old cursor.new) }
+    ensures given { MatchResult result (Read BeginsGroup cursor.old cursor.new) IsOfRules }
     ensures exact { ReadsEach BeginsGroup Anything cursor.old cursor.new result }
 {
     let names = names(alloc, cursor)?;

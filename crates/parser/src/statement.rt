@@ -1,5 +1,5 @@
-ghost use Rattle.std.specs.Prelude.{◌≡◌, ◌+◌, ◌≤◌, IfOk, MatchResult, Some};
-ghost use Rattle.parser.specs.Cursor.{left, IsOfRules};
+ghost use Rattle.std.specs.Prelude.{◌≡◌, ◌+◌, MatchResult, Some};
+ghost use Rattle.parser.specs.Cursor.{IsOfRules};
 ghost use Rattle.parser.specs.Reading.{next_kind, ReadsDeep, EndsStmt, EndsStatements, Anything};
 ghost use Rattle.parser.specs.Rules.{Read, BeginsStmt, BeginsStatements, BeginsCompound};
 
@@ -7,6 +7,7 @@ use crate::cursor::Cursor;
 use crate::expression::{actuals, expression};
 use crate::fault::ParseFault;
 use crate::nesting::inside;
+use crate::operator::Level;
 use crate::tree::Stmt;
 use lexer::place::Place;
 use lexer::token::{Kind, Symbol, Word};
@@ -21,9 +22,8 @@ pub fn compound<'a>(
     cursor: &mut Cursor<'_, 'a>,
     levels: u32,
 ) -> Result<(Vec<Stmt<'a>>, Place), ParseFault>
-    ensures left { MatchResult result (λ _. left cursor.new ≤ left cursor.old) IsOfRules }
-    ensures given { IfOk result
-        (λ found. Read (BeginsCompound levels) cursor.old cursor.new (found.0.items, found.1)) }
+    ensures given { MatchResult result
+        (λ found. Read (BeginsCompound levels) cursor.old cursor.new (found.0.items, found.1)) IsOfRules }
     ensures exact { ReadsDeep levels BeginsCompound Anything cursor.old cursor.new result }
 {
     cursor.expect_word(Word::Begin)?;
@@ -39,17 +39,16 @@ fn statements<'a>(
     cursor: &mut Cursor<'_, 'a>,
     levels: u32,
 ) -> Result<Vec<Stmt<'a>>, ParseFault>
-    ensures left { MatchResult result (λ _. left cursor.new ≤ left cursor.old) IsOfRules }
-    ensures given { IfOk result
-        (λ found. Read (BeginsStatements levels) cursor.old cursor.new found.items) }
+    ensures given { MatchResult result
+        (λ found. Read (BeginsStatements levels) cursor.old cursor.new found.items) IsOfRules }
     ensures exact { ReadsDeep levels BeginsStatements EndsStatements cursor.old cursor.new result }
 {
     let mut statements = Vec::new(alloc);
     loop {
         statements.push(statement(alloc, cursor, levels)?)?;
-        if cursor.take_symbol(Symbol::Semicolon).is_none() {
+        let Some(_) = cursor.take_symbol(Symbol::Semicolon) else {
             return Ok(statements);
-        }
+        };
     }
 }
 
@@ -61,8 +60,7 @@ fn statement<'a>(
     cursor: &mut Cursor<'_, 'a>,
     levels: u32,
 ) -> Result<Stmt<'a>, ParseFault>
-    ensures left { MatchResult result (λ _. left cursor.new ≤ left cursor.old) IsOfRules }
-    ensures given { IfOk result (Read (BeginsStmt levels) cursor.old cursor.new) }
+    ensures given { MatchResult result (Read (BeginsStmt levels) cursor.old cursor.new) IsOfRules }
     ensures exact { ReadsDeep levels BeginsStmt EndsStmt cursor.old cursor.new result }
 {
     let levels = inside(levels, cursor.place())?;
@@ -84,8 +82,7 @@ fn simple<'a>(
     cursor: &mut Cursor<'_, 'a>,
     levels: u32,
 ) -> Result<Stmt<'a>, ParseFault>
-    ensures left { MatchResult result (λ _. left cursor.new ≤ left cursor.old) IsOfRules }
-    ensures given { IfOk result (Read (BeginsStmt (levels + 1)) cursor.old cursor.new) }
+    ensures given { MatchResult result (Read (BeginsStmt (levels + 1)) cursor.old cursor.new) IsOfRules }
     ensures exact { next_kind cursor.old.rest.now ≡ Some Kind.Identifier →
         ReadsDeep (levels + 1) BeginsStmt EndsStmt cursor.old cursor.new result }
 {
@@ -94,7 +91,7 @@ fn simple<'a>(
         Some(becomes) => Ok(Stmt::Assign {
             name,
             becomes,
-            value: expression(alloc, cursor, levels)?,
+            value: expression(alloc, cursor, levels, Level::Relation)?,
         }),
         None => Ok(Stmt::Call {
             name,

@@ -1,4 +1,3 @@
-use Rattle.std.proofs.Common.{◌≤◌}
 use Rattle.parser.specs.Cursor.{left}
 use Rattle.parser.proofs.ExactPrograms.{GroupNext}
 use Rattle.parser.proofs.Programs.{GroupsGrow}
@@ -6,7 +5,7 @@ use Rattle.parser.proofs.program.groups.Given as goal
 
 abbrev pub invariant-loop-groups : goal.invariant-loop-groups
 invariant-loop-groups l =
-    (left l.cursor ≤ left l.fn.cursor) × GroupsGrow l.fn.cursor l.cursor l.groups.items × GroupNext l.fn.cursor.rest.now l.cursor.rest.now
+    GroupsGrow l.fn.cursor l.cursor l.groups.items × GroupNext l.fn.cursor.rest.now l.cursor.rest.now
 
 abbrev pub decreases-loop-groups : goal.decreases-loop-groups
 decreases-loop-groups l = left l.cursor

@@ -1,4 +1,3 @@
-use Rattle.std.proofs.Common.{◌≤◌}
 use Rattle.parser.specs.Cursor.{left}
 use Rattle.parser.proofs.ExactPrograms.{NameNext}
 use Rattle.parser.proofs.Programs.{NamesGrow}
@@ -6,7 +5,7 @@ use Rattle.parser.proofs.program.names.Given as goal
 
 abbrev pub invariant-loop-names : goal.invariant-loop-names
 invariant-loop-names l =
-    (left l.cursor ≤ left l.fn.cursor) × NamesGrow l.fn.cursor l.cursor l.names.items × NameNext l.fn.cursor.rest.now l.cursor.rest.now
+    NamesGrow l.fn.cursor l.cursor l.names.items × NameNext l.fn.cursor.rest.now l.cursor.rest.now
 
 abbrev pub decreases-loop-names : goal.decreases-loop-names
 decreases-loop-names l = left l.cursor

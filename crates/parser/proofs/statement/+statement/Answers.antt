@@ -1,23 +1,26 @@
-use Rattle.std.proofs.Common.{rules, arith, ◌≡◌, ap, sym, subst, ◌∙◌, [], ◌∷◌, Some, Err}
+use Rattle.std.proofs.Common.{rules, arith, ◌≡◌, ap, sym, subst, ◌∙◌, [], ◌∷◌, Some, Err, MatchResult}
 use Rattle.lexer.specs.declared.token.Kind.TheVariants as kind
-use Rattle.lexer.specs.declared.token.Symbol.TheVariants as symbol
 use Rattle.lexer.specs.declared.token.Word.TheVariants as word
 use Rattle.parser.specs.declared.tree.Stmt.{Stmt}
-use Rattle.parser.specs.Cursor.{left}
-use Rattle.parser.specs.Spelling.{Reads, of_kind_at}
+use Rattle.parser.specs.Spelling.{Reads, of_kind_at, word_symbol}
 use Rattle.parser.specs.Reading.{next_kind, Stops, ReadWithin}
-use Rattle.parser.specs.Rules.{Read, BeginsStatements}
-use Rattle.parser.proofs.Exact.{same_first, stops_above}
+use Rattle.parser.specs.Cursor.{IsOfRules}
+use Rattle.parser.specs.Rules.{Read, BeginsStatements, BeginsStmt}
+use Rattle.parser.proofs.Lists.{pushed, emptied}
+use Rattle.parser.proofs.Exact.{begins, same_first, stops_above}
 use Rattle.parser.proofs.ExactLists.{parts_end}
-use Rattle.parser.proofs.ExactActuals.{missed_if}
+use Rattle.parser.proofs.Reading.{reads_fewer, reads_no_more, unchanged}
 use Rattle.parser.proofs.ExactStatements.{compounded, opened_compound, statement_list_parts, statement_answer, statement_list_begins, statement_list_goes_on, statement_list_left}
-use Rattle.parser.proofs.Statements.{taken_if, fewer_if, StatementsGrow, statements_grow_first, statements_grow, compound_closed, compound_stands}
+use Rattle.parser.proofs.Statements.{gives-Empty, StatementsGrow, statements_grow_first, statements_grow, compound_closed, compound_stands}
 use Rattle.parser.proofs.statement.+statement.Goals as goal
 
 pub compound-returns-clause-given : goal.compound-returns-clause-given
 compound-returns-clause-given t c =
     compound_closed c.args.levels c.args.cursor.now c.expect_word.new.self c.statements.new.cursor c.expect_word-2.new.self c.in_ok-expect_word.field-0 c.in_ok-end.end c.in_ok-statements.statements.items
     c.in_ok-expect_word.ensures.spelled c.in_ok-statements.ensures.given c.in_ok-end.ensures.spelled
+
+pub compound-returns-in_err-expect_word-clause-exact : goal.compound-returns-in_err-expect_word-clause-exact
+compound-returns-in_err-expect_word-clause-exact t c = λ depth found others h _. absurd (c.in_err-expect_word.ensures.missed (begins (word_symbol word.Begin) _ c.args.cursor.now.rest.now others h.spelled))
 
 pub compound-returns-in_err-statements-clause-exact : goal.compound-returns-in_err-statements-clause-exact
 compound-returns-in_err-statements-clause-exact t c = λ depth found others h _.
@@ -57,6 +60,13 @@ statement-returns-in_ok-statements-in-Some-Word-Begin-clause-exact t c = λ dept
     let k = compounded depth c.args.cursor.now.rest.now others s first ends h in
     c.in_ok-statements-in-Some-Word-Begin.ensures.exact k.below k.found others k.begun tt
 
+pub statement-returns-in_default-clause-given : goal.statement-returns-in_default-clause-given
+statement-returns-in_default-clause-given t c = gives-Empty c.args.levels c.in_ok-levels.levels c.args.cursor.now c.in_ok-levels.ensures.left
+
+pub statement-returns-in-Some-Identifier-clause-given : goal.statement-returns-in-Some-Identifier-clause-given
+statement-returns-in-Some-Identifier-clause-given t c =
+    subst (λ n. MatchResult c.simple.result (Read (BeginsStmt n) c.args.cursor.now c.simple.new.cursor) IsOfRules) c.in_ok-levels.ensures.left c.simple.ensures.given
+
 pub statement-returns-in-Some-Identifier-clause-exact : goal.statement-returns-in-Some-Identifier-clause-exact
 statement-returns-in-Some-Identifier-clause-exact t c = λ depth s others h ends.
     let first : next_kind c.args.cursor.now.rest.now ≡ Some kind.Identifier = search rules in
@@ -64,38 +74,38 @@ statement-returns-in-Some-Identifier-clause-exact t c = λ depth s others h ends
 
 pub statements-loop-statements-init : goal.statements-loop-statements-init
 statements-loop-statements-init t c = (
-  search rules,
-  subst (λ xs. StatementsGrow c.args.levels c.args.cursor.now c.args.cursor.now xs) (sym c.new-statements.ensures.items) (statements_grow_first c.args.levels c.args.cursor.now),
+  emptied (λ xs. StatementsGrow c.args.levels c.args.cursor.now c.args.cursor.now xs) c.new-statements.result.items c.new-statements.ensures.items (statements_grow_first c.args.levels c.args.cursor.now),
   statement_list_begins c.args.cursor.now.rest.now,
 )
 
 pub statements-loop-statements-preserved : goal.statements-loop-statements-preserved
 statements-loop-statements-preserved t c =
     let start = c.args.cursor.now in
-    let semicolon = taken_if c.statement.new.cursor c.take_symbol.new.self (kind.Symbol symbol.Semicolon) c.take_symbol.result c.is_none.result c.is_none.ensures c.if-is_none.false c.take_symbol.ensures.spelled in
-    let less = fewer_if (left c.take_symbol.new.self) (left c.statement.new.cursor) c.take_symbol.result c.is_none.result c.is_none.ensures c.if-is_none.false c.take_symbol.ensures.taken in
-    let list = subst (λ xs. Read (BeginsStatements c.args.levels) start c.statement.new.cursor xs) (sym c.in_ok-push.ensures.items) (c.loop-statements.invariant.1 c.statement.new.cursor c.in_ok-statement.field-0 c.in_ok-statement.ensures.given) in (
-      omega (arith, c.in_ok-statement.ensures.left, c.loop-statements.invariant.0),
-      statements_grow c.args.levels start c.statement.new.cursor c.take_symbol.new.self c.push.new.self.items semicolon.0 list semicolon.1,
-      statement_list_goes_on semicolon.0 start.rest.now c.statement.new.cursor.rest.now c.take_symbol.new.self.rest.now semicolon.1
-          (statement_list_left c.args.levels start.rest.now c.loop-statements.cursor c.statement.new.cursor c.in_ok-statement.field-0 c.in_ok-statement.ensures.exact c.loop-statements.invariant.2),
+    let list = pushed (λ xs. Read (BeginsStatements c.args.levels) start c.statement.new.cursor xs) c.loop-statements.statements.items c.push.new.self.items c.in_ok-statement.field-0 c.in_ok-push.ensures.items (c.loop-statements.invariant.0 c.statement.new.cursor c.in_ok-statement.field-0 c.in_ok-statement.ensures.given) in (
+      statements_grow c.args.levels start c.statement.new.cursor c.take_symbol.new.self c.push.new.self.items c.in-Some.field-0 list c.in-Some.ensures.spelled,
+      statement_list_goes_on c.in-Some.field-0 start.rest.now c.statement.new.cursor.rest.now c.take_symbol.new.self.rest.now c.in-Some.ensures.spelled
+          (statement_list_left c.args.levels start.rest.now c.loop-statements.cursor c.statement.new.cursor c.in_ok-statement.field-0 c.in_ok-statement.ensures.exact c.loop-statements.invariant.1),
     )
+
+pub statements-loop-statements-smaller : goal.statements-loop-statements-smaller
+statements-loop-statements-smaller t c =
+    let no_more = reads_no_more _ c.loop-statements.cursor.rest.now c.statement.new.cursor.rest.now c.in_ok-statement.ensures.given.spelled in
+    let fewer = reads_fewer _ [] c.statement.new.cursor.rest.now c.take_symbol.new.self.rest.now c.in-Some.ensures.spelled in
+    omega arith
 
 pub statements-returns-in_err-statement-clause-exact : goal.statements-returns-in_err-statement-clause-exact
 statements-returns-in_err-statement-clause-exact t c = λ depth statements others h ends.
-    let p = c.loop-statements.invariant.2 depth statements others h ends in
+    let p = c.loop-statements.invariant.1 depth statements others h ends in
     let m : Stops c.args.levels depth c.in_err-statement.field-0.0 = statement_answer c.args.levels depth c.loop-statements.cursor c.statement.new.cursor others (Err c.in_err-statement.field-0.0) p ends c.in_err-statement.ensures.exact in
     search rules
 
-pub statements-returns-then-is_none-clause-given : goal.statements-returns-then-is_none-clause-given
-statements-returns-then-is_none-clause-given t c =
+pub statements-returns-in_default-clause-given : goal.statements-returns-in_default-clause-given
+statements-returns-in_default-clause-given t c =
     let start = c.args.cursor.now in
-    let none = missed_if c.statement.new.cursor c.take_symbol.new.self (kind.Symbol symbol.Semicolon) c.take_symbol.result c.is_none.result c.is_none.ensures c.if-is_none.true c.take_symbol.ensures.kept c.take_symbol.ensures.missed in
-    let list = subst (λ xs. Read (BeginsStatements c.args.levels) start c.statement.new.cursor xs) (sym c.in_ok-push.ensures.items) (c.loop-statements.invariant.1 c.statement.new.cursor c.in_ok-statement.field-0 c.in_ok-statement.ensures.given) in
-    subst (λ k. Read (BeginsStatements c.args.levels) start k c.push.new.self.items) (sym none.0) list
+    let list = pushed (λ xs. Read (BeginsStatements c.args.levels) start c.statement.new.cursor xs) c.loop-statements.statements.items c.push.new.self.items c.in_ok-statement.field-0 c.in_ok-push.ensures.items (c.loop-statements.invariant.0 c.statement.new.cursor c.in_ok-statement.field-0 c.in_ok-statement.ensures.given) in
+    unchanged (λ k. Read (BeginsStatements c.args.levels) start k c.push.new.self.items) c.statement.new.cursor c.take_symbol.new.self c.in_default.ensures.kept list
 
-pub statements-returns-then-is_none-clause-exact : goal.statements-returns-then-is_none-clause-exact
-statements-returns-then-is_none-clause-exact t c = λ depth statements others h ends.
-    let none = missed_if c.statement.new.cursor c.take_symbol.new.self (kind.Symbol symbol.Semicolon) c.take_symbol.result c.is_none.result c.is_none.ensures c.if-is_none.true c.take_symbol.ensures.kept c.take_symbol.ensures.missed in
-    let left = statement_list_left c.args.levels c.args.cursor.now.rest.now c.loop-statements.cursor c.statement.new.cursor c.in_ok-statement.field-0 c.in_ok-statement.ensures.exact c.loop-statements.invariant.2 in
-    ap (λ k. k.rest.now) none.0 ∙ parts_end Stmt statement_list_parts depth c.statement.new.cursor.rest.now others none.1 (left depth statements others h ends)
+pub statements-returns-in_default-clause-exact : goal.statements-returns-in_default-clause-exact
+statements-returns-in_default-clause-exact t c = λ depth statements others h ends.
+    let left = statement_list_left c.args.levels c.args.cursor.now.rest.now c.loop-statements.cursor c.statement.new.cursor c.in_ok-statement.field-0 c.in_ok-statement.ensures.exact c.loop-statements.invariant.1 in
+    ap (λ k. k.rest.now) c.in_default.ensures.kept ∙ parts_end Stmt statement_list_parts depth c.statement.new.cursor.rest.now others c.in_default.ensures.missed (left depth statements others h ends)

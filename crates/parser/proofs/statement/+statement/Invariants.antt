@@ -1,4 +1,4 @@
-use Rattle.std.proofs.Common.{◌+◌, ◌*◌, ◌≤◌}
+use Rattle.std.proofs.Common.{◌+◌, ◌*◌}
 use Rattle.parser.specs.Cursor.{left}
 use Rattle.parser.proofs.ExactStatements.{StatementNext}
 use Rattle.parser.proofs.Statements.{StatementsGrow}
@@ -15,7 +15,7 @@ decreases-statement l = 3 * l.levels
 
 abbrev pub invariant-statements-loop-statements : goal.invariant-statements-loop-statements
 invariant-statements-loop-statements l =
-    (left l.cursor ≤ left l.fn.cursor) × StatementsGrow l.levels l.fn.cursor l.cursor l.statements.items × StatementNext l.fn.cursor.rest.now l.cursor.rest.now
+    StatementsGrow l.levels l.fn.cursor l.cursor l.statements.items × StatementNext l.fn.cursor.rest.now l.cursor.rest.now
 
 abbrev pub decreases-statements-loop-statements : goal.decreases-statements-loop-statements
 decreases-statements-loop-statements l = left l.cursor

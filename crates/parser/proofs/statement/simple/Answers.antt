@@ -4,7 +4,21 @@ use Rattle.lexer.specs.declared.token.Symbol.TheVariants as symbol
 use Rattle.parser.specs.Reading.{NoNext, Stops}
 use Rattle.parser.proofs.Exact.{stops_above}
 use Rattle.parser.proofs.ExactStatements.{ends_value, simple_parts, becomes_taken, becomes_missed_at}
+use Rattle.parser.proofs.Statements.{gives-Assign, gives-Called}
 use Rattle.parser.proofs.statement.simple.Goals as goal
+
+pub returns-in_err-name-clause-exact : goal.returns-in_err-name-clause-exact
+returns-in_err-name-clause-exact c = λ first depth s others h ends. absurd (c.in_err-name.ensures.missed first)
+
+pub returns-in_ok-expression-in-Some-clause-given : goal.returns-in_ok-expression-in-Some-clause-given
+returns-in_ok-expression-in-Some-clause-given c =
+    gives-Assign c.args.levels c.args.cursor.now c.expect_name.new.self c.take_symbol.new.self c.expression.new.cursor c.in_ok-name.name c.in-Some.becomes c.in_ok-expression-in-Some.field-0
+    c.in_ok-name.ensures.spelled c.in-Some.ensures.spelled c.in_ok-expression-in-Some.ensures.given
+
+pub returns-in_ok-actuals-in-None-clause-given : goal.returns-in_ok-actuals-in-None-clause-given
+returns-in_ok-actuals-in-None-clause-given c =
+    gives-Called c.args.levels c.args.cursor.now c.expect_name.new.self c.take_symbol.new.self c.actuals.new.cursor c.in_ok-name.name c.in_ok-actuals-in-None.field-0
+    c.in_ok-name.ensures.spelled c.in-None.ensures.kept c.in_ok-actuals-in-None.ensures.given
 
 pub returns-in_err-expression-in-Some-clause-exact : goal.returns-in_err-expression-in-Some-clause-exact
 returns-in_err-expression-in-Some-clause-exact c = λ first depth s others h ends.
@@ -23,8 +37,8 @@ returns-in_ok-expression-in-Some-clause-exact c = λ first depth s others h ends
 pub returns-in_err-actuals-in-None-clause-exact : goal.returns-in_err-actuals-in-None-clause-exact
 returns-in_err-actuals-in-None-clause-exact c = λ first depth s others h ends.
     let p = simple_parts depth c.in_ok-name.name c.args.cursor.now.rest.now c.expect_name.new.self.rest.now others s c.in_ok-name.ensures.spelled ends h in
-    let same : c.take_symbol.new.self ≡ c.expect_name.new.self = search rules in
-    let none : NoNext (kind.Symbol symbol.Becomes) c.expect_name.new.self.rest.now = search rules in
+    let same : c.take_symbol.new.self ≡ c.expect_name.new.self = c.in-None.ensures.kept in
+    let none : NoNext (kind.Symbol symbol.Becomes) c.expect_name.new.self.rest.now = c.in-None.ensures.missed in
     let v = becomes_missed_at depth c.expect_name.new.self c.take_symbol.new.self others same none p in
     let m : Stops (c.args.levels + 1) depth c.in_err-actuals-in-None.field-0.0 = stops_above (c.args.levels + 1) c.args.levels depth v.below c.in_err-actuals-in-None.field-0.0 refl v.less
     (c.in_err-actuals-in-None.ensures.exact v.below v.actuals others v.begun (ends_value others ends).call) in
@@ -33,7 +47,7 @@ returns-in_err-actuals-in-None-clause-exact c = λ first depth s others h ends.
 pub returns-in_ok-actuals-in-None-clause-exact : goal.returns-in_ok-actuals-in-None-clause-exact
 returns-in_ok-actuals-in-None-clause-exact c = λ first depth s others h ends.
     let p = simple_parts depth c.in_ok-name.name c.args.cursor.now.rest.now c.expect_name.new.self.rest.now others s c.in_ok-name.ensures.spelled ends h in
-    let same : c.take_symbol.new.self ≡ c.expect_name.new.self = search rules in
-    let none : NoNext (kind.Symbol symbol.Becomes) c.expect_name.new.self.rest.now = search rules in
+    let same : c.take_symbol.new.self ≡ c.expect_name.new.self = c.in-None.ensures.kept in
+    let none : NoNext (kind.Symbol symbol.Becomes) c.expect_name.new.self.rest.now = c.in-None.ensures.missed in
     let v = becomes_missed_at depth c.expect_name.new.self c.take_symbol.new.self others same none p in
     c.in_ok-actuals-in-None.ensures.exact v.below v.actuals others v.begun (ends_value others ends).call
