@@ -1,5 +1,5 @@
 -- What pending work means, step by step.
-use Rattle.std.proofs.Common.{◌≡◌, ℕ, List, [], ◌∷◌, ◌++◌, Option, Some, None, Result, Ok, Err, IfOk, OnOk, reverse, sym, ◌∙◌, ap, subst, refl, length, arith, Bool, true, false, if◌then◌else◌}
+use Rattle.std.proofs.Common.{◌≡◌, ℕ, List, [], ◌∷◌, ◌++◌, Option, Some, None, Result, Ok, reverse, sym, ◌∙◌, ap, subst, refl, length, arith, Bool, true, false, if◌then◌else◌}
 use Rattle.std.specs.declared.alloc.AllocError.{AllocError}
 use Rattle.typed_tree.specs.declared.tree.RangeTest.{RangeTest}
 use Rattle.types.specs.declared.form.OrdinalRange.{OrdinalRange}
@@ -14,7 +14,7 @@ use Rattle.meaning.specs.declared.interpreter.Run.{Run}
 use Rattle.meaning.specs.declared.work.Work.{Work}
 use Rattle.meaning.specs.declared.work.Work.TheVariants as work
 use Rattle.meaning.specs.Store.{Environment, Place, stored, written}
-use Rattle.meaning.specs.Effect.{State, Reply, Gives, Stops, Action, ◌>>=◌, and_then, give, fetched, fetch, place_of, is_in, require, store}
+use Rattle.meaning.specs.Effect.{State, Reply, Gives, Stops, Action, ◌>>=◌, and_then, fetched, fetch, place_of, is_in, require, store}
 use Rattle.meaning.specs.Meaning.{Meaning, ended}
 use Rattle.meaning.specs.Pending.{Resumption, Agrees, IsFlat, StoreAgrees, Continues, Does, pending_of, resumed, rest_of, answered, giving, top_of, below_top, checked}
 
@@ -56,17 +56,6 @@ module _ (cmp : KeptPlace → KeptPlace → Ordering) (env : Environment) (old n
   pub goes_on_to : (s : State) (works : List Work) (reply : Reply (Unit {0})) → Agrees cmp new s → reverse new.pending.items ≡ works → new.values.items ≡ old.values.items → reply ≡ pending_of env works (reverse old.values.items) s → Continues cmp env reply (Ok None) new
   goes_on_to s works reply agrees work same is =
       (s, agrees, is ∙ ap (λ l. pending_of env works (reverse l) s) (sym same) ∙ ap (λ p. pending_of env p (reverse new.values.items) s) (sym work))
-
-  -- a call that left more work, or found no memory
-  pub goes_on_after : (s : State) (before : List Work) (work : Work) (works : List Work) (reply : Reply (Unit {0})) (result : Result (Option Ending) AllocError) → IfOk result (λ e. e ≡ None) → new ≡ record old { pending = new.pending } → OnOk result (new.pending.items ≡ before ++ work ∷ []) → reverse before ≡ works → Agrees cmp old s → reply ≡ pending_of env (work ∷ works) (reverse old.values.items) s → Continues cmp env reply result new
-  goes_on_after s before work works reply (Err e) goes_on same pushed below agrees is = tt
-  goes_on_after s before work works reply (Ok (Some e)) goes_on same pushed below agrees is = let no : ⊥ = cc in absurd no
-  goes_on_after s before work works reply (Ok None) goes_on same pushed below agrees is =
-      let kept : StoreAgrees cmp new.store s.store = subst (λ (r : Run). StoreAgrees cmp r.store s.store) (sym same) agrees.store in
-      goes_on_to s (work ∷ works) reply (record { store = kept; output = ap (λ (r : Run). r.output.items) same ∙ agrees.output })
-      (reverse_pushed new.pending.items before work works pushed below)
-      (ap (λ (r : Run). r.values.items) same)
-      is
 
   -- what another reply goes on to
   pub continues_as : (reply other : Reply (Unit {0})) (result : Result (Option Ending) AllocError) → reply ≡ other → Continues cmp env other result new → Continues cmp env reply result new
@@ -124,8 +113,3 @@ choice_some false v u h = let no : ⊥ = cc in absurd no
 
 pub checked_some : (range : OrdinalRange) (v u : Value) (o : Option Value) → o ≡ checked range v → o ≡ Some u → (v ≡ u) × (is_in range v ≡ true)
 checked_some range v u o is some = choice_some (is_in range v) v u (sym is ∙ some)
-
--- nothing follows
-pub and_then-nothing : (r : Reply (Unit {0})) → and_then r (λ _. give tt) ≡ r
-and_then-nothing (Gives a s) = refl
-and_then-nothing (Stops e s) = refl

@@ -1,5 +1,5 @@
 -- Each form of an expression and of a statement, as the work that an interpreter has to do for it.
-use Rattle.std.proofs.Common.{◌≡◌, ℕ, List, [], ◌∷◌, ◌++◌, Bool, true, false, Option, Some, Bor, Box, Vec, Global, map, reverse, append-nil, if◌then◌else◌, sym, ◌∙◌, ap, refl}
+use Rattle.std.proofs.Common.{◌≡◌, ℕ, List, [], ◌∷◌, ◌++◌, Bool, Option, Some, Bor, Box, Vec, Global, map, sym, ◌∙◌, ap, refl}
 use Rattle.typed_tree.specs.declared.tree.Access.{Access}
 use Rattle.typed_tree.specs.declared.tree.Monadic.{Monadic}
 use Rattle.typed_tree.specs.declared.tree.RangeTest.{RangeTest}
@@ -20,8 +20,8 @@ use Rattle.meaning.specs.declared.work.Work.TheVariants as work
 use Rattle.meaning.specs.Store.{Environment}
 use Rattle.meaning.specs.Effect.{State, Reply, Action, ◌>>=◌, and_then, require, enter, place_of, fetch, store, write, is_in, text_of}
 use Rattle.meaning.specs.Meaning.{Evaluation, Combination, Execution, value_step, link_step, effect_step, operated, combined, in_turn, all_of, width_of, parameter_of, line_ended, value_of, link_of, effect_of}
-use Rattle.meaning.specs.Pending.{Resumption, pending_of, resumed, linking, giving, positive, top_of, below_top}
-use Rattle.meaning.proofs.Resuming.{and_then-and_then, and_then-same, reverse_push}
+use Rattle.meaning.specs.Pending.{Resumption, pending_of, resumed, line_ending, linking, giving, positive, top_of, below_top}
+use Rattle.meaning.proofs.Resuming.{and_then-and_then, and_then-same}
 
 value-Variable : (a : Access) (defined : ℕ) (env : Environment) → value_of (expr.Variable a defined) env ≡ (enter a.number env >>= λ _. fetch (place_of env a.root) defined)
 value-Variable a defined env = ap (λ (e : Expr). value_of e env) (sym (expr.rolls-Variable a defined)) ∙ ap (λ (f : Evaluation). f env) (fold-roll-Expr Evaluation Combination value_step link_step (Variable-F a defined))
@@ -52,7 +52,7 @@ abbrev pub entered : ℕ → Environment → State → State
 entered number env s = record s { visited = s.visited ++ record { number = number; environment = env; store = s.store } ∷ [] }
 
 -- what is pending after an expression's value
-abbrev evaluated : Environment → Expr → List Work → List Value → Action (Unit {0})
+abbrev pub evaluated : Environment → Expr → List Work → List Value → Action (Unit {0})
 evaluated env e works operands = giving (value_of e env) (pending_of env works) operands
 
 pub does-Variable : (a : Access) (defined : ℕ) (given : Expr) → given ≡ expr.Variable a defined → (env : Environment) (works : List Work) (operands : List Value) (s : State) → evaluated env given works operands s ≡ giving (fetch (place_of env a.root) defined) (pending_of env works) operands (entered a.number env s)
@@ -109,27 +109,14 @@ does-Assign n target fits value given is env works operands s =
     ∙ and_then-and_then (value_of value env there) (λ v. require (is_in fits.range v) fits.site >>= λ _. store (place_of env target.root) v) then_rest
     ∙ and_then-same (value_of value env there) _ _ (λ v t. and_then-and_then (require (is_in fits.range v) fits.site t) (λ _. store (place_of env target.root) v) then_rest)
 
--- the work for the line end of a writeln
-abbrev pub line_end_of : Bool → List Work → List Work
-line_end_of ends_line works = if ends_line then work.LineEnd ∷ works else works
-
-pub pending_line_end : (ends_line : Bool) (works : List Work) → reverse (works ++ (if ends_line then work.LineEnd ∷ [] else [])) ≡ line_end_of ends_line (reverse works)
-pending_line_end true works = reverse_push works work.LineEnd
-pending_line_end false works = ap reverse (append-nil works)
-
-ends-line : (ends_line : Bool) (env : Environment) (works : List Work) (operands : List Value) (s : State) → and_then (line_ended ends_line s) (λ _. pending_of env works operands) ≡ pending_of env (line_end_of ends_line works) operands s
-ends-line true env works operands s = refl
-ends-line false env works operands s = refl
-
-pub does-Write : (n : ℕ) (parameters : Vec WriteParameter Global) (ends_line : Bool) (given : Stmt) → given ≡ stmt.Write n parameters ends_line → (all : Bor (List WriteParameter)) → all.now ≡ parameters.items → (env : Environment) (works : List Work) (operands : List Value) (s : State) → executed env given works operands s ≡ pending_of env (work.Parameters all ∷ line_end_of ends_line works) operands (entered n env s)
+pub does-Write : (n : ℕ) (parameters : Vec WriteParameter Global) (ends_line : Bool) (given : Stmt) → given ≡ stmt.Write n parameters ends_line → (all : Bor (List WriteParameter)) → all.now ≡ parameters.items → (env : Environment) (works : List Work) (operands : List Value) (s : State) → executed env given works operands s ≡ resumed env (work.Parameters all ends_line) (pending_of env works) operands (entered n env s)
 does-Write n parameters ends_line given is all same env works operands s =
     let then_rest : Unit {0} → Action (Unit {0}) = λ _. pending_of env works operands in
     let written : List WriteParameter → Reply (Unit {0}) = λ l. all_of (map parameter_of l) env (entered n env s) in
     ap (λ (e : Stmt). executed env e works operands s) is
     ∙ ap (λ (a : Action (Unit {0})). and_then (a s) then_rest) (effect-Write n parameters ends_line env)
     ∙ and_then-and_then (written parameters.items) (λ _. line_ended ends_line) then_rest
-    ∙ and_then-same (written parameters.items) _ _ (λ _ t. ends-line ends_line env works operands t)
-    ∙ ap (λ (l : List WriteParameter). and_then (written l) (λ _. pending_of env (line_end_of ends_line works) operands)) (sym same)
+    ∙ ap (λ (l : List WriteParameter). and_then (written l) (λ _. line_ended ends_line >>= then_rest)) (sym same)
 
 pub does-Compound : (n : ℕ) (statements : Vec Stmt Global) (given : Stmt) → given ≡ stmt.Compound n statements → (all : Bor (List Stmt)) → all.now ≡ statements.items → (env : Environment) (works : List Work) (operands : List Value) (s : State) → executed env given works operands s ≡ pending_of env (work.Statements all ∷ works) operands (entered n env s)
 does-Compound n statements given is all same env works operands s =
@@ -144,11 +131,15 @@ does-Statements first rest all is env works operands s =
     ap (λ (l : List Stmt). and_then (all_of (map effect_of l) env s) then_rest) is
     ∙ and_then-and_then (effect_of first.now env s) (λ _. all_of (map effect_of rest.now) env) then_rest
 
-pub does-Parameters : (first : Bor WriteParameter) (rest all : Bor (List WriteParameter)) → all.now ≡ first.now ∷ rest.now → (env : Environment) (works : List Work) (operands : List Value) (s : State) → resumed env (work.Parameters all) (pending_of env works) operands s ≡ pending_of env (work.Parameter first ∷ work.Parameters rest ∷ works) operands s
-does-Parameters first rest all is env works operands s =
-    let then_rest : Unit {0} → Action (Unit {0}) = λ _. pending_of env works operands in
+pub does-Parameters : (first : Bor WriteParameter) (rest all : Bor (List WriteParameter)) (ends_line : Bool) → all.now ≡ first.now ∷ rest.now → (env : Environment) (works : List Work) (operands : List Value) (s : State) → resumed env (work.Parameters all ends_line) (pending_of env works) operands s ≡ pending_of env (work.Parameter first ∷ work.Parameters rest ends_line ∷ works) operands s
+does-Parameters first rest all ends_line is env works operands s =
+    let then_rest : Unit {0} → Action (Unit {0}) = λ _. line_ended ends_line >>= λ _. pending_of env works operands in
     ap (λ (l : List WriteParameter). and_then (all_of (map parameter_of l) env s) then_rest) is
     ∙ and_then-and_then (parameter_of first.now env s) (λ _. all_of (map parameter_of rest.now) env) then_rest
+
+pub does-no-Parameters : (all : Bor (List WriteParameter)) (ends_line : Bool) → all.now ≡ [] → (env : Environment) (works : List Work) (operands : List Value) (s : State) → resumed env (work.Parameters all ends_line) (pending_of env works) operands s ≡ line_ending ends_line (pending_of env works) operands s
+does-no-Parameters all ends_line none env works operands s =
+    ap (λ (l : List WriteParameter). and_then (all_of (map parameter_of l) env s) (λ _. line_ending ends_line (pending_of env works) operands)) none
 
 pub does-Parameter : (parameter : Bor WriteParameter) (env : Environment) (works : List Work) (operands : List Value) (s : State) → resumed env (work.Parameter parameter) (pending_of env works) operands s ≡ evaluated env parameter.now.value (work.Width parameter ∷ work.Write parameter.now.representation ∷ works) operands s
 does-Parameter parameter env works operands s =

@@ -1,6 +1,6 @@
 -- What the work that an interpreter has still to do means: from its operands and the state, the topmost first.
 -- It says nothing of how many steps the work takes.
-use Rattle.std.specs.Prelude.{◌≡◌, ℕ, pos, List, [], ◌∷◌, Option, Some, None, Result, Ok, Err, IfOk, if◌then◌else◌, map, reverse}
+use Rattle.std.specs.Prelude.{◌≡◌, ℕ, pos, Bool, List, [], ◌∷◌, Option, Some, None, Result, Ok, Err, IfOk, if◌then◌else◌, map, reverse}
 use Rattle.std.specs.BTreeMap.{BTreeMap, get}
 use Rattle.std.specs.declared.cmp.Ordering.{Ordering}
 use Rattle.std.specs.declared.alloc.AllocError.{AllocError}
@@ -15,7 +15,7 @@ use Rattle.meaning.specs.declared.work.Work.TheVariants as work
 use Rattle.meaning.specs.declared.interpreter.Run.{Run}
 use Rattle.meaning.specs.Store.{Environment, Place, Store, stored}
 use Rattle.meaning.specs.Effect.{State, Reply, Stops, Action, ◌>>=◌, give, stop, require, place_of, store, write, is_in, is_positive, text_of}
-use Rattle.meaning.specs.Meaning.{Combination, ended, operated, combined, value_of, link_of, effect_of, all_of, width_of, parameter_of}
+use Rattle.meaning.specs.Meaning.{Combination, ended, operated, combined, value_of, link_of, effect_of, all_of, width_of, parameter_of, line_ended}
 
 -- what is done with the operands, the topmost first, and the state
 abbrev pub Resumption : Type 0
@@ -63,6 +63,12 @@ abbrev pub linking : Environment → List Combination → Resumption → Resumpt
 linking env [] next operands = next operands
 linking env (link ∷ links) next operands = with_top (λ v. giving (link env v) (linking env links next)) operands
 
+-- the line end of a writeln, and then the rest
+abbrev pub line_ending : Bool → Resumption → Resumption
+line_ending ends_line next operands = do
+  _ ← line_ended ends_line
+  next operands
+
 -- a piece of work, and then the rest
 abbrev pub resumed : Environment → Work → Resumption → Resumption
 resumed env (work.Statements statements) next operands = do
@@ -71,9 +77,9 @@ resumed env (work.Statements statements) next operands = do
 resumed env (work.Statement statement) next operands = do
   _ ← effect_of statement.now env
   next operands
-resumed env (work.Parameters parameters) next operands = do
+resumed env (work.Parameters parameters ends_line) next operands = do
   _ ← all_of (map parameter_of parameters.now) env
-  next operands
+  line_ending ends_line next operands
 resumed env (work.Parameter parameter) next operands = do
   _ ← parameter_of parameter.now env
   next operands
@@ -81,9 +87,6 @@ resumed env (work.Width parameter) next operands = giving (width_of parameter.no
 resumed env (work.WidthTest site) next operands = with_top (λ w. giving (positive site w) next) operands
 resumed env (work.Write representation) next operands =
     with_top (λ w rest. with_top (λ v below. write (text_of representation v w) >>= λ _. next below) rest) operands
-resumed env work.LineEnd next operands = do
-  _ ← write (10 ∷ [])
-  next operands
 resumed env (work.Store root fits) next operands =
     with_top (λ v below. require (is_in fits.range v) fits.site >>= λ _. store (place_of env root) v >>= λ _. next below) operands
 resumed env (work.Value expression) next operands = giving (value_of expression.now env) next operands
@@ -130,8 +133,8 @@ Does cmp piece old result new =
     (env : Environment) → IsFlat env → (s : State) → Agrees cmp old s →
     Continues cmp env (piece env (pending_of env (reverse old.pending.items)) (reverse old.values.items) s) result new
 
--- a run is done: what it wrote and how it ended are those of the work that was left
-abbrev pub Finishes : (KeptPlace → KeptPlace → Ordering) → Run → Result Ending AllocError → Run → Type 0
-Finishes cmp old result new =
+-- a run is done: what it wrote and how it ended are those of all that it had to do
+abbrev pub Finishes : (KeptPlace → KeptPlace → Ordering) → (Environment → Action (Unit {0})) → Run → Result Ending AllocError → Run → Type 0
+Finishes cmp all old result new =
     (env : Environment) → IsFlat env → (s : State) → Agrees cmp old s →
-    IfOk result (λ ending. ended (rest_of env old s) ≡ record { output = new.output.items; ending = ending })
+    IfOk result (λ ending. ended (all env s) ≡ record { output = new.output.items; ending = ending })

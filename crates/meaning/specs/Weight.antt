@@ -44,8 +44,8 @@ weight_of_parameter parameter = 2 + weight_of_expression parameter.value + weigh
 abbrev pub statement_weight : Stmt-F ℕ → ℕ
 statement_weight (Empty n) = 1
 statement_weight (Assign n target fits value) = 2 + weight_of_expression value
-statement_weight (Write n parameters ends_line) = 2 + row_weight 1 (map weight_of_parameter parameters.items)
-statement_weight (Compound n statements) = 1 + row_weight 1 statements.items
+statement_weight (Write n parameters ends_line) = row_weight 1 (map weight_of_parameter parameters.items)
+statement_weight (Compound n statements) = row_weight 1 statements.items
 
 abbrev pub weight_of_statement : Stmt → ℕ
 weight_of_statement = fold-Stmt ℕ statement_weight
@@ -53,12 +53,11 @@ weight_of_statement = fold-Stmt ℕ statement_weight
 abbrev pub weight_of : Work → ℕ
 weight_of (work.Statements statements) = row_weight 1 (map weight_of_statement statements.now)
 weight_of (work.Statement statement) = weight_of_statement statement.now
-weight_of (work.Parameters parameters) = row_weight 1 (map weight_of_parameter parameters.now)
+weight_of (work.Parameters parameters ends_line) = row_weight 1 (map weight_of_parameter parameters.now)
 weight_of (work.Parameter parameter) = weight_of_parameter parameter.now
 weight_of (work.Width parameter) = weight_of_width parameter.now.width
 weight_of (work.WidthTest site) = 1
 weight_of (work.Write representation) = 1
-weight_of work.LineEnd = 1
 weight_of (work.Store root fits) = 1
 weight_of (work.Value expression) = weight_of_expression expression.now
 weight_of (work.Monadic operation) = 1

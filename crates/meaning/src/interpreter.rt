@@ -1,8 +1,8 @@
-ghost use Rattle.std.specs.Prelude.{◌≡◌, ◌+◌, ◌<◌, OnOk, IfOk, sum_by, [], ◌∷◌, ◌++◌, reverse, if◌then◌else◌};
-ghost use Rattle.meaning.specs.Effect.{fetch, place_of};
+ghost use Rattle.std.specs.Prelude.{◌≡◌, ◌+◌, ◌<◌, OnOk, IfOk, sum_by, [], ◌∷◌, ◌++◌, reverse, slice_get};
 ghost use Rattle.meaning.specs.Weight.{weight_of};
-ghost use Rattle.meaning.specs.Pending.{Does, Finishes, answered, giving, resumed, place_seen, top_of, below_top};
-ghost use Rattle.meaning.specs.Meaning.{meaning};
+ghost use Rattle.meaning.specs.Effect.{fetch, place_of};
+ghost use Rattle.meaning.specs.Pending.{Does, Finishes, answered, giving, line_ending, resumed, rest_of, place_seen, top_of, below_top};
+ghost use Rattle.meaning.specs.Meaning.{meaning, run_of};
 
 use crate::operations::{
     combined_value, operated_value, positive_width, value_in, width_by_default,
@@ -10,7 +10,7 @@ use crate::operations::{
 use crate::outcome::{Ending, Outcome};
 use crate::store::{Ordinal, Place, Value};
 use crate::text::write_value;
-use crate::work::Work;
+use crate::work::{Work, put};
 use std::alloc::{AllocError, Global};
 use std::collections::BTreeMap;
 use typed_tree::tree::{
@@ -36,10 +36,7 @@ pub fn interpret(
         values: Vec::new(alloc),
         pending: Vec::new(alloc),
     };
-    if let Some(block) = tree.blocks.first() {
-        run.pending.push(Work::Statement(&block.body))?;
-    }
-    let ending = run.finish()?;
+    let ending = run.execute(tree)?;
     Ok(Outcome {
         output: run.output,
         ending,
@@ -57,8 +54,23 @@ struct Run<'t> {
 }
 
 impl<'t> Run<'t> {
+    // Does the statement of the program's block.
+    fn execute(&mut self, tree: &'t Tree) -> Result<Ending, AllocError>
+        requires { self.old.pending.items ≡ [] }
+        ensures { Finishes ⟦<Place as Ord>⟧.cmp (run_of (slice_get tree.now.blocks.items 0)) self.old result self.new }
+    {
+        match tree.blocks.first() {
+            Some(block) => {
+                put(&mut self.pending, Work::Statement(&block.body))?;
+                self.finish()
+            }
+            None => Ok(Ending::Finished),
+        }
+    }
+
+    // Does the work that is left.
     fn finish(&mut self) -> Result<Ending, AllocError>
-        ensures { Finishes ⟦<Place as Ord>⟧.cmp self.old result self.new }
+        ensures { Finishes ⟦<Place as Ord>⟧.cmp (λ env. rest_of env self.old) self.old result self.new }
     {
         while let Some(work) = self.pending.pop() {
             if let Some(ending) = self.step(work)? {
@@ -76,18 +88,31 @@ impl<'t> Run<'t> {
         match work {
             Work::Statements(statements) => self.statements(statements),
             Work::Statement(statement) => self.statement(statement),
-            Work::Parameters(parameters) => self.parameters(parameters),
+            Work::Parameters {
+                parameters,
+                ends_line,
+            } => self.parameters(parameters, ends_line),
             Work::Parameter(parameter) => self.parameter(parameter),
             Work::Width(parameter) => self.width(parameter),
             Work::WidthTest { site } => self.width_test(site),
             Work::Write(representation) => self.write(representation),
-            Work::LineEnd => self.line_end(),
             Work::Store { root, fits } => self.store(root, fits),
             Work::Value(expression) => self.value(expression),
             Work::Monadic(operation) => self.monadic(operation),
             Work::Links(links) => self.links(links),
             Work::Combine(operation) => self.combine(operation),
         }
+    }
+
+    // What is done next, and what is done after it.
+    fn plan(&mut self, next: Work<'t>, later: Work<'t>) -> Result<Option<Ending>, AllocError>
+        ensures weight { OnOk result (sum_by weight_of self.new.pending.items
+            ≡ sum_by weight_of self.old.pending.items + weight_of later.entry + weight_of next.entry) }
+        ensures does { Does ⟦<Place as Ord>⟧.cmp (λ env rest. resumed env next.entry (resumed env later.entry rest)) self.old result self.new }
+    {
+        put(&mut self.pending, later)?;
+        put(&mut self.pending, next)?;
+        Ok(None)
     }
 }
 
@@ -99,11 +124,10 @@ impl<'t> Run<'t> {
             < sum_by weight_of self.old.pending.items + weight_of (Work.Statements statements.entry)) }
         ensures does { Does ⟦<Place as Ord>⟧.cmp (λ env. resumed env (Work.Statements statements.entry)) self.old result self.new }
     {
-        if let Some((first, rest)) = statements.split_first() {
-            self.pending.push(Work::Statements(rest))?;
-            self.pending.push(Work::Statement(first))?;
+        match statements.split_first() {
+            Some((first, rest)) => self.plan(Work::Statement(first), Work::Statements(rest)),
+            None => Ok(None),
         }
-        Ok(None)
     }
 
     fn statement(&mut self, statement: &'t Stmt) -> Result<Option<Ending>, AllocError>
@@ -119,76 +143,42 @@ impl<'t> Run<'t> {
                 fits,
                 value,
                 ..
-            } => self.begin_assign(target.root, *fits, value),
+            } => self.plan(
+                Work::Value(value),
+                Work::Store {
+                    root: target.root,
+                    fits: *fits,
+                },
+            ),
             Stmt::Write {
                 parameters,
                 ends_line,
                 ..
-            } => self.begin_write(parameters, *ends_line),
-            Stmt::Compound { statements, .. } => self.begin_compound(statements),
+            } => self.parameters(parameters, *ends_line),
+            Stmt::Compound { statements, .. } => self.statements(statements),
         }
     }
 
-    fn begin_assign(
-        &mut self,
-        root: u32,
-        fits: RangeTest,
-        value: &'t Expr,
-    ) -> Result<Option<Ending>, AllocError>
-        ensures pending { OnOk result (self.new.pending.items
-            ≡ self.old.pending.items ++ Work.Store root fits ∷ [] ++ Work.Value value.entry ∷ []) }
-        ensures weight { OnOk result (sum_by weight_of self.new.pending.items
-            ≡ sum_by weight_of self.old.pending.items + 1 + weight_of (Work.Value value.entry)) }
-        ensures same { self.new ≡ record self.old { pending = self.new.pending } }
-        ensures goes_on { IfOk result (λ ending. ending ≡ None) }
-    {
-        self.pending.push(Work::Store { root, fits })?;
-        self.pending.push(Work::Value(value))?;
-        Ok(None)
-    }
-
-    fn begin_write(
+    fn parameters(
         &mut self,
         parameters: &'t [WriteParameter],
         ends_line: bool,
     ) -> Result<Option<Ending>, AllocError>
-        ensures pending { OnOk result (self.new.pending.items
-            ≡ self.old.pending.items ++ (if ends_line then Work.LineEnd ∷ [] else []) ++ Work.Parameters parameters.entry ∷ []) }
-        ensures weight { OnOk result (sum_by weight_of self.new.pending.items
-            < sum_by weight_of self.old.pending.items + 2 + weight_of (Work.Parameters parameters.entry)) }
-        ensures same { self.new ≡ record self.old { pending = self.new.pending } }
-        ensures goes_on { IfOk result (λ ending. ending ≡ None) }
-    {
-        if ends_line {
-            self.pending.push(Work::LineEnd)?;
-        }
-        self.pending.push(Work::Parameters(parameters))?;
-        Ok(None)
-    }
-
-    fn begin_compound(&mut self, statements: &'t [Stmt]) -> Result<Option<Ending>, AllocError>
-        ensures pending { OnOk result (self.new.pending.items
-            ≡ self.old.pending.items ++ Work.Statements statements.entry ∷ []) }
-        ensures weight { OnOk result (sum_by weight_of self.new.pending.items
-            ≡ sum_by weight_of self.old.pending.items + weight_of (Work.Statements statements.entry)) }
-        ensures same { self.new ≡ record self.old { pending = self.new.pending } }
-        ensures goes_on { IfOk result (λ ending. ending ≡ None) }
-    {
-        self.pending.push(Work::Statements(statements))?;
-        Ok(None)
-    }
-
-    fn parameters(&mut self, parameters: &'t [WriteParameter]) -> Result<Option<Ending>, AllocError>
         ensures fewer { OnOk result (
             sum_by weight_of self.new.pending.items
-            < sum_by weight_of self.old.pending.items + weight_of (Work.Parameters parameters.entry)) }
-        ensures does { Does ⟦<Place as Ord>⟧.cmp (λ env. resumed env (Work.Parameters parameters.entry)) self.old result self.new }
+            < sum_by weight_of self.old.pending.items + weight_of (Work.Parameters parameters.entry ends_line)) }
+        ensures does { Does ⟦<Place as Ord>⟧.cmp (λ env. resumed env (Work.Parameters parameters.entry ends_line)) self.old result self.new }
     {
-        if let Some((first, rest)) = parameters.split_first() {
-            self.pending.push(Work::Parameters(rest))?;
-            self.pending.push(Work::Parameter(first))?;
+        match parameters.split_first() {
+            Some((first, rest)) => self.plan(
+                Work::Parameter(first),
+                Work::Parameters {
+                    parameters: rest,
+                    ends_line,
+                },
+            ),
+            None => self.line_end(ends_line),
         }
-        Ok(None)
     }
 
     fn parameter(&mut self, parameter: &'t WriteParameter) -> Result<Option<Ending>, AllocError>
@@ -197,10 +187,8 @@ impl<'t> Run<'t> {
             < sum_by weight_of self.old.pending.items + weight_of (Work.Parameter parameter.entry)) }
         ensures does { Does ⟦<Place as Ord>⟧.cmp (λ env. resumed env (Work.Parameter parameter.entry)) self.old result self.new }
     {
-        self.pending.push(Work::Write(parameter.representation))?;
-        self.pending.push(Work::Width(parameter))?;
-        self.pending.push(Work::Value(&parameter.value))?;
-        Ok(None)
+        put(&mut self.pending, Work::Write(parameter.representation))?;
+        self.plan(Work::Value(&parameter.value), Work::Width(parameter))
     }
 
     fn width(&mut self, parameter: &'t WriteParameter) -> Result<Option<Ending>, AllocError>
@@ -210,11 +198,10 @@ impl<'t> Run<'t> {
         ensures does { Does ⟦<Place as Ord>⟧.cmp (λ env. resumed env (Work.Width parameter.entry)) self.old result self.new }
     {
         match &parameter.width {
-            Some(width) => {
-                self.pending.push(Work::WidthTest { site: width.site })?;
-                self.pending.push(Work::Value(&width.value))?;
-                Ok(None)
-            }
+            Some(width) => self.plan(
+                Work::Value(&width.value),
+                Work::WidthTest { site: width.site },
+            ),
             None => self.go_on(Ok(width_by_default(parameter.representation))),
         }
     }
@@ -237,11 +224,13 @@ impl<'t> Run<'t> {
         Ok(None)
     }
 
-    fn line_end(&mut self) -> Result<Option<Ending>, AllocError>
+    fn line_end(&mut self, ends_line: bool) -> Result<Option<Ending>, AllocError>
         ensures same { self.new.pending.items ≡ self.old.pending.items }
-        ensures does { Does ⟦<Place as Ord>⟧.cmp (λ env. resumed env (Work.LineEnd)) self.old result self.new }
+        ensures does { Does ⟦<Place as Ord>⟧.cmp (λ env. line_ending ends_line) self.old result self.new }
     {
-        self.output.push(b'\n')?;
+        if ends_line {
+            self.output.push(b'\n')?;
+        }
         Ok(None)
     }
 
@@ -275,8 +264,8 @@ impl<'t> Run<'t> {
                 operation,
                 operand,
                 ..
-            } => self.begin_monadic(*operation, operand),
-            Expr::Chain { first, rest } => self.begin_chain(first, rest),
+            } => self.plan(Work::Value(operand), Work::Monadic(*operation)),
+            Expr::Chain { first, rest } => self.plan(Work::Value(first), Work::Links(rest)),
         }
     }
 
@@ -286,40 +275,6 @@ impl<'t> Run<'t> {
     {
         let value = self.store.get(&self.place(root)).copied();
         self.go_on(value.ok_or(defined))
-    }
-
-    fn begin_monadic(
-        &mut self,
-        operation: Monadic,
-        operand: &'t Expr,
-    ) -> Result<Option<Ending>, AllocError>
-        ensures pending { OnOk result (self.new.pending.items
-            ≡ self.old.pending.items ++ Work.Monadic operation ∷ [] ++ Work.Value operand.entry ∷ []) }
-        ensures weight { OnOk result (sum_by weight_of self.new.pending.items
-            ≡ sum_by weight_of self.old.pending.items + 1 + weight_of (Work.Value operand.entry)) }
-        ensures same { self.new ≡ record self.old { pending = self.new.pending } }
-        ensures goes_on { IfOk result (λ ending. ending ≡ None) }
-    {
-        self.pending.push(Work::Monadic(operation))?;
-        self.pending.push(Work::Value(operand))?;
-        Ok(None)
-    }
-
-    fn begin_chain(
-        &mut self,
-        first: &'t Expr,
-        rest: &'t [Link],
-    ) -> Result<Option<Ending>, AllocError>
-        ensures pending { OnOk result (self.new.pending.items
-            ≡ self.old.pending.items ++ Work.Links rest.entry ∷ [] ++ Work.Value first.entry ∷ []) }
-        ensures weight { OnOk result (sum_by weight_of self.new.pending.items
-            ≡ sum_by weight_of self.old.pending.items + weight_of (Work.Links rest.entry) + weight_of (Work.Value first.entry)) }
-        ensures same { self.new ≡ record self.old { pending = self.new.pending } }
-        ensures goes_on { IfOk result (λ ending. ending ≡ None) }
-    {
-        self.pending.push(Work::Links(rest))?;
-        self.pending.push(Work::Value(first))?;
-        Ok(None)
     }
 
     fn monadic(&mut self, operation: Monadic) -> Result<Option<Ending>, AllocError>
@@ -336,12 +291,13 @@ impl<'t> Run<'t> {
             < sum_by weight_of self.old.pending.items + weight_of (Work.Links links.entry)) }
         ensures does { Does ⟦<Place as Ord>⟧.cmp (λ env. resumed env (Work.Links links.entry)) self.old result self.new }
     {
-        if let Some((first, rest)) = links.split_first() {
-            self.pending.push(Work::Links(rest))?;
-            self.pending.push(Work::Combine(first.operation))?;
-            self.pending.push(Work::Value(&first.operand))?;
+        match links.split_first() {
+            Some((first, rest)) => {
+                put(&mut self.pending, Work::Links(rest))?;
+                self.plan(Work::Value(&first.operand), Work::Combine(first.operation))
+            }
+            None => Ok(None),
         }
-        Ok(None)
     }
 
     fn combine(&mut self, operation: Dyadic) -> Result<Option<Ending>, AllocError>

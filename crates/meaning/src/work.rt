@@ -1,3 +1,6 @@
+ghost use Rattle.std.specs.Prelude.{◌≡◌, [], ◌∷◌, ◌++◌, OnOk};
+
+use std::alloc::AllocError;
 use typed_tree::tree::{
     Dyadic, Expr, Link, Monadic, RangeTest, Representation, Stmt, WriteParameter,
 };
@@ -8,18 +11,25 @@ pub enum Work<'t> {
     /// The statements of a compound statement, one after another.
     Statements(&'t [Stmt]),
     Statement(&'t Stmt),
-    /// The parameters of a write, one after another.
-    Parameters(&'t [WriteParameter]),
+    /// The parameters of a write, one after another, and behind them the line end of a writeln.
+    Parameters {
+        parameters: &'t [WriteParameter],
+        ends_line: bool,
+    },
     Parameter(&'t WriteParameter),
     /// The width of a parameter, whose value is topmost.
     Width(&'t WriteParameter),
     /// Tests the topmost value as a width.
-    WidthTest { site: u32 },
+    WidthTest {
+        site: u32,
+    },
     /// Writes a value, whose width is topmost, right above it.
     Write(Representation),
-    LineEnd,
     /// Tests the topmost value and stores it.
-    Store { root: u32, fits: RangeTest },
+    Store {
+        root: u32,
+        fits: RangeTest,
+    },
     Value(&'t Expr),
     /// An operation on the topmost value.
     Monadic(Monadic),
@@ -27,4 +37,12 @@ pub enum Work<'t> {
     Links(&'t [Link]),
     /// An operation on the two topmost values.
     Combine(Dyadic),
+}
+
+/// Puts a piece of work on top of what is left.
+pub fn put<'t>(pending: &mut Vec<Work<'t>>, work: Work<'t>) -> Result<(), AllocError>
+    ensures { OnOk result (pending.new.items ≡ pending.old.items ++ work.entry ∷ []) }
+{
+    pending.push(work)?;
+    Ok(())
 }

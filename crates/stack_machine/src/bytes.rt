@@ -85,9 +85,7 @@ impl<T: Read> Feed for Counted<T> {
 
     fn read(&mut self, piece: &mut [u8]) -> io::Result<usize> {
         let taken = self.inner.read(piece);
-        if taken.is_err() {
-            self.failures += 1;
-        }
+        self.failures += u64::from(taken.is_err());
         taken
     }
 }
@@ -99,9 +97,7 @@ impl<T: Write> Sink for Counted<T> {
 
     fn write(&mut self, piece: &[u8]) -> io::Result<usize> {
         let taken = self.inner.write(piece);
-        if is_failure(&taken, piece) {
-            self.failures += 1;
-        }
+        self.failures += u64::from(is_failure(&taken, piece));
         taken
     }
 }

@@ -1,4 +1,4 @@
-use Rattle.std.proofs.Common.{arith, ◌++◌, take, ◌∙◌, ap, sym}
+use Rattle.std.proofs.Common.{arith, rules, ◌++◌, take, ◌∙◌, ap, sym}
 use Rattle.std.proofs.Math.ListN.{take-append-drop}
 use Rattle.stack_machine.proofs.Written.{Passes-part, part_left, none_failed}
 use Rattle.stack_machine.proofs.output.write_all.Goals as goal
@@ -10,3 +10,9 @@ loop-rest-preserved g c =
     let count = c.in-Ok.count in
     let none = none_failed rest count c.if-count-gt0.true in
     (omega (arith, none, c.in-Ok.ensures.counted, kept.0), Passes-part _ _ _ rest (take count rest) _ _ kept.1 c.in-Ok.ensures.bytes (sym (take-append-drop count rest) ∙ ap (λ xs. take count rest ++ xs) (part_left rest count)))
+
+pub returns-in_default-clause-failures : goal.returns-in_default-clause-failures
+returns-in_default-clause-failures g c = search rules
+
+pub returns-in_default-clause-bytes : goal.returns-in_default-clause-bytes
+returns-in_default-clause-bytes g c = search rules

@@ -1,14 +1,20 @@
-use Rattle.std.proofs.Common.{◌≡◌, ◌∷◌, reverse, refl}
-use Rattle.meaning.proofs.Resuming.{goes_on_to, reverse_pushed}
-use Rattle.meaning.proofs.Unrolling.{does-Parameters}
+use Rattle.std.proofs.Common.{◌≡◌, ◌∷◌, [], reverse}
+use Rattle.meaning.proofs.Resuming.{continues_as, none_left}
+use Rattle.meaning.proofs.Unrolling.{does-Parameters, does-no-Parameters}
 use Rattle.meaning.proofs.interpreter.Run.parameters.Goals as goal
 
-pub returns-in_ok-push-2-clause-does : goal.returns-in_ok-push-2-clause-does
-returns-in_ok-push-2-clause-does c = λ env flat s agrees.
+pub returns-in-Some-clause-does : goal.returns-in-Some-clause-does
+returns-in-Some-clause-does c = λ env flat s agrees.
     let old = c.args.self.now in
     let all : c.args.parameters.now ≡ c.in-Some.first.now ∷ c.in-Some.rest.now = c.in-Some.ensures.cases.0 in
-    goes_on_to _ env old (record old { pending = c.push-in-Some.new.self }) s _ _
-    (record { store = agrees.store; output = agrees.output })
-    (reverse_pushed _ _ _ _ c.in_ok-push-2.ensures.items (reverse_pushed _ _ _ _ c.in_ok-push.ensures.items refl))
-    refl
-    (does-Parameters c.in-Some.first c.in-Some.rest c.args.parameters all env (reverse old.pending.items) (reverse old.values.items) s)
+    continues_as _ env old c.plan.new.self _ _ c.plan.result
+    (does-Parameters c.in-Some.first c.in-Some.rest c.args.parameters c.args.ends_line all env (reverse old.pending.items) (reverse old.values.items) s)
+    (c.plan.ensures.does env flat s (record { store = agrees.store; output = agrees.output }))
+
+pub returns-in-None-clause-does : goal.returns-in-None-clause-does
+returns-in-None-clause-does c = λ env flat s agrees.
+    let old = c.args.self.now in
+    let none : c.args.parameters.now ≡ [] = none_left c.args.parameters.now c.in-None.ensures.cases in
+    continues_as _ env old c.line_end.new.self _ _ c.line_end.result
+    (does-no-Parameters c.args.parameters c.args.ends_line none env (reverse old.pending.items) (reverse old.values.items) s)
+    (c.line_end.ensures.does env flat s (record { store = agrees.store; output = agrees.output }))

@@ -1,14 +1,12 @@
-use Rattle.std.proofs.Common.{◌≡◌, ◌∷◌, reverse, refl}
-use Rattle.meaning.proofs.Resuming.{goes_on_to, reverse_pushed}
+use Rattle.std.proofs.Common.{◌≡◌, ◌∷◌, reverse}
+use Rattle.meaning.proofs.Resuming.{continues_as}
 use Rattle.meaning.proofs.Unrolling.{does-Statements}
 use Rattle.meaning.proofs.interpreter.Run.statements.Goals as goal
 
-pub returns-in_ok-push-2-clause-does : goal.returns-in_ok-push-2-clause-does
-returns-in_ok-push-2-clause-does c = λ env flat s agrees.
+pub returns-in-Some-clause-does : goal.returns-in-Some-clause-does
+returns-in-Some-clause-does c = λ env flat s agrees.
     let old = c.args.self.now in
     let all : c.args.statements.now ≡ c.in-Some.first.now ∷ c.in-Some.rest.now = c.in-Some.ensures.cases.0 in
-    goes_on_to _ env old (record old { pending = c.push-in-Some.new.self }) s _ _
-    (record { store = agrees.store; output = agrees.output })
-    (reverse_pushed _ _ _ _ c.in_ok-push-2.ensures.items (reverse_pushed _ _ _ _ c.in_ok-push.ensures.items refl))
-    refl
+    continues_as _ env old c.plan.new.self _ _ c.plan.result
     (does-Statements c.in-Some.first c.in-Some.rest c.args.statements all env (reverse old.pending.items) (reverse old.values.items) s)
+    (c.plan.ensures.does env flat s (record { store = agrees.store; output = agrees.output }))

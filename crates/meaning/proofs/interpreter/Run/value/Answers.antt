@@ -1,6 +1,5 @@
-use Rattle.std.proofs.Common.{◌∷◌, [], ◌++◌, reverse}
-use Rattle.meaning.specs.declared.work.Work.TheVariants as work
-use Rattle.meaning.proofs.Resuming.{goes_on_after, continues_as, reverse_push}
+use Rattle.std.proofs.Common.{reverse}
+use Rattle.meaning.proofs.Resuming.{continues_as}
 use Rattle.meaning.proofs.Unrolling.{entered, does-Variable, does-Monadic, does-Chain}
 use Rattle.meaning.proofs.interpreter.Run.value.Goals as goal
 
@@ -14,19 +13,13 @@ returns-in-Variable-clause-does c = λ env flat s agrees.
 pub returns-in-Monadic-clause-does : goal.returns-in-Monadic-clause-does
 returns-in-Monadic-clause-does c = λ env flat s agrees.
     let old = c.args.self.now in
-    let operation = work.Monadic c.in-Monadic.operation in
-    let begun = c.begin_monadic.ensures in
-    goes_on_after _ env old c.begin_monadic.new.self (entered c.in-Monadic.number env s) (old.pending.items ++ operation ∷ []) (work.Value c.deref.result) _ _ c.begin_monadic.result begun.goes_on begun.same begun.pending
-    (reverse_push old.pending.items operation)
-    (record { store = agrees.store; output = agrees.output })
+    continues_as _ env old c.plan.new.self _ _ c.plan.result
     (does-Monadic c.in-Monadic.number c.in-Monadic.operation c.in-Monadic.operand c.args.expression.now c.in-Monadic.is c.deref.result c.deref.ensures env (reverse old.pending.items) (reverse old.values.items) s)
+    (c.plan.ensures.does env flat (entered c.in-Monadic.number env s) (record { store = agrees.store; output = agrees.output }))
 
 pub returns-in-Chain-clause-does : goal.returns-in-Chain-clause-does
 returns-in-Chain-clause-does c = λ env flat s agrees.
     let old = c.args.self.now in
-    let links = work.Links c.deref-in-Chain-2.result in
-    let begun = c.begin_chain.ensures in
-    goes_on_after _ env old c.begin_chain.new.self s (old.pending.items ++ links ∷ []) (work.Value c.deref-in-Chain.result) _ _ c.begin_chain.result begun.goes_on begun.same begun.pending
-    (reverse_push old.pending.items links)
-    agrees
+    continues_as _ env old c.plan-in-Chain.new.self _ _ c.plan-in-Chain.result
     (does-Chain c.in-Chain.first c.in-Chain.rest c.args.expression.now c.in-Chain.is c.deref-in-Chain.result c.deref-in-Chain.ensures c.deref-in-Chain-2.result c.deref-in-Chain-2.ensures.value env (reverse old.pending.items) (reverse old.values.items) s)
+    (c.plan-in-Chain.ensures.does env flat s (record { store = agrees.store; output = agrees.output }))

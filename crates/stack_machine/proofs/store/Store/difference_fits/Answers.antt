@@ -1,0 +1,5 @@
+use Rattle.std.proofs.Common.{rules}
+use Rattle.stack_machine.proofs.store.Store.difference_fits.Goals as goal
+
+pub returns : goal.returns
+returns c = search rules
