@@ -3,6 +3,7 @@ use Rattle.std.proofs.Common.{◌≡◌, ℕ, ◌<◌, Bool, true, false, ◌&&�
 use Rattle.std.proofs.Common.{Box, Vec}
 use Rattle.std.proofs.lemmas.Bool.Decides.{nat_tests}
 use Rattle.std.specs.declared.alloc.Global.{Global}
+use Rattle.typed_tree.specs.declared.tree.Access.{Access}
 use Rattle.typed_tree.specs.declared.tree.Monadic.{Monadic}
 use Rattle.typed_tree.specs.declared.tree.Expr.{Expr}
 use Rattle.typed_tree.specs.declared.tree.Expr.TheVariants as tree
@@ -30,6 +31,11 @@ pub lt_true : (a b : ℕ) → a < b → nat_lt a b ≡ true
 lt_true a b h = grind (arith, nat_tests)
 
 module _ (v n : ℕ) where
+  pub variable-formed : (access : Access) (defined : ℕ) → access.root < v → defined < n → is_well_formed_expr v n (tree.Variable access defined) ≡ true
+  variable-formed access defined a b =
+      ap (is_well_formed_expr v n) (sym (tree.rolls-Variable access defined)) ∙ fold-roll-Expr Bool Bool (expr_is_well_formed v n) (link_is_well_formed v n) (layer.Variable access defined)
+      ∙ both_true _ _ (lt_true access.root v a) (lt_true defined n b)
+
   pub monadic-formed : (number : ℕ) (operation : Monadic) (operand : Box Expr Global) → monadic_is_well_formed v n operation ≡ true → is_well_formed_expr v n operand.value ≡ true → is_well_formed_expr v n (tree.Monadic number operation operand) ≡ true
   monadic-formed number operation operand a b =
       ap (is_well_formed_expr v n) (sym (tree.rolls-Monadic number operation operand)) ∙ fold-roll-Expr Bool Bool (expr_is_well_formed v n) (link_is_well_formed v n) (layer.Monadic number operation operand) ∙ both_true _ _ a b

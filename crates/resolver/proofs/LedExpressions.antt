@@ -1,11 +1,10 @@
 -- Expressions whose first token has one more site: it stands behind that token's own, and before all others.
-use Rattle.std.proofs.Common.{◌≡◌, ℕ, ◌+◌, ◌<◌, ◌≤◌, inr, Bool, true, false, nat_lt, if◌then◌else◌, List, [], ◌∷◌, ◌++◌, map, length, drop, Some, Box, Vec, append_assoc, append-nil, length-append, refl, sym, ap, subst, ◌∙◌, arith}
+use Rattle.std.proofs.Common.{◌≡◌, ℕ, ◌+◌, ◌<◌, ◌≤◌, inr, Bool, true, false, nat_lt, if◌then◌else◌, List, [], ◌∷◌, ◌++◌, length, drop, Some, Box, Vec, append_assoc, append-nil, length-append, refl, sym, ap, subst, ◌∙◌, arith}
 use Rattle.std.specs.List.{range_with_len, flat_map}
 use Rattle.std.specs.declared.alloc.Global.{Global}
 use Rattle.std.proofs.Math.Seq.{drop-append_seam, drop-length}
 use Rattle.std.proofs.lemmas.Bool.Decides.{nat_tests}
-use Rattle.std.proofs.lemmas.List.{map-append, append_cancel_left, drop-append-le}
-use Rattle.std.proofs.lemmas.Simd.{map-map}
+use Rattle.std.proofs.lemmas.List.{drop-append-le}
 use Rattle.lexer.specs.declared.place.Place.{Place}
 use Rattle.parser.specs.declared.tree.Name.{Name}
 use Rattle.parser.specs.declared.tree.Expr.{Expr as SyntaxExpr}
@@ -20,7 +19,6 @@ use Rattle.scopes.specs.declared.denotation.RequiredFunction.{RequiredFunction}
 use Rattle.resolver.specs.declared.expressions.Typed.{Typed}
 use Rattle.resolver.specs.declared.expressions.TypedLinks.{TypedLinks}
 use Rattle.resolver.specs.declared.resolver.Resolver.{Resolver}
-use Rattle.typed_tree.specs.declared.site.Site.{Site}
 use Rattle.typed_tree.specs.declared.site.SiteKind.{SiteKind}
 use Rattle.types.specs.declared.form.TypeId.{TypeId}
 use Rattle.typed_tree.specs.declared.tree.Monadic.{Monadic}
@@ -29,35 +27,16 @@ use Rattle.declarations.specs.Names.{integer}
 use Rattle.typed_tree.specs.Entries.{Tested, inserted, monadic_sites, entries_of_expression, sites_of_expression}
 use Rattle.typed_tree.specs.WellFormed.{is_well_formed_expr}
 use Rattle.resolver.specs.Typing.{Denotes, Stands, function_type, is_function, name_stands, function_stands, expression_stands, actual_stands, link_stands, stands_in_expression, leading_step, leading, led_stands}
-use Rattle.resolver.specs.Resolved.{tested, Adds, AddsNothing, types_typed, types_argument, types_typed_links, stands_in_link, stands_in_actual, entries_of_link, sites_of_link, IsChainOf, IsMonadicOf, TellsFunction, MakesTyped, MakesNamed, MakesArgument, MakesLinks, MakesLed}
+use Rattle.resolver.specs.Resolved.{Adds, types_typed, types_argument, types_typed_links, stands_in_link, stands_in_actual, entries_of_link, sites_of_link, IsChainOf, IsMonadicOf, TellsFunction, MakesTyped, MakesNamed, MakesArgument, MakesLinks, MakesLed}
 use Rattle.resolver.specs.Refusing.{KnowsAll, PassesMost, RefusesTyped, RefusesArgument, RefusesLinks, RefusesLed}
 use Rattle.resolver.proofs.FormedLemmas.{lt_true}
 use Rattle.resolver.proofs.TypingEquations.{stands-Name, stands-Call, stands-Chain, leading-Number, leading-Name, leading-Call, leading-Parenthesized, leading-Not, leading-Signed, leading-Chain}
 use Rattle.resolver.proofs.Measures.{Measure, typed_measured, inserted_count}
-use Rattle.resolver.proofs.ResolvedPieces.{range_joins, adds_then, adds_as, knows_later}
+use Rattle.resolver.proofs.ResolvedPieces.{adds_then, adds_as, knows_later}
+use Rattle.resolver.proofs.StaysFormed.{ids, ids_follow, next_id}
 use Rattle.resolver.proofs.ResolvedExpressions.{typed-Name, typed-Call, monadic_entries, monadic_tests, called_typed, chain_entries, chain_tests, chain_typed}
 use Rattle.resolver.proofs.Refusals.{site_count, knows_all_known, knows_all_later, passes_more, passes_after, passes_after_made}
 use Rattle.resolver.proofs.RefusedExpressions.{called, chained, same_id}
-
--- ---- the ids of sites
-
-abbrev ids : List Tested → List ℕ
-ids tests = map (λ (test : Tested). test.1) tests
-
--- sites that came have the next ids
-ids_follow : (a b : Resolver) (e : List ℕ) (t : List Tested) (s : List Stands) → Adds a b e t s → ids t ≡ range_with_len (length a.sites.items) (length t)
-ids_follow a b e t s added =
-    let n = length a.sites.items in
-    append_cancel_left (range_with_len 0 n) (ids t) (range_with_len n (length t))
-    (ap (λ l. l ++ ids t) (sym (told a)) ∙ sym (map-append (λ (test : Tested). test.1) (tested a.sites.items) t) ∙ sym (ap ids added.ids) ∙ told b
-    ∙ ap (range_with_len 0) (site_count a b e t s added) ∙ range_joins 0 n (length t) ∙ ap (λ m. range_with_len 0 n ++ range_with_len m (length t)) (omega arith))
-  where
-    told : (r : Resolver) → ids (tested r.sites.items) ≡ range_with_len 0 (length r.sites.items)
-    told r = map-map (λ (test : Tested). test.1) (λ (site : Site). (site.kind, site.id)) r.sites.items ∙ r.in_order
-
--- one site has the next id
-next_id : (a b : Resolver) (one : Tested) (s : List Stands) → Adds a b [] (one ∷ []) s → one.1 ≡ length a.sites.items
-next_id a b one s added = let h : one.1 ∷ [] ≡ length a.sites.items ∷ [] = ids_follow a b [] (one ∷ []) s added in cc
 
 lt_false : (a b : ℕ) → b ≤ a → nat_lt a b ≡ false
 lt_false a b h = grind (arith, nat_tests)
@@ -193,17 +172,15 @@ module _ (kind : SiteKind) (place : Place) (id : ℕ) where
       )
 
   -- behind the site of a function, and before those of its argument
-  pub led_call : (a b c d g h : Resolver) (written : SyntaxExpr) (name : Name) (v : Vec SyntaxActual Global) (n : ℕ) (f : RequiredFunction) (o : Monadic) (e : Expr) (result : TypeId) (t : Typed) → written ≡ syntax.Call name v → IsMonadicOf n o e result t
-      → TellsFunction a name f → AddsNothing a b → Adds b c (n ∷ []) [] [] → is_function f o ≡ true → Adds c d [] (monadic_sites o) (function_stands (Some (denotes.Function f)) name.place) → Adds d g [] (lead_test ∷ []) (lead_place ∷ [])
+  pub led_call : (a d g h : Resolver) (written : SyntaxExpr) (name : Name) (v : Vec SyntaxActual Global) (n : ℕ) (f : RequiredFunction) (o : Monadic) (e : Expr) (result : TypeId) (t : Typed) → written ≡ syntax.Call name v → IsMonadicOf n o e result t
+      → TellsFunction a name f → is_function f o ≡ true → Adds a d (n ∷ []) (monadic_sites o) (function_stands (Some (denotes.Function f)) name.place) → Adds d g [] (lead_test ∷ []) (lead_place ∷ [])
       → MakesArgument g h v.items e → Some result ≡ function_type f (Some integer) → MakesLed a h written kind place (t, id)
-  led_call a b c d g h written name v n f o e result t shape is told none entered right own taken made type = λ names known.
+  led_call a d g h written name v n f o e result t shape is told right to_d taken made type = λ names known.
       let p = function_stands (Some (denotes.Function f)) name.place in
       let ms = monadic_sites o in
       let es = entries_of_expression e in
       let s = sites_of_expression e in
       let others = flat_map (stands_in_actual names) v.items in
-      let to_c = adds_then a b c [] (n ∷ []) [] [] [] [] none entered in
-      let to_d = adds_then a c d (n ∷ []) [] [] ms [] p to_c own in
       let to_g = adds_then a d g (n ∷ []) [] ms (lead_test ∷ []) p (lead_place ∷ []) to_d taken in
       let k = made names (knows_later a g (n ∷ []) (ms ++ lead_test ∷ []) (p ++ lead_place ∷ []) names to_g known) in
       let same : function_stands (names name.text.now) name.place ≡ p = ap (λ x. function_stands x name.place) (told names known) in

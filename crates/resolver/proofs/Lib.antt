@@ -11,6 +11,7 @@ mod ResolvedProgram
 mod Measures
 mod StatementMeasures
 mod Refusals
+mod StaysFormed
 mod RefusedExpressions
 mod LedExpressions
 mod RefusedStatements

@@ -1,7 +1,7 @@
 -- Pieces that a resolver refuses, one piece after another: what was made before counts for each typing of the whole.
-use Rattle.std.proofs.Common.{◌≡◌, ℕ, ◌+◌, ◌<◌, ◌≤◌, ◌⊎◌, inl, inr, Bool, true, List, [], ◌∷◌, ◌++◌, map, length, get_or, take, drop, Option, Some, None, Result, Ok, Err, IfErr, length-append, refl, sym, ap, subst, ◌∙◌, arith}
+use Rattle.std.proofs.Common.{◌≡◌, ℕ, ◌+◌, ◌<◌, ◌≤◌, ◌⊎◌, inl, inr, Bool, true, List, [], ◌∷◌, ◌++◌, map, length, get_or, take, drop, Option, Some, None, Result, Ok, Err, length-append, refl, sym, ap, subst, ◌∙◌, arith}
 use Rattle.std.specs.Prelude.{ok_or}
-use Rattle.std.specs.Result.{IsErrAnd}
+use Rattle.std.specs.Result.{MatchResult, IsErrAnd}
 use Rattle.std.specs.List.{flat_map}
 use Rattle.std.proofs.lemmas.Grind.{flat_map-append}
 use Rattle.std.proofs.lemmas.List.{length-map, take-append-drop, drop_more}
@@ -16,31 +16,36 @@ use Rattle.typed_tree.specs.Entries.{Tested}
 use Rattle.typed_tree.specs.WellFormed.{all_hold}
 use Rattle.resolver.specs.Typing.{Denotes, Stands, all_match}
 use Rattle.resolver.specs.Resolved.{Knows, tested, Adds, AddsNothing, Makes, MakesRow}
-use Rattle.resolver.specs.Refusing.{KnowsAll, PassesMost, Refuses, RefusesRow}
+use Rattle.resolver.specs.Refusing.{Gives, KnowsAll, PassesMost, Refuses, RefusesRow}
 use Rattle.resolver.proofs.FormedLemmas.{and_true, both_true}
 use Rattle.resolver.proofs.Measures.{Measure, same_measure, measure_row}
 
 -- ---- what calls answer
 
--- what is refused where a call refused
-pub refused_so : {A : Type 0} (r : Result A TypeFault) (P Q : Type 0) → (P → Q) → IfErr r (λ fault. (fault ≡ Memory) ⊎ P) → IfErr r (λ fault. (fault ≡ Memory) ⊎ Q)
-refused_so (Ok x) P Q f h = h
-refused_so (Err e) P Q f (inl m) = inl m
-refused_so (Err e) P Q f (inr p) = inr (f p)
+-- what the last call gives, told otherwise
+pub gives_so : {A : Type 0} (r : Result A TypeFault) (P P' : A → Type 0) (Q Q' : Type 0) → ((x : A) → P x → P' x) → (Q → Q') → Gives r P Q → Gives r P' Q'
+gives_so (Ok x) P P' Q Q' f g h = f x h
+gives_so (Err e) P P' Q Q' f g (inl m) = inl m
+gives_so (Err e) P P' Q Q' f g (inr q) = inr (g q)
+
+-- the last call fails only where memory runs out
+pub gives_made : {A : Type 0} (r : Result A TypeFault) (P P' : A → Type 0) (Q : Type 0) → ((x : A) → P x → P' x) → MatchResult r P (λ fault. fault ≡ Memory) → Gives r P' Q
+gives_made (Ok x) P P' Q f h = f x h
+gives_made (Err e) P P' Q f h = inl h
 
 or_so : (e x : TypeFault) (P Q : Type 0) → e ≡ x → (P → Q) → (x ≡ Memory) ⊎ P → (e ≡ Memory) ⊎ Q
 or_so e x P Q is f (inl m) = inl (is ∙ m)
 or_so e x P Q is f (inr p) = inr (f p)
 
 -- the fault of a call is handed on
-pub refused_by : {A : Type 0} (r : Result A TypeFault) (x : TypeFault) (P Q : Type 0) → IsErrAnd r (λ e. e ≡ x) → (P → Q) → (x ≡ Memory) ⊎ P → IfErr r (λ fault. (fault ≡ Memory) ⊎ Q)
-refused_by (Ok y) x P Q h f p = absurd h
-refused_by (Err e) x P Q h f p = or_so e x P Q h f p
+pub refused_by : {A : Type 0} (r : Result A TypeFault) (x : TypeFault) (P : A → Type 0) (Q Q' : Type 0) → IsErrAnd r (λ e. e ≡ x) → (Q → Q') → (x ≡ Memory) ⊎ Q → Gives r P Q'
+refused_by (Ok y) x P Q Q' h f p = absurd h
+refused_by (Err e) x P Q Q' h f p = or_so e x Q Q' h f p
 
 -- a fault that has nothing to do with memory
-pub refused_for : {A : Type 0} (r : Result A TypeFault) (Q : Type 0) → Q → IfErr r (λ fault. (fault ≡ Memory) ⊎ Q)
-refused_for (Ok y) Q q = search
-refused_for (Err e) Q q = inr q
+pub refused_for : {A : Type 0} (r : Result A TypeFault) (x : TypeFault) (P : A → Type 0) (Q : Type 0) → IsErrAnd r (λ e. e ≡ x) → Q → Gives r P Q
+refused_for (Ok y) x P Q h q = absurd h
+refused_for (Err e) x P Q h q = inr q
 
 -- ---- what names denote
 

@@ -2,6 +2,7 @@
 use Rattle.std.proofs.Common.{◌≡◌, ℕ, ◌+◌, ◌<◌, ◌≤◌, ◌≢◌, ◌⊎◌, inl, inr, Bool, true, false, ◌&&◌, ◌==◌, nat_eq, nat_lt, List, [], ◌∷◌, map, length, get_or, take, Option, Some, None, Ok, IsTrue, Vec, length-append, refl, sym, ap, subst, ◌∙◌, arith}
 use Rattle.std.specs.List.{flat_map, list_all}
 use Rattle.std.specs.declared.alloc.Global.{Global}
+use Rattle.std.proofs.lemmas.Bool.Decides.{nat_tests}
 use Rattle.std.proofs.lemmas.List.Elements.{All-cons}
 use Rattle.std.proofs.lemmas.List.Folds.{flat_map-map}
 use Rattle.lexer.specs.declared.place.Place.{Place}
@@ -39,7 +40,7 @@ use Rattle.resolver.specs.Refusing.{KnowsAll, PassesMost, IsUnknown, AreNoParame
 use Rattle.resolver.proofs.FormedLemmas.{and_true, both_true}
 use Rattle.resolver.proofs.TypesTold.{is_of_only, one_type, other_type}
 use Rattle.resolver.proofs.StatementEquations.{silent-Call, silent-Compound, types-Assign, types-Call, types-Compound}
-use Rattle.resolver.proofs.ResolvedPieces.{adds_then, output_kept}
+use Rattle.resolver.proofs.ResolvedPieces.{adds_then, made_adds}
 use Rattle.resolver.proofs.ResolvedStatements.{call_is}
 use Rattle.resolver.proofs.Measures.{expression_measured}
 use Rattle.resolver.proofs.StatementMeasures.{stmt_layer_entries, stmt_layer_sites, stmt_entries-out, stmt_sites-out, statement_measured}
@@ -57,6 +58,17 @@ by_layer a f v n h t typed well =
     passes_more a (length (stmt_layer_entries d)) (length (stmt_layer_sites d)) (length (entries_of_statement t)) (length (sites_of_statement t))
     (omega (arith, ap length (stmt_entries-out t))) (omega (arith, ap length (stmt_sites-out t)))
     (h d typed (sym (fold_out-Stmt Bool (stmt_is_well_formed v n) t) ∙ well))
+
+-- each statement has an entry
+pub statement_unentered : (a : Resolver) (types : Denotes → Stmt → Bool) → 4000000 ≤ a.entries → RefusesAsStatement a types
+statement_unentered a types full = λ names k t typed v n w.
+    by_layer a (λ l. true) v n (λ l h q. let one = has_entry l in inl (omega (arith, one, full))) t refl w
+  where
+    has_entry : (l : Stmt-F Stmt) → 1 ≤ length (stmt_layer_entries l)
+    has_entry (Empty number) = omega arith
+    has_entry (Assign number target test x) = omega arith
+    has_entry (Write number parameters ends_line) = omega arith
+    has_entry (Compound number statements) = omega arith
 
 typed_as : (a : Resolver) (f g : Denotes → Stmt → Bool) → ((names : Denotes) → KnowsAll a names → (t : Stmt) → g names t ≡ f names t) → RefusesAsStatement a f → RefusesAsStatement a g
 typed_as = refuses_as is_well_formed_stmt entries_of_statement sites_of_statement
@@ -161,20 +173,40 @@ adds_before_value a b c d e becomes n m site entered none accessed taken =
     (adds_then b c e [] (m ∷ []) [] ((kind.Subrange, site) ∷ []) [] ((kind.Subrange, becomes) ∷ []) none
     (adds_then c d e (m ∷ []) [] [] ((kind.Subrange, site) ∷ []) [] ((kind.Subrange, becomes) ∷ []) accessed taken))
 
+-- a name that denotes anything but a variable
+pub no_variable_refused : (a b : Resolver) (name : Name) (value : SyntaxExpr) (n : ℕ) (d : Denotation) → Adds a b (n ∷ []) [] [] → found b.scopes (folded name.text.now) ≡ Ok d → ((root : ℕ) (type_id : TypeId) → ¬ (d ≡ denotes.Variable root type_id)) → RefusesAssignment a name value
+no_variable_refused a b name value n d entered is other =
+    target_refused a name value (λ names k target range.
+    ap (λ o. is_target o target range (type_of names value)) (knows_all_known b names (knows_all_later a b (n ∷ []) [] [] names entered k) name.text.now d is) ∙ by d target range (type_of names value) other)
+  where
+    by : (d : Denotation) (target : ℕ) (range : OrdinalRange) (type : Option TypeId) → ((root : ℕ) (type_id : TypeId) → ¬ (d ≡ denotes.Variable root type_id)) → is_target (Some d) target range type ≡ false
+    by (denotes.TypeName t) target range type other = refl
+    by (denotes.Constant value t) target range type other = refl
+    by (denotes.Variable root t) target range type other = absurd (other root t refl)
+    by (denotes.Procedure p) target range type other = refl
+    by (denotes.Function f) target range type other = refl
+    by denotes.Output target range type other = refl
+
+-- no room for an assignment, for its target and its test
+pub assignment_full : (a : Resolver) (name : Name) (value : SyntaxExpr) → PassesMost a 2 1 → RefusesAssignment a name value
+assignment_full a name value full = λ names k t typed v ids w. by_layer a (is_assignment names name value) v ids (by names v ids) t typed w
+  where
+    by : (names : Denotes) (v ids : ℕ) (l : Stmt-F Stmt) → is_assignment names name value l ≡ true → layer_well v ids l ≡ true → PassesMost a (length (stmt_layer_entries l)) (length (stmt_layer_sites l))
+    by names v ids (Empty number) h w = cc
+    by names v ids (Assign number target test x) h w =
+        let l = Assign number target test x in
+        passes_more a 2 1 (length (stmt_layer_entries l)) (length (stmt_layer_sites l)) (omega arith) (omega arith) full
+    by names v ids (Write number parameters ends_line) h w = cc
+    by names v ids (Compound number statements) h w = cc
+
 -- a variable that the program lacks, or an access that is one entry too many
 pub access_refused : (a b c : Resolver) (name : Name) (value : SyntaxExpr) (root : ℕ) (type_id : TypeId) (n : ℕ) → Adds a b (n ∷ []) [] [] → found b.scopes (folded name.text.now) ≡ Ok (denotes.Variable root type_id) → AddsNothing b c
     → (length c.variables.items ≤ root) ⊎ (4000000 ≤ c.entries) → RefusesAssignment a name value
-access_refused a b c name value root type_id n entered is none full = λ names k t typed v ids w.
+access_refused a b c name value root type_id n entered is none (inl few) = λ names k t typed v ids w.
     let later = knows_all_later a b (n ∷ []) [] [] names entered k in
     let within = later.variables name.text.now root type_id (knows_all_known b names later name.text.now (denotes.Variable root type_id) is) in
-    by_layer a (is_assignment names name value) v ids (by names v ids within full) t typed w
-  where
-    by : (names : Denotes) (v ids : ℕ) → root < length b.variables.items → (length c.variables.items ≤ root) ⊎ (4000000 ≤ c.entries) → (l : Stmt-F Stmt) → is_assignment names name value l ≡ true → layer_well v ids l ≡ true → PassesMost a (length (stmt_layer_entries l)) (length (stmt_layer_sites l))
-    by names v ids within full (Empty number) h w = cc
-    by names v ids within (inl few) (Assign number target test x) h w = absurd (omega (arith, ap (λ vs. length vs.items) none.variables, few, within))
-    by names v ids within (inr many) (Assign number target test x) h w = inl (omega (arith, entered.entered, none.entered, many))
-    by names v ids within full (Write number parameters ends_line) h w = cc
-    by names v ids within full (Compound number statements) h w = cc
+    absurd (omega (arith, ap (λ vs. length vs.items) none.variables, few, within))
+access_refused a b c name value root type_id n entered is none (inr many) = assignment_full a name value (inl (omega (arith, entered.entered, none.entered, many)))
 
 -- a value that doesn't fit its target
 pub mismatch_refused : (a b e f : Resolver) (name : Name) (becomes : Place) (value : SyntaxExpr) (root : ℕ) (type_id : TypeId) (n m site : ℕ) (t : Typed) → Adds a b (n ∷ []) [] [] → found b.scopes (folded name.text.now) ≡ Ok (denotes.Variable root type_id)
@@ -246,6 +278,12 @@ nothing_refused a b p actuals written n entered tells none =
     write_refused a p actuals (λ names k parameters ends_line.
     false_first (is_write (Some (denotes.Procedure p)) (parameters_of names actuals) ends_line) (all_match (map (types_parameter names) (parameters_of names actuals)) parameters)
     (ap (λ ws. is_write (Some (denotes.Procedure p)) ws ends_line) (tells names (knows_all_known b names (knows_all_later a b (n ∷ []) [] [] names entered k))) ∙ none ends_line))
+
+-- a write without a value, and no writeln
+pub nothing_written : (p : RequiredProcedure) (written : List SyntaxActual) (empty : Bool) → empty ≡ (length written == 0) → empty ≡ true → ¬ (p ≡ procedure.Writeln) → (ends_line : Bool) → is_write (Some (denotes.Procedure p)) written ends_line ≡ false
+nothing_written procedure.Writeln written empty is h other ends_line = absurd (other refl)
+nothing_written procedure.Write [] empty is h other ends_line = refl
+nothing_written procedure.Write (one ∷ others) empty is h other ends_line = let wrong : (length (one ∷ others) == 0) ≡ true = sym is ∙ h in absurd (grind (arith, nat_tests))
 
 pub parameters_refused : (a b c : Resolver) (p : RequiredProcedure) (actuals written : List SyntaxActual) (n : ℕ) → Adds a b (n ∷ []) [] [] → AddsNothing b c → TellsParameters b actuals written → RefusesParameters c written → RefusesWrite a p actuals
 parameters_refused a b c p actuals written n entered none tells refused = λ output names k t typed v ids w.
@@ -350,4 +388,4 @@ module _ (a : Resolver) (written : SyntaxStmt) where
 pub statements_refused : (a b : Resolver) (ws : List SyntaxStmt) (i : ℕ) (w : SyntaxStmt) (made : List Stmt) → i < length ws → w ≡ get_or ws i w → MakesStatements a b (take i ws) made → RefusesStatement b w → RefusesStatements a ws
 statements_refused a b ws i w made within is row refused = λ silent.
     row_refused types_statement is_well_formed_stmt entries_of_statement sites_of_statement stands_in_statement statement_measured a b ws i w made within is row
-    (refused (λ none. subst (λ s. IsTrue (writes_nothing s)) (sym is) (silent (sym (output_kept a b _ _ _ _ row) ∙ none) i w within)))
+    (refused (λ none. subst (λ s. IsTrue (writes_nothing s)) (sym is) (silent (sym (made_adds a b _ _ _ _ row).1.output ∙ none) i w within)))

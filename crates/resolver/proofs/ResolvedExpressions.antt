@@ -1,7 +1,8 @@
 -- Expressions that a resolver makes, from what it made of their parts.
-use Rattle.std.proofs.Common.{◌≡◌, ℕ, ℤ, pos, Bool, true, ◌&&◌, List, [], ◌∷◌, ◌++◌, map, Option, Some, None, Ok, Box, Vec, append-nil, refl, sym, ap, subst, ◌∙◌}
+use Rattle.std.proofs.Common.{◌≡◌, ℕ, ℤ, pos, Bool, true, ◌&&◌, nat_eq, List, [], ◌∷◌, ◌++◌, map, length, Option, Some, None, Ok, Box, Vec, append-nil, refl, sym, ap, subst, ◌∙◌, arith}
 use Rattle.std.specs.List.{flat_map}
 use Rattle.std.specs.declared.alloc.Global.{Global}
+use Rattle.std.proofs.lemmas.Bool.Decides.{nat_tests}
 use Rattle.std.proofs.lemmas.List.{map-append}
 use Rattle.lexer.specs.declared.place.Place.{Place}
 use Rattle.parser.specs.declared.tree.Name.{Name}
@@ -18,6 +19,8 @@ use Rattle.resolver.specs.declared.expressions.Typed.{Typed}
 use Rattle.resolver.specs.declared.expressions.TypedLinks.{TypedLinks}
 use Rattle.resolver.specs.declared.resolver.Resolver.{Resolver}
 use Rattle.types.specs.declared.form.TypeId.{TypeId}
+use Rattle.typed_tree.specs.declared.site.SiteKind.TheVariants as kind
+use Rattle.typed_tree.specs.declared.tree.Access.{Access}
 use Rattle.typed_tree.specs.declared.tree.Monadic.{Monadic}
 use Rattle.typed_tree.specs.declared.tree.Monadic.TheVariants as monadic
 use Rattle.typed_tree.specs.declared.tree.Expr.{Expr}
@@ -28,11 +31,12 @@ use Rattle.typed_tree.specs.declared.tree.Link.{Link}
 use Rattle.declarations.specs.Names.{folded, integer}
 use Rattle.scopes.specs.Scopes.{found}
 use Rattle.typed_tree.specs.Entries.{Tested, monadic_sites, dyadic_sites, entries_of_expression, sites_of_expression}
-use Rattle.typed_tree.specs.WellFormed.{all_hold, monadic_is_well_formed, is_well_formed_expr, is_well_formed_link}
-use Rattle.resolver.specs.Typing.{Denotes, Stands, all_match, is_of, result_if, only, chain_type, dyadic_type, function_type, type_of, type_of_name, type_of_call, is_constant, is_named, is_monadic, is_sign, is_function, is_called, is_dyadic, is_chain, types_expression, name_stands, function_stands, operator_stands, stands_in_expression}
+use Rattle.typed_tree.specs.WellFormed.{monadic_is_well_formed, is_well_formed_expr}
+use Rattle.resolver.specs.Formed.{IsFormed, IsFormedExpr, AreFormedLinks}
+use Rattle.resolver.specs.Typing.{Denotes, Stands, all_match, is_of, result_if, only, chain_type, dyadic_type, function_type, type_of, type_of_name, type_of_call, is_constant, is_variable, is_named, is_monadic, is_sign, is_function, is_called, is_dyadic, is_chain, types_expression, name_stands, function_stands, operator_stands, stands_in_expression}
 use Rattle.resolver.specs.Resolved.{Adds, AddsNothing, Makes, types_typed, types_operand, types_not, types_signed, types_called, types_argument, types_named, types_typed_links, types_link, types_actual, type_of_actual, link_type_of, holds_of, is_integer_type, stands_in_link, stands_in_actual, entries_of_link, sites_of_link, IsOnly, IsChainOf, IsMonadicOf, TellsFunction, MakesConstant, MakesNamed, MakesTyped, MakesOperand, MakesNot, MakesSigned, MakesCalled, MakesArgument, MakesLink, MakesLinks}
 use Rattle.resolver.proofs.FormedLemmas.{and_true, both_true, monadic-formed, chain-formed}
-use Rattle.resolver.proofs.TypingEquations.{entries-Monadic, entries-Chain, entries-Link, sites-Monadic, sites-Chain, sites-Link, types-Number, types-Name, types-Call, types-Parenthesized, types-Not, types-Signed, types-Chain, types-Link, types-Actual, type-Number, type-Name, type-Call, type-Parenthesized, type-Not, type-Signed, type-Chain, type-Link, type-Actual, stands-Number, stands-Name, stands-Call, stands-Parenthesized, stands-Not, stands-Signed, stands-Chain, stands-Link, stands-Actual}
+use Rattle.resolver.proofs.TypingEquations.{entries-Variable, entries-Monadic, entries-Chain, entries-Link, sites-Variable, sites-Monadic, sites-Chain, sites-Link, types-Number, types-Name, types-Call, types-Parenthesized, types-Not, types-Signed, types-Chain, types-Link, types-Actual, type-Number, type-Name, type-Call, type-Parenthesized, type-Not, type-Signed, type-Chain, type-Link, type-Actual, stands-Number, stands-Name, stands-Call, stands-Parenthesized, stands-Not, stands-Signed, stands-Chain, stands-Link, stands-Actual}
 use Rattle.resolver.proofs.TypesTold.{is_of_itself, is_of_only, is_of_this}
 use Rattle.resolver.proofs.ResolvedPieces.{adds_then, adds_as, knows_later, makes_as, makes_from, all_match-push, pushed}
 
@@ -81,6 +85,24 @@ module _ (a m b : Resolver) where
       refl refl
       (λ names known. ap (λ x. name_stands x name.place) (known name.text.now (denotes.Constant value id) is))
       (constant_made value value e none refl made)
+
+pub same_number : (n : ℕ) → nat_eq n n ≡ true
+same_number n = grind (arith, nat_tests)
+
+-- a name of a variable
+pub named_variable : (a m b c : Resolver) (name : Name) (root : ℕ) (id : TypeId) (access : Access) (defined : ℕ) → found a.scopes (folded name.text.now) ≡ Ok (denotes.Variable root id) → AddsNothing a m → access.root ≡ root → Adds m b (access.number ∷ []) [] []
+    → Adds b c [] ((kind.UndefinedVariable, defined) ∷ []) ((kind.UndefinedVariable, name.place) ∷ []) → MakesNamed a c name (record { expression = tree.Variable access defined; type_id = id })
+named_variable a m b c name root id access defined is none same accessed taken = λ names known.
+    let d = known name.text.now (denotes.Variable root id) is in
+    let e = tree.Variable access defined in
+    let test : Tested = (kind.UndefinedVariable, defined) in
+    let place : Stands = (kind.UndefinedVariable, name.place) in (
+      ap (λ x. is_named x (out-Expr e) && is_of id (type_of_name x)) d
+          ∙ both_true _ _ (ap (is_variable root) (tree.outs-Variable access defined) ∙ ap (λ r. nat_eq r access.root) (sym same) ∙ same_number access.root) (is_of_itself id),
+      adds_as a c (access.number ∷ []) (entries_of_expression e) (test ∷ []) (sites_of_expression e) (place ∷ []) (name_stands (names name.text.now) name.place)
+          (entries-Variable access defined) (sites-Variable access defined) (ap (λ x. name_stands x name.place) d)
+          (adds_then a m c [] (access.number ∷ []) [] (test ∷ []) [] (place ∷ []) none (adds_then m b c (access.number ∷ []) [] [] (test ∷ []) [] (place ∷ []) accessed taken)),
+    )
 
 module _ (a b : Resolver) (written : SyntaxExpr) (t : Typed) where
   -- the same, told otherwise
@@ -164,9 +186,12 @@ module _ (n : ℕ) (o : Monadic) (e : Expr) (result : TypeId) (t : Typed) (is : 
       )
 
 -- it is well formed where its operand is
-pub monadic_is_formed : (v ids n : ℕ) (o : Monadic) (e : Expr) (result : TypeId) (t : Typed) → IsMonadicOf n o e result t → monadic_is_well_formed v ids o ≡ true → is_well_formed_expr v ids e ≡ true → is_well_formed_expr v ids t.expression ≡ true
-monadic_is_formed v ids n o e result t is a b =
-    ap (is_well_formed_expr v ids) is.is ∙ monadic-formed v ids n o is.inner a (ap (is_well_formed_expr v ids) is.operand_is ∙ b)
+pub monadic_is_formed : (r : Resolver) (n : ℕ) (o : Monadic) (e : Expr) (result : TypeId) (t : Typed) → IsMonadicOf n o e result t → IsFormed (λ v ids. monadic_is_well_formed v ids o) r → IsFormedExpr r e → IsFormedExpr r t.expression
+monadic_is_formed r n o e result t is a b = record {
+  holds = λ ids h.
+      let v = length r.variables.items in
+      ap (is_well_formed_expr v ids) is.is ∙ monadic-formed v ids n o is.inner (a.holds ids h) (ap (is_well_formed_expr v ids) is.operand_is ∙ b.holds ids h);
+}
 
 -- an operand of the wanted type
 pub operand_made : (a b : Resolver) (written : SyntaxExpr) (wanted : TypeId) (t : Typed) → t.type_id ≡ wanted → MakesTyped a b written t → MakesOperand a b written wanted t.expression
@@ -211,11 +236,9 @@ module _ (name : Name) (actuals : List SyntaxActual) (n : ℕ) (f : RequiredFunc
       ∙ called_of f operand of e (out-Expr t.expression) t.type_id (ap Some is.type_is ∙ type)
       (λ test held. monadic_is n o e result t is (is_function f) test right held) parts.0 parts.1
 
-  pub called_made : (a b c d g : Resolver) → TellsFunction a name f → AddsNothing a b → Adds b c (n ∷ []) [] [] → is_function f o ≡ true → Adds c d [] (monadic_sites o) (function_stands (Some (denotes.Function f)) name.place) → MakesArgument d g actuals e → Some result ≡ function_type f (Some integer) → MakesCalled a g name actuals t
-  called_made a b c d g told none entered right taken made type = λ names known.
+  pub called_made : (a d g : Resolver) → TellsFunction a name f → is_function f o ≡ true → Adds a d (n ∷ []) (monadic_sites o) (function_stands (Some (denotes.Function f)) name.place) → MakesArgument d g actuals e → Some result ≡ function_type f (Some integer) → MakesCalled a g name actuals t
+  called_made a d g told right to_d made type = λ names known.
       let place = function_stands (Some (denotes.Function f)) name.place in
-      let to_c = adds_then a b c [] (n ∷ []) [] [] [] [] none entered in
-      let to_d = adds_then a c d (n ∷ []) [] [] (monadic_sites o) [] place to_c taken in
       let k = made names (knows_later a d (n ∷ []) (monadic_sites o) place names to_d known) in (
         called_typed names (told names known) right type k.0,
         adds_as a g (n ∷ entries_of_expression e) (entries_of_expression t.expression) (monadic_sites o ++ sites_of_expression e) (sites_of_expression t.expression) (place ++ flat_map (stands_in_actual names) actuals) (function_stands (names name.text.now) name.place ++ flat_map (stands_in_actual names) actuals)
@@ -260,9 +283,12 @@ module _ (first : Typed) (rest : TypedLinks) (t : Typed) (is : IsChainOf first r
       )
 
 -- a chain is well formed where its parts are
-pub chain_is_formed : (v ids : ℕ) (first : Typed) (rest : TypedLinks) (t : Typed) → IsChainOf first rest t → is_well_formed_expr v ids first.expression ≡ true → all_hold (map (is_well_formed_link v ids) rest.links.items) ≡ true → is_well_formed_expr v ids t.expression ≡ true
-chain_is_formed v ids first rest t is a b =
-    ap (is_well_formed_expr v ids) is.is ∙ chain-formed v ids is.operand rest.links (ap (is_well_formed_expr v ids) is.first_is ∙ a) b
+pub chain_is_formed : (r : Resolver) (first : Typed) (rest : TypedLinks) (t : Typed) → IsChainOf first rest t → IsFormedExpr r first.expression → AreFormedLinks r rest.links.items → IsFormedExpr r t.expression
+chain_is_formed r first rest t is a b = record {
+  holds = λ ids h.
+      let v = length r.variables.items in
+      ap (is_well_formed_expr v ids) is.is ∙ chain-formed v ids is.operand rest.links (ap (is_well_formed_expr v ids) is.first_is ∙ a.holds ids h) (b.holds ids h);
+}
 
 -- an operator is entered behind its site
 pub entered_behind : (a b c : Resolver) (n : ℕ) (tests : List Tested) (place : List Stands) → Adds a b [] tests place → Adds b c (n ∷ []) [] [] → Adds a c (n ∷ []) tests place

@@ -1,5 +1,5 @@
 -- The entries and the sites that came while pieces were made, one piece after another.
-use Rattle.std.proofs.Common.{◌≡◌, ℕ, zero, suc, ◌+◌, Bool, true, false, ◌&&◌, List, [], ◌∷◌, ◌++◌, map, length, get_or, take, ◌<◌, ◌≤◌, Option, Some, None, Result, Ok, Err, IfOk, IsTrue, append_assoc, append-nil, length-append, refl, sym, ap, subst, ◌∙◌, arith}
+use Rattle.std.proofs.Common.{◌≡◌, ℕ, zero, suc, ◌+◌, Bool, true, false, ◌&&◌, List, [], ◌∷◌, ◌++◌, map, length, get_or, take, ◌<◌, ◌≤◌, Option, Some, None, Result, Ok, Err, IsTrue, append_assoc, append-nil, length-append, refl, sym, ap, subst, ◌∙◌, arith}
 use Rattle.std.specs.List.{range_with_len, flat_map}
 use Rattle.std.proofs.lemmas.Grind.{flat_map-append}
 use Rattle.std.proofs.lemmas.List.{map-append, take_more, take_all}
@@ -62,15 +62,6 @@ pub knows_later : (a b : Resolver) (e : List ℕ) (t : List Tested) (s : List St
 knows_later a b e t s names added known = λ name d is.
     known name d (ap (λ sc. found sc (folded name)) (sym added.scopes) ∙ is)
 
--- what is known where a call gave a value
-pub if_ok : {A E : Type 0} (r : Result A E) (P Q : A → Type 0) → ((x : A) → P x → Q x) → IfOk r P → IfOk r Q
-if_ok (Ok x) P Q f h = f x h
-if_ok (Err e) P Q f h = h
-
-pub if_both : {A E : Type 0} (r : Result A E) (P Q R : A → Type 0) → ((x : A) → P x → Q x → R x) → IfOk r P → IfOk r Q → IfOk r R
-if_both (Ok x) P Q R f h k = f x h k
-if_both (Err e) P Q R f h k = h
-
 -- what was made, told otherwise
 pub makes_as : (a b : Resolver) (f g : Denotes → Bool) (e d : List ℕ) (t u : List Tested) (s r : Denotes → List Stands)
     → ((names : Denotes) → Knows a names → IsTrue (f names) → IsTrue (g names)) → d ≡ e → u ≡ t → ((names : Denotes) → Knows a names → r names ≡ s names) → Makes a b f e t s → Makes a b g d u r
@@ -89,10 +80,12 @@ told : Result Denotation ScopeFault → Option Denotation
 told (Ok denotation) = Some denotation
 told (Err fault) = None
 
--- what was made leaves alone whether there is output
-pub output_kept : (a b : Resolver) (typed : Denotes → Bool) (e : List ℕ) (t : List Tested) (s : Denotes → List Stands) → Makes a b typed e t s → b.has_output ≡ a.has_output
+-- what was made came, as one reading of the names shows
+pub made_adds : (a b : Resolver) (typed : Denotes → Bool) (e : List ℕ) (t : List Tested) (s : Denotes → List Stands) → Makes a b typed e t s → (stands : List Stands) × Adds a b e t stands
 unfolding told
-output_kept a b typed e t s made = (made (λ name. told (found a.scopes (folded name))) (λ name d is. ap told is)).1.output
+made_adds a b typed e t s made =
+    let names : Denotes = λ name. told (found a.scopes (folded name)) in
+    (s names, (made names (λ name d is. ap told is)).1)
 
 -- ---- rows of pieces
 

@@ -5,7 +5,6 @@ use Rattle.std.specs.Ordering.{int_eq}
 use Rattle.std.specs.declared.alloc.Global.{Global}
 use Rattle.std.proofs.lemmas.List.{take_all}
 use Rattle.std.proofs.lemmas.List.Elements.{All-push}
-use Rattle.std.proofs.lemmas.Bool.Decides.{nat_tests}
 use Rattle.std.proofs.lemmas.Cmp.{int_eq_equiv}
 use Rattle.lexer.specs.declared.place.Place.{Place}
 use Rattle.parser.specs.declared.tree.Name.{Name}
@@ -33,14 +32,14 @@ use Rattle.declarations.specs.Names.{folded, integer}
 use Rattle.scopes.specs.Scopes.{found}
 use Rattle.typed_tree.specs.Entries.{entries_of_expression, entries_of_width, entries_of_parameter, entries_of_statement, inserted, sites_of_expression, sites_of_width, sites_of_parameter, sites_of_statement}
 use Rattle.resolver.specs.Typing.{Denotes, all_match, is_of, type_of, values_of_type, first_place, is_test, is_target, is_write, is_written_as, is_width, is_assignment, is_call, is_compound, parameters_of, types_expression, types_parameter, types_statement, width_stands, stands_in_expression, stands_in_parameter, stands_in_statement, writes_nothing}
+use Rattle.typed_tree.specs.WellFormed.{is_well_formed_width}
+use Rattle.resolver.specs.Formed.{IsFormed, IsFormedExpr, IsFormedWidth, IsFormedParameter}
 use Rattle.resolver.specs.Resolved.{Adds, AddsNothing, Makes, TellsParameters, MakesTyped, MakesLed, MakesWidth, MakesParameter, MakesParameters, MakesAssignment, MakesCall, MakesWrite, is_write_of, MakesStatement, MakesStatements, MakesCompound, AreSilent}
 use Rattle.resolver.proofs.FormedLemmas.{and_true, both_true}
 use Rattle.resolver.proofs.StatementEquations.{entries-Assign, entries-Write, entries-Compound, sites-Assign, sites-Write, sites-Compound, silent-Compound, types-Assign, types-Call, types-Compound, stands-Assign, stands-Call, stands-Compound}
 use Rattle.resolver.proofs.TypesTold.{is_of_only, is_of_itself}
+use Rattle.resolver.proofs.ResolvedExpressions.{same_number}
 use Rattle.resolver.proofs.ResolvedPieces.{adds_nothing, adds_then, adds_as, knows_later, makes_from, taken_more}
-
-same_number : (n : ℕ) → nat_eq n n ≡ true
-same_number n = grind (arith, nat_tests)
 
 -- one more statement that writes nothing
 pub silent_next : (ss : List SyntaxStmt) (i : ℕ) (s : SyntaxStmt) → i < length ss → s ≡ get_or ss i s → AreSilent (take i ss) → IsTrue (writes_nothing s) → AreSilent (take (i + 1) ss)
@@ -71,6 +70,19 @@ width_made a b written led width value site whole made = λ names known.
 -- a width, if one is written
 abbrev pub MakesWidths : Resolver → Resolver → Option SyntaxExpr → Option Width → Type 0
 MakesWidths a b written width = Makes a b (λ names. is_width names written width) (entries_of_width width) (sites_of_width width) (λ names. width_stands names written)
+
+-- and it is well formed
+abbrev pub AreFormedWidths : Resolver → Option Width → Type 0
+AreFormedWidths r width = IsFormed (λ v n. is_well_formed_width v n width) r
+
+pub no_width_formed : (r : Resolver) (width : Option Width) → width ≡ None → AreFormedWidths r width
+no_width_formed r width nothing = record { holds = λ n h. ap (is_well_formed_width (length r.variables.items) n) nothing }
+
+pub one_width_formed : (b c : Resolver) (width : Option Width) (x : Width) → c ≡ b → width ≡ Some x → IsFormedWidth b x → AreFormedWidths c width
+one_width_formed b c width x same to formed = subst (λ r. AreFormedWidths r width) (sym same) (subst (λ o. AreFormedWidths b o) (sym to) formed)
+
+pub parameter_is_formed : (r : Resolver) (parameter : WriteParameter) → IsFormedExpr r parameter.value → AreFormedWidths r parameter.width → IsFormedParameter r parameter
+parameter_is_formed r parameter a b = record { holds = λ n h. both_true _ _ (a.holds n h) (b.holds n h) }
 
 pub no_width_made : (a b : Resolver) (written : Option SyntaxExpr) (width : Option Width) → b ≡ a → written ≡ None → width ≡ None → MakesWidths a b written width
 no_width_made a b written width same none nothing =

@@ -1,5 +1,5 @@
 -- What the readings of written and typed statements compute to, form by form.
-use Rattle.std.proofs.Common.{◌≡◌, ℕ, Bool, false, List, ◌∷◌, map, sym, ap, ◌∙◌}
+use Rattle.std.proofs.Common.{◌≡◌, ℕ, Bool, true, false, List, ◌∷◌, map, sym, ap, ◌∙◌}
 use Rattle.std.specs.List.{flat_map, list_all}
 use Rattle.std.proofs.Common.{Vec}
 use Rattle.std.specs.declared.alloc.Global.{Global}
@@ -54,6 +54,9 @@ sites-Compound n v =
 
 pub silent-Compound : (v : Vec SyntaxStmt Global) → writes_nothing (syntax_stmt.Compound v) ≡ list_all (λ b. b) (map writes_nothing v.items)
 silent-Compound v = ap writes_nothing (sym (syntax_stmt.rolls-Compound v)) ∙ fold-roll-SyntaxStmt Bool silent_step (syntax_stmt_layer.Compound v)
+
+pub silent-Assign : (name : Name) (p : Place) (value : SyntaxExpr) → writes_nothing (syntax_stmt.Assign name p value) ≡ true
+silent-Assign name p value = ap writes_nothing (sym (syntax_stmt.rolls-Assign name p value)) ∙ fold-roll-SyntaxStmt Bool silent_step (syntax_stmt_layer.Assign name p value)
 
 pub silent-Call : (name : Name) (v : Vec SyntaxActual Global) → writes_nothing (syntax_stmt.Call name v) ≡ false
 silent-Call name v = ap writes_nothing (sym (syntax_stmt.rolls-Call name v)) ∙ fold-roll-SyntaxStmt Bool silent_step (syntax_stmt_layer.Call name v)

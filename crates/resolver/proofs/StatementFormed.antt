@@ -47,9 +47,6 @@ module _ (v n : ℕ) where
   pub width-formed : (width : Width) → width.site < n → is_well_formed_expr v n width.value ≡ true → is_well_formed_width v n (Some width) ≡ true
   width-formed width a h = both_true _ _ (lt_true width.site n a) h
 
-  pub parameter-formed : (parameter : WriteParameter) → is_well_formed_expr v n parameter.value ≡ true → is_well_formed_width v n parameter.width ≡ true → is_well_formed_parameter v n parameter ≡ true
-  parameter-formed parameter a b = both_true _ _ a b
-
   -- the values of a type are integers
   pub test-formed : (test : RangeTest) (type_id : TypeId) → test.site < n → values_of_type type_id ≡ Some test.range → is_well_formed_test v n test ≡ true
   test-formed test type_id a is = both_true _ _ (lt_true test.site n a) (ranges-whole (slice_get required_forms type_id.index) test.range is)

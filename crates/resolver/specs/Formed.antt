@@ -1,42 +1,43 @@
--- What a resolver keeps true of the trees that it makes: they stay well formed while more sites come.
--- It says nothing of which tree it makes.
-use Rattle.std.specs.Prelude.{◌≡◌, ℕ, ◌≤◌, true, List, Some, map}
+-- What a resolver keeps true of the trees that it makes: they are well formed with the variables and the sites that it has,
+-- and stay so while more sites come. It says nothing of which tree it makes.
+use Rattle.std.specs.Prelude.{◌≡◌, ℕ, ◌≤◌, ◌<◌, Bool, true, List, Some, map, length}
+use Rattle.resolver.specs.declared.resolver.Resolver.{Resolver}
+use Rattle.resolver.specs.declared.expressions.Typed.{Typed}
 use Rattle.typed_tree.specs.declared.tree.Expr.{Expr}
 use Rattle.typed_tree.specs.declared.tree.Link.{Link}
-use Rattle.typed_tree.specs.declared.tree.Monadic.{Monadic}
-use Rattle.typed_tree.specs.declared.tree.Dyadic.{Dyadic}
 use Rattle.typed_tree.specs.declared.tree.Stmt.{Stmt}
 use Rattle.typed_tree.specs.declared.tree.Width.{Width}
 use Rattle.typed_tree.specs.declared.tree.WriteParameter.{WriteParameter}
-use Rattle.typed_tree.specs.WellFormed.{all_hold, monadic_is_well_formed, dyadic_is_well_formed, is_well_formed_expr, is_well_formed_link, is_well_formed_width, is_well_formed_parameter, is_well_formed_stmt}
+use Rattle.typed_tree.specs.WellFormed.{all_hold, is_well_formed_expr, is_well_formed_link, is_well_formed_width, is_well_formed_parameter, is_well_formed_stmt}
 
--- well formed with so many variables and so many sites or more
-abbrev pub IsFormedExpr : ℕ → ℕ → Expr → Type 0
-IsFormedExpr variables sites e = (n : ℕ) → sites ≤ n → is_well_formed_expr variables n e ≡ true
+-- well formed with a resolver's variables, and with its sites or more
+pub record IsFormed (well : ℕ → ℕ → Bool) (r : Resolver) : Type 0 where
+  pub holds : (n : ℕ) → length r.sites.items ≤ n → well (length r.variables.items) n ≡ true
 
-abbrev pub IsFormedLink : ℕ → ℕ → Link → Type 0
-IsFormedLink variables sites link = (n : ℕ) → sites ≤ n → is_well_formed_link variables n link ≡ true
+abbrev pub IsFormedExpr : Resolver → Expr → Type 0
+IsFormedExpr r e = IsFormed (λ v n. is_well_formed_expr v n e) r
 
-abbrev pub AreFormedLinks : ℕ → ℕ → List Link → Type 0
-AreFormedLinks variables sites links = (n : ℕ) → sites ≤ n → all_hold (map (is_well_formed_link variables n) links) ≡ true
+-- an expression, and the id of one more site
+abbrev pub IsFormedLed : Resolver → Typed × ℕ → Type 0
+IsFormedLed r led = IsFormedExpr r led.0.expression × (led.1 < length r.sites.items)
 
-abbrev pub IsFormedMonadic : ℕ → Monadic → Type 0
-IsFormedMonadic sites operation = (variables n : ℕ) → sites ≤ n → monadic_is_well_formed variables n operation ≡ true
+abbrev pub IsFormedLink : Resolver → Link → Type 0
+IsFormedLink r link = IsFormed (λ v n. is_well_formed_link v n link) r
 
-abbrev pub IsFormedDyadic : ℕ → Dyadic → Type 0
-IsFormedDyadic sites operation = (variables n : ℕ) → sites ≤ n → dyadic_is_well_formed variables n operation ≡ true
+abbrev pub AreFormedLinks : Resolver → List Link → Type 0
+AreFormedLinks r links = IsFormed (λ v n. all_hold (map (is_well_formed_link v n) links)) r
 
-abbrev pub IsFormedWidth : ℕ → ℕ → Width → Type 0
-IsFormedWidth variables sites width = (n : ℕ) → sites ≤ n → is_well_formed_width variables n (Some width) ≡ true
+abbrev pub IsFormedWidth : Resolver → Width → Type 0
+IsFormedWidth r width = IsFormed (λ v n. is_well_formed_width v n (Some width)) r
 
-abbrev pub IsFormedParameter : ℕ → ℕ → WriteParameter → Type 0
-IsFormedParameter variables sites parameter = (n : ℕ) → sites ≤ n → is_well_formed_parameter variables n parameter ≡ true
+abbrev pub IsFormedParameter : Resolver → WriteParameter → Type 0
+IsFormedParameter r parameter = IsFormed (λ v n. is_well_formed_parameter v n parameter) r
 
-abbrev pub AreFormedParameters : ℕ → ℕ → List WriteParameter → Type 0
-AreFormedParameters variables sites parameters = (n : ℕ) → sites ≤ n → all_hold (map (is_well_formed_parameter variables n) parameters) ≡ true
+abbrev pub AreFormedParameters : Resolver → List WriteParameter → Type 0
+AreFormedParameters r parameters = IsFormed (λ v n. all_hold (map (is_well_formed_parameter v n) parameters)) r
 
-abbrev pub IsFormedStmt : ℕ → ℕ → Stmt → Type 0
-IsFormedStmt variables sites s = (n : ℕ) → sites ≤ n → is_well_formed_stmt variables n s ≡ true
+abbrev pub IsFormedStmt : Resolver → Stmt → Type 0
+IsFormedStmt r s = IsFormed (λ v n. is_well_formed_stmt v n s) r
 
-abbrev pub AreFormedStmts : ℕ → ℕ → List Stmt → Type 0
-AreFormedStmts variables sites ss = (n : ℕ) → sites ≤ n → all_hold (map (is_well_formed_stmt variables n) ss) ≡ true
+abbrev pub AreFormedStmts : Resolver → List Stmt → Type 0
+AreFormedStmts r ss = IsFormed (λ v n. all_hold (map (is_well_formed_stmt v n) ss)) r

@@ -1,7 +1,7 @@
 -- What a resolver makes of the pieces of a program: typed pieces, by every reading of the names that agrees with its
 -- scopes, with the numbers of their entries and their sites (ISO 7185:1990, 6.2.2, 6.7, 6.8).
 -- It says nothing of how the scopes came about, nor of a piece that is refused.
-use Rattle.std.specs.Prelude.{◌≡◌, ℕ, ℤ, ◌+◌, ◌++◌, ◌&&◌, Bool, false, IsTrue, List, [], ◌∷◌, map, flat_map, length, Option, Some, None, Ok, All}
+use Rattle.std.specs.Prelude.{◌≡◌, ℕ, ℤ, ◌+◌, ◌<◌, ◌++◌, ◌&&◌, Bool, true, false, IsTrue, List, [], ◌∷◌, map, flat_map, length, Option, Some, None, Ok, All}
 use Rattle.std.specs.List.{range_with_len}
 use Rattle.lexer.specs.declared.place.Place.{Place}
 use Rattle.parser.specs.declared.tree.Name.{Name}
@@ -18,6 +18,7 @@ use Rattle.scopes.specs.declared.denotation.Denotation.{Denotation}
 use Rattle.scopes.specs.declared.denotation.Denotation.TheVariants as denotes
 use Rattle.scopes.specs.declared.denotation.RequiredFunction.{RequiredFunction}
 use Rattle.scopes.specs.declared.denotation.RequiredProcedure.{RequiredProcedure}
+use Rattle.resolver.specs.declared.expressions.Head.{Head}
 use Rattle.resolver.specs.declared.expressions.Typed.{Typed}
 use Rattle.resolver.specs.declared.expressions.TypedLinks.{TypedLinks}
 use Rattle.resolver.specs.declared.resolver.Resolver.{Resolver}
@@ -25,6 +26,7 @@ use Rattle.typed_tree.specs.declared.site.Site.{Site}
 use Rattle.typed_tree.specs.declared.site.SiteKind.{SiteKind}
 use Rattle.typed_tree.specs.declared.site.SiteKind.TheVariants as kind
 use Rattle.types.specs.declared.form.TypeId.{TypeId}
+use Rattle.typed_tree.specs.declared.tree.Access.{Access}
 use Rattle.typed_tree.specs.declared.tree.Monadic.{Monadic}
 use Rattle.typed_tree.specs.declared.tree.Width.{Width}
 use Rattle.typed_tree.specs.declared.tree.WriteParameter.{WriteParameter}
@@ -39,8 +41,8 @@ use Rattle.typed_tree.specs.declared.tree.Stmt.TheOpen.Stmt-F.{Write}
 use Rattle.typed_tree.specs.declared.tree.Stmt.TheViews.{out-Stmt}
 use Rattle.scopes.specs.Scopes.{found}
 use Rattle.declarations.specs.Names.{folded, integer, boolean}
-use Rattle.typed_tree.specs.Entries.{Tested, expression_entries, link_entries, entries_of_expression, entries_of_width, entries_of_parameter, entries_of_statement, expression_sites, link_sites, inserted, sites_of_expression, sites_of_width, sites_of_parameter, sites_of_statement}
-use Rattle.resolver.specs.Typing.{Denotes, Stands, all_match, is_of, result_if, only, chain_type, type_of, type_of_name, type_of_call, type_step, actual_type, link_type, is_constant, is_named, is_monadic, is_not, is_sign, is_called, expression_step, actual_step, link_step, types_expression, types_statement, types_parameter, is_assignment, is_write, is_width, is_call, is_compound, is_file_actual, parameters_of, expression_stands, actual_stands, link_stands, name_stands, function_stands, led_stands, width_stands, stands_in_expression, stands_in_parameter, stands_in_statement, writes_nothing}
+use Rattle.typed_tree.specs.Entries.{Tested, monadic_sites, expression_entries, link_entries, entries_of_expression, entries_of_width, entries_of_parameter, entries_of_statement, expression_sites, link_sites, inserted, sites_of_expression, sites_of_width, sites_of_parameter, sites_of_statement}
+use Rattle.resolver.specs.Typing.{Denotes, Stands, all_match, is_of, result_if, only, chain_type, function_type, type_of, type_of_name, type_of_call, type_step, actual_type, link_type, is_constant, is_named, is_monadic, is_not, is_sign, is_function, is_called, expression_step, actual_step, link_step, types_expression, types_statement, types_parameter, is_assignment, is_write, is_width, is_call, is_compound, is_file_actual, parameters_of, expression_stands, actual_stands, link_stands, name_stands, function_stands, led_stands, width_stands, stands_in_expression, stands_in_parameter, stands_in_statement, writes_nothing}
 
 -- a reading of the names agrees with a resolver's scopes
 abbrev pub Knows : Resolver → Denotes → Type 0
@@ -67,6 +69,12 @@ pub record Adds (old new : Resolver) (entries : List ℕ) (tests : List Tested) 
 -- nothing was entered, and no site taken
 abbrev pub AddsNothing : Resolver → Resolver → Type 0
 AddsNothing old new = Adds old new [] [] []
+
+-- the access of a variable that the program has
+pub record MakesAccess (old new : Resolver) (root : ℕ) (access : Access) : Type 0 where
+  pub is : access.root ≡ root
+  pub known : access.root < length old.variables.items
+  pub adds : Adds old new (access.number ∷ []) [] []
 
 -- for every reading of the names that agrees, what was made is typed, and has these entries and sites
 abbrev pub Makes : Resolver → Resolver → (Denotes → Bool) → List ℕ → List Tested → (Denotes → List Stands) → Type 0
@@ -169,6 +177,12 @@ MakesArgument old new actuals e =
 abbrev pub TellsFunction : Resolver → Name → RequiredFunction → Type 0
 TellsFunction old name function = (names : Denotes) → Knows old names → names name.text.now ≡ Some (denotes.Function function)
 
+-- what stands before the actuals of a call: its function is entered, and has its sites
+pub record MakesHead (old new : Resolver) (name : Name) (head : Head) : Type 0 where
+  pub told : TellsFunction old name head.function
+  pub right : is_function head.function head.operation ≡ true
+  pub adds : Adds old new (head.number ∷ []) (monadic_sites head.operation) (function_stands (Some (denotes.Function head.function)) name.place)
+
 -- one actual, which has no width
 abbrev pub IsOnly : List SyntaxActual → SyntaxExpr → Type 0
 IsOnly actuals value = (actual : SyntaxActual) × (actuals ≡ actual ∷ []) × ((out-SyntaxActual actual).value ≡ value) × ((out-SyntaxActual actual).width ≡ None)
@@ -212,6 +226,10 @@ pub record IsMonadicOf (number : ℕ) (operation : Monadic) (operand : Expr) (ty
   pub is : t.expression ≡ expr.Monadic number operation inner
   pub operand_is : inner.value ≡ operand
   pub type_is : t.type_id ≡ type_id
+
+-- a function that is called with this argument
+abbrev pub IsApplied : Head → Expr → Typed → Type 0
+IsApplied head argument t = (type_id : TypeId) × (Some type_id ≡ function_type head.function (Some integer)) × IsMonadicOf head.number head.operation argument type_id t
 
 -- a constant
 abbrev pub MakesConstant : Resolver → Resolver → ℤ → Expr → Type 0

@@ -1,4 +1,4 @@
-ghost use Rattle.std.specs.Prelude.{◌≡◌, ◌⊎◌, ◌≤◌, ◌<◌, [], ◌∷◌, true, Some, IfOk, IfErr, IfSome, IfNone, pos, length};
+ghost use Rattle.std.specs.Prelude.{◌≡◌, [], true, Some, MatchResult, IfSome, IfNone, pos, length};
 ghost use Rattle.typed_tree.specs.Entries.{monadic_sites, dyadic_sites};
 ghost use Rattle.declarations.specs.Names.{integer};
 ghost use Rattle.resolver.specs.Resolved.{IsOnly, IsNotOne};
@@ -30,18 +30,22 @@ struct TypedLinks {
     type_id: TypeId,
 }
 
+/// What stands before the actuals of a call: the number of its entry, and its function as an operation.
+#[derive(Clone, Copy)]
+struct Head {
+    number: u32,
+    function: RequiredFunction,
+    operation: Monadic,
+}
+
 impl Resolver {
-    ghost use Rattle.resolver.specs.Resolved.{Adds, MakesTyped, MakesOperand, MakesNot, MakesSigned, MakesCalled, MakesArgument, MakesLink, MakesLinks};
-    ghost use Rattle.resolver.specs.Refusing.{RefusesTyped, RefusesOperand, RefusesNot, RefusesSigned, RefusesCalled, RefusesArgument, RefusesLink, RefusesLinks};
-    ghost use Rattle.resolver.specs.Formed.{IsFormedExpr, IsFormedLink, AreFormedLinks, IsFormedMonadic};
+    ghost use Rattle.resolver.specs.Resolved.{MakesTyped, MakesOperand, MakesNot, MakesSigned, MakesCalled, MakesArgument, MakesLink, MakesLinks};
+    ghost use Rattle.resolver.specs.Refusing.{Gives, RefusesTyped, RefusesOperand, RefusesNot, RefusesSigned, RefusesCalled, RefusesArgument, RefusesLink, RefusesLinks};
+    ghost use Rattle.resolver.specs.Formed.{IsFormedExpr, IsFormedLink, AreFormedLinks};
 
     #[cycle(expressions)]
     pub(crate) fn expression(&mut self, expression: &syntax::Expr) -> Result<Typed, TypeFault>
-        ensures same { self.new.variables ≡ self.old.variables }
-        ensures grows { length self.old.sites.items ≤ length self.new.sites.items }
-        ensures formed { IfOk result (λ typed. IsFormedExpr (length self.old.variables.items) (length self.new.sites.items) typed.expression) }
-        ensures typed { IfOk result (MakesTyped self.old self.new expression.now) }
-        ensures refused { IfErr result (λ fault. (fault ≡ Memory) ⊎ RefusesTyped self.old expression.now) }
+        ensures { Gives result (λ typed. IsFormedExpr self.new typed.expression × MakesTyped self.old self.new expression.now typed) (RefusesTyped self.old expression.now) }
     {
         match expression {
             syntax::Expr::Number { value, place } => self.number(*value, *place),
@@ -64,11 +68,7 @@ impl Resolver {
     // The operators of a chain, whose value so far is of type `left`.
     #[cycle(expressions)]
     fn links(&mut self, left: TypeId, rest: &[syntax::Link]) -> Result<TypedLinks, TypeFault>
-        ensures same { self.new.variables ≡ self.old.variables }
-        ensures grows { length self.old.sites.items ≤ length self.new.sites.items }
-        ensures formed { IfOk result (λ typed. AreFormedLinks (length self.old.variables.items) (length self.new.sites.items) typed.links.items) }
-        ensures typed { IfOk result (MakesLinks self.old self.new left rest.now) }
-        ensures refused { IfErr result (λ fault. (fault ≡ Memory) ⊎ RefusesLinks self.old left rest.now) }
+        ensures { Gives result (λ typed. AreFormedLinks self.new typed.links.items × MakesLinks self.old self.new left rest.now typed) (RefusesLinks self.old left rest.now) }
     {
         let mut links = Vec::new(self.alloc);
         let mut type_id = left;
@@ -83,11 +83,7 @@ impl Resolver {
     // An operator and its right operand, and the type of its result. The operator's site stands before those of the operand.
     #[cycle(expressions)]
     fn link(&mut self, left: TypeId, link: &syntax::Link) -> Result<(Link, TypeId), TypeFault>
-        ensures same { self.new.variables ≡ self.old.variables }
-        ensures grows { length self.old.sites.items ≤ length self.new.sites.items }
-        ensures formed { IfOk result (λ typed. IsFormedLink (length self.old.variables.items) (length self.new.sites.items) typed.0) }
-        ensures typed { IfOk result (MakesLink self.old self.new left link.now) }
-        ensures refused { IfErr result (λ fault. (fault ≡ Memory) ⊎ RefusesLink self.old left link.now) }
+        ensures { Gives result (λ typed. IsFormedLink self.new typed.0 × MakesLink self.old self.new left link.now typed) (RefusesLink self.old left link.now) }
     {
         let operation = self.dyadic(link.operator, link.place)?;
         let number = self.enter()?;
@@ -109,11 +105,7 @@ impl Resolver {
     // `not` and its operand.
     #[cycle(expressions)]
     fn negation(&mut self, place: Place, operand: &syntax::Expr) -> Result<Typed, TypeFault>
-        ensures same { self.new.variables ≡ self.old.variables }
-        ensures grows { length self.old.sites.items ≤ length self.new.sites.items }
-        ensures formed { IfOk result (λ typed. IsFormedExpr (length self.old.variables.items) (length self.new.sites.items) typed.expression) }
-        ensures typed { IfOk result (MakesNot self.old self.new operand.now) }
-        ensures refused { IfErr result (λ fault. (fault ≡ Memory) ⊎ RefusesNot self.old operand.now) }
+        ensures { Gives result (λ typed. IsFormedExpr self.new typed.expression × MakesNot self.old self.new operand.now typed) (RefusesNot self.old operand.now) }
     {
         self.pass(place);
         let number = self.enter()?;
@@ -129,11 +121,7 @@ impl Resolver {
         place: Place,
         term: &syntax::Expr,
     ) -> Result<Typed, TypeFault>
-        ensures same { self.new.variables ≡ self.old.variables }
-        ensures grows { length self.old.sites.items ≤ length self.new.sites.items }
-        ensures formed { IfOk result (λ typed. IsFormedExpr (length self.old.variables.items) (length self.new.sites.items) typed.expression) }
-        ensures typed { IfOk result (MakesSigned self.old self.new sign term.now) }
-        ensures refused { IfErr result (λ fault. (fault ≡ Memory) ⊎ RefusesSigned self.old sign term.now) }
+        ensures { Gives result (λ typed. IsFormedExpr self.new typed.expression × MakesSigned self.old self.new sign term.now typed) (RefusesSigned self.old sign term.now) }
     {
         self.pass(place);
         let number = self.enter()?;
@@ -149,11 +137,7 @@ impl Resolver {
         wanted: TypeId,
         place: Place,
     ) -> Result<Expr, TypeFault>
-        ensures same { self.new.variables ≡ self.old.variables }
-        ensures grows { length self.old.sites.items ≤ length self.new.sites.items }
-        ensures formed { IfOk result (IsFormedExpr (length self.old.variables.items) (length self.new.sites.items)) }
-        ensures typed { IfOk result (MakesOperand self.old self.new operand.now wanted) }
-        ensures refused { IfErr result (λ fault. (fault ≡ Memory) ⊎ RefusesOperand self.old operand.now wanted) }
+        ensures { Gives result (λ typed. IsFormedExpr self.new typed × MakesOperand self.old self.new operand.now wanted typed) (RefusesOperand self.old operand.now wanted) }
     {
         let Typed {
             expression,
@@ -172,17 +156,11 @@ impl Resolver {
         name: &syntax::Name,
         actuals: &[syntax::Actual],
     ) -> Result<Typed, TypeFault>
-        ensures same { self.new.variables ≡ self.old.variables }
-        ensures grows { length self.old.sites.items ≤ length self.new.sites.items }
-        ensures formed { IfOk result (λ typed. IsFormedExpr (length self.old.variables.items) (length self.new.sites.items) typed.expression) }
-        ensures typed { IfOk result (MakesCalled self.old self.new name.now actuals.now) }
-        ensures refused { IfErr result (λ fault. (fault ≡ Memory) ⊎ RefusesCalled self.old name.now actuals.now) }
+        ensures { Gives result (λ typed. IsFormedExpr self.new typed.expression × MakesCalled self.old self.new name.now actuals.now typed) (RefusesCalled self.old name.now actuals.now) }
     {
-        let function = self.function(name)?;
-        let number = self.enter()?;
-        let operation = self.function_operation(function, name.place)?;
+        let head = self.head(name)?;
         let argument = self.argument(name, actuals)?;
-        self.monadic(number, operation, argument, function_type(function))
+        self.applied(head, argument)
     }
 
     // The one actual of a function, which is an integer.
@@ -192,11 +170,7 @@ impl Resolver {
         name: &syntax::Name,
         actuals: &[syntax::Actual],
     ) -> Result<Expr, TypeFault>
-        ensures same { self.new.variables ≡ self.old.variables }
-        ensures grows { length self.old.sites.items ≤ length self.new.sites.items }
-        ensures formed { IfOk result (IsFormedExpr (length self.old.variables.items) (length self.new.sites.items)) }
-        ensures typed { IfOk result (MakesArgument self.old self.new actuals.now) }
-        ensures refused { IfErr result (λ fault. (fault ≡ Memory) ⊎ RefusesArgument self.old actuals.now) }
+        ensures { Gives result (λ typed. IsFormedExpr self.new typed × MakesArgument self.old self.new actuals.now typed) (RefusesArgument self.old actuals.now) }
     {
         let actual = only(actuals).ok_or(TypeFault::WrongParameters(name.place))?;
         self.operand(actual, TypeTable::INTEGER, first_place(actual))
@@ -205,9 +179,9 @@ impl Resolver {
 
 // Pieces without an expression in them, and the parts of a width.
 impl Resolver {
-    ghost use Rattle.resolver.specs.Resolved.{Adds, AddsNothing, MakesConstant, MakesNamed, MakesLed, TellsFunction, IsChainOf, IsMonadicOf};
-    ghost use Rattle.resolver.specs.Refusing.{PassesMost, IsNoFunction, RefusesConstant, RefusesNamed, RefusesLed};
-    ghost use Rattle.resolver.specs.Formed.{IsFormedExpr, IsFormedMonadic, IsFormedDyadic};
+    ghost use Rattle.resolver.specs.Resolved.{Adds, AddsNothing, MakesConstant, MakesNamed, MakesLed, MakesHead, TellsFunction, IsChainOf, IsMonadicOf, IsApplied};
+    ghost use Rattle.resolver.specs.Refusing.{Gives, PassesMost, IsNoFunction, RefusesConstant, RefusesNamed, RefusesHead, RefusesLed};
+    ghost use Rattle.resolver.specs.Formed.{IsFormedExpr, IsFormedLed};
 
     // An expression whose first token has one more site, of this kind: behind the token's own, and before all others.
     pub(crate) fn led(
@@ -216,12 +190,7 @@ impl Resolver {
         kind: SiteKind,
         place: Place,
     ) -> Result<(Typed, u32), TypeFault>
-        ensures same { self.new.variables ≡ self.old.variables }
-        ensures grows { length self.old.sites.items ≤ length self.new.sites.items }
-        ensures formed { IfOk result (λ led. IsFormedExpr (length self.old.variables.items) (length self.new.sites.items) led.0.expression) }
-        ensures known { IfOk result (λ led. led.1 < length self.new.sites.items) }
-        ensures typed { IfOk result (MakesLed self.old self.new expression.now kind place) }
-        ensures refused { IfErr result (λ fault. (fault ≡ Memory) ⊎ RefusesLed self.old kind expression.now) }
+        ensures { Gives result (λ led. IsFormedLed self.new led × MakesLed self.old self.new expression.now kind place led) (RefusesLed self.old kind expression.now) }
     {
         match expression {
             syntax::Expr::Name(name) => {
@@ -229,13 +198,10 @@ impl Resolver {
                 Ok((typed, self.site(kind, place)?))
             }
             syntax::Expr::Call { name, actuals } => {
-                let function = self.function(name)?;
-                let number = self.enter()?;
-                let operation = self.function_operation(function, name.place)?;
+                let head = self.head(name)?;
                 let site = self.site(kind, place)?;
                 let argument = self.argument(name, actuals)?;
-                let typed = self.monadic(number, operation, argument, function_type(function))?;
-                Ok((typed, site))
+                Ok((self.applied(head, argument)?, site))
             }
             syntax::Expr::Chain { first, rest } => {
                 let (first, site) = self.led(first, kind, place)?;
@@ -249,14 +215,31 @@ impl Resolver {
         }
     }
 
+    // What stands before the actuals of a call.
+    fn head(&mut self, name: &syntax::Name) -> Result<Head, TypeFault>
+        ensures { Gives result (MakesHead self.old self.new name.now) (RefusesHead self.old name.now) }
+    {
+        let function = self.function(name)?;
+        let number = self.enter()?;
+        let operation = self.function_operation(function, name.place)?;
+        Ok(Head {
+            number,
+            function,
+            operation,
+        })
+    }
+
+    // A function that is called with this argument.
+    fn applied(&self, head: Head, argument: Expr) -> Result<Typed, TypeFault>
+        ensures { MatchResult result (IsApplied head argument) (λ fault. fault ≡ Memory) }
+    {
+        let type_id = function_type(head.function);
+        self.monadic(head.number, head.operation, argument, type_id)
+    }
+
     // The function that a name denotes.
     fn function(&mut self, name: &syntax::Name) -> Result<RequiredFunction, TypeFault>
-        ensures same { self.new.variables ≡ self.old.variables }
-        ensures grows { length self.old.sites.items ≤ length self.new.sites.items }
-        ensures sites { self.new.sites ≡ self.old.sites }
-        ensures adds { AddsNothing self.old self.new }
-        ensures typed { IfOk result (TellsFunction self.old name.now) }
-        ensures refused { IfErr result (λ fault. (fault ≡ Memory) ⊎ IsNoFunction self.old name.now) }
+        ensures { Gives result (λ function. TellsFunction self.old name.now function × AddsNothing self.old self.new) (IsNoFunction self.old name.now) }
     {
         match self.find(name)? {
             Denotation::Function(function) => Ok(function),
@@ -271,12 +254,7 @@ impl Resolver {
         function: RequiredFunction,
         place: Place,
     ) -> Result<Monadic, TypeFault>
-        ensures same { self.new.variables ≡ self.old.variables }
-        ensures grows { length self.old.sites.items ≤ length self.new.sites.items }
-        ensures formed { IfOk result (IsFormedMonadic (length self.new.sites.items)) }
-        ensures operation { IfOk result (λ operation. is_function function operation ≡ true) }
-        ensures typed { IfOk result (λ operation. Adds self.old self.new [] (monadic_sites operation) (function_stands (Some (denotes.Function function)) place)) }
-        ensures refused { IfErr result (λ fault. (fault ≡ Memory) ⊎ PassesMost self.old 0 (length (function_stands (Some (denotes.Function function)) place))) }
+        ensures { Gives result (λ operation. (is_function function operation ≡ true) × Adds self.old self.new [] (monadic_sites operation) (function_stands (Some (denotes.Function function)) place)) (PassesMost self.old 0 (length (function_stands (Some (denotes.Function function)) place))) }
     {
         match function {
             RequiredFunction::Abs => Ok(Monadic::Abs),
@@ -289,12 +267,7 @@ impl Resolver {
 
     // The operation of an operator, with its site.
     fn dyadic(&mut self, operator: syntax::Operator, place: Place) -> Result<Dyadic, TypeFault>
-        ensures same { self.new.variables ≡ self.old.variables }
-        ensures grows { length self.old.sites.items ≤ length self.new.sites.items }
-        ensures formed { IfOk result (IsFormedDyadic (length self.new.sites.items)) }
-        ensures operation { IfOk result (λ operation. is_dyadic operator operation ≡ true) }
-        ensures typed { IfOk result (λ operation. Adds self.old self.new [] (dyadic_sites operation) (operator_stands operator place)) }
-        ensures refused { IfErr result (λ fault. (fault ≡ Memory) ⊎ PassesMost self.old 0 (length (operator_stands operator place))) }
+        ensures { Gives result (λ operation. (is_dyadic operator operation ≡ true) × Adds self.old self.new [] (dyadic_sites operation) (operator_stands operator place)) (PassesMost self.old 0 (length (operator_stands operator place))) }
     {
         Ok(match operator {
             syntax::Operator::Plus => Dyadic::Plus {
@@ -325,8 +298,7 @@ impl Resolver {
 
     // A chain of a first operand and the operators behind it.
     fn chain(&self, first: Typed, rest: TypedLinks) -> Result<Typed, TypeFault>
-        ensures made { IfOk result (IsChainOf first rest) }
-        ensures memory { IfErr result (λ fault. fault ≡ Memory) }
+        ensures { MatchResult result (IsChainOf first rest) (λ fault. fault ≡ Memory) }
     {
         let expression = Expr::Chain {
             first: Box::new(self.alloc, first.expression)?,
@@ -346,8 +318,7 @@ impl Resolver {
         operand: Expr,
         type_id: TypeId,
     ) -> Result<Typed, TypeFault>
-        ensures made { IfOk result (IsMonadicOf number operation operand type_id) }
-        ensures memory { IfErr result (λ fault. fault ≡ Memory) }
+        ensures { MatchResult result (IsMonadicOf number operation operand type_id) (λ fault. fault ≡ Memory) }
     {
         let expression = Expr::Monadic {
             number,
@@ -361,15 +332,12 @@ impl Resolver {
     }
 
     fn number(&mut self, value: u32, place: Place) -> Result<Typed, TypeFault>
-        ensures same { self.new.variables ≡ self.old.variables }
-        ensures grows { length self.old.sites.items ≤ length self.new.sites.items }
-        ensures formed { IfOk result (λ typed. IsFormedExpr (length self.old.variables.items) (length self.new.sites.items) typed.expression) }
-        ensures typed { IfOk result (λ typed. MakesConstant self.old self.new (pos value) typed.expression) }
-        ensures whole { IfOk result (λ typed. typed.type_id ≡ integer) }
-        ensures refused { IfErr result (λ fault. (fault ≡ Memory) ⊎ RefusesConstant self.old (pos value)) }
+        ensures { Gives result (λ typed. IsFormedExpr self.new typed.expression × (typed.type_id ≡ integer) × MakesConstant self.old self.new (pos value) typed.expression) (RefusesConstant self.old (pos value)) }
     {
         self.pass(place);
-        let value = i32::try_from(value).map_err(|_| TypeFault::Mismatch(place))?;
+        let Ok(value) = i32::try_from(value) else {
+            return Err(TypeFault::Mismatch(place));
+        };
         let expression = self.constant(value, place)?;
         Ok(Typed {
             expression,
@@ -379,11 +347,7 @@ impl Resolver {
 
     // A constant, whose number is one of type integer.
     fn constant(&mut self, value: i32, place: Place) -> Result<Expr, TypeFault>
-        ensures same { self.new.variables ≡ self.old.variables }
-        ensures grows { length self.old.sites.items ≤ length self.new.sites.items }
-        ensures formed { IfOk result (IsFormedExpr (length self.old.variables.items) (length self.new.sites.items)) }
-        ensures typed { IfOk result (MakesConstant self.old self.new value) }
-        ensures refused { IfErr result (λ fault. (fault ≡ Memory) ⊎ RefusesConstant self.old value) }
+        ensures { Gives result (λ typed. IsFormedExpr self.new typed × MakesConstant self.old self.new value typed) (RefusesConstant self.old value) }
     {
         if value < -MAXINT {
             return Err(TypeFault::Mismatch(place));
@@ -396,11 +360,7 @@ impl Resolver {
 
     // A name as an expression.
     fn named(&mut self, name: &syntax::Name) -> Result<Typed, TypeFault>
-        ensures same { self.new.variables ≡ self.old.variables }
-        ensures grows { length self.old.sites.items ≤ length self.new.sites.items }
-        ensures formed { IfOk result (λ typed. IsFormedExpr (length self.old.variables.items) (length self.new.sites.items) typed.expression) }
-        ensures typed { IfOk result (MakesNamed self.old self.new name.now) }
-        ensures refused { IfErr result (λ fault. (fault ≡ Memory) ⊎ RefusesNamed self.old name.now) }
+        ensures { Gives result (λ typed. IsFormedExpr self.new typed.expression × MakesNamed self.old self.new name.now typed) (RefusesNamed self.old name.now) }
     {
         match self.find(name)? {
             Denotation::Constant { value, type_id } => {

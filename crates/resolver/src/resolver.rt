@@ -1,8 +1,7 @@
-ghost use Rattle.std.specs.Prelude.{◌≡◌, ◌⊎◌, ◌≤◌, ◌<◌, [], ◌∷◌, Ok, IfOk, IfErr, length, vec_len};
+ghost use Rattle.std.specs.Prelude.{◌≡◌, ◌⊎◌, ◌≤◌, [], ◌∷◌, Ok, MatchResult, length, vec_len};
 ghost use Rattle.typed_tree.specs.Ids.{AreInOrder};
 ghost use Rattle.declarations.specs.Names.{folded};
 ghost use Rattle.scopes.specs.Scopes.{found};
-ghost use Rattle.typed_tree.specs.declared.fault.TypeFault.TheVariants.{Memory};
 ghost use Rattle.resolver.specs.declared.resolver.TheConstants.{MOST_SITES, MOST_ENTRIES};
 
 use declarations::{Declarations, find};
@@ -38,8 +37,8 @@ pub(crate) struct Resolver {
 }
 
 impl Resolver {
-    ghost use Rattle.resolver.specs.Resolved.{Adds, AddsNothing};
-    ghost use Rattle.resolver.specs.Refusing.{IsUnknown};
+    ghost use Rattle.resolver.specs.Resolved.{Adds, AddsNothing, MakesAccess};
+    ghost use Rattle.resolver.specs.Refusing.{Gives, IsUnknown};
 
     pub(crate) fn new(alloc: Global, declarations: Declarations, start: Place) -> Resolver
         ensures scopes { result.scopes ≡ declarations.scopes }
@@ -61,19 +60,14 @@ impl Resolver {
 
     // A token that the syntax tree tells was passed.
     pub(crate) fn pass(&mut self, place: Place)
-        ensures adds { AddsNothing self.old self.new }
-        ensures same { self.new ≡ record self.old { latest = place } }
+        ensures { AddsNothing self.old self.new }
     {
         self.latest = place;
     }
 
     // The number of the statement or expression that is entered.
     pub(crate) fn enter(&mut self) -> Result<u32, TypeFault>
-        ensures same { self.new.variables ≡ self.old.variables }
-        ensures grows { length self.old.sites.items ≤ length self.new.sites.items }
-        ensures sites { self.new.sites ≡ self.old.sites }
-        ensures typed { IfOk result (λ number. Adds self.old self.new (number ∷ []) [] []) }
-        ensures refused { IfErr result (λ _. MOST_ENTRIES ≤ self.old.entries) }
+        ensures { MatchResult result (λ number. Adds self.old self.new (number ∷ []) [] []) (λ _. MOST_ENTRIES ≤ self.old.entries) }
     {
         if self.entries >= MOST_ENTRIES {
             return Err(TypeFault::TooMany(self.latest));
@@ -85,11 +79,7 @@ impl Resolver {
 
     // The id of a new site. Sites come in the order of their tokens.
     pub(crate) fn site(&mut self, kind: SiteKind, place: Place) -> Result<u32, TypeFault>
-        ensures same { self.new.variables ≡ self.old.variables }
-        ensures grows { length self.old.sites.items ≤ length self.new.sites.items }
-        ensures known { IfOk result (λ id. id < length self.new.sites.items) }
-        ensures typed { IfOk result (λ id. Adds self.old self.new [] ((kind, id) ∷ []) ((kind, place) ∷ [])) }
-        ensures refused { IfErr result (λ fault. (fault ≡ Memory) ⊎ (MOST_SITES ≤ length self.old.sites.items)) }
+        ensures { Gives result (λ id. Adds self.old self.new [] ((kind, id) ∷ []) ((kind, place) ∷ [])) (MOST_SITES ≤ length self.old.sites.items) }
     {
         self.latest = place;
         if self.sites.len() >= MOST_SITES {
@@ -101,12 +91,7 @@ impl Resolver {
     }
 
     pub(crate) fn find(&mut self, name: &syntax::Name) -> Result<Denotation, TypeFault>
-        ensures same { self.new.variables ≡ self.old.variables }
-        ensures grows { length self.old.sites.items ≤ length self.new.sites.items }
-        ensures sites { self.new.sites ≡ self.old.sites }
-        ensures adds { AddsNothing self.old self.new }
-        ensures found { IfOk result (λ denotation. found self.old.scopes (folded name.now.text.now) ≡ Ok denotation) }
-        ensures refused { IfErr result (λ fault. (fault ≡ Memory) ⊎ IsUnknown self.old name.now) }
+        ensures { Gives result (λ denotation. (found self.old.scopes (folded name.now.text.now) ≡ Ok denotation) × AddsNothing self.old self.new) (IsUnknown self.old name.now) }
     {
         self.latest = name.place;
         find(self.alloc, &self.scopes, name)
@@ -114,12 +99,7 @@ impl Resolver {
 
     // The access of a variable that the program has.
     pub(crate) fn access(&mut self, root: u32, place: Place) -> Result<Access, TypeFault>
-        ensures same { self.new.variables ≡ self.old.variables }
-        ensures grows { length self.old.sites.items ≤ length self.new.sites.items }
-        ensures sites { self.new.sites ≡ self.old.sites }
-        ensures known { IfOk result (λ access. access.root < length self.old.variables.items) }
-        ensures typed { IfOk result (λ access. (access.root ≡ root) × Adds self.old self.new (access.number ∷ []) [] []) }
-        ensures refused { IfErr result (λ _. (length self.old.variables.items ≤ root) ⊎ (MOST_ENTRIES ≤ self.old.entries)) }
+        ensures { MatchResult result (MakesAccess self.old self.new root) (λ _. (length self.old.variables.items ≤ root) ⊎ (MOST_ENTRIES ≤ self.old.entries)) }
     {
         if self.variables.get(root as usize).is_none() {
             return Err(TypeFault::NotDeclared(place));

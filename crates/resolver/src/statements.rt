@@ -1,6 +1,5 @@
-ghost use Rattle.std.specs.Prelude.{◌≡◌, ◌⊎◌, ◌≤◌, ◌≢◌, false, true, Some, None, IfOk, IfErr, IfSome, IfNone, IsTrue, length};
+ghost use Rattle.std.specs.Prelude.{◌≡◌, ◌⊎◌, ◌≢◌, false, true, Some, None, IfSome, IfNone, IsTrue};
 ghost use Rattle.resolver.specs.Typing.{writes_nothing, values_of_type, is_written_as};
-ghost use Rattle.typed_tree.specs.declared.fault.TypeFault.TheVariants.{Memory};
 
 use crate::expressions::{Typed, first_place};
 use crate::resolver::Resolver;
@@ -14,17 +13,12 @@ use types::{OrdinalRange, TypeId, TypeTable, required_form};
 
 impl Resolver {
     ghost use Rattle.resolver.specs.Resolved.{AddsNothing, TellsParameters, TellsFile, MakesWidth, MakesParameter, MakesParameters, MakesAssignment, MakesCall, MakesWrite, MakesStatement, MakesStatements, MakesCompound, AreSilent};
-    ghost use Rattle.resolver.specs.Refusing.{IsNoParameter, AreNoParameters, RefusesWidth, RefusesParameter, RefusesParameters, RefusesAssignment, RefusesCall, RefusesWrite, RefusesStatement, RefusesStatements, RefusesCompound};
+    ghost use Rattle.resolver.specs.Refusing.{Gives, IsNoParameter, AreNoParameters, RefusesWidth, RefusesParameter, RefusesParameters, RefusesAssignment, RefusesCall, RefusesWrite, RefusesStatement, RefusesStatements, RefusesCompound};
     ghost use Rattle.resolver.specs.Formed.{IsFormedWidth, IsFormedParameter, AreFormedParameters, IsFormedStmt, AreFormedStmts};
 
     #[cycle(statements)]
     fn statements(&mut self, statements: &[syntax::Stmt]) -> Result<Vec<Stmt>, TypeFault>
-        ensures same { self.new.variables ≡ self.old.variables }
-        ensures grows { length self.old.sites.items ≤ length self.new.sites.items }
-        ensures formed { IfOk result (λ typed. AreFormedStmts (length self.old.variables.items) (length self.new.sites.items) typed.items) }
-        ensures typed { IfOk result (λ typed. MakesStatements self.old self.new statements.now typed.items) }
-        ensures silent { IfOk result (λ _. self.old.has_output ≡ false → AreSilent statements.now) }
-        ensures refused { IfErr result (λ fault. (fault ≡ Memory) ⊎ RefusesStatements self.old statements.now) }
+        ensures { Gives result (λ typed. AreFormedStmts self.new typed.items × MakesStatements self.old self.new statements.now typed.items × (self.old.has_output ≡ false → AreSilent statements.now)) (RefusesStatements self.old statements.now) }
     {
         let mut typed = Vec::new(self.alloc);
         for statement in statements {
@@ -35,12 +29,7 @@ impl Resolver {
 
     #[cycle(statements)]
     pub(crate) fn compound(&mut self, statements: &[syntax::Stmt]) -> Result<Stmt, TypeFault>
-        ensures same { self.new.variables ≡ self.old.variables }
-        ensures grows { length self.old.sites.items ≤ length self.new.sites.items }
-        ensures formed { IfOk result (IsFormedStmt (length self.old.variables.items) (length self.new.sites.items)) }
-        ensures typed { IfOk result (MakesCompound self.old self.new statements.now) }
-        ensures silent { IfOk result (λ _. self.old.has_output ≡ false → AreSilent statements.now) }
-        ensures refused { IfErr result (λ fault. (fault ≡ Memory) ⊎ RefusesCompound self.old statements.now) }
+        ensures { Gives result (λ typed. IsFormedStmt self.new typed × MakesCompound self.old self.new statements.now typed × (self.old.has_output ≡ false → AreSilent statements.now)) (RefusesCompound self.old statements.now) }
     {
         let number = self.enter()?;
         let statements = self.statements(statements)?;
@@ -49,12 +38,7 @@ impl Resolver {
 
     #[cycle(statements)]
     fn statement(&mut self, statement: &syntax::Stmt) -> Result<Stmt, TypeFault>
-        ensures same { self.new.variables ≡ self.old.variables }
-        ensures grows { length self.old.sites.items ≤ length self.new.sites.items }
-        ensures formed { IfOk result (IsFormedStmt (length self.old.variables.items) (length self.new.sites.items)) }
-        ensures typed { IfOk result (MakesStatement self.old self.new statement.now) }
-        ensures silent { IfOk result (λ _. self.old.has_output ≡ false → IsTrue (writes_nothing statement.now)) }
-        ensures refused { IfErr result (λ fault. (fault ≡ Memory) ⊎ RefusesStatement self.old statement.now) }
+        ensures { Gives result (λ typed. IsFormedStmt self.new typed × MakesStatement self.old self.new statement.now typed × (self.old.has_output ≡ false → IsTrue (writes_nothing statement.now))) (RefusesStatement self.old statement.now) }
     {
         match statement {
             syntax::Stmt::Empty => Ok(Stmt::Empty {
@@ -77,11 +61,7 @@ impl Resolver {
         becomes: Place,
         value: &syntax::Expr,
     ) -> Result<Stmt, TypeFault>
-        ensures same { self.new.variables ≡ self.old.variables }
-        ensures grows { length self.old.sites.items ≤ length self.new.sites.items }
-        ensures formed { IfOk result (IsFormedStmt (length self.old.variables.items) (length self.new.sites.items)) }
-        ensures typed { IfOk result (MakesAssignment self.old self.new name.now becomes value.now) }
-        ensures refused { IfErr result (λ fault. (fault ≡ Memory) ⊎ RefusesAssignment self.old name.now value.now) }
+        ensures { Gives result (λ typed. IsFormedStmt self.new typed × MakesAssignment self.old self.new name.now becomes value.now typed) (RefusesAssignment self.old name.now value.now) }
     {
         let number = self.enter()?;
         let Denotation::Variable { root, type_id } = self.find(name)? else {
@@ -100,12 +80,7 @@ impl Resolver {
     }
 
     fn call(&mut self, name: &syntax::Name, actuals: &[syntax::Actual]) -> Result<Stmt, TypeFault>
-        ensures same { self.new.variables ≡ self.old.variables }
-        ensures grows { length self.old.sites.items ≤ length self.new.sites.items }
-        ensures formed { IfOk result (IsFormedStmt (length self.old.variables.items) (length self.new.sites.items)) }
-        ensures typed { IfOk result (MakesCall self.old self.new name.now actuals.now) }
-        ensures has_output { IfOk result (λ _. self.old.has_output ≡ true) }
-        ensures refused { IfErr result (λ fault. (fault ≡ Memory) ⊎ RefusesCall self.old name.now actuals.now) }
+        ensures { Gives result (λ typed. IsFormedStmt self.new typed × MakesCall self.old self.new name.now actuals.now typed × (self.old.has_output ≡ true)) (RefusesCall self.old name.now actuals.now) }
     {
         match self.find(name)? {
             Denotation::Procedure(procedure) => self.write(name, procedure, actuals),
@@ -121,12 +96,7 @@ impl Resolver {
         procedure: RequiredProcedure,
         actuals: &[syntax::Actual],
     ) -> Result<Stmt, TypeFault>
-        ensures same { self.new.variables ≡ self.old.variables }
-        ensures grows { length self.old.sites.items ≤ length self.new.sites.items }
-        ensures formed { IfOk result (IsFormedStmt (length self.old.variables.items) (length self.new.sites.items)) }
-        ensures typed { IfOk result (MakesWrite self.old self.new procedure actuals.now) }
-        ensures has_output { IfOk result (λ _. self.old.has_output ≡ true) }
-        ensures refused { IfErr result (λ fault. (fault ≡ Memory) ⊎ RefusesWrite self.old procedure actuals.now) }
+        ensures { Gives result (λ typed. IsFormedStmt self.new typed × MakesWrite self.old self.new procedure actuals.now typed × (self.old.has_output ≡ true)) (RefusesWrite self.old procedure actuals.now) }
     {
         if !self.has_output {
             return Err(TypeFault::NotProgramParameter(name.place));
@@ -145,11 +115,7 @@ impl Resolver {
     }
 
     fn parameters(&mut self, written: &[syntax::Actual]) -> Result<Vec<WriteParameter>, TypeFault>
-        ensures same { self.new.variables ≡ self.old.variables }
-        ensures grows { length self.old.sites.items ≤ length self.new.sites.items }
-        ensures formed { IfOk result (λ typed. AreFormedParameters (length self.old.variables.items) (length self.new.sites.items) typed.items) }
-        ensures typed { IfOk result (λ typed. MakesParameters self.old self.new written.now typed.items) }
-        ensures refused { IfErr result (λ fault. (fault ≡ Memory) ⊎ RefusesParameters self.old written.now) }
+        ensures { Gives result (λ typed. AreFormedParameters self.new typed.items × MakesParameters self.old self.new written.now typed.items) (RefusesParameters self.old written.now) }
     {
         let mut parameters = Vec::new(self.alloc);
         for actual in written {
@@ -160,11 +126,7 @@ impl Resolver {
 
     // A value that is written, and then its width.
     fn parameter(&mut self, written: &syntax::Actual) -> Result<WriteParameter, TypeFault>
-        ensures same { self.new.variables ≡ self.old.variables }
-        ensures grows { length self.old.sites.items ≤ length self.new.sites.items }
-        ensures formed { IfOk result (IsFormedParameter (length self.old.variables.items) (length self.new.sites.items)) }
-        ensures typed { IfOk result (MakesParameter self.old self.new written.now) }
-        ensures refused { IfErr result (λ fault. (fault ≡ Memory) ⊎ RefusesParameter self.old written.now) }
+        ensures { Gives result (λ typed. IsFormedParameter self.new typed × MakesParameter self.old self.new written.now typed) (RefusesParameter self.old written.now) }
     {
         let value = self.expression(&written.value)?;
         let place = first_place(&written.value);
@@ -182,11 +144,7 @@ impl Resolver {
 
     // A width, which is an integer. Its site stands at its first token.
     fn width(&mut self, written: &syntax::Expr) -> Result<Width, TypeFault>
-        ensures same { self.new.variables ≡ self.old.variables }
-        ensures grows { length self.old.sites.items ≤ length self.new.sites.items }
-        ensures formed { IfOk result (IsFormedWidth (length self.old.variables.items) (length self.new.sites.items)) }
-        ensures typed { IfOk result (MakesWidth self.old self.new written.now) }
-        ensures refused { IfErr result (λ fault. (fault ≡ Memory) ⊎ RefusesWidth self.old written.now) }
+        ensures { Gives result (λ typed. IsFormedWidth self.new typed × MakesWidth self.old self.new written.now typed) (RefusesWidth self.old written.now) }
     {
         let place = first_place(written);
         let (
@@ -210,12 +168,7 @@ impl Resolver {
         &mut self,
         actuals: &'e [syntax::Actual<'a>],
     ) -> Result<&'e [syntax::Actual<'a>], TypeFault>
-        ensures same { self.new.variables ≡ self.old.variables }
-        ensures grows { length self.old.sites.items ≤ length self.new.sites.items }
-        ensures sites { self.new.sites ≡ self.old.sites }
-        ensures adds { AddsNothing self.old self.new }
-        ensures typed { IfOk result (λ written. TellsParameters self.old actuals.now written.now) }
-        ensures refused { IfErr result (λ fault. (fault ≡ Memory) ⊎ AreNoParameters self.old actuals.now) }
+        ensures { Gives result (λ written. TellsParameters self.old actuals.now written.now × AddsNothing self.old self.new) (AreNoParameters self.old actuals.now) }
     {
         let Some((first, rest)) = actuals.split_first() else {
             return Ok(actuals);
@@ -227,12 +180,7 @@ impl Resolver {
     }
 
     fn is_output(&mut self, actual: &syntax::Actual) -> Result<bool, TypeFault>
-        ensures same { self.new.variables ≡ self.old.variables }
-        ensures grows { length self.old.sites.items ≤ length self.new.sites.items }
-        ensures sites { self.new.sites ≡ self.old.sites }
-        ensures adds { AddsNothing self.old self.new }
-        ensures typed { IfOk result (TellsFile self.old actual.now) }
-        ensures refused { IfErr result (λ fault. (fault ≡ Memory) ⊎ IsNoParameter self.old actual.now) }
+        ensures { Gives result (λ answer. TellsFile self.old actual.now answer × AddsNothing self.old self.new) (IsNoParameter self.old actual.now) }
     {
         if actual.width.is_some() {
             return Ok(false);

@@ -1,8 +1,9 @@
 use Rattle.typed_tree.specs.declared.tree.Block.{Block}
-use Rattle.std.proofs.Common.{rules, refl, ◌≡◌, ◌⊎◌, inl, inr, ⊎_elim, List, ◌≤◌, ◌∷◌, [], ◌++◌, true, length, slice_get, sym, ◌∙◌, ap, subst, arith}
-use Rattle.typed_tree.specs.WellFormed.{is_well_formed_body, is_well_formed_stmt}
+use Rattle.std.proofs.Common.{rules, refl, ◌≡◌, ◌⊎◌, inl, inr, ⊎_elim, List, ◌≤◌, ◌∷◌, [], ◌++◌, length, slice_get, sym, ◌∙◌, ap, subst, arith}
+use Rattle.typed_tree.specs.WellFormed.{is_well_formed_body}
 use Rattle.resolver.specs.Typing.{HasTyping}
 use Rattle.typed_tree.specs.declared.fault.TypeFault.TheVariants.{Memory}
+use Rattle.resolver.proofs.ResolvedPieces.{made_adds}
 use Rattle.resolver.proofs.ResolvedProgram.{typed_program}
 use Rattle.resolver.proofs.RefusedProgram.{declared_in, denotes_found, output_parameter, refused_program, knows_all_declared, without_typing}
 use Rattle.resolver.proofs.program.resolve.Goals as goal
@@ -14,12 +15,13 @@ returns-clause-well_formed c =
     let sites = length c.compound.new.self.sites.items in
     let body = c.in_ok-body.body in
     let few : length vs.items ≤ 4294967291 = omega (arith, d.number, d.few) in
-    let formed = c.in_ok-body.ensures.formed sites (omega arith) in
+    let same = (made_adds c.new-resolver.result c.compound.new.self _ _ _ _ c.in_ok-body.ensures.1).1.variables in
+    let formed = c.in_ok-body.ensures.0.holds sites (omega arith) in
     record {
-      few_variables = subst (λ w. length w.items ≤ 4294967291) (sym (c.compound.ensures.same ∙ c.new-resolver.ensures.variables)) few;
+      few_variables = subst (λ w. length w.items ≤ 4294967291) (sym (same ∙ c.new-resolver.ensures.variables)) few;
       body =
           ap (λ l. is_well_formed_body (length c.compound.new.self.variables.items) sites (slice_get l 0)) (c.in_ok-push.ensures.items ∙ ap (λ (l : List Block). l ++ record { body = body; end = c.args.program.now.block.end } ∷ []) c.new-blocks.ensures.items)
-          ∙ subst (λ w. is_well_formed_stmt (length w.items) sites body ≡ true) (sym c.compound.ensures.same) formed;
+          ∙ formed;
     }
 
 pub returns-in_err-declarations-clause-refused : goal.returns-in_err-declarations-clause-refused
@@ -36,7 +38,7 @@ returns-in_err-body-clause-refused c =
     let h : (c.in_err-body.field-0.0 ≡ Memory) ⊎ (¬ HasTyping program) = ⊎_elim inl
     (λ refuses. inr (λ typing. refused_program program _ c.deref.result.now
     (record { output = d.output; knows_all = knows_all_declared program _ _ d; no_entry = r.entries; no_site = r.sites }) c.deref.ensures.value refuses typing.0 typing.1))
-    c.in_err-body.ensures.refused in
+    c.in_err-body.ensures in
     search rules
 
 pub returns-clause-typed : goal.returns-clause-typed
@@ -57,6 +59,6 @@ returns-clause-typed c =
       no_site = r.sites;
       few = d.few;
     })
-    c.in_ok-body.ensures.typed c.in_ok-body.ensures.silent c.deref.ensures.value
+    c.in_ok-body.ensures.1 c.in_ok-body.ensures.2 c.deref.ensures.value
     (c.in_ok-push.ensures.items ∙ ap (λ (l : List Block). l ++ record { body = body; end = program.block.end } ∷ []) c.new-blocks.ensures.items)
     refl refl c.new.ensures.items c.in_ok-types.ensures (returns-clause-well_formed c)

@@ -1,16 +1,15 @@
-use Rattle.std.proofs.Common.{Ok, ap, ◌∙◌}
-use Rattle.resolver.proofs.ResolvedPieces.{if_ok}
+use Rattle.std.proofs.Common.{Ok, sym, ap, ◌∙◌}
 use Rattle.resolver.proofs.ResolvedStatements.{call_made}
-use Rattle.resolver.proofs.Refusals.{refused_so}
+use Rattle.resolver.proofs.Refusals.{gives_so}
 use Rattle.resolver.proofs.RefusedStatements.{call_refused}
 use Rattle.resolver.proofs.resolver.Resolver.call.Goals as goal
 
-pub returns-in-Procedure-clause-typed : goal.returns-in-Procedure-clause-typed
-returns-in-Procedure-clause-typed c =
-    let found = c.in_ok-procedure.ensures.found ∙ ap Ok c.in-Procedure.is in
-    if_ok c.write.result _ _ (λ s h. call_made c.args.self.now c.find.new.self c.write.new.self c.args.name.now c.args.actuals.now c.in-Procedure.procedure s found c.find.ensures.adds h) c.write.ensures.typed
-
-pub returns-in-Procedure-clause-refused : goal.returns-in-Procedure-clause-refused
-returns-in-Procedure-clause-refused c =
-    let found = c.in_ok-procedure.ensures.found ∙ ap Ok c.in-Procedure.is in
-    refused_so c.write.result _ _ (call_refused c.args.self.now c.find.new.self c.args.name.now c.args.actuals.now c.in-Procedure.procedure found c.find.ensures.adds) c.write.ensures.refused
+pub returns-in-Procedure : goal.returns-in-Procedure
+returns-in-Procedure c =
+    let a = c.args.self.now in
+    let b = c.find.new.self in
+    let d = c.in_ok-procedure.ensures in
+    let p = c.in-Procedure.procedure in
+    let found = d.0 ∙ ap Ok c.in-Procedure.is in
+    gives_so c.write.result _ _ _ _ (λ s h. (h.0, call_made a b c.write.new.self c.args.name.now c.args.actuals.now p s found d.1 h.1, sym d.1.output ∙ h.2))
+    (call_refused a b c.args.name.now c.args.actuals.now p found d.1) c.write.ensures

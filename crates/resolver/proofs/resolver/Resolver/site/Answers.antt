@@ -1,4 +1,4 @@
-use Rattle.std.proofs.Common.{◌≡◌, length, is_ok, sym, subst, arith, rules}
+use Rattle.std.proofs.Common.{◌≡◌, length, is_ok, sym, subst, arith}
 use Rattle.typed_tree.specs.Ids.{AreInOrder}
 use Rattle.resolver.proofs.SiteIds.{in_order_kept}
 use Rattle.resolver.proofs.resolver.Resolver.site.Goals as goal
@@ -13,6 +13,3 @@ invariant_of-self-2-clause-in_order c =
 
 pub invariant_of-self-2-clause-few_sites : goal.invariant_of-self-2-clause-few_sites
 invariant_of-self-2-clause-few_sites c = omega arith
-
-pub returns-clause-known : goal.returns-clause-known
-returns-clause-known c = search rules
