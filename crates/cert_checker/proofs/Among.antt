@@ -1,8 +1,9 @@
-use Rattle.std.proofs.Common.{arith, ◌≡◌, ◌∙◌, sym, ap, refl, ℕ, ◌<◌, ◌≤◌, Bool, true, false, ◌==◌, nat_lt, cond, List, [], ◌∷◌, length, get_or, Result, Ok, Err}
+use Rattle.std.proofs.Common.{arith, ◌≡◌, ◌∙◌, sym, ap, refl, ℕ, ◌+◌, ◌<◌, ◌≤◌, Bool, true, false, ◌==◌, nat_lt, cond, List, [], ◌∷◌, ◌++◌, length, take, append-nil, get_or, Result, Ok, Err}
 use Rattle.std.proofs.lemmas.Bool.Decides.{nat_tests}
 use Rattle.std.proofs.lemmas.List.Sorted.{searched, sorted_far, list_any-IsPermutation, ranks_by}
 use Rattle.std.proofs.lemmas.Cmp.{nat_cmp_total}
 use Rattle.std.proofs.lemmas.List.{get_or_read}
+use Rattle.std.proofs.lemmas.List.Elements.{filter_more}
 use Rattle.std.proofs.lemmas.List.Folds.{list_any_at, Any-from_list_any}
 use Rattle.std.specs.List.{list_any, Any, filter}
 use Rattle.typed_tree.specs.declared.site.Site.{Site}
@@ -63,3 +64,23 @@ pub open_in-permuted : (ids sorted : List ℕ) (sites : List Site) → IsPermuta
 open_in-permuted ids sorted sites permuted =
     filter-same (λ site. list_any (λ id. id == site.id) sorted) (λ site. list_any (λ id. id == site.id) ids)
     (λ site. sym (list_any-IsPermutation (λ id. id == site.id) ids sorted permuted)) sites
+
+-- one site more
+open_in-more : (ids : List ℕ) (sites : List Site) (i : ℕ) (d : Site) (found : List Site) (is : Bool) → i < length sites → found ≡ open_in ids (take i sites) → list_any (λ id. id == (get_or sites i d).id) ids ≡ is
+    → found ++ cond is (get_or sites i d ∷ []) [] ≡ open_in ids (take (i + 1) sites)
+open_in-more ids sites i d found is inside so_far tells =
+    let site = get_or sites i d in
+    ap (λ f. f ++ cond is (site ∷ []) []) so_far ∙ ap (λ b. open_in ids (take i sites) ++ cond b (site ∷ []) []) (sym tells)
+    ∙ sym (filter_more (λ s. list_any (λ id. id == s.id) ids) sites i d inside)
+
+-- which is open
+pub open_in-taken : (ids : List ℕ) (sites : List Site) (i : ℕ) (d : Site) (found more : List Site) (is : Bool) → i < length sites → found ≡ open_in ids (take i sites) → is ≡ list_any (λ id. id == (get_or sites i d).id) ids
+    → is ≡ true → more ≡ found ++ (get_or sites i d ∷ []) → more ≡ open_in ids (take (i + 1) sites)
+open_in-taken ids sites i d found more is inside so_far tells taken grown =
+    grown ∙ open_in-more ids sites i d found true inside so_far (sym tells ∙ taken)
+
+-- or isn't
+pub open_in-left : (ids : List ℕ) (sites : List Site) (i : ℕ) (d : Site) (found more : List Site) (is : Bool) → i < length sites → found ≡ open_in ids (take i sites) → is ≡ list_any (λ id. id == (get_or sites i d).id) ids
+    → is ≡ false → more ≡ found → more ≡ open_in ids (take (i + 1) sites)
+open_in-left ids sites i d found more is inside so_far tells left kept =
+    kept ∙ sym (append-nil found) ∙ open_in-more ids sites i d found false inside so_far (sym tells ∙ left)

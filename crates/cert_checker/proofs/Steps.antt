@@ -1,4 +1,4 @@
-use Rattle.std.proofs.Common.{rules, arith, ◌≡◌, ◌≤◌, Result, Ok, Err, IfOk, Bool, Some, ℕ, ℤ, ◌+◌, List, [], ◌∷◌, ◌++◌, length, map, refl, sym, ap, ◌∙◌, subst, append_assoc, append-nil, ◌<◌, get_or, drop, drop-cons, add-one, suc, length-append}
+use Rattle.std.proofs.Common.{rules, arith, ◌≡◌, ◌≤◌, Bool, Option, Some, ℕ, ℤ, ◌+◌, List, [], ◌∷◌, ◌++◌, length, map, refl, sym, ap, ◌∙◌, subst, append_assoc, append-nil, ◌<◌, get_or, drop, drop-cons, add-one, suc, length-append}
 use Rattle.std.proofs.lemmas.List.{drop_all}
 use Rattle.typed_tree.specs.declared.tree.Access.{Access}
 use Rattle.typed_tree.specs.declared.tree.RangeTest.{RangeTest}
@@ -18,8 +18,8 @@ use Rattle.std.specs.declared.alloc.Global.{Global}
 use Rattle.domain.specs.Interval.{Interval}
 use Rattle.cert_checker.specs.declared.walk.Walk.{Walk}
 use Rattle.cert_checker.specs.declared.state.State.{State as Kept}
-use Rattle.cert_checker.specs.State.{with_value}
-use Rattle.cert_checker.specs.Walk.{Walked, Walking, ◌>>=◌, give, enter, use_of, within, positive, operated, combined, in_turn, value_walk, link_walk, width_walk, parameter_walk, statement_walk, all_of, assign, limits_of, assignment}
+use Rattle.cert_checker.specs.State.{State, Dead, Live, is_defined, range_of, with_defined, with_value}
+use Rattle.cert_checker.specs.Walk.{Walked, Walking, ◌>>=◌, give, enter, use_of, variable_walk, tested, within, positive, operated, combined, in_turn, value_walk, link_walk, width_walk, parameter_walk, statement_walk, all_of, assign, limits_of, assignment}
 use Rattle.cert_checker.specs.View.{viewed, Walks}
 
 -- ---- the walk, form by form
@@ -27,7 +27,7 @@ use Rattle.cert_checker.specs.View.{viewed, Walks}
 pub value-Constant : (number : ℕ) (value : ℤ) → value_walk (expr.Constant number value) ≡ (enter number >>= λ _. give (record { first = value; last = value }))
 value-Constant number value = search (rules, the_lemmas)
 
-pub value-Variable : (access : Access) (defined : ℕ) → value_walk (expr.Variable access defined) ≡ (enter access.number >>= λ _. use_of access.root defined)
+pub value-Variable : (access : Access) (defined : ℕ) → value_walk (expr.Variable access defined) ≡ variable_walk access defined
 value-Variable access defined = search (rules, the_lemmas)
 
 pub link-walks : (link : Link) → link_walk link ≡ (λ (left : Interval). enter link.number >>= λ _. (value_walk link.operand >>= combined link.operation left))
@@ -94,6 +94,26 @@ link-step link left right result old entered valued new one two three =
     (walks-then (enter link.number) (λ _. value_walk link.operand >>= combined link.operation left) old entered new tt result one
     (walks-then (value_walk link.operand) (combined link.operation left) entered valued new right result two three))
 
+-- ---- the use of a variable
+use-same : (root site : ℕ) (state : State) → tested (is_defined state root) site (range_of state root) (with_defined root state) ≡ use_of root site state
+use-same root site Dead = refl
+use-same root site (Live facts) = refl
+
+-- a use is a test of whether the variable is defined, in the state in which it is
+pub use-walks : (root site : ℕ) (closed : Bool) (range value : Interval) (old new : Walk) (state : Kept) → closed ≡ is_defined (viewed old.state) root → range ≡ range_of (viewed old.state) root → viewed state ≡ with_defined root (viewed old.state)
+    → Walks (tested closed site range) (record { state = state; open_ids = old.open_ids; visits = old.visits }) new value → Walks (use_of root site) old new value
+use-walks root site closed range value old new state closed_is range_is state_is done =
+    let was : State = viewed old.state in
+    let same : tested closed site range (viewed state) ≡ use_of root site was =
+    ap (λ c. tested c site range (viewed state)) closed_is ∙ ap (λ r. tested (is_defined was root) site r (viewed state)) range_is ∙ ap (tested (is_defined was root) site (range_of was root)) state_is ∙ use-same root site was in
+    record {
+      value_is = done.value_is ∙ ap (λ w. w.value) same;
+      state_is = done.state_is ∙ ap (λ w. w.after) same;
+      open_is = done.open_is ∙ ap (λ w. old.open_ids.items ++ w.open_ids) same;
+      visits_are = done.visits_are;
+      unbroken = refl;
+    }
+
 -- ---- the walk over a form that the checker has gone through
 
 -- by what an expression is
@@ -107,10 +127,9 @@ constant-done expression number value range old new is range_is entered =
     (walks-then (enter number) (λ _. give one) old new new tt range entered
     (subst (λ r. Walks (give one) new new r) (sym range_is) (walks-give one new)))
 
-pub variable-done : (expression : Expr) (access : Access) (defined : ℕ) (range : Interval) (old mid new : Walk) → expression ≡ expr.Variable access defined → Walks (enter access.number) old mid tt → Walks (use_of access.root defined) mid new range → Walks (value_walk expression) old new range
-variable-done expression access defined range old mid new is entered used =
-    along (value_walk expression) (enter access.number >>= λ _. use_of access.root defined) old new range (ap value_walk is ∙ value-Variable access defined)
-    (walks-then (enter access.number) (λ _. use_of access.root defined) old mid new tt range entered used)
+pub variable-done : (expression : Expr) (access : Access) (defined : ℕ) (range : Interval) (old new : Walk) → expression ≡ expr.Variable access defined → Walks (variable_walk access defined) old new range → Walks (value_walk expression) old new range
+variable-done expression access defined range old new is used =
+    along (value_walk expression) (variable_walk access defined) old new range (ap value_walk is ∙ value-Variable access defined) used
 
 pub monadic-done : (expression : Expr) (number : ℕ) (operation : Monadic) (operand : Box Expr Global) (inner : Expr) (range result : Interval) (old entered valued new : Walk) → expression ≡ expr.Monadic number operation operand → inner ≡ operand.value → Walks (enter number) old entered tt → Walks (value_walk inner) entered valued range → Walks (operated operation range) valued new result → Walks (value_walk expression) old new result
 monadic-done expression number operation operand inner range result old entered valued new is inner_is one two three =
@@ -124,17 +143,16 @@ chain-begun expression first rest inner items range old mid is inner_is items_ar
     (walks-then (value_walk first.value) (in_turn (map link_walk rest.items)) old mid new range value (subst (λ e. Walks (value_walk e) old mid range) inner_is begun)
     (subst (λ ls. Walks (in_turn (map link_walk ls) range) mid new value) items_are left))
 
+-- the same values, statements or blocks
+pub all-same : {X : Type 0} (walk : X → Walking (Unit {0})) (items others : List X) (old new : Walk) → items ≡ others → Walks (all_of (map walk items)) old new tt → Walks (all_of (map walk others)) old new tt
+all-same {X} walk items others old new same done = subst (λ (xs : List X). Walks (all_of (map walk xs)) old new tt) same done
+
 -- no operator, value or statement is left
 pub turn-end : (items : List Link) (i : ℕ) (range : Interval) (old : Walk) → length items ≤ i → Walks (in_turn (map link_walk (drop i items)) range) old old range
 turn-end items i range old past = subst (λ ls. Walks (in_turn (map link_walk ls) range) old old range) (sym (drop-past items i past)) (walks-give range old)
 
 pub all-end : {X : Type 0} (walk : X → Walking (Unit {0})) (items : List X) (i : ℕ) (old : Walk) → length items ≤ i → Walks (all_of (map walk (drop i items))) old old tt
 all-end {X} walk items i old past = subst (λ (ls : List X). Walks (all_of (map walk ls)) old old tt) (sym (drop-past items i past)) (walks-give tt old)
-
--- a fact of each value that may be answered
-pub if_ok-map : {T E : Type 0} (r : Result T E) (P Q : T → Type 0) → ((x : T) → P x → Q x) → IfOk r P → IfOk r Q
-if_ok-map (Ok x) P Q step holds = step x holds
-if_ok-map (Err e) P Q step holds = tt
 
 pub assign-done : (statement : Stmt) (number : ℕ) (target : Access) (fits : RangeTest) (value : Expr) (old mid new : Walk) → statement ≡ stmt.Assign number target fits value → Walks (enter number) old mid tt → Walks (assignment target fits value) mid new tt → Walks (statement_walk statement) old new tt
 assign-done statement number target fits value old mid new is entered assigned =
@@ -171,7 +189,8 @@ assignment-done target fits value limits range fitting old entered valued tested
     (subst (λ l. Walks (within l fits.site range) valued tested fitting) is three) four))
 
 -- a width that is there
-pub width-done : (width : Width) (range passed : Interval) (old mid new : Walk) → Walks (value_walk width.value) old mid range → Walks (positive width.site range) mid new passed → Walks (width_walk (Some width)) old new tt
-width-done width range passed old mid new one two =
-    walks-then (value_walk width.value) (λ r. positive width.site r >>= λ _. give tt) old mid new range tt one
-    (walks-then (positive width.site range) (λ _. give tt) mid new new passed tt two (walks-give tt new))
+pub width-done : (given : Option Width) (width : Width) (range passed : Interval) (old mid new : Walk) → given ≡ Some width → Walks (value_walk width.value) old mid range → Walks (positive width.site range) mid new passed → Walks (width_walk given) old new tt
+width-done given width range passed old mid new is one two =
+    along (width_walk given) (width_walk (Some width)) old new tt (ap width_walk is)
+    (walks-then (value_walk width.value) (λ r. positive width.site r >>= λ _. give tt) old mid new range tt one
+    (walks-then (positive width.site range) (λ _. give tt) mid new new passed tt two (walks-give tt new)))

@@ -141,6 +141,12 @@ combined dyadic.And left right = give (both left right)
 combined dyadic.Or left right = give (either left right)
 combined (dyadic.Relation relation) left right = give truth_values
 
+-- a variable in an expression
+abbrev pub variable_walk : Access → ℕ → Walking Interval
+variable_walk access site = do
+  _ ← enter access.number
+  use_of access.root site
+
 -- what the walk does with an operator and its right operand, by the range to its left
 abbrev pub Combination : Type 0
 Combination = Interval → Walking Interval
@@ -164,9 +170,7 @@ abbrev pub value_step : Expr-F (Walking Interval) Combination → Walking Interv
 value_step (Constant number value) = do
   _ ← enter number
   give (record { first = value; last = value })
-value_step (Variable access defined) = do
-  _ ← enter access.number
-  use_of access.root defined
+value_step (Variable access defined) = variable_walk access defined
 value_step (MonadicOf number operation operand) = do
   _ ← enter number
   range ← operand.value

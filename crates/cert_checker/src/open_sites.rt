@@ -24,11 +24,13 @@ fn with_ids(alloc: Global, sites: &[Site], ids: &[u32]) -> Result<Vec<Site>, All
     requires { IsSorted nat_cmp ids.now }
     ensures { IfOk result (λ found. found.items ≡ open_in ids.now sites.now) }
 {
-    sites
-        .iter()
-        .copied()
-        .filter(|site| is_among(ids, site.id))
-        .collect(alloc)
+    let mut found = Vec::new(alloc);
+    for site in sites {
+        if is_among(ids, site.id) {
+            found.push(*site)?;
+        }
+    }
+    Ok(found)
 }
 
 /// Whether a number is among ascending ones.

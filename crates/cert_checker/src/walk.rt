@@ -1,5 +1,5 @@
 ghost use Rattle.std.specs.Prelude.{◌≡◌, ℕ, [], map, IfOk};
-ghost use Rattle.cert_checker.specs.Walk.{enter, use_of, tested, within, positive, divisor, operated, combined, value_walk, width_walk, parameter_walk, all_of, limits_of, assignment, statement_walk, block_walk, program_walk};
+ghost use Rattle.cert_checker.specs.Walk.{enter, variable_walk, tested, within, positive, divisor, operated, combined, value_walk, link_walk, width_walk, parameter_walk, all_of, limits_of, assignment, statement_walk, block_walk, program_walk};
 ghost use Rattle.cert_checker.specs.Entries.{entries};
 ghost use Rattle.cert_checker.specs.View.{Walks};
 
@@ -10,7 +10,7 @@ use domain::Domain;
 use domain::interval::Interval;
 use std::alloc::Global;
 use typed_tree::tree::{
-    Access, Block, Dyadic, Expr, Monadic, RangeTest, Stmt, Tree, Width, WriteParameter,
+    Access, Block, Dyadic, Expr, Link, Monadic, RangeTest, Stmt, Tree, Width, WriteParameter,
 };
 use types::OrdinalRange;
 
@@ -134,6 +134,7 @@ impl Walk {
     }
 
     /// The range of an expression's value.
+    #[cycle(expression)]
     fn expression(&mut self, expression: &Expr) -> Result<Interval, CheckFault>
         ensures { IfOk result (λ range. Walks (value_walk expression.now) self.old self.new range) }
     {
@@ -142,10 +143,7 @@ impl Walk {
                 self.enter()?;
                 Ok(Interval::between(*value, *value))
             }
-            Expr::Variable { access, defined } => {
-                self.enter()?;
-                self.variable(*access, *defined)
-            }
+            Expr::Variable { access, defined } => self.variable(*access, *defined),
             Expr::Monadic {
                 operation,
                 operand,
@@ -158,26 +156,32 @@ impl Walk {
             Expr::Chain { first, rest } => {
                 let mut range = self.expression(first)?;
                 for link in rest {
-                    self.enter()?;
-                    let right = self.expression(&link.operand)?;
-                    range = self.combined(link.operation, range, right)?;
+                    range = self.link(link, range)?;
                 }
                 Ok(range)
             }
         }
     }
 
+    /// An operator and its right operand, by the range to its left.
+    #[cycle(expression)]
+    fn link(&mut self, link: &Link, left: Interval) -> Result<Interval, CheckFault>
+        ensures { IfOk result (λ range. Walks (link_walk link.now left) self.old self.new range) }
+    {
+        self.enter()?;
+        let right = self.expression(&link.operand)?;
+        self.combined(link.operation, left, right)
+    }
+
     /// The use of a variable: it is defined afterwards.
     fn variable(&mut self, access: Access, defined: u32) -> Result<Interval, CheckFault>
-        ensures { IfOk result (λ range. Walks (use_of access.root defined) self.old self.new range) }
+        ensures { IfOk result (λ range. Walks (variable_walk access defined) self.old self.new range) }
     {
-        if !self.state.is_defined(access.root) {
-            self.open_ids.push(defined)?;
-        }
+        self.enter()?;
+        let closed = self.state.is_defined(access.root);
         let range = self.state.range(access.root);
         self.state.define(access.root);
-        self.state.made(range);
-        Ok(range)
+        self.test(closed, defined, range)
     }
 
     /// The range of what an operation gives for a number of a range.

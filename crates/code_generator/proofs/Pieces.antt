@@ -1,22 +1,26 @@
 -- Pieces of code, one after another.
-use Rattle.std.proofs.Common.{◌≡◌, ℕ, ◌+◌, ◌<◌, ◌≤◌, max, length, length-append, take, get_or, List, [], ◌∷◌, ◌++◌, map, refl, ap, sym, ◌∙◌}
+use Rattle.std.proofs.Common.{◌≡◌, ℕ, Bool, ◌+◌, ◌<◌, ◌≤◌, max, length, length-append, take, get_or, List, [], ◌∷◌, ◌++◌, map, refl, ap, sym, ◌∙◌}
 use Rattle.std.specs.List.{flat_map}
 use Rattle.std.specs.Prelude.{fold}
 use Rattle.std.proofs.lemmas.List.Sums.{fold_push}
-use Rattle.std.proofs.lemmas.List.{take_all, take_more, flat_map_more, map_push}
+use Rattle.std.proofs.lemmas.List.{take_all, take_more, flat_map_more, map_push, map_more}
 use Rattle.std.specs.Global.{Vec, Box}
 use Rattle.pcode_assembler.specs.declared.instr.Instr.{Instr}
+use Rattle.pcode_assembler.specs.declared.instr.Instr.TheVariants as instr
+use Rattle.typed_tree.specs.declared.tree.Access.{Access}
+use Rattle.typed_tree.specs.declared.tree.RangeTest.{RangeTest}
+use Rattle.typed_tree.specs.declared.tree.WriteParameter.{WriteParameter}
 use Rattle.typed_tree.specs.declared.tree.Expr.{Expr}
 use Rattle.typed_tree.specs.declared.tree.Link.{Link}
-use Rattle.typed_tree.specs.declared.tree.Expr.TheVariants.{Chain, rolls-Chain, Monadic as MonadicOf, rolls-Monadic}
+use Rattle.typed_tree.specs.declared.tree.Expr.TheVariants.{Variable, rolls-Variable, Chain, rolls-Chain, Monadic as MonadicOf, rolls-Monadic}
 use Rattle.typed_tree.specs.declared.tree.Monadic.{Monadic}
-use Rattle.typed_tree.specs.declared.tree.Expr.TheOpen.Expr-F.{Chain as Chain-layer, Monadic as Monadic-layer}
+use Rattle.typed_tree.specs.declared.tree.Expr.TheOpen.Expr-F.{Variable as Variable-layer, Chain as Chain-layer, Monadic as Monadic-layer}
 use Rattle.typed_tree.specs.declared.tree.Expr.TheFolds.{fold-roll-Expr, fold_out-Link}
 use Rattle.typed_tree.specs.declared.tree.Stmt.{Stmt}
-use Rattle.typed_tree.specs.declared.tree.Stmt.TheVariants.{Compound, rolls-Compound}
-use Rattle.typed_tree.specs.declared.tree.Stmt.TheOpen.Stmt-F.{Compound as Compound-layer}
+use Rattle.typed_tree.specs.declared.tree.Stmt.TheVariants.{Empty, rolls-Empty, Assign, rolls-Assign, Write, rolls-Write, Compound, rolls-Compound}
+use Rattle.typed_tree.specs.declared.tree.Stmt.TheOpen.Stmt-F.{Empty as Empty-layer, Assign as Assign-layer, Write as Write-layer, Compound as Compound-layer}
 use Rattle.typed_tree.specs.declared.tree.Stmt.TheFolds.{fold-roll-Stmt}
-use Rattle.code_generator.specs.Code.{joined, dyadic_code, monadic_code, expr_step, link_step, expr_code, link_code, stmt_step, stmt_code}
+use Rattle.code_generator.specs.Code.{joined, dyadic_code, monadic_code, expr_step, link_step, expr_code, link_code, variable_code, variable_offset, assign_code, write_code, parameter_code, line_end_code, stmt_step, stmt_code, greatest, expr_depth, parameter_depth, stmt_depth, stmt_depth_step}
 
 -- the pieces of a list, one for each element
 pub joined-map : {X : Type 0} (piece_of : X → List Instr) (xs : List X) → joined (map piece_of xs) ≡ flat_map piece_of xs
@@ -28,10 +32,47 @@ pub expr_code-Chain : (first : Box Expr) (rest : Vec Link) → expr_code (Chain 
 expr_code-Chain first rest =
     ap expr_code (sym (rolls-Chain first rest)) ∙ fold-roll-Expr (List Instr) (List Instr) expr_step link_step (Chain-layer first rest) ∙ ap (λ p. expr_code first.value ++ p) (joined-map link_code rest.items)
 
+pub expr_code-Variable : (access : Access) (defined : ℕ) → expr_code (Variable access defined) ≡ variable_code access.root defined
+expr_code-Variable access defined =
+    ap expr_code (sym (rolls-Variable access defined)) ∙ fold-roll-Expr (List Instr) (List Instr) expr_step link_step (Variable-layer access defined)
+
 -- a compound statement: each of its statements
 pub stmt_code-Compound : (number : ℕ) (statements : Vec Stmt) → stmt_code (Compound number statements) ≡ flat_map stmt_code statements.items
 stmt_code-Compound number statements =
     ap stmt_code (sym (rolls-Compound number statements)) ∙ fold-roll-Stmt (List Instr) stmt_step (Compound-layer number statements) ∙ joined-map stmt_code statements.items
+
+pub stmt_code-Empty : (number : ℕ) → stmt_code (Empty number) ≡ []
+stmt_code-Empty number = ap stmt_code (sym (rolls-Empty number)) ∙ fold-roll-Stmt (List Instr) stmt_step (Empty-layer number)
+
+pub stmt_code-Assign : (number : ℕ) (target : Access) (fits : RangeTest) (value : Expr) → stmt_code (Assign number target fits value) ≡ assign_code target.root fits value
+stmt_code-Assign number target fits value =
+    ap stmt_code (sym (rolls-Assign number target fits value)) ∙ fold-roll-Stmt (List Instr) stmt_step (Assign-layer number target fits value)
+
+pub stmt_code-Write : (number : ℕ) (parameters : Vec WriteParameter) (ends_line : Bool) → stmt_code (Write number parameters ends_line) ≡ write_code parameters.items ends_line
+stmt_code-Write number parameters ends_line =
+    ap stmt_code (sym (rolls-Write number parameters ends_line)) ∙ fold-roll-Stmt (List Instr) stmt_step (Write-layer number parameters ends_line)
+
+-- how many instructions an assignment has, and a write
+pub length-Assign : (number : ℕ) (target : Access) (fits : RangeTest) (value : Expr) → length (stmt_code (Assign number target fits value)) ≡ length (expr_code value) + 2
+length-Assign number target fits value =
+    ap length (stmt_code-Assign number target fits value) ∙ length-append (expr_code value) (instr.CheckRange fits.site fits.range.first fits.range.last ∷ instr.Store 0 (variable_offset target.root) ∷ [])
+
+pub length-Write : (number : ℕ) (parameters : Vec WriteParameter) (ends_line : Bool) → length (stmt_code (Write number parameters ends_line)) ≡ length (flat_map parameter_code parameters.items) + length (line_end_code ends_line)
+length-Write number parameters ends_line =
+    ap length (stmt_code-Write number parameters ends_line) ∙ length-append (flat_map parameter_code parameters.items) (line_end_code ends_line)
+
+-- how many cells an assignment needs, a write, and a compound statement
+pub stmt_depth-Assign : (number : ℕ) (target : Access) (fits : RangeTest) (value : Expr) → stmt_depth (Assign number target fits value) ≡ expr_depth value
+stmt_depth-Assign number target fits value =
+    ap stmt_depth (sym (rolls-Assign number target fits value)) ∙ fold-roll-Stmt ℕ stmt_depth_step (Assign-layer number target fits value)
+
+pub stmt_depth-Write : (number : ℕ) (parameters : Vec WriteParameter) (ends_line : Bool) → stmt_depth (Write number parameters ends_line) ≡ greatest (map parameter_depth parameters.items)
+stmt_depth-Write number parameters ends_line =
+    ap stmt_depth (sym (rolls-Write number parameters ends_line)) ∙ fold-roll-Stmt ℕ stmt_depth_step (Write-layer number parameters ends_line)
+
+pub stmt_depth-Compound : (number : ℕ) (statements : Vec Stmt) → stmt_depth (Compound number statements) ≡ greatest (map stmt_depth statements.items)
+stmt_depth-Compound number statements =
+    ap stmt_depth (sym (rolls-Compound number statements)) ∙ fold-roll-Stmt ℕ stmt_depth_step (Compound-layer number statements)
 
 -- a loop over pieces, at its end
 pub joined_at_end : {X : Type 0} (piece_of : X → List Instr) (code start : List Instr) (xs ys : List X) (i : ℕ) → code ≡ start ++ flat_map piece_of (take i xs) → length xs ≤ i → xs ≡ ys → code ≡ start ++ flat_map piece_of ys
@@ -43,6 +84,11 @@ pub joined_one_more : {X : Type 0} (piece_of : X → List Instr) (code more star
 joined_one_more piece_of code more start xs i x e h here grown =
     grown ∙ ap (λ p. p ++ piece_of x) e ∙ ap (λ y. (start ++ flat_map piece_of (take i xs)) ++ piece_of y) here
     ∙ flat_map_more piece_of start (take i xs) (get_or xs i x) ∙ ap (λ ys. start ++ flat_map piece_of ys) (sym (take_more xs i x h))
+
+-- a loop that writes a list, one element further
+pub map_one_more : {X Y : Type 0} (f : X → Y) (xs : List X) (i : ℕ) (d : X) (before after : List Y) (y : Y) → before ≡ map f (take i xs) → i < length xs → y ≡ f (get_or xs i d) → after ≡ before ++ (y ∷ []) → after ≡ map f (take (i + 1) xs)
+map_one_more f xs i d before after y so_far inside is grown =
+    grown ∙ ap (λ ys. ys ++ (y ∷ [])) so_far ∙ ap (λ v. map f (take i xs) ++ (v ∷ [])) is ∙ sym (map_more f xs i d inside)
 
 -- how many instructions the pieces have then
 pub length_one_more : {X : Type 0} (piece_of : X → List Instr) (xs : List X) (i : ℕ) (x : X) → i < length xs → x ≡ get_or xs i x → length (flat_map piece_of (take (i + 1) xs)) ≡ length (flat_map piece_of (take i xs)) + length (piece_of x)

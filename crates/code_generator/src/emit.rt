@@ -1,10 +1,10 @@
 ghost use Rattle.std.specs.Prelude.{◌≡◌, [], ◌∷◌, ◌++◌, OnOk};
-ghost use Rattle.code_generator.specs.Code.{assign_code, check_positive, default_width, dyadic_code, expr_code, line_end_code, monadic_code, parameter_code, relation_instr, stmt_code, variable_code, variable_offset, width_code, write_code, write_instr};
+ghost use Rattle.code_generator.specs.Code.{assign_code, check_positive, default_width, dyadic_code, expr_code, line_end_code, link_code, monadic_code, parameter_code, relation_instr, stmt_code, variable_code, variable_offset, width_code, write_code, write_instr};
 
 use pcode_assembler::instr::Instr;
 use std::alloc::AllocError;
 use typed_tree::tree::{
-    Access, Dyadic, Expr, Monadic, RangeTest, Relation, Representation, Stmt, WriteParameter,
+    Access, Dyadic, Expr, Link, Monadic, RangeTest, Relation, Representation, Stmt, WriteParameter,
 };
 
 /// The greatest value of the type integer (ISO 7185:1990, 6.4.2.2).
@@ -138,6 +138,7 @@ fn output_of(representation: Representation) -> Instr
 }
 
 /// The instructions of an expression: its value is pushed.
+#[cycle(emit_expr)]
 pub fn emit_expr(code: &mut Vec<Instr>, expr: &Expr) -> Result<(), AllocError>
     ensures { OnOk result (code.new.items ≡ code.old.items ++ expr_code expr.now) }
 {
@@ -155,12 +156,20 @@ pub fn emit_expr(code: &mut Vec<Instr>, expr: &Expr) -> Result<(), AllocError>
         Expr::Chain { first, rest } => {
             emit_expr(code, first)?;
             for link in rest {
-                emit_expr(code, &link.operand)?;
-                emit_dyadic(code, link.operation)?;
+                emit_link(code, link)?;
             }
             Ok(())
         }
     }
+}
+
+/// The right operand, and the operation.
+#[cycle(emit_expr)]
+fn emit_link(code: &mut Vec<Instr>, link: &Link) -> Result<(), AllocError>
+    ensures { OnOk result (code.new.items ≡ code.old.items ++ link_code link.now) }
+{
+    emit_expr(code, &link.operand)?;
+    emit_dyadic(code, link.operation)
 }
 
 /// The value of a variable, and its check.

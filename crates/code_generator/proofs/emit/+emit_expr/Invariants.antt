@@ -3,5 +3,5 @@ use Rattle.std.specs.List.{flat_map}
 use Rattle.code_generator.specs.Code.{link_code}
 use Rattle.code_generator.proofs.emit.+emit_expr.Given as goal
 
-abbrev pub invariant-loop-link : goal.invariant-loop-link
-invariant-loop-link l = l.code.items ≡ l.initial.code.items ++ flat_map link_code (take l.link-index l.link-items)
+abbrev pub invariant-emit_expr-loop-link : goal.invariant-emit_expr-loop-link
+invariant-emit_expr-loop-link l = l.code.items ≡ l.initial.code.items ++ flat_map link_code (take l.link-index l.link-items)

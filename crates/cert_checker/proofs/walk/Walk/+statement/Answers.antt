@@ -1,5 +1,6 @@
-use Rattle.cert_checker.proofs.Steps.{empty-done, assign-done, write-done, compound-begun, all-step, all-end, if_ok-map}
+use Rattle.cert_checker.proofs.Steps.{empty-done, assign-done, write-done, compound-begun, all-step, all-end}
 use Rattle.std.proofs.Common.{map}
+use Rattle.std.proofs.lemmas.Result.{IfOk-weaker}
 use Rattle.cert_checker.specs.Walk.{assignment, all_of, parameter_walk, statement_walk}
 use Rattle.cert_checker.specs.View.{Walks}
 use Rattle.cert_checker.proofs.walk.Walk.+statement.Goals as goal
@@ -11,14 +12,14 @@ returns-in-Empty t c =
 pub returns-in-Assign : goal.returns-in-Assign
 returns-in-Assign t c =
     let target = c.in-Assign.target in
-    if_ok-map c.assignment.result (λ _. Walks (assignment target c.in-Assign.fits c.in-Assign.value) c.enter.new.self c.assignment.new.self tt) _
+    IfOk-weaker c.assignment.result (λ _. Walks (assignment target c.in-Assign.fits c.in-Assign.value) c.enter.new.self c.assignment.new.self tt) _
     (λ _ assigned. assign-done c.args.statement.now c.in-Assign.number target c.in-Assign.fits c.in-Assign.value c.args.self.now c.enter.new.self c.assignment.new.self
     c.in-Assign.is (c.in_ok-enter.ensures c.in-Assign.number) assigned)
     c.assignment.ensures
 
 pub returns-in-Write : goal.returns-in-Write
 returns-in-Write t c =
-    if_ok-map c.parameters.result (λ _. Walks (all_of (map parameter_walk c.deref.result.now)) c.enter.new.self c.parameters.new.self tt) _
+    IfOk-weaker c.parameters.result (λ _. Walks (all_of (map parameter_walk c.deref.result.now)) c.enter.new.self c.parameters.new.self tt) _
     (λ _ written. write-done c.args.statement.now c.in-Write.number c.in-Write.parameters c.in-Write.ends_line c.deref.result.now c.args.self.now c.enter.new.self c.parameters.new.self
     c.in-Write.is c.deref.ensures.value (c.in_ok-enter.ensures c.in-Write.number) written)
     c.parameters.ensures
