@@ -22,7 +22,7 @@ use Rattle.scopes.specs.declared.fault.ScopeFault.TheVariants as fault
 use Rattle.declarations.specs.Names.{Definition, folded, same_name, required, looked_up, or_outer, type_named, denoter_type, typed_names, definitions, defined_names, denoted, type_denoted, declared, variable_names, AreDistinct}
 use Rattle.scopes.specs.Scopes.{said, Region, decided, found}
 use Rattle.scopes.specs.Growth.{is_defined, Opens, Defines}
-use Rattle.declarations.specs.Regions.{roots_from, OpensRequired, Passes, DenotesType, PassesGroups}
+use Rattle.declarations.specs.Regions.{roots_from, OpensRequired, Passes, PassesParameters, DenotesType, PassesGroups}
 use Rattle.declarations.specs.Declaring.{HasOutputAlone, AreTypes, AreDeclared}
 use Rattle.declarations.proofs.Regions.{same_text, same_self}
 
@@ -409,24 +409,22 @@ pub are_declared : (program : Program) (has_output : Bool) (variables : List Dec
     → none ≡ [] → parameters ≡ program.parameters.items → groups ≡ program.block.variables.items
     → OpensRequired none required_round
     → Opens (map (λ name. folded name.text.now) (defined_names program)) required_round opened
-    → All (λ name. folded name.text.now ≡ codes "output") parameters
-    → Passes (outputs parameters) opened with_parameters
-    → has_output ≡ nat_lt 0 (length parameters)
+    → PassesParameters parameters has_output opened with_parameters
     → PassesGroups groups with_parameters [] regions variables
     → AreLeft program has_output variables regions
-are_declared program has_output variables parameters groups none r1 r2 r3 r4 start same same_groups a b only_output c output d =
+are_declared program has_output variables parameters groups none r1 r2 r3 r4 start same same_groups a b c d =
     let names = map (λ name. folded name.text.now) (defined_names program) in
     let outer : Holds [] none required r1 = passes_holds [] none [] required a.0 r1 (opens_holds [] none a.0 a.1) a.2 in
     let round = outer.region in
     let only : r1 ≡ round ∷ [] = outer.last ∙ ap (λ l. l ++ round ∷ []) start in
     let inner : Holds names (round ∷ []) [] r2 = subst (λ l. Holds names l [] r2) only (opens_holds names r1 r2 b) in
-    let half : Holds names (round ∷ []) (outputs program.parameters.items) r3 = passes_holds names (round ∷ []) [] (outputs program.parameters.items) r2 r3 inner (subst (λ l. Passes (outputs l) r2 r3) same c) in
+    let half : Holds names (round ∷ []) (outputs program.parameters.items) r3 = passes_holds names (round ∷ []) [] (outputs program.parameters.items) r2 r3 inner (subst (λ l. Passes (outputs l) r2 r3) same c.passed) in
     let whole = groups_hold names round outer.says program.block.variables.items (outputs program.parameters.items) r3 r4 [] variables half (typeless-outputs program.parameters.items) (subst (λ l. PassesGroups l r3 [] r4 variables) same_groups d) in
     let all : (name : List ℕ) → is_some (looked_up (definitions program) name) ≡ list_any (pointwise nat_eq (folded name)) names =
     λ name. looked_up-known (definitions program) name ∙ ap (list_any (pointwise nat_eq (folded name))) (texts_of folded program) in
     record {
-      parameters = subst (All (λ name. folded name.text.now ≡ codes "output")) same only_output;
-      output = output ∙ ap (λ (l : List Name). nat_lt 0 (length l)) same;
+      parameters = subst (All (λ name. folded name.text.now ≡ codes "output")) same c.only_output;
+      output = c.has_output_is ∙ ap (λ (l : List Name). nat_lt 0 (length l)) same;
       distinct = distinct_names (definitions program) (defined_names program) (texts_of (λ t. t) program) whole.holds.distinct;
       types = λ k g within. type_is all (get_or program.block.variables.items k g).denoter (whole.types k g within);
       variables_are = whole.variables;

@@ -23,7 +23,7 @@ use Rattle.typed_tree.specs.declared.fault.TypeFault.TheVariants as type_fault
 use Rattle.declarations.specs.Names.{Definition, folded, same_name, required, looked_up, or_outer, denoter_type, typed_names, definitions, defined_names, variable_names, type_denoted, declared, AreDistinct}
 use Rattle.scopes.specs.Scopes.{said, Region, decided}
 use Rattle.scopes.specs.Growth.{is_defined, Opens, CannotDefine, Refuses}
-use Rattle.declarations.specs.Regions.{roots_from, placed, OpensRequired, Passes, PassesGroups, DenotesType, CannotPass, CannotPassGroup, CannotPassGroups}
+use Rattle.declarations.specs.Regions.{roots_from, placed, OpensRequired, Passes, PassesGroups, DenotesType, PassesParameters, CannotPass, CannotPassParameters, CannotPassGroup, CannotPassGroups}
 use Rattle.declarations.specs.Declaring.{BreaksDeclarations}
 use Rattle.declarations.proofs.Definitions.{known, told, Apart, Holds, outputs, typed_roots, of_type, typed_of, AreLeft, number_of_variables, looked_up-append, looked_up-known, last_same, opens_holds, passes_holds, typeless-outputs, typeless-outputs_and_roots, roots_typed, roots-append, length-typed_of, found_is, denotes_type, groups_hold, texts_of}
 
@@ -281,7 +281,7 @@ module _ (program : Program) (none required_round opened_round : List Region) (s
     (opens : Opens (map (λ name. folded name.text.now) (defined_names program)) required_round opened_round) where
   -- the parameters are refused where one is another name than output, or one of two
   pub parameters_refused : (parameters : List Name) → parameters ≡ program.parameters.items
-      → (¬ All (λ name. folded name.text.now ≡ codes "output") parameters) ⊎ CannotPass (outputs parameters) opened_round → BreaksDeclarations program
+      → CannotPassParameters parameters opened_round → BreaksDeclarations program
   parameters_refused parameters same (inl other) = inl (subst (λ l. ¬ All (λ name. folded name.text.now ≡ codes "output") l) same other)
   parameters_refused parameters same (inr stuck) =
       let o = opened program none required_round opened_round start opens_required opens in
@@ -289,13 +289,13 @@ module _ (program : Program) (none required_round opened_round : List Region) (s
       o.holds refl (subst (λ l. CannotPass (outputs l) opened_round) same stuck)))
 
   -- the variables are refused where a name is defined twice, a denoter denotes no type, or there are too many
-  pub variables_refused : (parameters : List Name) (groups : List VariableGroup) (with_parameters : List Region) → parameters ≡ program.parameters.items → groups ≡ program.block.variables.items
-      → Passes (outputs parameters) opened_round with_parameters → CannotPassGroups groups with_parameters [] → BreaksDeclarations program
-  variables_refused parameters groups r3 same same_groups passed stuck =
+  pub variables_refused : (parameters : List Name) (has_output : Bool) (groups : List VariableGroup) (with_parameters : List Region) → parameters ≡ program.parameters.items → groups ≡ program.block.variables.items
+      → PassesParameters parameters has_output opened_round with_parameters → CannotPassGroups groups with_parameters [] → BreaksDeclarations program
+  variables_refused parameters has_output groups r3 same same_groups passed stuck =
       let o = opened program none required_round opened_round start opens_required opens in
       let names = map (λ name. folded name.text.now) (defined_names program) in
       groups_break program o.round o.says r3
-      (passes_holds names (o.round ∷ []) [] (outputs program.parameters.items) opened_round r3 o.holds (subst (λ l. Passes (outputs l) opened_round r3) same passed))
+      (passes_holds names (o.round ∷ []) [] (outputs program.parameters.items) opened_round r3 o.holds (subst (λ l. Passes (outputs l) opened_round r3) same passed.passed))
       (subst (λ l. CannotPassGroups l r3 []) same_groups stuck)
 
 -- the variables are too many

@@ -1,8 +1,8 @@
 -- Definitions that are passed one by one.
-use Rattle.std.proofs.Common.{◌≡◌, ℕ, ◌+◌, ◌<◌, Bool, true, false, List, [], ◌∷◌, ◌++◌, Result, Ok, Err, MatchResult, OkIff, is_ok, not, nat_eq, map, take, length, get_or, refl, sym, ap, subst, ◌∙◌, true≢false, append_assoc, length-append, arith}
+use Rattle.std.proofs.Common.{◌≡◌, ℕ, ◌+◌, ◌<◌, ◌≤◌, Bool, true, false, List, [], ◌∷◌, ◌++◌, Result, Ok, Err, MatchResult, OkIff, is_ok, not, nat_eq, map, take, length, get_or, refl, sym, ap, subst, ◌∙◌, true≢false, append_assoc, length-append, arith}
 use Rattle.std.specs.Cmp.Lexicographic.{pointwise}
 use Rattle.std.specs.Char.{to_ascii_lowercase}
-use Rattle.std.proofs.lemmas.List.{map-append, length-map, take_more, length-take}
+use Rattle.std.proofs.lemmas.List.{map-append, length-map, take_more, take_all, length-take}
 use Rattle.std.proofs.lemmas.Bool.Decides.{nat_tests}
 use Rattle.std.proofs.lemmas.Slice.Eq.{bytes_eq-Decides}
 use Rattle.parser.specs.declared.tree.Name.{Name}
@@ -42,6 +42,11 @@ pub number_is : {E : Type 0} (F : Type 0) (r : Result ℕ E) (P : E → Type 0) 
 number_is F (Ok x) P long short limit ok cases iff = (cc, iff.0)
 number_is F (Err e) P long short limit ok cases iff = absurd (true≢false (sym ok))
 
+-- and what one was that is too great for it
+pub number_isnt : {E : Type 0} (r : Result ℕ E) (long limit : ℕ) → false ≡ is_ok r → OkIff r (long < limit) long → limit ≤ long
+number_isnt (Ok x) long limit err iff = absurd (true≢false (sym err))
+number_isnt (Err e) long limit err iff = omega (arith, iff)
+
 -- a list that grew by one item for each of others
 pub grown_by : {A B : Type 0} (f : B → A) (xs : List B) (i : ℕ) (old now : List A) → i < length xs → now ≡ old ++ map f (take i xs) → length now ≡ length old + i
 grown_by {A} {B} f xs i old now within is =
@@ -77,6 +82,10 @@ pub Passes-map_more : {A : Type 0} (f : A → Definition) (xs : List A) (i : ℕ
 Passes-map_more f xs i d old mid new within p h =
     subst (λ ds. Passes ds old new) (sym (map-append f (take i xs) (get_or xs i d ∷ [])) ∙ sym (ap (map f) (take_more xs i d within)))
     (Passes-more (map f (take i xs)) (f (get_or xs i d)) old mid new p h)
+
+-- and so all of them
+pub Passes-all : {A : Type 0} (f : A → Definition) (xs : List A) (i : ℕ) (old new : List Region) → length xs ≤ i → Passes (map f (take i xs)) old new → Passes (map f xs) old new
+Passes-all f xs i old new end p = subst (λ ys. Passes (map f ys) old new) (take_all i xs end) p
 
 -- and of the roots of names
 pub Passes-roots_more : (names : List Name) (root : ℕ) (t : TypeId) (i number : ℕ) (d : Name) (old mid new : List Region) → i < length names → number ≡ root + i

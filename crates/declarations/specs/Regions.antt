@@ -1,6 +1,6 @@
 -- What regions hold while a program's names are defined (ISO 7185:1990, 6.2.2): a region opens with the names that its
 -- block defines, and then the definitions are passed one after another. It says nothing of the statements.
-use Rattle.std.specs.Prelude.{◌≡◌, ◌⊎◌, ℕ, ◌+◌, ◌<◌, ◌++◌, List, [], ◌∷◌, Ok, map, length, zip}
+use Rattle.std.specs.Prelude.{◌≡◌, ◌⊎◌, ℕ, ◌+◌, ◌<◌, ◌++◌, Bool, List, [], ◌∷◌, Result, Ok, Err, All, codes, map, nat_lt, length, zip}
 use Rattle.std.specs.List.{range_with_len}
 use Rattle.lexer.specs.declared.place.Place.{Place}
 use Rattle.parser.specs.declared.tree.Name.{Name}
@@ -28,6 +28,11 @@ placed scope_fault.Memory place = fault.Memory
 placed scope_fault.DeclaredTwice place = fault.DeclaredTwice place
 placed scope_fault.UsedBeforeDeclared place = fault.UsedBeforeDeclared place
 placed scope_fault.NotDeclared place = fault.NotDeclared place
+
+-- an answer is a promised one, or a fault that comes for want of memory or for a reason
+abbrev pub OkOr : {A : Type 0} → Result A TypeFault → (A → Type 0) → Type 0 → Type 0
+OkOr (Ok answer) promised reason = promised answer
+OkOr (Err refusal) promised reason = (refusal ≡ fault.Memory) ⊎ reason
 
 -- definitions are passed, one after another
 abbrev pub Passes : List Definition → List Region → List Region → Type 0
@@ -64,6 +69,17 @@ pub record CannotPass (definitions : List Definition) (old : List Region) : Type
   pub reached : List Region
   pub passed : Passes before old reached
   pub stuck : CannotDefine (folded next.0) reached
+
+-- the parameters, each of them output, are passed
+pub record PassesParameters (parameters : List Name) (has_output : Bool) (old new : List Region) : Type 0 where
+  pub only_output : All (λ name. folded name.text.now ≡ codes "output") parameters
+  pub passed : Passes (map (λ name. (name.text.now, denotes.Output)) parameters) old new
+  pub has_output_is : has_output ≡ nat_lt 0 (length parameters)
+
+-- the parameters can't be passed: one isn't output, or can't be defined
+abbrev pub CannotPassParameters : List Name → List Region → Type 0
+CannotPassParameters parameters old =
+    (¬ All (λ name. folded name.text.now ≡ codes "output") parameters) ⊎ CannotPass (map (λ name. (name.text.now, denotes.Output)) parameters) old
 
 -- a denoter denotes no type
 abbrev pub DenotesNoType : List Region → TypeDenoter → Type 0

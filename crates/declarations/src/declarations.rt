@@ -1,9 +1,8 @@
-ghost use Rattle.std.specs.Prelude.{◌≡◌, ◌⊎◌, ◌<◌, [], Ok, IfOk, IfErr, IsErr, IsErrAnd, IsOkUnless, OnOk, All, codes, map, nat_lt, length};
+ghost use Rattle.std.specs.Prelude.{◌≡◌, ◌⊎◌, ◌++◌, [], Ok, IfOk, IfErr, IsErr, IsErrAnd, IsOkUnless, OnOk, map};
 ghost use Rattle.declarations.specs.Names.{folded, defined_names};
 ghost use Rattle.scopes.specs.Scopes.{found};
 ghost use Rattle.scopes.specs.Growth.{Opens, Defines, CannotDefine};
-ghost use Rattle.declarations.specs.Regions.{placed, OpensRequired, Passes, PassesGroup, PassesGroups, DenotesType, CannotPass, CannotPassGroup, CannotPassGroups, DenotesNoType};
-ghost use Rattle.scopes.specs.declared.denotation.Denotation.TheVariants as denotes;
+ghost use Rattle.declarations.specs.Regions.{placed, OkOr, OpensRequired, PassesParameters, PassesGroup, PassesGroups, DenotesType, CannotPassParameters, CannotPassGroup, CannotPassGroups, DenotesNoType};
 ghost use Rattle.typed_tree.specs.declared.fault.TypeFault.TheVariants.{Memory};
 
 use lexer::place::Place;
@@ -63,28 +62,48 @@ fn placed(fault: ScopeFault, place: Place) -> TypeFault
     }
 }
 
-// The required identifiers stand round the program.
+// The required identifiers.
+const REQUIRED: [(&[u8], Denotation); 10] = [
+    (b"integer", Denotation::TypeName(TypeTable::INTEGER)),
+    (b"boolean", Denotation::TypeName(TypeTable::BOOLEAN)),
+    (
+        b"maxint",
+        Denotation::Constant {
+            value: MAXINT,
+            type_id: TypeTable::INTEGER,
+        },
+    ),
+    (
+        b"false",
+        Denotation::Constant {
+            value: 0,
+            type_id: TypeTable::BOOLEAN,
+        },
+    ),
+    (
+        b"true",
+        Denotation::Constant {
+            value: 1,
+            type_id: TypeTable::BOOLEAN,
+        },
+    ),
+    (b"abs", Denotation::Function(RequiredFunction::Abs)),
+    (b"sqr", Denotation::Function(RequiredFunction::Sqr)),
+    (b"odd", Denotation::Function(RequiredFunction::Odd)),
+    (b"write", Denotation::Procedure(RequiredProcedure::Write)),
+    (
+        b"writeln",
+        Denotation::Procedure(RequiredProcedure::Writeln),
+    ),
+];
+
+// Their region stands round the program.
 pub(crate) fn open_required(alloc: Global, scopes: &mut Scopes) -> Result<(), TypeFault>
     ensures opened { OnOk result (OpensRequired scopes.old scopes.new) }
     ensures refused { IsOkUnless result Memory }
 {
-    let required: [(&[u8], Denotation); 10] = [
-        (b"integer", Denotation::TypeName(TypeTable::INTEGER)),
-        (b"boolean", Denotation::TypeName(TypeTable::BOOLEAN)),
-        (b"maxint", constant(MAXINT, TypeTable::INTEGER)),
-        (b"false", constant(0, TypeTable::BOOLEAN)),
-        (b"true", constant(1, TypeTable::BOOLEAN)),
-        (b"abs", Denotation::Function(RequiredFunction::Abs)),
-        (b"sqr", Denotation::Function(RequiredFunction::Sqr)),
-        (b"odd", Denotation::Function(RequiredFunction::Odd)),
-        (b"write", Denotation::Procedure(RequiredProcedure::Write)),
-        (
-            b"writeln",
-            Denotation::Procedure(RequiredProcedure::Writeln),
-        ),
-    ];
     scopes.open(alloc, &[])?;
-    for (name, denotation) in required {
+    for (name, denotation) in REQUIRED {
         let place = Place { line: 1, column: 1 };
         declare(
             alloc,
@@ -96,31 +115,33 @@ pub(crate) fn open_required(alloc: Global, scopes: &mut Scopes) -> Result<(), Ty
     Ok(())
 }
 
-fn constant(value: i32, type_id: TypeId) -> Denotation
-    ensures { result ≡ denotes.Constant value type_id }
-{
-    Denotation::Constant { value, type_id }
-}
-
 // The names that the program's block defines: its parameters and its variables.
 pub(crate) fn open_block(
     alloc: Global,
     scopes: &mut Scopes,
     program: &syntax::Program,
-) -> Result<(), TypeFault>
-    ensures opened { OnOk result (Opens (map (λ name. folded name.text.now) (defined_names program.now)) scopes.old scopes.new) }
-    ensures refused { IsOkUnless result Memory }
+) -> Result<(), AllocError>
+    ensures { OnOk result (Opens (map (λ name. folded name.text.now) (defined_names program.now)) scopes.old scopes.new) }
 {
     let mut names = Vec::new(alloc);
-    for name in &program.parameters {
-        names.push(folded(alloc, name.text)?)?;
-    }
+    fold_names(alloc, &program.parameters, &mut names)?;
     for group in &program.block.variables {
-        for name in &group.names {
-            names.push(folded(alloc, name.text)?)?;
-        }
+        fold_names(alloc, &group.names, &mut names)?;
     }
     scopes.open(alloc, &names)?;
+    Ok(())
+}
+
+fn fold_names(
+    alloc: Global,
+    names: &[syntax::Name],
+    keys: &mut Vec<Vec<u8>>,
+) -> Result<(), AllocError>
+    ensures { OnOk result (map (λ key. key.items) keys.new.items ≡ map (λ key. key.items) keys.old.items ++ map (λ name. folded name.text.now) names.now) }
+{
+    for name in names {
+        keys.push(folded(alloc, name.text)?)?;
+    }
     Ok(())
 }
 
@@ -130,12 +151,7 @@ pub(crate) fn declare_parameters(
     scopes: &mut Scopes,
     parameters: &[syntax::Name],
 ) -> Result<bool, TypeFault>
-    ensures only_output { OnOk result (All (λ name. folded name.text.now ≡ codes "output") parameters.now) }
-    ensures passed { OnOk result (Passes (map (λ name. (name.text.now, denotes.Output)) parameters.now) scopes.old scopes.new) }
-    ensures has_output { IfOk result (λ has_output. has_output ≡ nat_lt 0 (length parameters.now)) }
-    ensures refused { IfErr result (λ fault. (fault ≡ Memory)
-        ⊎ ((¬ All (λ name. folded name.text.now ≡ codes "output") parameters.now)
-        ⊎ CannotPass (map (λ name. (name.text.now, denotes.Output)) parameters.now) scopes.old)) }
+    ensures { OkOr result (λ has_output. PassesParameters parameters.now has_output scopes.old scopes.new) (CannotPassParameters parameters.now scopes.old) }
 {
     for name in parameters {
         if folded(alloc, name.text)?.as_slice() != b"output".as_slice() {
@@ -151,8 +167,7 @@ pub(crate) fn declare_variables(
     scopes: &mut Scopes,
     groups: &[syntax::VariableGroup],
 ) -> Result<Vec<Variable>, TypeFault>
-    ensures passed { IfOk result (λ variables. PassesGroups groups.now scopes.old [] scopes.new variables.items) }
-    ensures refused { IfErr result (λ fault. (fault ≡ Memory) ⊎ CannotPassGroups groups.now scopes.old []) }
+    ensures { OkOr result (λ variables. PassesGroups groups.now scopes.old [] scopes.new variables.items) (CannotPassGroups groups.now scopes.old []) }
 {
     let mut variables = Vec::new(alloc);
     for group in groups {
@@ -168,8 +183,7 @@ fn declare_group(
     group: &syntax::VariableGroup,
     variables: &mut Vec<Variable>,
 ) -> Result<(), TypeFault>
-    ensures passed { OnOk result (PassesGroup group.now scopes.old variables.old.items scopes.new variables.new.items) }
-    ensures refused { IfErr result (λ fault. (fault ≡ Memory) ⊎ CannotPassGroup group.now scopes.old variables.old.items) }
+    ensures { OkOr result (λ _. PassesGroup group.now scopes.old variables.old.items scopes.new variables.new.items) (CannotPassGroup group.now scopes.old variables.old.items) }
 {
     let type_id = denoted_type(alloc, scopes, group)?;
     for name in &group.names {
@@ -185,8 +199,7 @@ fn denoted_type(
     scopes: &Scopes,
     group: &syntax::VariableGroup,
 ) -> Result<TypeId, TypeFault>
-    ensures denoted { IfOk result (DenotesType scopes.now group.now.denoter) }
-    ensures refused { IfErr result (λ fault. (fault ≡ Memory) ⊎ DenotesNoType scopes.now group.now.denoter) }
+    ensures { OkOr result (DenotesType scopes.now group.now.denoter) (DenotesNoType scopes.now group.now.denoter) }
 {
     let syntax::TypeDenoter::Name(name) = &group.denoter;
     match find(alloc, scopes, name) {

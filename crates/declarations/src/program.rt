@@ -1,5 +1,6 @@
-ghost use Rattle.std.specs.Prelude.{◌≡◌, ◌⊎◌, IfOk, IfErr};
+ghost use Rattle.std.specs.Prelude.{◌≡◌, ◌⊎◌, [], IfOk, IfErr};
 ghost use Rattle.declarations.specs.Declaring.{AreDeclared, BreaksDeclarations};
+ghost use Rattle.declarations.specs.Regions.{OkOr};
 ghost use Rattle.typed_tree.specs.declared.fault.TypeFault.TheVariants.{Memory};
 
 use crate::declarations::{declare_parameters, declare_variables, open_block, open_required};
@@ -30,16 +31,29 @@ pub fn declare_program(alloc: Global, program: &Program) -> Result<Declarations,
     ensures refused { IfErr result (λ fault. (fault ≡ Memory) ⊎ BreaksDeclarations program.now) }
 {
     let mut scopes = Scopes::new(alloc);
-    open_required(alloc, &mut scopes)?;
-    open_block(alloc, &mut scopes, program)?;
-    let has_output = declare_parameters(alloc, &mut scopes, &program.parameters)?;
-    let variables = declare_variables(alloc, &mut scopes, &program.block.variables)?;
-    if variables.len() > MOST_VARIABLES {
-        return Err(TypeFault::TooMany(program.name.place));
-    }
+    let (variables, has_output) = declare_block(alloc, &mut scopes, program)?;
     Ok(Declarations {
         scopes,
         variables,
         has_output,
     })
+}
+
+// The variables, and whether output is a program parameter.
+fn declare_block(
+    alloc: Global,
+    scopes: &mut Scopes,
+    program: &Program,
+) -> Result<(Vec<Variable>, bool), TypeFault>
+    requires { scopes.old ≡ [] }
+    ensures { OkOr result (λ left. AreDeclared program.now left.1 left.0.items scopes.new) (BreaksDeclarations program.now) }
+{
+    open_required(alloc, scopes)?;
+    open_block(alloc, scopes, program)?;
+    let has_output = declare_parameters(alloc, scopes, &program.parameters)?;
+    let variables = declare_variables(alloc, scopes, &program.block.variables)?;
+    if variables.len() > MOST_VARIABLES {
+        return Err(TypeFault::TooMany(program.name.place));
+    }
+    Ok((variables, has_output))
 }

@@ -1,7 +1,7 @@
 use Rattle.std.proofs.Common.{rules, ◌≡◌, ⊎_elim, refl}
 use Rattle.typed_tree.specs.declared.fault.TypeFault.TheVariants.{Memory}
 use Rattle.declarations.proofs.Refused.{required_stuck}
-use Rattle.declarations.proofs.Regions.{Passes-map_more}
+use Rattle.declarations.proofs.Regions.{Passes-map_more, Passes-all}
 use Rattle.declarations.proofs.declarations.open_required.Goals as goal
 
 -- one more identifier is defined
@@ -16,3 +16,12 @@ returns-in_err-declare-clause-refused c =
     (λ stuck. absurd (required_stuck (λ p. (p.0.now, p.1)) _ c.loop-name.name-index _ _ _ _ refl c.loop-name-test.true c.in_ok-open.ensures.opened c.loop-name.invariant stuck))
     c.in_err-declare.ensures.refused in
     search rules
+
+pub loop-name-init : goal.loop-name-init
+loop-name-init c = refl
+
+-- all of them are defined
+pub returns-clause-opened : goal.returns-clause-opened
+returns-clause-opened c =
+    let passed = Passes-all (λ p. (p.0.now, p.1)) _ c.loop-name.name-index c.open.new.self c.loop-name.scopes c.loop-name-test.false c.loop-name.invariant in
+    (c.open.new.self, c.in_ok-open.ensures.opened, passed)
