@@ -1,8 +1,10 @@
 -- The new places of a list are those of the definition.
-use Rattle.std.proofs.Common.{◌≡◌, ℕ, ◌+◌, ◌-◌, ◌<◌, ◌≤◌, Bool, true, false, cond, List, [], ◌∷◌, ◌++◌, length, take, get_or, min, ap, sym, ◌∙◌, arith, slice_index}
+use Rattle.std.proofs.Common.{◌≡◌, ℕ, ◌+◌, ◌-◌, ◌<◌, ◌≤◌, Bool, true, false, cond, List, [], ◌∷◌, ◌++◌, length, take, get_or, min, ap, sym, ◌∙◌, ⊎_elim, length-append, arith, slice_index}
 use Rattle.std.specs.Prelude.{count_by, map, filter}
 use Rattle.std.proofs.Math.Path.{fun_ext}
-use Rattle.std.proofs.lemmas.List.{take_min, length-take, map-append, append-nil}
+use Rattle.std.proofs.lemmas.Bool.{cases_lt}
+use Rattle.std.proofs.Math.ListN.{get_or-append}
+use Rattle.std.proofs.lemmas.List.{get_or_push, take_min, length-take, map-append, append-nil}
 use Rattle.std.proofs.lemmas.List.Elements.{filter_more}
 use Rattle.std.proofs.lemmas.List.Sums.{count_by-le-length}
 use Rattle.pcode_assembler.specs.declared.instr.Instr.{Instr}
@@ -31,6 +33,22 @@ moved_place-le is_open code place =
 
 pub new_place-le : (is_open : ℕ → Bool) (code : List Instr) (places : List ℕ) → IsPlaces (moved_place is_open code) (length code) places → (place : ℕ) → new_place places place ≤ place
 new_place-le is_open code places h place = rw (new_place-moved is_open code places h place) (moved_place-le is_open code place)
+
+-- new places of the first places, and of one more
+pub one_place_more : (to : ℕ → ℕ) (places more : List ℕ) (kept n : ℕ) → more ≡ places ++ kept ∷ [] → length places ≡ n
+    → ((place : ℕ) → place < n → slice_index places place ≡ to place) → kept ≡ to n → (place : ℕ) → place < n + 1 → slice_index more place ≡ to place
+one_place_more to places more kept n next long each last place within =
+    ap (λ l. slice_index l place) next
+    ∙ ⊎_elim
+    (λ (less : place < n). get_or-append places (kept ∷ []) 0 place (omega arith) ∙ each place less)
+    (λ (least : n ≤ place).
+    let same : n ≡ place = omega arith in
+    get_or_push places kept 0 place (long ∙ same) ∙ last ∙ ap to same)
+    (cases_lt place n)
+
+-- and their number
+pub one_longer : (places more : List ℕ) (kept n : ℕ) → more ≡ places ++ kept ∷ [] → length places ≡ n → length more ≡ n + 1
+one_longer places more kept n next long = ap length next ∙ length-append places (kept ∷ []) ∙ ap (λ m. m + 1) long
 
 -- what is kept by a test of ids and a list of new places is the stripped code of the test that it computes
 pub kept-strip_by : (test is_open : ℕ → Bool) (code rest : List Instr) (places : List ℕ) → ((id : ℕ) → test id ≡ is_open id) → IsPlaces (moved_place test code) (length code) places → rest ≡ map (moved (new_place places)) (filter (stays test) code) → rest ≡ strip_by is_open code

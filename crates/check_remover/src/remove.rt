@@ -23,14 +23,20 @@ pub fn remove(alloc: Global, code: &Code, open_sites: &[Site]) -> Result<Code, A
     ensures sites { IfOk result (λ stripped. stripped.sites.items ≡ code.now.sites.items) }
     ensures points { IfOk result (λ stripped. stripped.points.items ≡ code.now.points.items) }
 {
-    let open_ids = ids_of(alloc, open_sites)?;
-    let instructions = code.instructions.as_slice();
-    let places = places_of(alloc, instructions, &open_ids)?;
     Ok(Code {
+        instructions: stripped(alloc, code.instructions.as_slice(), open_sites)?,
         sites: Vec::from_slice(alloc, code.sites.as_slice())?,
         points: Vec::from_slice(alloc, code.points.as_slice())?,
-        instructions: kept(alloc, instructions, &open_ids, places.as_slice())?,
     })
+}
+
+/// The instructions without the checks of sites that aren't open.
+fn stripped(alloc: Global, code: &[Instr], open_sites: &[Site]) -> Result<Vec<Instr>, AllocError>
+    ensures { IfOk result (λ rest. rest.items ≡ strip open_sites.now code.now) }
+{
+    let open_ids = ids_of(alloc, open_sites)?;
+    let places = places_of(alloc, code, &open_ids)?;
+    kept(alloc, code, &open_ids, places.as_slice())
 }
 
 /// The instructions that stay, their jumps moved.
