@@ -1,6 +1,6 @@
 -- What regions hold while a program's names are defined (ISO 7185:1990, 6.2.2): a region opens with the names that its
 -- block defines, and then the definitions are passed one after another. It says nothing of the statements.
-use Rattle.std.specs.Prelude.{◌≡◌, ◌⊎◌, ℕ, ◌+◌, ◌<◌, ◌++◌, Bool, List, [], ◌∷◌, Result, Ok, Err, All, codes, map, nat_lt, length, zip}
+use Rattle.std.specs.Prelude.{◌≡◌, ◌⊎◌, ℕ, ◌+◌, ◌<◌, ◌++◌, Bool, List, [], ◌∷◌, Ok, All, codes, map, nat_lt, length, zip}
 use Rattle.std.specs.List.{range_with_len}
 use Rattle.lexer.specs.declared.place.Place.{Place}
 use Rattle.parser.specs.declared.tree.Name.{Name}
@@ -28,11 +28,6 @@ placed scope_fault.Memory place = fault.Memory
 placed scope_fault.DeclaredTwice place = fault.DeclaredTwice place
 placed scope_fault.UsedBeforeDeclared place = fault.UsedBeforeDeclared place
 placed scope_fault.NotDeclared place = fault.NotDeclared place
-
--- an answer is a promised one, or a fault that comes for want of memory or for a reason
-abbrev pub OkOr : {A : Type 0} → Result A TypeFault → (A → Type 0) → Type 0 → Type 0
-OkOr (Ok answer) promised reason = promised answer
-OkOr (Err refusal) promised reason = (refusal ≡ fault.Memory) ⊎ reason
 
 -- definitions are passed, one after another
 abbrev pub Passes : List Definition → List Region → List Region → Type 0

@@ -1,8 +1,9 @@
 ghost use Rattle.std.specs.Prelude.{◌≡◌, ◌⊎◌, ◌++◌, [], Ok, IfOk, IfErr, IsErr, IsErrAnd, IsOkUnless, OnOk, map};
 ghost use Rattle.declarations.specs.Names.{folded, defined_names};
 ghost use Rattle.scopes.specs.Scopes.{found};
+ghost use Rattle.typed_tree.specs.Faults.{Gives};
 ghost use Rattle.scopes.specs.Growth.{Opens, Defines, CannotDefine};
-ghost use Rattle.declarations.specs.Regions.{placed, OkOr, OpensRequired, PassesParameters, PassesGroup, PassesGroups, DenotesType, CannotPassParameters, CannotPassGroup, CannotPassGroups, DenotesNoType};
+ghost use Rattle.declarations.specs.Regions.{placed, OpensRequired, PassesParameters, PassesGroup, PassesGroups, DenotesType, CannotPassParameters, CannotPassGroup, CannotPassGroups, DenotesNoType};
 ghost use Rattle.typed_tree.specs.declared.fault.TypeFault.TheVariants.{Memory};
 
 use lexer::place::Place;
@@ -151,7 +152,7 @@ pub(crate) fn declare_parameters(
     scopes: &mut Scopes,
     parameters: &[syntax::Name],
 ) -> Result<bool, TypeFault>
-    ensures { OkOr result (λ has_output. PassesParameters parameters.now has_output scopes.old scopes.new) (CannotPassParameters parameters.now scopes.old) }
+    ensures { Gives result (λ has_output. PassesParameters parameters.now has_output scopes.old scopes.new) (CannotPassParameters parameters.now scopes.old) }
 {
     for name in parameters {
         if folded(alloc, name.text)?.as_slice() != b"output".as_slice() {
@@ -167,7 +168,7 @@ pub(crate) fn declare_variables(
     scopes: &mut Scopes,
     groups: &[syntax::VariableGroup],
 ) -> Result<Vec<Variable>, TypeFault>
-    ensures { OkOr result (λ variables. PassesGroups groups.now scopes.old [] scopes.new variables.items) (CannotPassGroups groups.now scopes.old []) }
+    ensures { Gives result (λ variables. PassesGroups groups.now scopes.old [] scopes.new variables.items) (CannotPassGroups groups.now scopes.old []) }
 {
     let mut variables = Vec::new(alloc);
     for group in groups {
@@ -183,7 +184,7 @@ fn declare_group(
     group: &syntax::VariableGroup,
     variables: &mut Vec<Variable>,
 ) -> Result<(), TypeFault>
-    ensures { OkOr result (λ _. PassesGroup group.now scopes.old variables.old.items scopes.new variables.new.items) (CannotPassGroup group.now scopes.old variables.old.items) }
+    ensures { Gives result (λ _. PassesGroup group.now scopes.old variables.old.items scopes.new variables.new.items) (CannotPassGroup group.now scopes.old variables.old.items) }
 {
     let type_id = denoted_type(alloc, scopes, group)?;
     for name in &group.names {
@@ -199,7 +200,7 @@ fn denoted_type(
     scopes: &Scopes,
     group: &syntax::VariableGroup,
 ) -> Result<TypeId, TypeFault>
-    ensures { OkOr result (DenotesType scopes.now group.now.denoter) (DenotesNoType scopes.now group.now.denoter) }
+    ensures { Gives result (DenotesType scopes.now group.now.denoter) (DenotesNoType scopes.now group.now.denoter) }
 {
     let syntax::TypeDenoter::Name(name) = &group.denoter;
     match find(alloc, scopes, name) {

@@ -1,6 +1,6 @@
 ghost use Rattle.std.specs.Prelude.{◌≡◌, ◌⊎◌, [], IfOk, IfErr};
 ghost use Rattle.declarations.specs.Declaring.{AreDeclared, BreaksDeclarations};
-ghost use Rattle.declarations.specs.Regions.{OkOr};
+ghost use Rattle.typed_tree.specs.Faults.{Gives};
 ghost use Rattle.typed_tree.specs.declared.fault.TypeFault.TheVariants.{Memory};
 
 use crate::declarations::{declare_parameters, declare_variables, open_block, open_required};
@@ -46,7 +46,7 @@ fn declare_block(
     program: &Program,
 ) -> Result<(Vec<Variable>, bool), TypeFault>
     requires { scopes.old ≡ [] }
-    ensures { OkOr result (λ left. AreDeclared program.now left.1 left.0.items scopes.new) (BreaksDeclarations program.now) }
+    ensures { Gives result (λ left. AreDeclared program.now left.1 left.0.items scopes.new) (BreaksDeclarations program.now) }
 {
     open_required(alloc, scopes)?;
     open_block(alloc, scopes, program)?;

@@ -16,7 +16,8 @@ use Rattle.typed_tree.specs.Entries.{Tested}
 use Rattle.typed_tree.specs.WellFormed.{all_hold}
 use Rattle.resolver.specs.Typing.{Denotes, Stands, all_match}
 use Rattle.resolver.specs.Resolved.{Knows, tested, Adds, AddsNothing, Makes, MakesRow}
-use Rattle.resolver.specs.Refusing.{Gives, KnowsAll, PassesMost, Refuses, RefusesRow}
+use Rattle.typed_tree.specs.Faults.{Gives}
+use Rattle.resolver.specs.Refusing.{KnowsAll, PassesMost, Refuses, RefusesRow}
 use Rattle.resolver.proofs.FormedLemmas.{and_true, both_true}
 use Rattle.resolver.proofs.Measures.{Measure, same_measure, measure_row}
 

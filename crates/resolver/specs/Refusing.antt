@@ -1,7 +1,7 @@
 -- Which pieces of a program a resolver refuses, where memory didn't run out: those that have no typing by the names that
 -- its scopes hold, and those whose typings have too many entries or sites (ISO 7185:1990, 6.2.2, 6.4.2.2, 6.7, 6.8).
 -- It says nothing of which fault is told, nor of its place.
-use Rattle.std.specs.Prelude.{◌≡◌, ℕ, ℤ, ◌+◌, ◌<◌, ◌⊎◌, Bool, true, false, IsTrue, List, Some, None, Result, MatchResult, map, flat_map, length, ok_or}
+use Rattle.std.specs.Prelude.{◌≡◌, ℕ, ℤ, ◌+◌, ◌<◌, ◌⊎◌, Bool, true, false, IsTrue, List, Some, None, map, flat_map, length, ok_or}
 use Rattle.parser.specs.declared.tree.Name.{Name}
 use Rattle.parser.specs.declared.tree.Expr.{Expr as SyntaxExpr}
 use Rattle.parser.specs.declared.tree.Expr.TheViews.{out-Actual as out-SyntaxActual}
@@ -16,8 +16,6 @@ use Rattle.scopes.specs.declared.denotation.RequiredProcedure.{RequiredProcedure
 use Rattle.resolver.specs.declared.expressions.Typed.{Typed}
 use Rattle.resolver.specs.declared.expressions.TypedLinks.{TypedLinks}
 use Rattle.typed_tree.specs.declared.site.SiteKind.{SiteKind}
-use Rattle.typed_tree.specs.declared.fault.TypeFault.{TypeFault}
-use Rattle.typed_tree.specs.declared.fault.TypeFault.TheVariants.{Memory}
 use Rattle.types.specs.declared.form.TypeId.{TypeId}
 use Rattle.typed_tree.specs.declared.tree.Link.{Link}
 use Rattle.typed_tree.specs.declared.tree.Width.{Width}
@@ -38,10 +36,6 @@ use Rattle.resolver.specs.Resolved.{entries_of_link, sites_of_link, types_typed,
 pub record KnowsAll (r : Resolver) (names : Denotes) : Type 0 where
   pub found_are : (name : List ℕ) → found r.scopes (folded name) ≡ ok_or (names name) fault.NotDeclared
   pub variables : (name : List ℕ) (root : ℕ) (type_id : TypeId) → names name ≡ Some (denotes.Variable root type_id) → root < length r.variables.items
-
--- a call gives a value of which this holds; it fails where memory ran out, or for this reason
-abbrev pub Gives : {T : Type 0} → Result T TypeFault → (T → Type 0) → Type 0 → Type 0
-Gives result made refused = MatchResult result made (λ fault. (fault ≡ Memory) ⊎ refused)
 
 -- so many more entries, or so many more sites, are too many
 abbrev pub PassesMost : Resolver → ℕ → ℕ → Type 0

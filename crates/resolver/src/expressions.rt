@@ -1,4 +1,5 @@
 ghost use Rattle.std.specs.Prelude.{◌≡◌, [], true, Some, MatchResult, IfSome, IfNone, pos, length};
+ghost use Rattle.typed_tree.specs.Faults.{Gives};
 ghost use Rattle.typed_tree.specs.Entries.{monadic_sites, dyadic_sites};
 ghost use Rattle.declarations.specs.Names.{integer};
 ghost use Rattle.resolver.specs.Resolved.{IsOnly, IsNotOne};
@@ -40,7 +41,7 @@ struct Head {
 
 impl Resolver {
     ghost use Rattle.resolver.specs.Resolved.{MakesTyped, MakesOperand, MakesNot, MakesSigned, MakesCalled, MakesArgument, MakesLink, MakesLinks};
-    ghost use Rattle.resolver.specs.Refusing.{Gives, RefusesTyped, RefusesOperand, RefusesNot, RefusesSigned, RefusesCalled, RefusesArgument, RefusesLink, RefusesLinks};
+    ghost use Rattle.resolver.specs.Refusing.{RefusesTyped, RefusesOperand, RefusesNot, RefusesSigned, RefusesCalled, RefusesArgument, RefusesLink, RefusesLinks};
     ghost use Rattle.resolver.specs.Formed.{IsFormedExpr, IsFormedLink, AreFormedLinks};
 
     #[cycle(expressions)]
@@ -180,7 +181,7 @@ impl Resolver {
 // Pieces without an expression in them, and the parts of a width.
 impl Resolver {
     ghost use Rattle.resolver.specs.Resolved.{Adds, AddsNothing, MakesConstant, MakesNamed, MakesLed, MakesHead, TellsFunction, IsChainOf, IsMonadicOf, IsApplied};
-    ghost use Rattle.resolver.specs.Refusing.{Gives, PassesMost, IsNoFunction, RefusesConstant, RefusesNamed, RefusesHead, RefusesLed};
+    ghost use Rattle.resolver.specs.Refusing.{PassesMost, IsNoFunction, RefusesConstant, RefusesNamed, RefusesHead, RefusesLed};
     ghost use Rattle.resolver.specs.Formed.{IsFormedExpr, IsFormedLed};
 
     // An expression whose first token has one more site, of this kind: behind the token's own, and before all others.

@@ -1,4 +1,5 @@
 ghost use Rattle.std.specs.Prelude.{◌≡◌, ◌⊎◌, ◌≤◌, [], ◌∷◌, Ok, MatchResult, length, vec_len};
+ghost use Rattle.typed_tree.specs.Faults.{Gives};
 ghost use Rattle.typed_tree.specs.Ids.{AreInOrder};
 ghost use Rattle.declarations.specs.Names.{folded};
 ghost use Rattle.scopes.specs.Scopes.{found};
@@ -38,7 +39,7 @@ pub(crate) struct Resolver {
 
 impl Resolver {
     ghost use Rattle.resolver.specs.Resolved.{Adds, AddsNothing, MakesAccess};
-    ghost use Rattle.resolver.specs.Refusing.{Gives, IsUnknown};
+    ghost use Rattle.resolver.specs.Refusing.{IsUnknown};
 
     pub(crate) fn new(alloc: Global, declarations: Declarations, start: Place) -> Resolver
         ensures scopes { result.scopes ≡ declarations.scopes }

@@ -1,4 +1,5 @@
 ghost use Rattle.std.specs.Prelude.{◌≡◌, ◌⊎◌, ◌≢◌, false, true, Some, None, IfSome, IfNone, IsTrue};
+ghost use Rattle.typed_tree.specs.Faults.{Gives};
 ghost use Rattle.resolver.specs.Typing.{writes_nothing, values_of_type, is_written_as};
 
 use crate::expressions::{Typed, first_place};
@@ -13,7 +14,7 @@ use types::{OrdinalRange, TypeId, TypeTable, required_form};
 
 impl Resolver {
     ghost use Rattle.resolver.specs.Resolved.{AddsNothing, TellsParameters, TellsFile, MakesWidth, MakesParameter, MakesParameters, MakesAssignment, MakesCall, MakesWrite, MakesStatement, MakesStatements, MakesCompound, AreSilent};
-    ghost use Rattle.resolver.specs.Refusing.{Gives, IsNoParameter, AreNoParameters, RefusesWidth, RefusesParameter, RefusesParameters, RefusesAssignment, RefusesCall, RefusesWrite, RefusesStatement, RefusesStatements, RefusesCompound};
+    ghost use Rattle.resolver.specs.Refusing.{IsNoParameter, AreNoParameters, RefusesWidth, RefusesParameter, RefusesParameters, RefusesAssignment, RefusesCall, RefusesWrite, RefusesStatement, RefusesStatements, RefusesCompound};
     ghost use Rattle.resolver.specs.Formed.{IsFormedWidth, IsFormedParameter, AreFormedParameters, IsFormedStmt, AreFormedStmts};
 
     #[cycle(statements)]

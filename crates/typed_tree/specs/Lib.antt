@@ -2,3 +2,4 @@ pub mod Sites
 pub mod Ids
 pub mod Entries
 pub mod WellFormed
+pub mod Faults

@@ -1,4 +1,4 @@
-use Rattle.std.proofs.Common.{◌++◌, [], ap, ◌∙◌, sym, append-nil}
+use Rattle.std.proofs.Common.{◌++◌, ap, ◌∙◌, sym, append-nil}
 use Rattle.std.proofs.lemmas.Result.{IfOk-equal}
 use Rattle.code_generator.specs.Code.{stmt_code, assign_code, write_code}
 use Rattle.code_generator.proofs.Pieces.{stmt_code-Empty, stmt_code-Assign, stmt_code-Write, stmt_code-Compound, joined_one_more, joined_at_end}
