@@ -187,7 +187,7 @@ impl Resolver {
             return Ok(false);
         }
         match &actual.value {
-            syntax::Expr::Name(name) => Ok(self.find(name)? == Denotation::Output),
+            syntax::Expr::Name(name) => Ok(matches!(self.find(name)?, Denotation::Output)),
             _ => Ok(false),
         }
     }

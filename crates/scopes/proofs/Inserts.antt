@@ -1,8 +1,7 @@
 -- What tables say as regions: of a name, after an insert into the innermost one, and one after another.
-use Rattle.std.proofs.Common.{◌≡◌, ℕ, ◌+◌, ◌-◌, ◌<◌, ◌||◌, Bool, true, false, cond, if◌then◌else◌, List, [], ◌∷◌, ◌++◌, Option, Some, None, Result, is_some, Vec, nat_eq, map, take, length, get_or, slice_index_or, slice_set, drop, refl, sym, ap, ◌∙◌, true≢false, arith}
+use Rattle.std.proofs.Common.{◌≡◌, ℕ, ◌+◌, ◌-◌, ◌<◌, ◌||◌, Bool, true, false, cond, if◌then◌else◌, List, [], ◌∷◌, ◌++◌, Option, Some, None, Result, Vec, nat_eq, map, take, length, get_or, slice_index_or, slice_set, drop, refl, sym, ap, ◌∙◌, true≢false, arith}
 use Rattle.std.specs.Map.{lookup}
 use Rattle.std.specs.HashMap.{HashMap, get, get_by}
-use Rattle.std.specs.Option.{option_flatten}
 use Rattle.std.specs.Cmp.Lexicographic.{pointwise}
 use Rattle.std.specs.declared.alloc.Global.{Global}
 use Rattle.std.specs.List.{list_any}
@@ -91,32 +90,22 @@ either true false x y = refl
 either false true x y = refl
 either false false x y = refl
 
-not_defined : (o : Option (Option Denotation)) → is_some (option_flatten o) ≡ false → is_defined o ≡ false
-not_defined None h = refl
-not_defined (Some None) h = refl
-not_defined (Some (Some d)) h = h
-
-defined_there : (o : Option (Option Denotation)) → is_some (option_flatten o) ≡ true → is_defined o ≡ true
-defined_there None h = h
-defined_there (Some None) h = h
-defined_there (Some (Some d)) h = h
-
 module _ {S : Type 0} where
   -- the innermost region has the name already
   pub defined_in_last : (tables : List (Table S)) (n : ℕ) (last : Table S) (key : Vec ℕ Global) → n ≡ length tables → 0 < n → last ≡ slice_index_or tables (n - 1) last
-      → is_some (option_flatten (get key_eq last key)) ≡ true → DefinesAlready key.items (map region_of tables)
+      → is_defined (get key_eq last key) ≡ true → DefinesAlready key.items (map region_of tables)
   defined_in_last tables n last key len some is there = record {
     outer = map region_of (take (n - 1) tables);
     region = region_of last;
     last = ap (map region_of) (last_item tables n last len some is) ∙ map-append region_of (take (n - 1) tables) (last ∷ []);
-    defined = ap is_defined (said_of last key.items) ∙ defined_there _ there;
+    defined = ap is_defined (said_of last key.items) ∙ there;
   }
 
   -- an insert into the innermost region defines a name
   pub defines_last : (tables : List (Table S)) (n : ℕ) (before after : Table S) (key : Vec ℕ Global) (d : Denotation)
       → n ≡ length tables → 0 < n → before ≡ slice_index_or tables (n - 1) before
       → after.entries ≡ insert_entry key_eq before.entries key (Some d)
-      → is_some (option_flatten (get key_eq before key)) ≡ false
+      → is_defined (get key_eq before key) ≡ false
       → Defines key.items d (map region_of tables) (map region_of (slice_set tables (n - 1) after))
   defines_last tables n before after key d len some is entries new = record {
     outer = map region_of (take (n - 1) tables);
@@ -124,7 +113,7 @@ module _ {S : Type 0} where
     after = region_of after;
     was_last = ap (map region_of) (last_item tables n before len some is) ∙ map-append region_of (take (n - 1) tables) (before ∷ []);
     last = ap (map region_of) (last_written tables n after len some) ∙ map-append region_of (take (n - 1) tables) (after ∷ []);
-    undefined = ap is_defined (said_of before key.items) ∙ not_defined _ new;
+    undefined = ap is_defined (said_of before key.items) ∙ new;
     says = λ other.
         said_of after other ∙ ap (lookup (is_key other)) entries ∙ looked_up-insert key (Some d) other before.entries
         ∙ ap (cond (pointwise nat_eq other key.items) (Some (Some d))) (sym (said_of before other));

@@ -1,7 +1,7 @@
 use types::TypeId;
 
 /// What a name denotes (ISO 7185:1990, 6.2.2).
-#[derive(Clone, Copy, Debug, PartialEq, Eq)]
+#[derive(Clone, Copy)]
 pub enum Denotation {
     TypeName(TypeId),
     Constant { value: i32, type_id: TypeId },
@@ -14,14 +14,14 @@ pub enum Denotation {
 }
 
 /// A required procedure (6.6.4, 6.9).
-#[derive(Clone, Copy, Debug, PartialEq, Eq)]
+#[derive(Clone, Copy, PartialEq, Eq)]
 pub enum RequiredProcedure {
     Write,
     Writeln,
 }
 
 /// A required function of one ordinal (6.6.6.2, 6.6.6.5).
-#[derive(Clone, Copy, Debug, PartialEq, Eq)]
+#[derive(Clone, Copy)]
 pub enum RequiredFunction {
     Abs,
     Sqr,

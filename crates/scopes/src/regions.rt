@@ -2,7 +2,7 @@ ghost use Rattle.std.specs.Prelude.{◌≡◌, ◌-◌, List, [], OnOk, OnErr, I
 ghost use Rattle.std.specs.Cmp.Lexicographic.{pointwise};
 ghost use Rattle.std.specs.HashMap.{get_by};
 ghost use Rattle.scopes.specs.Scopes.{Region, decided};
-ghost use Rattle.scopes.specs.Growth.{Opens, Defines, Refuses, region_of};
+ghost use Rattle.scopes.specs.Growth.{Opens, Defines, Refuses, is_defined, region_of};
 
 use crate::denotation::Denotation;
 use crate::fault::ScopeFault;
@@ -66,7 +66,7 @@ impl Scopes {
         let Some(region) = self.blocks.last_mut() else {
             return Err(ScopeFault::NotDeclared);
         };
-        if region.get(name.as_slice()).copied().flatten().is_some() {
+        if is_defined(region, &name) {
             return Err(ScopeFault::DeclaredTwice);
         }
         region.insert(name, Some(denotation))?;
@@ -83,6 +83,13 @@ impl Scopes {
         }
         found
     }
+}
+
+// Whether the definition of a name was passed in a region.
+fn is_defined(region: &Region, name: &[u8]) -> bool
+    ensures { result ≡ is_defined (get_by (λ key. pointwise nat_eq name.now key.items) region.now) }
+{
+    matches!(region.get(name), Some(Some(_)))
 }
 
 // What a region says of a name, where the regions round it say `outer`.
