@@ -12,6 +12,9 @@ const INTEGER_WIDTH: i32 = 10;
 
 const BOOLEAN_WIDTH: i32 = 5;
 
+// The least total width (6.9.3.1).
+const LEAST_WIDTH: i64 = 1;
+
 /// The value of an operation on one operand, or the site of its error (ISO 7185:1990, 6.7.2, 6.6.6).
 pub fn operated_value(operation: Monadic, value: Value) -> Result<Value, u32>
     ensures { Answers (operated operation value) result }
@@ -103,7 +106,7 @@ pub fn positive_width(width: Value, site: u32) -> Result<Value, u32>
     ensures { Answers (positive site width) result }
 {
     let Value::Number(number) = width;
-    if 1 <= number.number() {
+    if LEAST_WIDTH <= number.number() {
         Ok(width)
     } else {
         Err(site)

@@ -1,5 +1,5 @@
 /// What is wrong with the input where a run stops for it.
-#[derive(Clone, Copy, Debug, PartialEq, Eq)]
+#[derive(Clone, Copy)]
 pub enum InputFault {
     /// N1: a character, a number or a line end is needed, and nothing is left.
     EndOfInput,
@@ -14,7 +14,7 @@ pub enum InputFault {
 }
 
 /// How a run ends.
-#[derive(Clone, Copy, Debug, PartialEq, Eq)]
+#[derive(Clone, Copy)]
 pub enum Ending {
     Finished,
     /// An error at the site with this id.
