@@ -1,4 +1,4 @@
-use Rattle.std.proofs.Common.{rules, ◌≡◌, ◌<◌, true, false, map, vec_len, slice_set, ◌-◌, sym, ap, subst, ◌∙◌, Result, Ok, Err, OnErr}
+use Rattle.std.proofs.Common.{rules, ◌≡◌, ◌<◌, true, false, map, vec_len, slice_set, refl, ◌-◌, sym, ap, subst, ◌∙◌, Result, Ok, Err, OnErr}
 use Rattle.std.specs.HashMap.{get, get_by}
 use Rattle.scopes.specs.Growth.{is_defined, region_of, Defines, DefinesAlready}
 use Rattle.scopes.proofs.Inserts.{is_key, key_eq, defines_last, defined_in_last, written_again}
@@ -25,6 +25,18 @@ returns-then-is_defined-clause-refused c =
     ap (λ name. is_defined (get_by (is_key name) region)) (sym c.deref.ensures.value) ∙ sym c.is_defined.ensures ∙ c.if-is_defined.true in
     let some : 0 < vec_len blocks = c.last_mut.ensures.variant.0 (search rules) in
     subst (DefinesAlready c.args.name.items) c.self.view_is (defined_in_last blocks.items (vec_len blocks) region c.args.name blocks.ok.0 some c.in-Some.ensures.value there)
+
+-- nothing is defined, and nothing changes
+pub returns-then-is_defined-clause-defined : goal.returns-then-is_defined-clause-defined
+returns-then-is_defined-clause-defined c = tt
+
+pub returns-then-is_defined-clause-unchanged : goal.returns-then-is_defined-clause-unchanged
+returns-then-is_defined-clause-unchanged c =
+    let blocks = c.self.inside.blocks in
+    let region = c.in-Some.region.now in
+    let some : 0 < vec_len blocks = c.last_mut.ensures.variant.0 (search rules) in
+    subst (λ old. map region_of (slice_set blocks.items (vec_len blocks - 1) region) ≡ old) c.self.view_is
+    (written_again blocks.items (vec_len blocks) region region blocks.ok.0 some c.in-Some.ensures.value refl)
 
 on_err : {A E P : Type 0} (answer : Result A E) → P → OnErr answer P
 on_err (Ok a) p = tt
