@@ -4,7 +4,7 @@ ghost use Rattle.stack_machine.specs.declared.stop.Stop.TheVariants.{Fault};
 use pcode_assembler::code::{Point, Site};
 
 /// Why a run ended.
-#[derive(Clone, Copy, Debug, PartialEq, Eq)]
+#[derive(Clone, Copy)]
 pub enum Stop {
     /// The code came to its end.
     Finished,
@@ -25,7 +25,7 @@ pub enum Stop {
 }
 
 /// What was wrong with the input.
-#[derive(Clone, Copy, Debug, PartialEq, Eq)]
+#[derive(Clone, Copy)]
 pub enum InputFault {
     /// N1: nothing was left.
     EndOfInput,
@@ -40,7 +40,7 @@ pub enum InputFault {
 }
 
 /// What was wrong with the code. Of several faults at one instruction the first of these is told.
-#[derive(Clone, Copy, Debug, PartialEq, Eq)]
+#[derive(Clone, Copy)]
 pub enum MachineFault {
     /// M1: an instruction would take or look at one of the first four cells of its frame.
     Underflow,

@@ -90,8 +90,7 @@ impl Store {
 
     /// An instruction of the store alone; another is at fault.
     pub fn act(&mut self, instr: Instr) -> Result<(), MachineFault>
-        ensures value { Acts result (view self.new) (frames.acted instr (view self.old)) }
-        ensures size { self.new.size ≡ self.old.size }
+        ensures { Acts result (view self.old) (view self.new) (frames.acted instr (view self.old)) }
     {
         match instr {
             Instr::LoadConstant { value } => self.load_constant(value),
@@ -121,8 +120,7 @@ impl Store {
 
     /// `ldc`
     fn load_constant(&mut self, value: i32) -> Result<(), MachineFault>
-        ensures value { Acts result (view self.new) (frames.load_constant value (view self.old)) }
-        ensures size { self.new.size ≡ self.old.size }
+        ensures { Acts result (view self.old) (view self.new) (frames.load_constant value (view self.old)) }
     {
         self.has_room_after(0)?;
         self.replace(0, Cell::Number(value));
@@ -131,8 +129,7 @@ impl Store {
 
     /// `lod`: its cell may be of any kind.
     fn load(&mut self, level: u8, offset: u32) -> Result<(), MachineFault>
-        ensures value { Acts result (view self.new) (frames.load level offset (view self.old)) }
-        ensures size { self.new.size ≡ self.old.size }
+        ensures { Acts result (view self.old) (view self.new) (frames.load level offset (view self.old)) }
     {
         self.has_room_after(0)?;
         let used = self.used;
@@ -144,8 +141,7 @@ impl Store {
 
     /// `str`: the cell that it pops is out of use when the address is looked for.
     fn store(&mut self, level: u8, offset: u32) -> Result<(), MachineFault>
-        ensures value { Acts result (view self.new) (frames.store level offset (view self.old)) }
-        ensures size { self.new.size ≡ self.old.size }
+        ensures { Acts result (view self.old) (view self.new) (frames.store level offset (view self.old)) }
     {
         self.has(1)?;
         let used = self.used - 1;
@@ -157,8 +153,7 @@ impl Store {
 
     /// A number gives way to what the operator gives of it.
     fn on_one(&mut self, operator: Monadic) -> Result<(), MachineFault>
-        ensures value { Acts result (view self.new) (frames.on_one (frames.of_one operator) (view self.old)) }
-        ensures size { self.new.size ≡ self.old.size }
+        ensures { Acts result (view self.old) (view self.new) (frames.on_one (frames.of_one operator) (view self.old)) }
     {
         self.has(1)?;
         self.has_room_after(1)?;
@@ -169,24 +164,18 @@ impl Store {
 
     /// Two numbers give way to what the operator gives of them.
     fn on_two(&mut self, operator: Dyadic) -> Result<(), MachineFault>
-        ensures value { Acts result (view self.new) (frames.on_two (frames.of_two operator) (view self.old)) }
-        ensures size { self.new.size ≡ self.old.size }
+        ensures { Acts result (view self.old) (view self.new) (frames.on_two (frames.of_two operator) (view self.old)) }
     {
-        self.has(2)?;
-        self.has_room_after(2)?;
-        let (left, right) = self.top_two()?;
+        let (left, right) = self.operands()?;
         self.replace(2, Cell::Number(operator.of(left, right)));
         Ok(())
     }
 
     /// `dvi`
     fn divide(&mut self) -> Result<(), MachineFault>
-        ensures value { Acts result (view self.new) (frames.divide (view self.old)) }
-        ensures size { self.new.size ≡ self.old.size }
+        ensures { Acts result (view self.old) (view self.new) (frames.divide (view self.old)) }
     {
-        self.has(2)?;
-        self.has_room_after(2)?;
-        let (left, right) = self.top_two()?;
+        let (left, right) = self.operands()?;
         let value = quotient(left, right)?;
         self.replace(2, Cell::Number(value));
         Ok(())
@@ -194,12 +183,9 @@ impl Store {
 
     /// `mod`
     fn modulo(&mut self) -> Result<(), MachineFault>
-        ensures value { Acts result (view self.new) (frames.modulo (view self.old)) }
-        ensures size { self.new.size ≡ self.old.size }
+        ensures { Acts result (view self.old) (view self.new) (frames.modulo (view self.old)) }
     {
-        self.has(2)?;
-        self.has_room_after(2)?;
-        let (left, right) = self.top_two()?;
+        let (left, right) = self.operands()?;
         let value = modulo(left, right)?;
         self.replace(2, Cell::Number(value));
         Ok(())
@@ -211,7 +197,6 @@ impl Store {
         ensures popped { OnOk result (view self.new ≡ frames.popped 2 (view self.old)) }
         ensures size { self.new.size ≡ self.old.size }
     {
-        self.has(2)?;
         let numbers = self.top_two()?;
         self.used -= 2;
         Ok(numbers)
@@ -249,7 +234,6 @@ impl Store {
     pub fn sum_fits(&self) -> Result<bool, MachineFault>
         ensures { result ≡ frames.sum_is_integer (view self.now) }
     {
-        self.has(2)?;
         let (left, right) = self.top_two()?;
         Ok(fits(i64::from(left) + i64::from(right)))
     }
@@ -258,7 +242,6 @@ impl Store {
     pub fn difference_fits(&self) -> Result<bool, MachineFault>
         ensures { result ≡ frames.difference_is_integer (view self.now) }
     {
-        self.has(2)?;
         let (left, right) = self.top_two()?;
         Ok(fits(i64::from(left) - i64::from(right)))
     }
@@ -267,7 +250,6 @@ impl Store {
     pub fn product_fits(&self) -> Result<bool, MachineFault>
         ensures { result ≡ frames.product_is_integer (view self.now) }
     {
-        self.has(2)?;
         let (left, right) = self.top_two()?;
         Ok(fits(product(left, right)))
     }
@@ -313,8 +295,27 @@ impl Store {
         number(self.cells[self.used - count])
     }
 
-    /// The topmost two numbers, the lower one first.
+    /// The topmost two numbers, which another may replace.
+    fn operands(&self) -> Result<(i32, i32), MachineFault>
+        ensures within { IfOk result (λ _. (self.now.frame + 6 ≤ self.now.used) × (self.now.used < self.now.limit + 2)) }
+        ensures value { result ≡ frames.operands (view self.now) }
+    {
+        self.has(2)?;
+        self.has_room_after(2)?;
+        self.two_numbers()
+    }
+
+    /// The topmost two numbers, above the frame's links.
     fn top_two(&self) -> Result<(i32, i32), MachineFault>
+        ensures within { IfOk result (λ _. self.now.frame + 6 ≤ self.now.used) }
+        ensures value { result ≡ frames.top_two (view self.now) }
+    {
+        self.has(2)?;
+        self.two_numbers()
+    }
+
+    /// The numbers in the topmost two cells, the lower one first.
+    fn two_numbers(&self) -> Result<(i32, i32), MachineFault>
         requires { 2 ≤ self.now.used }
         ensures { result ≡ frames.two_numbers (view self.now) }
     {
