@@ -3,7 +3,6 @@ use pcode_assembler::code::{Code, Site};
 use pcode_assembler::instr::Instr;
 use std::alloc::{AllocError, Global};
 use std::test::Fail;
-use test_words::rows::all_hold;
 
 const FITS: Site = Site {
     id: 0,
@@ -51,35 +50,47 @@ const WHOLE: &[Instr] = &[
 /// A jump to a check at the end, behind a check of the other site.
 const CHECKS_LAST: &[Instr] = &[Instr::Jump { target: 2 }, SUM, IN_RANGE];
 
-/// Instructions and the open sites, and what is left of the instructions; the table of sites stays.
-static ROWS: [((&[Instr], &[Site]), &str); 4] = [
-    (
-        (WHOLE, &[OVERFLOW]),
-        "[Enter { variables: 0, evaluation: 2 }, LoadConstant { value: 5 }, Jump { target: 3 }, \
-        LoadConstant { value: 2 }, CheckSum { site: 1 }, Add, LoadConstant { value: 1 }, WriteInteger, Stop]",
-    ),
-    (
-        (WHOLE, &[]),
-        "[Enter { variables: 0, evaluation: 2 }, LoadConstant { value: 5 }, Jump { target: 3 }, \
-        LoadConstant { value: 2 }, Add, LoadConstant { value: 1 }, WriteInteger, Stop]",
-    ),
-    (
-        (CHECKS_LAST, &[OVERFLOW]),
-        "[Jump { target: 2 }, CheckSum { site: 1 }]",
-    ),
-    ((CHECKS_LAST, &[]), "[Jump { target: 1 }]"),
+/// The whole code where the other site alone is open.
+const SUM_STAYS: &[Instr] = &[
+    ENTER,
+    Instr::LoadConstant { value: 5 },
+    Instr::Jump { target: 3 },
+    Instr::LoadConstant { value: 2 },
+    SUM,
+    Instr::Add,
+    Instr::LoadConstant { value: 1 },
+    Instr::WriteInteger,
+    Instr::Stop,
 ];
 
-fn told(alloc: Global, row: &(&[Instr], &[Site])) -> Result<String, Fail> {
-    instructions_told(alloc, &remove(alloc, &code_of(alloc, row.0)?, row.1)?)
-}
+/// The whole code where no site is open.
+const NONE_STAYS: &[Instr] = &[
+    ENTER,
+    Instr::LoadConstant { value: 5 },
+    Instr::Jump { target: 3 },
+    Instr::LoadConstant { value: 2 },
+    Instr::Add,
+    Instr::LoadConstant { value: 1 },
+    Instr::WriteInteger,
+    Instr::Stop,
+];
 
-fn instructions_told(alloc: Global, code: &Code) -> Result<String, Fail> {
-    if code.sites.as_slice() == SITES.as_slice() {
-        Ok(format!(in alloc; "{:?}", code.instructions)?)
-    } else {
-        Err(Fail::new("another table of sites"))
-    }
+/// Instructions and the open sites, and what is left of the instructions; the table of sites stays.
+static ROWS: [(&[Instr], &[Site], &[Instr]); 4] = [
+    (WHOLE, &[OVERFLOW], SUM_STAYS),
+    (WHOLE, &[], NONE_STAYS),
+    (CHECKS_LAST, &[OVERFLOW], &[Instr::Jump { target: 2 }, SUM]),
+    (CHECKS_LAST, &[], &[Instr::Jump { target: 1 }]),
+];
+
+fn leaves(
+    alloc: Global,
+    instructions: &[Instr],
+    open_sites: &[Site],
+    rest: &[Instr],
+) -> Result<bool, AllocError> {
+    let code = remove(alloc, &code_of(alloc, instructions)?, open_sites)?;
+    Ok(code.sites.as_slice() == SITES.as_slice() && code.instructions.as_slice() == rest)
 }
 
 fn code_of(alloc: Global, instructions: &[Instr]) -> Result<Code, AllocError> {
@@ -92,5 +103,8 @@ fn code_of(alloc: Global, instructions: &[Instr]) -> Result<Code, AllocError> {
 
 #[test]
 fn moves_jumps_over_removed_checks(rt: HostRuntime) -> Result<(), Fail> {
-    all_hold(rt.alloc(), &ROWS, told)
+    for (instructions, open_sites, rest) in &ROWS {
+        assert!(rt; leaves(rt.alloc(), instructions, open_sites, rest)?);
+    }
+    Ok(())
 }

@@ -1,7 +1,7 @@
 use crate::instr::Instr;
 
 /// A place of the source at which a run may commit an error, in plain numbers.
-#[derive(Clone, Copy, Debug, PartialEq, Eq)]
+#[derive(Clone, Copy, PartialEq, Eq)]
 pub struct Site {
     /// Its place in the table, from 0.
     pub id: u32,
@@ -14,7 +14,7 @@ pub struct Site {
 }
 
 /// A place of the source at which a run may stop for its input, in plain numbers.
-#[derive(Clone, Copy, Debug, PartialEq, Eq)]
+#[derive(Clone, Copy)]
 pub struct Point {
     /// Its place in the table, from 0.
     pub id: u32,
@@ -25,7 +25,7 @@ pub struct Point {
 }
 
 /// The code of a program.
-#[derive(Debug, Drop)]
+#[derive(Drop)]
 pub struct Code {
     /// In order of id.
     pub sites: Vec<Site>,

@@ -20,7 +20,7 @@ const WRITTEN: &str = "  3 true -1tr\n";
 fn is_as_it_should(ran: &Result<(Verdict, Stop), Fault>, written: &[u8]) -> bool {
     match ran {
         Ok((verdict, stop)) => {
-            verdict.visits == 40 && *stop == Stop::Finished && written == WRITTEN.as_bytes()
+            verdict.visits == 40 && matches!(stop, Stop::Finished) && written == WRITTEN.as_bytes()
         }
         Err(fault) => matches!(fault, Fault::Memory) && written.is_empty(),
     }

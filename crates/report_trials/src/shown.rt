@@ -54,7 +54,7 @@ pub(crate) fn show(alloc: Global, source: &[u8], cells: u32, budget: u64) -> Res
 {
     let (ran, output) = run_into(alloc, Vec::new(alloc), source, None, cells, budget);
     let (verdict, stop) = ran?;
-    if stop == Stop::WriteFailed {
+    if matches!(stop, Stop::WriteFailed) {
         return Err(Fault::Memory);
     }
     Ok(Shown {

@@ -2,11 +2,10 @@ ghost use Rattle.std.specs.Prelude.{All, OnOk};
 ghost use Rattle.test_words.specs.Rows.{GivesText};
 
 use std::alloc::Global;
-use std::fmt::Debug;
 use std::test::Fail;
 
-/// Fails at the first row that doesn't give the text that stands beside it.
-pub fn all_hold<Row: Debug, E, F: Fn(Global, &Row) -> Result<String, E>>(
+/// Fails at the first row that doesn't give the text that stands beside it. Rows are numbered from 0.
+pub fn all_hold<Row, E, F: Fn(Global, &Row) -> Result<String, E>>(
     alloc: Global,
     rows: &[(Row, &str)],
     told: F,
@@ -16,10 +15,10 @@ where
     requires { F.IsAlwaysCallable told }
     ensures { OnOk result (All (λ row. GivesText (F.post told alloc) row.0 row.1.now) rows.now) }
 {
-    for (row, wanted) in rows {
+    for (number, (row, wanted)) in rows.iter().enumerate() {
         let found = told(alloc, row)?;
         if found.as_str() != *wanted {
-            let failure = format!(in alloc; "{found} in place of {wanted} for {row:?}")?;
+            let failure = format!(in alloc; "{found} in place of {wanted} in row {number}")?;
             return Err(Fail::new(failure));
         }
     }

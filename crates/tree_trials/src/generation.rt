@@ -2,6 +2,7 @@ use crate::sources::tree_of;
 use code_generator::fault::GenFault;
 use code_generator::generate::generate;
 use pcode_assembler::code::Code;
+use pcode_assembler::instr::Instr;
 use std::alloc::{AllocError, Global};
 use std::test::Fail;
 use test_words::machines::run_told;
@@ -18,56 +19,122 @@ fn code_of(alloc: Global, statements: &str) -> Result<Code, GenFault> {
     }
 }
 
-fn instructions_told(alloc: Global, code: Result<Code, GenFault>) -> Result<String, AllocError> {
-    match code {
-        Ok(code) => format!(in alloc; "{:?}", code.instructions),
-        Err(fault) => format!(in alloc; "{fault}"),
+const fn constant(value: i32) -> Instr {
+    Instr::LoadConstant { value }
+}
+
+/// The entry of a program with two variables.
+const fn entered(evaluation: u32) -> Instr {
+    Instr::Enter {
+        variables: 2,
+        evaluation,
     }
 }
 
-fn code_told(alloc: Global, statements: &&str) -> Result<String, AllocError> {
-    instructions_told(alloc, code_of(alloc, statements))
+const fn loaded(offset: u32) -> Instr {
+    Instr::Load { level: 0, offset }
+}
+
+const fn defined(site: u32) -> Instr {
+    Instr::CheckDefined { site, length: 1 }
+}
+
+/// The check that a width or a divisor of mod is 1 or more.
+const fn positive(site: u32) -> Instr {
+    Instr::CheckRange {
+        site,
+        low: 1,
+        high: 2147483647,
+    }
 }
 
 /// A sign comes after its term, a divisor is checked before the quotient, each width behind its value, and a square
 /// before it is taken. A frame has room for a width beside its value.
-static CODES: [(&str, &str); 5] = [
+static CODES: [(&str, &[Instr]); 5] = [
     (
         "write(-7 mod 2)",
-        "[Enter { variables: 2, evaluation: 2 }, LoadConstant { value: 7 }, LoadConstant { value: 2 }, \
-        CheckRange { site: 0, low: 1, high: 2147483647 }, Modulo, Negate, \
-        LoadConstant { value: 10 }, WriteInteger, Stop]",
+        &[
+            entered(2),
+            constant(7),
+            constant(2),
+            positive(0),
+            Instr::Modulo,
+            Instr::Negate,
+            constant(10),
+            Instr::WriteInteger,
+            Instr::Stop,
+        ],
     ),
     (
         "write(a div b)",
-        "[Enter { variables: 2, evaluation: 2 }, \
-        Load { level: 0, offset: 4 }, CheckDefined { site: 0, length: 1 }, \
-        Load { level: 0, offset: 5 }, CheckDefined { site: 2, length: 1 }, CheckZero { site: 1 }, Divide, \
-        LoadConstant { value: 10 }, WriteInteger, Stop]",
+        &[
+            entered(2),
+            loaded(4),
+            defined(0),
+            loaded(5),
+            defined(2),
+            Instr::CheckZero { site: 1 },
+            Instr::Divide,
+            constant(10),
+            Instr::WriteInteger,
+            Instr::Stop,
+        ],
     ),
     (
         "write(true : 2, 5 : 1)",
-        "[Enter { variables: 2, evaluation: 2 }, LoadConstant { value: 1 }, LoadConstant { value: 2 }, \
-        CheckRange { site: 0, low: 1, high: 2147483647 }, WriteBoolean, \
-        LoadConstant { value: 5 }, LoadConstant { value: 1 }, \
-        CheckRange { site: 1, low: 1, high: 2147483647 }, WriteInteger, Stop]",
+        &[
+            entered(2),
+            constant(1),
+            constant(2),
+            positive(0),
+            Instr::WriteBoolean,
+            constant(5),
+            constant(1),
+            positive(1),
+            Instr::WriteInteger,
+            Instr::Stop,
+        ],
     ),
     (
         "write(sqr(9))",
-        "[Enter { variables: 2, evaluation: 2 }, LoadConstant { value: 9 }, CheckSquare { site: 0 }, Square, \
-        LoadConstant { value: 10 }, WriteInteger, Stop]",
+        &[
+            entered(2),
+            constant(9),
+            Instr::CheckSquare { site: 0 },
+            Instr::Square,
+            constant(10),
+            Instr::WriteInteger,
+            Instr::Stop,
+        ],
     ),
     (
         "write(1 : 1 + 2)",
-        "[Enter { variables: 2, evaluation: 3 }, LoadConstant { value: 1 }, \
-        LoadConstant { value: 1 }, LoadConstant { value: 2 }, CheckSum { site: 1 }, Add, \
-        CheckRange { site: 0, low: 1, high: 2147483647 }, WriteInteger, Stop]",
+        &[
+            entered(3),
+            constant(1),
+            constant(1),
+            constant(2),
+            Instr::CheckSum { site: 1 },
+            Instr::Add,
+            positive(0),
+            Instr::WriteInteger,
+            Instr::Stop,
+        ],
     ),
 ];
 
+fn has_code(alloc: Global, statements: &str, wanted: &[Instr]) -> Result<bool, GenFault> {
+    Ok(code_of(alloc, statements)?.instructions.as_slice() == wanted)
+}
+
 #[test]
 fn operations_have_their_code(rt: HostRuntime) -> Result<(), Fail> {
-    all_hold(rt.alloc(), &CODES, code_told)
+    for (statements, wanted) in &CODES {
+        if !has_code(rt.alloc(), statements, wanted)? {
+            return Err(Fail::new(*statements));
+        }
+    }
+    Ok(())
 }
 
 /// What the run of a program writes in a store of so many cells, and behind it how it stops.

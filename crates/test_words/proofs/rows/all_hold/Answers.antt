@@ -12,22 +12,22 @@ gave :
 gave post shown answer text bytes met was same = (shown, text, refl, subst (post shown) was met, same)
 
 -- the row of this turn gave its text, too
-pub loop-row-preserved : goal.loop-row-preserved
-loop-row-preserved g c =
+pub loop-number-preserved : goal.loop-number-preserved
+loop-number-preserved g c =
     let post = goal.F-post g c.args.told c.args.alloc in
     let gives = λ (row : g.row.Row.Denot × Bor (List ℕ)). GivesText post row.0 row.1.now in
     let rows = c.args.rows.now in
-    let index = c.loop-row.row-index in
-    let row = c.loop-row-item.result in
+    let index = c.loop-number.number-counter in
+    let row = c.index-rows-number.result in
     let text = c.in_ok-found.found in
     record {
-      callable = c.loop-row.invariant.callable;
+      callable = c.loop-number.invariant.callable;
       given =
-          AllWithin-more gives rows 0 index c.loop-row.invariant.given
-          (at_read rows gives index row (omega arith) c.loop-row-item.is
+          AllWithin-more gives rows 0 index c.loop-number.invariant.given
+          (at_read rows gives index row (omega arith) c.index-rows-number.is
           (gave post _ c.told.result text row.1.now c.told.ensures c.in_ok-found.was (search rules)));
     }
 
 -- all rows were taken
 pub returns : goal.returns
-returns g c = λ k d h. c.loop-row.invariant.given k d (omega arith) (omega arith)
+returns g c = λ k d h. c.loop-number.invariant.given k d (omega arith) (omega arith)
