@@ -9,7 +9,7 @@ use Rattle.std.proofs.lemmas.Option.{slice_get-get_or}
 use Rattle.stack_machine.specs.declared.cell.Cell.{Cell}
 use Rattle.stack_machine.specs.declared.cell.Cell.TheVariants.{Undefined, Number}
 use Rattle.stack_machine.specs.declared.stop.MachineFault.TheVariants.{Underflow, OutOfBounds, WrongDivisor}
-use Rattle.stack_machine.specs.Frames.{Frames, Attempt, ◌>>=◌, unless_fault, has, has_room_after, number, number_at, popped, pushed, in_use, variable, cell_at, load_constant, load, store, two_numbers, on_one, on_two, divide, modulo, top_two, is_integer, is_true, is_defined, top_is_in_range, top_is_not_zero, top_is_defined, sum_is_integer, difference_is_integer, product_is_integer, square_is_integer}
+use Rattle.stack_machine.specs.Frames.{Frames, ◌>>=◌, unless_fault, has, has_room_after, number, number_at, popped, pushed, in_use, variable, cell_at, load_constant, load, store, two_numbers, on_one, operands, on_two, divide, modulo, top_two, is_integer, is_true, is_defined, top_is_in_range, top_is_not_zero, top_is_defined, sum_is_integer, difference_is_integer, product_is_integer, square_is_integer}
 
 -- the element behind the first ones
 pub slice_get_seam : {A : Type 0} (below : List A) (a : A) (above : List A) → slice_get (below ++ a ∷ above) (length below) ≡ Some a
@@ -148,22 +148,22 @@ module _ (limit size : ℕ) where
       multiplies = ap (λ r. r >>= λ ns. Ok (is_integer (ns.0 *ℤ ns.1))) top_is
 
       -- the topmost two numbers are there, and there is room for a third
-      two_give : {A : Type 0} (next : ℤ × ℤ → Attempt A) → length below < limit → (has 2 (framed two) >>= λ _. has_room_after 2 (framed two) >>= λ _. two_numbers (framed two) >>= next) ≡ next (a, b)
-      two_give next room =
+      operands_are : length below < limit → operands (framed two) ≡ Ok (a, b)
+      operands_are room =
           let s = framed two in
-          ap (λ r. r >>= λ _. has_room_after 2 s >>= λ _. two_numbers s >>= next) has_two
-          ∙ ap (λ r. r >>= λ _. two_numbers s >>= next) (has_room 2 two (omega (arith, length_two below (Number a) (Number b))))
-          ∙ ap (λ r. r >>= next) numbers_are
+          ap (λ r. r >>= λ _. has_room_after 2 s >>= λ _. two_numbers s) has_two
+          ∙ ap (λ r. r >>= λ _. two_numbers s) (has_room 2 two (omega (arith, length_two below (Number a) (Number b))))
+          ∙ numbers_are
 
       pub on_two_is : (f : ℤ → ℤ → ℤ) → length below < limit → on_two f (framed two) ≡ Ok (framed (below ++ Number (f a b) ∷ []))
       on_two_is f room =
-          two_give (λ ns. Ok (pushed (Number (f ns.0 ns.1)) (popped 2 (framed two)))) room
+          ap (λ r. r >>= λ ns. Ok (pushed (Number (f ns.0 ns.1)) (popped 2 (framed two)))) (operands_are room)
           ∙ ap (λ cs. Ok (framed (cs ++ Number (f a b) ∷ []))) two_popped
 
       -- two numbers give way to a third, unless the divisor is wrong
-      divisor_is : (test : ℤ → Bool) (f : ℤ → ℤ → ℤ) → length below < limit → test b ≡ true → (has 2 (framed two) >>= λ _. has_room_after 2 (framed two) >>= λ _. two_numbers (framed two) >>= λ ns. unless_fault (test ns.1) WrongDivisor >>= λ _. Ok (pushed (Number (f ns.0 ns.1)) (popped 2 (framed two)))) ≡ Ok (framed (below ++ Number (f a b) ∷ []))
+      divisor_is : (test : ℤ → Bool) (f : ℤ → ℤ → ℤ) → length below < limit → test b ≡ true → (operands (framed two) >>= λ ns. unless_fault (test ns.1) WrongDivisor >>= λ _. Ok (pushed (Number (f ns.0 ns.1)) (popped 2 (framed two)))) ≡ Ok (framed (below ++ Number (f a b) ∷ []))
       divisor_is test f room good =
-          two_give (λ ns. unless_fault (test ns.1) WrongDivisor >>= λ _. Ok (pushed (Number (f ns.0 ns.1)) (popped 2 (framed two)))) room
+          ap (λ r. r >>= λ ns. unless_fault (test ns.1) WrongDivisor >>= λ _. Ok (pushed (Number (f ns.0 ns.1)) (popped 2 (framed two)))) (operands_are room)
           ∙ ap (λ t. unless_fault t WrongDivisor >>= λ _. Ok (pushed (Number (f a b)) (popped 2 (framed two)))) good
           ∙ ap (λ cs. Ok (framed (cs ++ Number (f a b) ∷ []))) two_popped
 

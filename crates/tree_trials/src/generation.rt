@@ -19,34 +19,18 @@ fn code_of(alloc: Global, statements: &str) -> Result<Code, GenFault> {
     }
 }
 
-const fn constant(value: i32) -> Instr {
-    Instr::LoadConstant { value }
-}
-
 /// The entry of a program with two variables.
-const fn entered(evaluation: u32) -> Instr {
-    Instr::Enter {
-        variables: 2,
-        evaluation,
-    }
-}
+const ENTER: Instr = Instr::Enter {
+    variables: 2,
+    evaluation: 2,
+};
 
-const fn loaded(offset: u32) -> Instr {
-    Instr::Load { level: 0, offset }
-}
-
-const fn defined(site: u32) -> Instr {
-    Instr::CheckDefined { site, length: 1 }
-}
-
-/// The check that a width or a divisor of mod is 1 or more.
-const fn positive(site: u32) -> Instr {
-    Instr::CheckRange {
-        site,
-        low: 1,
-        high: 2147483647,
-    }
-}
+/// The check that a width or a divisor of mod is 1 or more, at the first site.
+const POSITIVE: Instr = Instr::CheckRange {
+    site: 0,
+    low: 1,
+    high: 2147483647,
+};
 
 /// A sign comes after its term, a divisor is checked before the quotient, each width behind its value, and a square
 /// before it is taken. A frame has room for a width beside its value.
@@ -54,13 +38,13 @@ static CODES: [(&str, &[Instr]); 5] = [
     (
         "write(-7 mod 2)",
         &[
-            entered(2),
-            constant(7),
-            constant(2),
-            positive(0),
+            ENTER,
+            Instr::LoadConstant { value: 7 },
+            Instr::LoadConstant { value: 2 },
+            POSITIVE,
             Instr::Modulo,
             Instr::Negate,
-            constant(10),
+            Instr::LoadConstant { value: 10 },
             Instr::WriteInteger,
             Instr::Stop,
         ],
@@ -68,14 +52,20 @@ static CODES: [(&str, &[Instr]); 5] = [
     (
         "write(a div b)",
         &[
-            entered(2),
-            loaded(4),
-            defined(0),
-            loaded(5),
-            defined(2),
+            ENTER,
+            Instr::Load {
+                level: 0,
+                offset: 4,
+            },
+            Instr::CheckDefined { site: 0, length: 1 },
+            Instr::Load {
+                level: 0,
+                offset: 5,
+            },
+            Instr::CheckDefined { site: 2, length: 1 },
             Instr::CheckZero { site: 1 },
             Instr::Divide,
-            constant(10),
+            Instr::LoadConstant { value: 10 },
             Instr::WriteInteger,
             Instr::Stop,
         ],
@@ -83,14 +73,18 @@ static CODES: [(&str, &[Instr]); 5] = [
     (
         "write(true : 2, 5 : 1)",
         &[
-            entered(2),
-            constant(1),
-            constant(2),
-            positive(0),
+            ENTER,
+            Instr::LoadConstant { value: 1 },
+            Instr::LoadConstant { value: 2 },
+            POSITIVE,
             Instr::WriteBoolean,
-            constant(5),
-            constant(1),
-            positive(1),
+            Instr::LoadConstant { value: 5 },
+            Instr::LoadConstant { value: 1 },
+            Instr::CheckRange {
+                site: 1,
+                low: 1,
+                high: 2147483647,
+            },
             Instr::WriteInteger,
             Instr::Stop,
         ],
@@ -98,11 +92,11 @@ static CODES: [(&str, &[Instr]); 5] = [
     (
         "write(sqr(9))",
         &[
-            entered(2),
-            constant(9),
+            ENTER,
+            Instr::LoadConstant { value: 9 },
             Instr::CheckSquare { site: 0 },
             Instr::Square,
-            constant(10),
+            Instr::LoadConstant { value: 10 },
             Instr::WriteInteger,
             Instr::Stop,
         ],
@@ -110,13 +104,16 @@ static CODES: [(&str, &[Instr]); 5] = [
     (
         "write(1 : 1 + 2)",
         &[
-            entered(3),
-            constant(1),
-            constant(1),
-            constant(2),
+            Instr::Enter {
+                variables: 2,
+                evaluation: 3,
+            },
+            Instr::LoadConstant { value: 1 },
+            Instr::LoadConstant { value: 1 },
+            Instr::LoadConstant { value: 2 },
             Instr::CheckSum { site: 1 },
             Instr::Add,
-            positive(0),
+            POSITIVE,
             Instr::WriteInteger,
             Instr::Stop,
         ],
