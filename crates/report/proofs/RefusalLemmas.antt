@@ -1,5 +1,6 @@
 -- The fault of a layer, as the whole compiler tells it, is a refusal of the source.
 use Rattle.std.proofs.Common.{◌≡◌, ◌⊎◌, ⊎_elim, ℕ, ◌<◌, List, Some, Result, Err, IfErr, map, length, refl, sym, subst}
+use Rattle.std.specs.Prelude.{MatchResult}
 use Rattle.lexer.specs.declared.token.Token.{Token}
 use Rattle.lexer.specs.Tokens.{IsTokenList, lexeme_of}
 use Rattle.parser.specs.declared.fault.ParseFault.{ParseFault}
@@ -18,13 +19,18 @@ use Rattle.code_generator.specs.declared.fault.GenFault.TheVariants as generate
 use Rattle.code_generator.specs.Code.{program_code}
 use Rattle.report.specs.declared.fault.Fault.{Fault}
 use Rattle.report.specs.Faults.{parser_fault, typing_fault, certificate_fault, generator_fault}
-use Rattle.report.specs.Headline.{IsWrittenAs, IsTypedTreeOf}
+use Rattle.report.specs.Headline.{IsWrittenAs, IsTypedTreeOf, IsSoundTreeOf}
 use Rattle.report.specs.Refusals.{IsRefusal, IsCertificate}
 
 -- an answer that is this fault
 pub refused_by : {A : Type 0} (source text : List ℕ) (answer : Result A Fault) (y fault : Fault) → answer ≡ Err y → y ≡ fault → IsRefusal source text fault → IfErr answer (IsRefusal source text)
 refused_by source text answer y fault is same h =
     subst (λ r. IfErr r (IsRefusal source text)) (sym is) (subst (IsRefusal source text) (sym same) h)
+
+-- and one of the typed tree, whatever the certificate
+pub untyped_by : (source : List ℕ) (answer : Result Tree Fault) (y fault : Fault) → answer ≡ Err y → y ≡ fault → ((text : List ℕ) → IsRefusal source text fault) → MatchResult answer (IsSoundTreeOf source) (λ fault. (text : List ℕ) → IsRefusal source text fault)
+untyped_by source answer y fault is same h =
+    subst (λ r. MatchResult r (IsSoundTreeOf source) (λ fault. (text : List ℕ) → IsRefusal source text fault)) (sym is) (λ text. subst (IsRefusal source text) (sym same) (h text))
 
 -- syntax is refused of a source whose tokens have that fault
 pub parsing-refusal : (source text : List ℕ) (fault : ParseFault) (tokens : List Token) → IsTokenList source (map lexeme_of tokens) → IsFaultOf fault tokens → IsRefusal source text (parser_fault fault)

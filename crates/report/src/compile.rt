@@ -1,13 +1,11 @@
-ghost use Rattle.std.specs.Prelude.{◌≡◌, ◌≤◌, ◌<◌, ◌+◌, ◌-◌, ◌^◌, ℕ, List, IfOk, IfErr, OnErr};
+ghost use Rattle.std.specs.Prelude.{◌≡◌, ◌≤◌, ◌<◌, ◌+◌, ◌-◌, ◌^◌, ℕ, List, IfOk, IfErr, MatchResult, OnErr};
 ghost use Rattle.certificate.specs.Text.{spelling};
 ghost use Rattle.cert_checker.specs.Entries.{entries};
 ghost use Rattle.cert_checker.specs.Promise.{Valid, StatesHold};
 ghost use Rattle.code_generator.specs.Code.{program_code};
 ghost use Rattle.code_generator.specs.Follows.{Follows};
 ghost use Rattle.code_generator.specs.Tables.{site_table, point_table};
-ghost use Rattle.typed_tree.specs.WellFormed.{IsWellFormed};
-ghost use Rattle.typed_tree.specs.Ids.{AreInOrder};
-ghost use Rattle.report.specs.Headline.{Headline, IsTypedTreeOf};
+ghost use Rattle.report.specs.Headline.{Headline, IsSoundTreeOf, IsTypedTreeOf};
 ghost use Rattle.report.specs.Refusals.{IsRefusal, text_of};
 ghost use Rattle.stack_machine.specs.Failures.{write_failures_of};
 ghost use Rattle.report.specs.Whole.{IsStripped, RunsStripped};
@@ -119,11 +117,9 @@ pub fn go<R: Feed, W: Sink>(
     Ok((compiled.verdict, stop))
 }
 
+// The typed tree of a source, whatever its certificate.
 fn typed(alloc: Global, source: &[u8]) -> Result<Tree, Fault>
-    ensures well_formed { IfOk result IsWellFormed }
-    ensures in_order { IfOk result (λ tree. AreInOrder tree.sites.items) }
-    ensures typed { IfOk result (λ tree. IsTypedTreeOf tree source.now) }
-    ensures refused { (text : List ℕ) → IfErr result (IsRefusal source.now text) }
+    ensures { MatchResult result (IsSoundTreeOf source.now) (λ fault. (text : List ℕ) → IsRefusal source.now text fault) }
 {
     let tokens = tokens(alloc, source)?;
     let program = parse(alloc, &tokens)?;

@@ -12,7 +12,7 @@ use thiserror::Error;
 use typed_tree::fault::TypeFault;
 
 /// Why a source was not compiled: want of memory, or the fault of the crate that refused it.
-#[derive(Clone, Copy, Debug, PartialEq, Eq, Error)]
+#[derive(Clone, Copy, Debug, Error)]
 pub enum Fault {
     #[error("no memory")]
     Memory,

@@ -30,7 +30,7 @@ returns-in_err-tree-clause-refused c =
     let source = c.args.source.now in
     let text = text_of c.args.certificate in
     let told = err_from_is_err_and c.from_residual.result c.from_residual.ensures.1 in
-    refused_by source text c.from_residual.result told.0 c.in_err-tree.field-0.0 told.1 told.2 (c.in_err-tree.ensures.refused text)
+    refused_by source text c.from_residual.result told.0 c.in_err-tree.field-0.0 told.1 told.2 (c.in_err-tree.ensures text)
 
 pub returns-in_err-full-clause-refused : goal.returns-in_err-full-clause-refused
 returns-in_err-full-clause-refused c =

@@ -1,29 +1,30 @@
-use Rattle.std.proofs.Common.{rules, subst}
+use Rattle.std.proofs.Common.{subst}
 use Rattle.std.proofs.lemmas.Result.{err_from_is_err_and}
 use Rattle.parser.specs.Syntax.{IsTreeOf, IsFaultOf}
-use Rattle.report.proofs.RefusalLemmas.{refused_by, parsing-refusal, typing-refusal}
+use Rattle.report.proofs.RefusalLemmas.{untyped_by, parsing-refusal, typing-refusal}
 use Rattle.report.proofs.compile.typed.Goals as goal
 
-pub returns-clause-typed : goal.returns-clause-typed
-returns-clause-typed c =
+pub returns : goal.returns
+returns c =
     let program = c.in_ok-program.program in
-    (program, (c.in_ok-tokens.tokens.items, c.in_ok-tokens.ensures.list, subst (IsTreeOf program) c.deref.ensures.value c.in_ok-program.ensures.exact), c.in_ok-tree.ensures.typed)
+    record {
+      well_formed = c.in_ok-tree.ensures.well_formed;
+      in_order = c.in_ok-tree.ensures.in_order;
+      typed = (program, (c.in_ok-tokens.tokens.items, c.in_ok-tokens.ensures.list, subst (IsTreeOf program) c.deref.ensures.value c.in_ok-program.ensures.exact), c.in_ok-tree.ensures.typed);
+    }
 
-pub returns-in_err-program-clause-refused : goal.returns-in_err-program-clause-refused
-returns-in_err-program-clause-refused c = λ text.
+pub returns-in_err-program : goal.returns-in_err-program
+returns-in_err-program c =
     let source = c.args.source.now in
     let fault = c.in_err-program.field-0.0 in
     let told = err_from_is_err_and c.from_residual-in_err-program.result c.from_residual-in_err-program.ensures.1 in
-    refused_by source text c.from_residual-in_err-program.result told.0 _ told.1 told.2
-    (parsing-refusal source text fault c.in_ok-tokens.tokens.items c.in_ok-tokens.ensures.list (subst (IsFaultOf fault) c.deref.ensures.value c.in_err-program.ensures.exact))
+    untyped_by source c.from_residual-in_err-program.result told.0 _ told.1 told.2
+    (λ text. parsing-refusal source text fault c.in_ok-tokens.tokens.items c.in_ok-tokens.ensures.list (subst (IsFaultOf fault) c.deref.ensures.value c.in_err-program.ensures.exact))
 
-pub returns-in_err-tree-clause-refused : goal.returns-in_err-tree-clause-refused
-returns-in_err-tree-clause-refused c = λ text.
+pub returns-in_err-tree : goal.returns-in_err-tree
+returns-in_err-tree c =
     let source = c.args.source.now in
     let program = c.in_ok-program.program in
     let told = err_from_is_err_and c.from_residual-in_err-tree.result c.from_residual-in_err-tree.ensures.1 in
-    refused_by source text c.from_residual-in_err-tree.result told.0 _ told.1 told.2
-    (typing-refusal source text c.in_err-tree.field-0.0 program (c.in_ok-tokens.tokens.items, c.in_ok-tokens.ensures.list, subst (IsTreeOf program) c.deref.ensures.value c.in_ok-program.ensures.exact) c.in_err-tree.ensures.refused)
-
-pub returns-clause-refused : goal.returns-clause-refused
-returns-clause-refused c = search rules
+    untyped_by source c.from_residual-in_err-tree.result told.0 _ told.1 told.2
+    (λ text. typing-refusal source text c.in_err-tree.field-0.0 program (c.in_ok-tokens.tokens.items, c.in_ok-tokens.ensures.list, subst (IsTreeOf program) c.deref.ensures.value c.in_ok-program.ensures.exact) c.in_err-tree.ensures.refused)
