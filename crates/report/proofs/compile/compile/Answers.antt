@@ -66,3 +66,15 @@ returns-clause-points c = c.in_ok-full.ensures.points
 
 pub returns-clause-follows : goal.returns-clause-follows
 returns-clause-follows c = c.in_ok-full.ensures.follows c.in_ok-tree.ensures.well_formed
+
+pub returns-clause-typed : goal.returns-clause-typed
+returns-clause-typed c = c.in_ok-tree.ensures.typed
+
+pub returns-clause-checked : goal.returns-clause-checked
+returns-clause-checked c = c.in_ok-verdict.ensures.valid
+
+pub returns-clause-visits : goal.returns-clause-visits
+returns-clause-visits c = c.in_ok-verdict.ensures.visits
+
+pub returns-clause-states_hold : goal.returns-clause-states_hold
+returns-clause-states_hold c = c.in_ok-verdict.ensures.states_hold
