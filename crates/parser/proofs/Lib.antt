@@ -7,6 +7,7 @@ pub mod ExactExpressions
 pub mod ExactLists
 pub mod ExactPrograms
 pub mod ExactStatements
+pub mod Kept
 pub mod Led
 pub mod Lists
 pub mod Programs

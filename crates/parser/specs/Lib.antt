@@ -1,4 +1,5 @@
 pub mod Cursor
+pub mod Kept
 pub mod Level
 pub mod Nesting
 pub mod ParseFault

@@ -7,6 +7,7 @@ ghost use Rattle.parser.specs.WellFormed.{first_level, operand_level, signed_lev
 
 use crate::cursor::Cursor;
 use crate::fault::ParseFault;
+use crate::memory::{boxed, put};
 use crate::nesting::inside;
 use crate::operator::Level;
 use crate::tree::{Actual, Expr, Link, Operator};
@@ -122,7 +123,7 @@ fn signed<'a>(
         Some((sign, place)) => Ok(Expr::Signed {
             sign,
             place,
-            term: Box::new(alloc, expression(alloc, cursor, levels, Level::Product)?)?,
+            term: boxed(alloc, expression(alloc, cursor, levels, Level::Product))?,
         }),
     }
 }
@@ -149,11 +150,8 @@ fn factor<'a>(
         return parenthesized(alloc, cursor, levels);
     };
     let levels = inside(levels, cursor.place())?;
-    let inner = factor(alloc, cursor, levels)?;
-    Ok(Expr::Not {
-        place,
-        operand: Box::new(alloc, inner)?,
-    })
+    let operand = boxed(alloc, factor(alloc, cursor, levels))?;
+    Ok(Expr::Not { place, operand })
 }
 
 // named = name actuals
@@ -193,7 +191,7 @@ fn parenthesized<'a>(
 {
     let open = cursor.expect_symbol(Symbol::OpenParenthesis)?;
     let levels = inside(levels, open)?;
-    let inner = Box::new(alloc, expression(alloc, cursor, levels, Level::Relation)?)?;
+    let inner = boxed(alloc, expression(alloc, cursor, levels, Level::Relation))?;
     cursor.expect_symbol(Symbol::CloseParenthesis)?;
     Ok(Expr::Parenthesized { open, inner })
 }
@@ -232,7 +230,7 @@ fn actual_list<'a>(
 {
     let mut actuals = Vec::new(alloc);
     loop {
-        actuals.push(actual(alloc, cursor, levels)?)?;
+        put(&mut actuals, actual(alloc, cursor, levels))?;
         let Some(_) = cursor.take_symbol(Symbol::Comma) else {
             return Ok(actuals);
         };

@@ -4,6 +4,7 @@
 mod cursor;
 mod expression;
 pub mod fault;
+mod memory;
 mod nesting;
 mod operator;
 mod program;

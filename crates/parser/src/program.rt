@@ -6,6 +6,7 @@ ghost use Rattle.parser.specs.Syntax.{first_left_out, is_left_out, IsTreeOf, IsR
 
 use crate::cursor::Cursor;
 use crate::fault::ParseFault;
+use crate::memory::put;
 use crate::nesting::{MAX_NESTING, inside};
 use crate::statement::compound;
 use crate::tree::{Block, Name, Program, TypeDenoter, VariableGroup};
@@ -103,7 +104,7 @@ fn names<'a>(alloc: Global, cursor: &mut Cursor<'_, 'a>) -> Result<Vec<Name<'a>>
 {
     let mut names = Vec::new(alloc);
     loop {
-        names.push(cursor.expect_name()?)?;
+        put(&mut names, cursor.expect_name())?;
         let Some(_) = cursor.take_symbol(Symbol::Comma) else {
             return Ok(names);
         };
@@ -154,7 +155,7 @@ fn groups<'a>(
 {
     let mut groups = Vec::new(alloc);
     loop {
-        groups.push(group(alloc, cursor)?)?;
+        put(&mut groups, group(alloc, cursor))?;
         let Some(Kind::Identifier) = cursor.peek() else {
             return Ok(groups);
         };

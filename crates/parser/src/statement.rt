@@ -6,6 +6,7 @@ ghost use Rattle.parser.specs.Rules.{Read, BeginsStmt, BeginsStatements, BeginsC
 use crate::cursor::Cursor;
 use crate::expression::{actuals, expression};
 use crate::fault::ParseFault;
+use crate::memory::put;
 use crate::nesting::inside;
 use crate::operator::Level;
 use crate::tree::Stmt;
@@ -45,7 +46,7 @@ fn statements<'a>(
 {
     let mut statements = Vec::new(alloc);
     loop {
-        statements.push(statement(alloc, cursor, levels)?)?;
+        put(&mut statements, statement(alloc, cursor, levels))?;
         let Some(_) = cursor.take_symbol(Symbol::Semicolon) else {
             return Ok(statements);
         };

@@ -1,4 +1,4 @@
-use Rattle.std.proofs.Common.{rules, arith, ◌≡◌, ap, ◌∙◌, sym, subst, [], ◌∷◌, length, Some, Ok, Err, MatchResult}
+use Rattle.std.proofs.Common.{rules, arith, ◌≡◌, refl, ap, ◌∙◌, sym, subst, [], ◌∷◌, length, Some, Ok, Err, MatchResult}
 use Rattle.lexer.specs.declared.token.Kind.TheVariants as kind
 use Rattle.lexer.specs.declared.token.Symbol.TheVariants as symbol
 use Rattle.lexer.specs.declared.token.Word.TheVariants as word
@@ -6,11 +6,12 @@ use Rattle.parser.specs.declared.tree.Actual.{Actual}
 use Rattle.parser.specs.declared.cursor.Cursor.{Cursor}
 use Rattle.parser.specs.Cursor.{IsOfRules, Took}
 use Rattle.parser.specs.Level.{level_number}
-use Rattle.parser.specs.Rules.{Read, BeginsExpr, BeginsActualList, LinksEnd, LinksGoOn}
+use Rattle.parser.specs.Rules.{Read, BeginsExpr, BeginsActual, BeginsActualList, LinksEnd, LinksGoOn}
 use Rattle.parser.specs.Spelling.{Reads, mark, of_kind_at}
-use Rattle.parser.specs.Reading.{next_kind, NoOperator, NoSign, NoNext, Stops, Ends, ReadsDeep}
-use Rattle.parser.specs.WellFormed.{factor_level, first_level, operand_level}
+use Rattle.parser.specs.Reading.{next_kind, NoOperator, NoSign, NoNext, Stops, Ends, EndsActual, ReadsDeep}
+use Rattle.parser.specs.WellFormed.{relation_level, product_level, factor_level, first_level, operand_level}
 use Rattle.parser.proofs.Lists.{pushed, emptied}
+use Rattle.parser.proofs.Kept.{was_read, last, not_kept}
 use Rattle.parser.proofs.Exact.{same_first, begins, stops_spent}
 use Rattle.parser.proofs.ExactLists.{parts_end}
 use Rattle.parser.proofs.ExactChains.{level_is, chain_behind, links_of}
@@ -137,21 +138,29 @@ operand-returns-in-Product-clause-exact t c =
 
 -- ---- signed terms
 
-pub signed-returns-in_err-expression-in-Some-clause-exact : goal.signed-returns-in_err-expression-in-Some-clause-exact
-signed-returns-in_err-expression-in-Some-clause-exact t c = λ depth e others h ends.
-    let b = sign_taken depth c.in-Some.sign c.in-Some.place c.args.cursor.now.rest.now c.take_sign.new.self.rest.now others c.in-Some.ensures.spelled (signed_parts depth c.args.cursor.now.rest.now others e h) in
-    let m : Stops c.args.levels depth c.in_err-expression-in-Some.field-0.0 = term_answer c.args.levels depth c.take_sign.new.self c.expression-in-Some.new.cursor others (Err c.in_err-expression-in-Some.field-0.0) b ends c.in_err-expression-in-Some.ensures.exact in
+pub signed-returns-in_err-boxed-in-Some-clause-given : goal.signed-returns-in_err-boxed-in-Some-clause-given
+signed-returns-in_err-boxed-in-Some-clause-given t c =
+    let m : IsOfRules c.in_err-boxed-in-Some.field-0.0 = not_kept (Read (BeginsExpr product_level c.args.levels) c.take_sign.new.self c.expression-in-Some.new.cursor) IsOfRules c.expression-in-Some.result c.in_err-boxed-in-Some.field-0.0 tt c.expression-in-Some.ensures.given c.in_err-boxed-in-Some.ensures.given in
     search rules
 
-pub signed-returns-in_ok-new-in-Some-clause-given : goal.signed-returns-in_ok-new-in-Some-clause-given
-signed-returns-in_ok-new-in-Some-clause-given t c =
-    gives-Signed c.args.levels c.args.cursor.now c.take_sign.new.self c.expression-in-Some.new.cursor c.in-Some.sign c.in-Some.place c.in_ok-new-in-Some.field-0 c.in_ok-expression-in-Some.field-0
-    c.in-Some.ensures.spelled c.in_ok-expression-in-Some.ensures.given c.in_ok-new-in-Some.ensures.ok
-
-pub signed-returns-in_ok-new-in-Some-clause-exact : goal.signed-returns-in_ok-new-in-Some-clause-exact
-signed-returns-in_ok-new-in-Some-clause-exact t c = λ depth e others h ends.
+pub signed-returns-in_err-boxed-in-Some-clause-exact : goal.signed-returns-in_err-boxed-in-Some-clause-exact
+signed-returns-in_err-boxed-in-Some-clause-exact t c = λ depth e others h ends.
     let b = sign_taken depth c.in-Some.sign c.in-Some.place c.args.cursor.now.rest.now c.take_sign.new.self.rest.now others c.in-Some.ensures.spelled (signed_parts depth c.args.cursor.now.rest.now others e h) in
-    term_answer c.args.levels depth c.take_sign.new.self c.expression-in-Some.new.cursor others (Ok c.in_ok-expression-in-Some.field-0) b ends c.in_ok-expression-in-Some.ensures.exact
+    let m : Stops c.args.levels depth c.in_err-boxed-in-Some.field-0.0 = not_kept (λ _. c.expression-in-Some.new.cursor.rest.now ≡ others) (Stops c.args.levels depth) c.expression-in-Some.result c.in_err-boxed-in-Some.field-0.0 tt
+    (term_answer c.args.levels depth c.take_sign.new.self c.expression-in-Some.new.cursor others c.expression-in-Some.result b ends c.expression-in-Some.ensures.exact) c.in_err-boxed-in-Some.ensures.given in
+    search rules
+
+pub signed-returns-in_ok-boxed-in-Some-clause-given : goal.signed-returns-in_ok-boxed-in-Some-clause-given
+signed-returns-in_ok-boxed-in-Some-clause-given t c =
+    let term = c.in_ok-boxed-in-Some.field-0 in
+    gives-Signed c.args.levels c.args.cursor.now c.take_sign.new.self c.expression-in-Some.new.cursor c.in-Some.sign c.in-Some.place term term.value c.in-Some.ensures.spelled
+    (was_read (Read (BeginsExpr product_level c.args.levels) c.take_sign.new.self c.expression-in-Some.new.cursor) IsOfRules c.expression-in-Some.result term.value c.in_ok-boxed-in-Some.ensures.given c.expression-in-Some.ensures.given) refl
+
+pub signed-returns-in_ok-boxed-in-Some-clause-exact : goal.signed-returns-in_ok-boxed-in-Some-clause-exact
+signed-returns-in_ok-boxed-in-Some-clause-exact t c = λ depth e others h ends.
+    let b = sign_taken depth c.in-Some.sign c.in-Some.place c.args.cursor.now.rest.now c.take_sign.new.self.rest.now others c.in-Some.ensures.spelled (signed_parts depth c.args.cursor.now.rest.now others e h) in
+    was_read (λ _. c.expression-in-Some.new.cursor.rest.now ≡ others) (Stops c.args.levels depth) c.expression-in-Some.result c.in_ok-boxed-in-Some.field-0.value c.in_ok-boxed-in-Some.ensures.given
+    (term_answer c.args.levels depth c.take_sign.new.self c.expression-in-Some.new.cursor others c.expression-in-Some.result b ends c.expression-in-Some.ensures.exact)
 
 pub signed-returns-in-None-clause-given : goal.signed-returns-in-None-clause-given
 signed-returns-in-None-clause-given t c = gives-Unsigned c.args.levels c.args.cursor.now c.take_sign.new.self c.expression.new.cursor c.expression.result c.in-None.ensures.kept c.expression.ensures.given
@@ -201,23 +210,32 @@ factor-returns-in_err-levels-clause-exact t c = λ depth e others h ends.
     let m : Stops c.args.levels depth c.in_err-levels.field-0.0 = stops_spent c.args.levels depth _ _ c.in_err-levels.ensures.spent (omega arith) in
     search rules
 
-pub factor-returns-in_err-inner-clause-exact : goal.factor-returns-in_err-inner-clause-exact
-factor-returns-in_err-inner-clause-exact t c = λ depth e others h ends.
+pub factor-returns-in_err-operand-clause-given : goal.factor-returns-in_err-operand-clause-given
+factor-returns-in_err-operand-clause-given t c =
+    let m : IsOfRules c.in_err-operand.field-0.0 = not_kept (Read (BeginsExpr factor_level c.in_ok-levels.levels) c.take_word.new.self c.factor.new.cursor) IsOfRules c.factor.result c.in_err-operand.field-0.0 tt c.factor.ensures.given c.in_err-operand.ensures.given in
+    search rules
+
+pub factor-returns-in_err-operand-clause-exact : goal.factor-returns-in_err-operand-clause-exact
+factor-returns-in_err-operand-clause-exact t c = λ depth e others h ends.
     let same : c.take_number.new.self ≡ c.args.cursor.now = c.in_default.ensures.kept in
     let b = negated_behind depth c.in-Some-take_word.place c.args.cursor.now c.take_number.new.self c.take_word.new.self others e same c.in-Some-take_word.ensures.spelled h in
-    let m : Stops c.args.levels depth c.in_err-inner.field-0.0 = negated_answer c.args.levels c.in_ok-levels.levels depth c.take_word.new.self c.factor.new.cursor others (Err c.in_err-inner.field-0.0) c.in_ok-levels.ensures.left b ends c.in_err-inner.ensures.exact in
+    let m : Stops c.args.levels depth c.in_err-operand.field-0.0 = not_kept (λ _. c.factor.new.cursor.rest.now ≡ others) (Stops c.args.levels depth) c.factor.result c.in_err-operand.field-0.0 tt
+    (negated_answer c.args.levels c.in_ok-levels.levels depth c.take_word.new.self c.factor.new.cursor others c.factor.result c.in_ok-levels.ensures.left b ends c.factor.ensures.exact) c.in_err-operand.ensures.given in
     search rules
 
 pub factor-returns-clause-given : goal.factor-returns-clause-given
 factor-returns-clause-given t c =
-    gives-Not c.args.levels c.in_ok-levels.levels c.args.cursor.now c.take_word.new.self c.factor.new.cursor c.in-Some-take_word.place c.in_ok-new.field-0 c.in_ok-inner.inner
-    c.in_ok-levels.ensures.left (subst (λ k. Took k c.take_word.new.self (of_kind_at (kind.Word word.Not) c.in-Some-take_word.place ∷ [])) c.in_default.ensures.kept c.in-Some-take_word.ensures.spelled) c.in_ok-inner.ensures.given c.in_ok-new.ensures.ok
+    let operand = c.in_ok-operand.operand in
+    gives-Not c.args.levels c.in_ok-levels.levels c.args.cursor.now c.take_word.new.self c.factor.new.cursor c.in-Some-take_word.place operand operand.value
+    c.in_ok-levels.ensures.left (subst (λ k. Took k c.take_word.new.self (of_kind_at (kind.Word word.Not) c.in-Some-take_word.place ∷ [])) c.in_default.ensures.kept c.in-Some-take_word.ensures.spelled)
+    (was_read (Read (BeginsExpr factor_level c.in_ok-levels.levels) c.take_word.new.self c.factor.new.cursor) IsOfRules c.factor.result operand.value c.in_ok-operand.ensures.given c.factor.ensures.given) refl
 
 pub factor-returns-clause-exact : goal.factor-returns-clause-exact
 factor-returns-clause-exact t c = λ depth e others h ends.
     let same : c.take_number.new.self ≡ c.args.cursor.now = c.in_default.ensures.kept in
     let b = negated_behind depth c.in-Some-take_word.place c.args.cursor.now c.take_number.new.self c.take_word.new.self others e same c.in-Some-take_word.ensures.spelled h in
-    negated_answer c.args.levels c.in_ok-levels.levels depth c.take_word.new.self c.factor.new.cursor others (Ok c.in_ok-inner.inner) c.in_ok-levels.ensures.left b ends c.in_ok-inner.ensures.exact
+    was_read (λ _. c.factor.new.cursor.rest.now ≡ others) (Stops c.args.levels depth) c.factor.result c.in_ok-operand.operand.value c.in_ok-operand.ensures.given
+    (negated_answer c.args.levels c.in_ok-levels.levels depth c.take_word.new.self c.factor.new.cursor others c.factor.result c.in_ok-levels.ensures.left b ends c.factor.ensures.exact)
 
 -- ---- names
 
@@ -262,27 +280,37 @@ parenthesized-returns-in_err-levels-clause-exact t c = λ first depth e others h
     let m : Stops c.args.levels depth c.in_err-levels.field-0.0 = stops_spent c.args.levels depth _ _ c.in_err-levels.ensures.spent (omega arith) in
     search rules
 
-pub parenthesized-returns-in_err-expression-clause-exact : goal.parenthesized-returns-in_err-expression-clause-exact
-parenthesized-returns-in_err-expression-clause-exact t c = λ first depth e others h ends.
+pub parenthesized-returns-in_err-inner-clause-given : goal.parenthesized-returns-in_err-inner-clause-given
+parenthesized-returns-in_err-inner-clause-given t c =
+    let m : IsOfRules c.in_err-inner.field-0.0 = not_kept (Read (BeginsExpr relation_level c.in_ok-levels.levels) c.expect_symbol.new.self c.expression.new.cursor) IsOfRules c.expression.result c.in_err-inner.field-0.0 tt c.expression.ensures.given c.in_err-inner.ensures.given in
+    search rules
+
+pub parenthesized-returns-in_err-inner-clause-exact : goal.parenthesized-returns-in_err-inner-clause-exact
+parenthesized-returns-in_err-inner-clause-exact t c = λ first depth e others h ends.
     let o = opened depth c.in_ok-open.open c.args.cursor.now.rest.now c.expect_symbol.new.self.rest.now others c.in_ok-open.ensures.spelled (factor_parts depth c.args.cursor.now.rest.now others e h) in
-    let m : Stops c.args.levels depth c.in_err-expression.field-0.0 = inner_answer c.args.levels c.in_ok-levels.levels depth c.expect_symbol.new.self c.expression.new.cursor others (Err c.in_err-expression.field-0.0) c.in_ok-levels.ensures.left o c.in_err-expression.ensures.exact in
+    let m : Stops c.args.levels depth c.in_err-inner.field-0.0 = not_kept (λ _. c.expression.new.cursor.rest.now ≡ o.middle) (Stops c.args.levels depth) c.expression.result c.in_err-inner.field-0.0 tt
+    (inner_answer c.args.levels c.in_ok-levels.levels depth c.expect_symbol.new.self c.expression.new.cursor others c.expression.result c.in_ok-levels.ensures.left o c.expression.ensures.exact) c.in_err-inner.ensures.given in
     search rules
 
 pub parenthesized-returns-in_err-expect_symbol-clause-exact : goal.parenthesized-returns-in_err-expect_symbol-clause-exact
 parenthesized-returns-in_err-expect_symbol-clause-exact t c = λ first depth e others h ends.
     let o = opened depth c.in_ok-open.open c.args.cursor.now.rest.now c.expect_symbol.new.self.rest.now others c.in_ok-open.ensures.spelled (factor_parts depth c.args.cursor.now.rest.now others e h) in
-    let m : c.expression.new.cursor.rest.now ≡ o.middle = inner_answer c.args.levels c.in_ok-levels.levels depth c.expect_symbol.new.self c.expression.new.cursor others (Ok c.in_ok-expression.field-0) c.in_ok-levels.ensures.left o c.in_ok-expression.ensures.exact in
+    let m : c.expression.new.cursor.rest.now ≡ o.middle = was_read (λ _. c.expression.new.cursor.rest.now ≡ o.middle) (Stops c.args.levels depth) c.expression.result c.in_ok-inner.inner.value c.in_ok-inner.ensures.given
+    (inner_answer c.args.levels c.in_ok-levels.levels depth c.expect_symbol.new.self c.expression.new.cursor others c.expression.result c.in_ok-levels.ensures.left o c.expression.ensures.exact) in
     absurd (c.in_err-expect_symbol.ensures.missed (ap next_kind m ∙ begins _ [] o.middle others o.closed))
 
 pub parenthesized-returns-clause-given : goal.parenthesized-returns-clause-given
 parenthesized-returns-clause-given t c =
-    gives-Parenthesized c.args.levels c.in_ok-levels.levels c.args.cursor.now c.expect_symbol.new.self c.expression.new.cursor c.expect_symbol-2.new.self c.in_ok-open.open c.in_ok-expect_symbol.field-0 c.in_ok-inner.inner c.in_ok-expression.field-0
-    c.in_ok-levels.ensures.left c.in_ok-open.ensures.spelled c.in_ok-expression.ensures.given c.in_ok-expect_symbol.ensures.spelled c.in_ok-inner.ensures.ok
+    let inner = c.in_ok-inner.inner in
+    gives-Parenthesized c.args.levels c.in_ok-levels.levels c.args.cursor.now c.expect_symbol.new.self c.expression.new.cursor c.expect_symbol-2.new.self c.in_ok-open.open c.in_ok-expect_symbol.field-0 inner inner.value
+    c.in_ok-levels.ensures.left c.in_ok-open.ensures.spelled
+    (was_read (Read (BeginsExpr relation_level c.in_ok-levels.levels) c.expect_symbol.new.self c.expression.new.cursor) IsOfRules c.expression.result inner.value c.in_ok-inner.ensures.given c.expression.ensures.given) c.in_ok-expect_symbol.ensures.spelled refl
 
 pub parenthesized-returns-clause-exact : goal.parenthesized-returns-clause-exact
 parenthesized-returns-clause-exact t c = λ first depth e others h ends.
     let o = opened depth c.in_ok-open.open c.args.cursor.now.rest.now c.expect_symbol.new.self.rest.now others c.in_ok-open.ensures.spelled (factor_parts depth c.args.cursor.now.rest.now others e h) in
-    let m : c.expression.new.cursor.rest.now ≡ o.middle = inner_answer c.args.levels c.in_ok-levels.levels depth c.expect_symbol.new.self c.expression.new.cursor others (Ok c.in_ok-expression.field-0) c.in_ok-levels.ensures.left o c.in_ok-expression.ensures.exact in
+    let m : c.expression.new.cursor.rest.now ≡ o.middle = was_read (λ _. c.expression.new.cursor.rest.now ≡ o.middle) (Stops c.args.levels depth) c.expression.result c.in_ok-inner.inner.value c.in_ok-inner.ensures.given
+    (inner_answer c.args.levels c.in_ok-levels.levels depth c.expect_symbol.new.self c.expression.new.cursor others c.expression.result c.in_ok-levels.ensures.left o c.expression.ensures.exact) in
     (same_first _ _ [] c.expression.new.cursor.rest.now _ others c.in_ok-expect_symbol.ensures.spelled (subst (λ x. Reads x (mark symbol.CloseParenthesis ∷ []) others) (sym m) o.closed)).1
 
 -- ---- actuals
@@ -328,33 +356,45 @@ actual_list-loop-actuals-init t c = (
 pub actual_list-loop-actuals-preserved : goal.actual_list-loop-actuals-preserved
 actual_list-loop-actuals-preserved t c =
     let start = c.args.cursor.now in
-    let list = pushed (λ xs. Read (BeginsActualList c.args.levels) start c.actual.new.cursor xs) c.loop-actuals.actuals.items c.push.new.self.items c.in_ok-actual.field-0 c.in_ok-push.ensures.items (c.loop-actuals.invariant.0 c.actual.new.cursor c.in_ok-actual.field-0 c.in_ok-actual.ensures.given) in (
-      actuals_grow c.args.levels start c.actual.new.cursor c.take_symbol.new.self c.push.new.self.items c.in-Some.field-0 list c.in-Some.ensures.spelled,
+    let now = last c.loop-actuals.actuals.items c.put.new.list.items c.actual.result c.in_ok-put.ensures.given in
+    let list = pushed (λ xs. Read (BeginsActualList c.args.levels) start c.actual.new.cursor xs) c.loop-actuals.actuals.items c.put.new.list.items now.item now.grown
+    (c.loop-actuals.invariant.0 c.actual.new.cursor now.item (was_read (Read (BeginsActual c.args.levels) c.loop-actuals.cursor c.actual.new.cursor) IsOfRules c.actual.result now.item now.is c.actual.ensures.given)) in (
+      actuals_grow c.args.levels start c.actual.new.cursor c.take_symbol.new.self c.put.new.list.items c.in-Some.field-0 list c.in-Some.ensures.spelled,
       actual_list_goes_on c.in-Some.field-0 start.rest.now c.actual.new.cursor.rest.now c.take_symbol.new.self.rest.now c.in-Some.ensures.spelled
-          (actual_list_left c.args.levels start.rest.now c.loop-actuals.cursor c.actual.new.cursor c.in_ok-actual.field-0 c.in_ok-actual.ensures.exact c.loop-actuals.invariant.1),
+          (actual_list_left c.args.levels start.rest.now c.loop-actuals.cursor c.actual.new.cursor now.item (subst (λ r. ReadsDeep c.args.levels BeginsActual EndsActual c.loop-actuals.cursor c.actual.new.cursor r) now.is c.actual.ensures.exact) c.loop-actuals.invariant.1),
     )
 
 pub actual_list-loop-actuals-smaller : goal.actual_list-loop-actuals-smaller
 actual_list-loop-actuals-smaller t c =
-    let no_more = reads_no_more _ c.loop-actuals.cursor.rest.now c.actual.new.cursor.rest.now c.in_ok-actual.ensures.given.spelled in
+    let now = last c.loop-actuals.actuals.items c.put.new.list.items c.actual.result c.in_ok-put.ensures.given in
+    let no_more = reads_no_more _ c.loop-actuals.cursor.rest.now c.actual.new.cursor.rest.now (was_read (Read (BeginsActual c.args.levels) c.loop-actuals.cursor c.actual.new.cursor) IsOfRules c.actual.result now.item now.is c.actual.ensures.given).spelled in
     let fewer = reads_fewer _ [] c.actual.new.cursor.rest.now c.take_symbol.new.self.rest.now c.in-Some.ensures.spelled in
     omega arith
 
-pub actual_list-returns-in_err-actual-clause-exact : goal.actual_list-returns-in_err-actual-clause-exact
-actual_list-returns-in_err-actual-clause-exact t c = λ depth actuals others h ends.
+pub actual_list-returns-in_err-put-clause-given : goal.actual_list-returns-in_err-put-clause-given
+actual_list-returns-in_err-put-clause-given t c =
+    let m : IsOfRules c.in_err-put.field-0.0 = not_kept (Read (BeginsActual c.args.levels) c.loop-actuals.cursor c.actual.new.cursor) IsOfRules c.actual.result c.in_err-put.field-0.0 tt c.actual.ensures.given c.in_err-put.ensures.given in
+    search rules
+
+pub actual_list-returns-in_err-put-clause-exact : goal.actual_list-returns-in_err-put-clause-exact
+actual_list-returns-in_err-put-clause-exact t c = λ depth actuals others h ends.
     let p = c.loop-actuals.invariant.1 depth actuals others h ends in
-    let m : Stops c.args.levels depth c.in_err-actual.field-0.0 = actual_answer c.args.levels depth c.loop-actuals.cursor c.actual.new.cursor others (Err c.in_err-actual.field-0.0) p ends c.in_err-actual.ensures.exact in
+    let m : Stops c.args.levels depth c.in_err-put.field-0.0 = not_kept (λ _. c.actual.new.cursor.rest.now ≡ p.middle) (Stops c.args.levels depth) c.actual.result c.in_err-put.field-0.0 tt
+    (actual_answer c.args.levels depth c.loop-actuals.cursor c.actual.new.cursor others c.actual.result p ends c.actual.ensures.exact) c.in_err-put.ensures.given in
     search rules
 
 pub actual_list-returns-in_default-clause-given : goal.actual_list-returns-in_default-clause-given
 actual_list-returns-in_default-clause-given t c =
     let start = c.args.cursor.now in
-    let list = pushed (λ xs. Read (BeginsActualList c.args.levels) start c.actual.new.cursor xs) c.loop-actuals.actuals.items c.push.new.self.items c.in_ok-actual.field-0 c.in_ok-push.ensures.items (c.loop-actuals.invariant.0 c.actual.new.cursor c.in_ok-actual.field-0 c.in_ok-actual.ensures.given) in
-    unchanged (λ k. Read (BeginsActualList c.args.levels) start k c.push.new.self.items) c.actual.new.cursor c.take_symbol.new.self c.in_default.ensures.kept list
+    let now = last c.loop-actuals.actuals.items c.put.new.list.items c.actual.result c.in_ok-put.ensures.given in
+    let list = pushed (λ xs. Read (BeginsActualList c.args.levels) start c.actual.new.cursor xs) c.loop-actuals.actuals.items c.put.new.list.items now.item now.grown
+    (c.loop-actuals.invariant.0 c.actual.new.cursor now.item (was_read (Read (BeginsActual c.args.levels) c.loop-actuals.cursor c.actual.new.cursor) IsOfRules c.actual.result now.item now.is c.actual.ensures.given)) in
+    unchanged (λ k. Read (BeginsActualList c.args.levels) start k c.put.new.list.items) c.actual.new.cursor c.take_symbol.new.self c.in_default.ensures.kept list
 
 pub actual_list-returns-in_default-clause-exact : goal.actual_list-returns-in_default-clause-exact
 actual_list-returns-in_default-clause-exact t c = λ depth actuals others h ends.
-    let left = actual_list_left c.args.levels c.args.cursor.now.rest.now c.loop-actuals.cursor c.actual.new.cursor c.in_ok-actual.field-0 c.in_ok-actual.ensures.exact c.loop-actuals.invariant.1 in
+    let now = last c.loop-actuals.actuals.items c.put.new.list.items c.actual.result c.in_ok-put.ensures.given in
+    let left = actual_list_left c.args.levels c.args.cursor.now.rest.now c.loop-actuals.cursor c.actual.new.cursor now.item (subst (λ r. ReadsDeep c.args.levels BeginsActual EndsActual c.loop-actuals.cursor c.actual.new.cursor r) now.is c.actual.ensures.exact) c.loop-actuals.invariant.1 in
     ap (λ k. k.rest.now) c.in_default.ensures.kept ∙ parts_end Actual actual_list_parts depth c.actual.new.cursor.rest.now others c.in_default.ensures.missed (left depth actuals others h ends)
 
 -- ---- an actual

@@ -1,8 +1,10 @@
-use Rattle.std.proofs.Common.{rules, ◌≡◌}
+use Rattle.std.proofs.Common.{rules, ◌≡◌, refl, subst}
 use Rattle.lexer.specs.declared.token.Kind.TheVariants as kind
 use Rattle.parser.specs.declared.fault.ParseFault.TheVariants.{Memory}
-use Rattle.parser.specs.Reading.{Next, NoNext}
-use Rattle.parser.specs.Rules.{Read, BeginsGroups}
+use Rattle.parser.specs.Cursor.{IsOfRules}
+use Rattle.parser.specs.Reading.{Next, NoNext, ReadsEach, Anything}
+use Rattle.parser.specs.Rules.{Read, BeginsGroup, BeginsGroups}
+use Rattle.parser.proofs.Kept.{last, was_read, not_kept}
 use Rattle.parser.proofs.Lists.{pushed, emptied}
 use Rattle.parser.proofs.ExactPrograms.{groups_begin_with, groups_go_on_with, groups_left, groups_end, group_fewer}
 use Rattle.parser.proofs.Programs.{GroupsGrow, groups_grow_first, groups_grow}
@@ -19,28 +21,41 @@ pub loop-groups-preserved : goal.loop-groups-preserved
 loop-groups-preserved c =
     let start = c.args.cursor.now in
     let next : Next kind.Identifier c.group.new.cursor.rest.now = search rules in
-    let list = pushed (λ xs. Read BeginsGroups start c.group.new.cursor xs) c.loop-groups.groups.items c.push.new.self.items c.in_ok-group.field-0 c.in_ok-push.ensures.items (c.loop-groups.invariant.0 c.group.new.cursor c.in_ok-group.field-0 c.in_ok-group.ensures.given) in (
-      groups_grow start c.group.new.cursor c.push.new.self.items list,
-      groups_go_on_with start.rest.now c.group.new.cursor.rest.now (groups_left start.rest.now c.loop-groups.cursor c.group.new.cursor c.in_ok-group.field-0 c.in_ok-group.ensures.exact c.loop-groups.invariant.1) next,
+    let now = last c.loop-groups.groups.items c.put.new.list.items c.group.result c.in_ok-put.ensures.given in
+    let list = pushed (λ xs. Read BeginsGroups start c.group.new.cursor xs) c.loop-groups.groups.items c.put.new.list.items now.item now.grown
+    (c.loop-groups.invariant.0 c.group.new.cursor now.item (was_read (Read BeginsGroup c.loop-groups.cursor c.group.new.cursor) IsOfRules c.group.result now.item now.is c.group.ensures.given)) in (
+      groups_grow start c.group.new.cursor c.put.new.list.items list,
+      groups_go_on_with start.rest.now c.group.new.cursor.rest.now
+          (groups_left start.rest.now c.loop-groups.cursor c.group.new.cursor now.item (subst (λ r. ReadsEach BeginsGroup Anything c.loop-groups.cursor c.group.new.cursor r) now.is c.group.ensures.exact) c.loop-groups.invariant.1) next,
     )
 
 pub loop-groups-smaller : goal.loop-groups-smaller
-loop-groups-smaller c = group_fewer c.loop-groups.cursor.rest.now c.group.new.cursor.rest.now c.in_ok-group.field-0 c.in_ok-group.ensures.given
+loop-groups-smaller c =
+    let now = last c.loop-groups.groups.items c.put.new.list.items c.group.result c.in_ok-put.ensures.given in
+    group_fewer c.loop-groups.cursor.rest.now c.group.new.cursor.rest.now now.item (was_read (Read BeginsGroup c.loop-groups.cursor c.group.new.cursor) IsOfRules c.group.result now.item now.is c.group.ensures.given)
 
-pub returns-in_err-group-clause-exact : goal.returns-in_err-group-clause-exact
-returns-in_err-group-clause-exact c = λ groups others h ends.
+pub returns-in_err-put-clause-given : goal.returns-in_err-put-clause-given
+returns-in_err-put-clause-given c =
+    let m : IsOfRules c.in_err-put.field-0.0 = not_kept (Read BeginsGroup c.loop-groups.cursor c.group.new.cursor) IsOfRules c.group.result c.in_err-put.field-0.0 tt c.group.ensures.given c.in_err-put.ensures.given in
+    search rules
+
+pub returns-in_err-put-clause-exact : goal.returns-in_err-put-clause-exact
+returns-in_err-put-clause-exact c = λ groups others h ends.
     let p = c.loop-groups.invariant.1 groups others h ends in
-    let m : c.in_err-group.field-0.0 ≡ Memory = c.in_err-group.ensures.exact p.group p.middle p.begun tt in
+    let m : c.in_err-put.field-0.0 ≡ Memory = not_kept (λ _. c.group.new.cursor.rest.now ≡ p.middle) (λ fault. fault ≡ Memory) c.group.result c.in_err-put.field-0.0 refl (c.group.ensures.exact p.group p.middle p.begun tt) c.in_err-put.ensures.given in
     search rules
 
 pub returns-in_default-clause-given : goal.returns-in_default-clause-given
 returns-in_default-clause-given c =
-    pushed (λ xs. Read BeginsGroups c.args.cursor.now c.group.new.cursor xs) c.loop-groups.groups.items c.push.new.self.items c.in_ok-group.field-0 c.in_ok-push.ensures.items (c.loop-groups.invariant.0 c.group.new.cursor c.in_ok-group.field-0 c.in_ok-group.ensures.given)
+    let now = last c.loop-groups.groups.items c.put.new.list.items c.group.result c.in_ok-put.ensures.given in
+    pushed (λ xs. Read BeginsGroups c.args.cursor.now c.group.new.cursor xs) c.loop-groups.groups.items c.put.new.list.items now.item now.grown
+    (c.loop-groups.invariant.0 c.group.new.cursor now.item (was_read (Read BeginsGroup c.loop-groups.cursor c.group.new.cursor) IsOfRules c.group.result now.item now.is c.group.ensures.given))
 
 pub returns-in_default-clause-exact : goal.returns-in_default-clause-exact
 returns-in_default-clause-exact c = λ groups others h ends.
     let start = c.args.cursor.now in
+    let now = last c.loop-groups.groups.items c.put.new.list.items c.group.result c.in_ok-put.ensures.given in
     let none : NoNext kind.Identifier c.group.new.cursor.rest.now =
     elim c.in_default.branch [ in_default-via-in-Some+in_default w ↦ search rules | in_default-via-in_default w ↦ search rules ] in
     groups_end start.rest.now c.group.new.cursor.rest.now
-    (groups_left start.rest.now c.loop-groups.cursor c.group.new.cursor c.in_ok-group.field-0 c.in_ok-group.ensures.exact c.loop-groups.invariant.1) none groups others h ends
+    (groups_left start.rest.now c.loop-groups.cursor c.group.new.cursor now.item (subst (λ r. ReadsEach BeginsGroup Anything c.loop-groups.cursor c.group.new.cursor r) now.is c.group.ensures.exact) c.loop-groups.invariant.1) none groups others h ends

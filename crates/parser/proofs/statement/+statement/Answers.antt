@@ -3,10 +3,11 @@ use Rattle.lexer.specs.declared.token.Kind.TheVariants as kind
 use Rattle.lexer.specs.declared.token.Word.TheVariants as word
 use Rattle.parser.specs.declared.tree.Stmt.{Stmt}
 use Rattle.parser.specs.Spelling.{Reads, of_kind_at, word_symbol}
-use Rattle.parser.specs.Reading.{next_kind, Stops, ReadWithin}
+use Rattle.parser.specs.Reading.{next_kind, Stops, ReadWithin, ReadsDeep, EndsStmt}
 use Rattle.parser.specs.Cursor.{IsOfRules}
 use Rattle.parser.specs.Rules.{Read, BeginsStatements, BeginsStmt}
 use Rattle.parser.proofs.Lists.{pushed, emptied}
+use Rattle.parser.proofs.Kept.{last, was_read, not_kept}
 use Rattle.parser.proofs.Exact.{begins, same_first, stops_above}
 use Rattle.parser.proofs.ExactLists.{parts_end}
 use Rattle.parser.proofs.Reading.{reads_fewer, reads_no_more, unchanged}
@@ -81,31 +82,43 @@ statements-loop-statements-init t c = (
 pub statements-loop-statements-preserved : goal.statements-loop-statements-preserved
 statements-loop-statements-preserved t c =
     let start = c.args.cursor.now in
-    let list = pushed (λ xs. Read (BeginsStatements c.args.levels) start c.statement.new.cursor xs) c.loop-statements.statements.items c.push.new.self.items c.in_ok-statement.field-0 c.in_ok-push.ensures.items (c.loop-statements.invariant.0 c.statement.new.cursor c.in_ok-statement.field-0 c.in_ok-statement.ensures.given) in (
-      statements_grow c.args.levels start c.statement.new.cursor c.take_symbol.new.self c.push.new.self.items c.in-Some.field-0 list c.in-Some.ensures.spelled,
+    let now = last c.loop-statements.statements.items c.put.new.list.items c.statement.result c.in_ok-put.ensures.given in
+    let list = pushed (λ xs. Read (BeginsStatements c.args.levels) start c.statement.new.cursor xs) c.loop-statements.statements.items c.put.new.list.items now.item now.grown
+    (c.loop-statements.invariant.0 c.statement.new.cursor now.item (was_read (Read (BeginsStmt c.args.levels) c.loop-statements.cursor c.statement.new.cursor) IsOfRules c.statement.result now.item now.is c.statement.ensures.given)) in (
+      statements_grow c.args.levels start c.statement.new.cursor c.take_symbol.new.self c.put.new.list.items c.in-Some.field-0 list c.in-Some.ensures.spelled,
       statement_list_goes_on c.in-Some.field-0 start.rest.now c.statement.new.cursor.rest.now c.take_symbol.new.self.rest.now c.in-Some.ensures.spelled
-          (statement_list_left c.args.levels start.rest.now c.loop-statements.cursor c.statement.new.cursor c.in_ok-statement.field-0 c.in_ok-statement.ensures.exact c.loop-statements.invariant.1),
+          (statement_list_left c.args.levels start.rest.now c.loop-statements.cursor c.statement.new.cursor now.item (subst (λ r. ReadsDeep c.args.levels BeginsStmt EndsStmt c.loop-statements.cursor c.statement.new.cursor r) now.is c.statement.ensures.exact) c.loop-statements.invariant.1),
     )
 
 pub statements-loop-statements-smaller : goal.statements-loop-statements-smaller
 statements-loop-statements-smaller t c =
-    let no_more = reads_no_more _ c.loop-statements.cursor.rest.now c.statement.new.cursor.rest.now c.in_ok-statement.ensures.given.spelled in
+    let now = last c.loop-statements.statements.items c.put.new.list.items c.statement.result c.in_ok-put.ensures.given in
+    let no_more = reads_no_more _ c.loop-statements.cursor.rest.now c.statement.new.cursor.rest.now (was_read (Read (BeginsStmt c.args.levels) c.loop-statements.cursor c.statement.new.cursor) IsOfRules c.statement.result now.item now.is c.statement.ensures.given).spelled in
     let fewer = reads_fewer _ [] c.statement.new.cursor.rest.now c.take_symbol.new.self.rest.now c.in-Some.ensures.spelled in
     omega arith
 
-pub statements-returns-in_err-statement-clause-exact : goal.statements-returns-in_err-statement-clause-exact
-statements-returns-in_err-statement-clause-exact t c = λ depth statements others h ends.
+pub statements-returns-in_err-put-clause-given : goal.statements-returns-in_err-put-clause-given
+statements-returns-in_err-put-clause-given t c =
+    let m : IsOfRules c.in_err-put.field-0.0 = not_kept (Read (BeginsStmt c.args.levels) c.loop-statements.cursor c.statement.new.cursor) IsOfRules c.statement.result c.in_err-put.field-0.0 tt c.statement.ensures.given c.in_err-put.ensures.given in
+    search rules
+
+pub statements-returns-in_err-put-clause-exact : goal.statements-returns-in_err-put-clause-exact
+statements-returns-in_err-put-clause-exact t c = λ depth statements others h ends.
     let p = c.loop-statements.invariant.1 depth statements others h ends in
-    let m : Stops c.args.levels depth c.in_err-statement.field-0.0 = statement_answer c.args.levels depth c.loop-statements.cursor c.statement.new.cursor others (Err c.in_err-statement.field-0.0) p ends c.in_err-statement.ensures.exact in
+    let m : Stops c.args.levels depth c.in_err-put.field-0.0 = not_kept (λ _. c.statement.new.cursor.rest.now ≡ p.middle) (Stops c.args.levels depth) c.statement.result c.in_err-put.field-0.0 tt
+    (statement_answer c.args.levels depth c.loop-statements.cursor c.statement.new.cursor others c.statement.result p ends c.statement.ensures.exact) c.in_err-put.ensures.given in
     search rules
 
 pub statements-returns-in_default-clause-given : goal.statements-returns-in_default-clause-given
 statements-returns-in_default-clause-given t c =
     let start = c.args.cursor.now in
-    let list = pushed (λ xs. Read (BeginsStatements c.args.levels) start c.statement.new.cursor xs) c.loop-statements.statements.items c.push.new.self.items c.in_ok-statement.field-0 c.in_ok-push.ensures.items (c.loop-statements.invariant.0 c.statement.new.cursor c.in_ok-statement.field-0 c.in_ok-statement.ensures.given) in
-    unchanged (λ k. Read (BeginsStatements c.args.levels) start k c.push.new.self.items) c.statement.new.cursor c.take_symbol.new.self c.in_default.ensures.kept list
+    let now = last c.loop-statements.statements.items c.put.new.list.items c.statement.result c.in_ok-put.ensures.given in
+    let list = pushed (λ xs. Read (BeginsStatements c.args.levels) start c.statement.new.cursor xs) c.loop-statements.statements.items c.put.new.list.items now.item now.grown
+    (c.loop-statements.invariant.0 c.statement.new.cursor now.item (was_read (Read (BeginsStmt c.args.levels) c.loop-statements.cursor c.statement.new.cursor) IsOfRules c.statement.result now.item now.is c.statement.ensures.given)) in
+    unchanged (λ k. Read (BeginsStatements c.args.levels) start k c.put.new.list.items) c.statement.new.cursor c.take_symbol.new.self c.in_default.ensures.kept list
 
 pub statements-returns-in_default-clause-exact : goal.statements-returns-in_default-clause-exact
 statements-returns-in_default-clause-exact t c = λ depth statements others h ends.
-    let left = statement_list_left c.args.levels c.args.cursor.now.rest.now c.loop-statements.cursor c.statement.new.cursor c.in_ok-statement.field-0 c.in_ok-statement.ensures.exact c.loop-statements.invariant.1 in
+    let now = last c.loop-statements.statements.items c.put.new.list.items c.statement.result c.in_ok-put.ensures.given in
+    let left = statement_list_left c.args.levels c.args.cursor.now.rest.now c.loop-statements.cursor c.statement.new.cursor now.item (subst (λ r. ReadsDeep c.args.levels BeginsStmt EndsStmt c.loop-statements.cursor c.statement.new.cursor r) now.is c.statement.ensures.exact) c.loop-statements.invariant.1 in
     ap (λ k. k.rest.now) c.in_default.ensures.kept ∙ parts_end Stmt statement_list_parts depth c.statement.new.cursor.rest.now others c.in_default.ensures.missed (left depth statements others h ends)

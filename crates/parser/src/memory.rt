@@ -1,0 +1,20 @@
+ghost use Rattle.std.specs.Prelude.{◌≡◌, MatchResult, Ok};
+ghost use Rattle.parser.specs.Kept.{Added, NotKept};
+
+use crate::fault::ParseFault;
+use std::alloc::Global;
+
+/// Puts what a rule read behind the others, if it read something.
+pub fn put<T: Drop>(list: &mut Vec<T>, found: Result<T, ParseFault>) -> Result<(), ParseFault>
+    ensures given { MatchResult result (λ _. Added list.old.items list.new.items found) (NotKept found) }
+{
+    list.push(found?)?;
+    Ok(())
+}
+
+/// What a rule read, in a box.
+pub fn boxed<T: Drop>(alloc: Global, found: Result<T, ParseFault>) -> Result<Box<T>, ParseFault>
+    ensures given { MatchResult result (λ kept. found ≡ Ok kept.value) (NotKept found) }
+{
+    Ok(Box::new(alloc, found?)?)
+}
