@@ -1,5 +1,5 @@
 -- The operators of a chain that are read one by one: what was read of them, and what is left.
-use Rattle.std.proofs.Common.{◌≡◌, ℕ, List, [], ◌∷◌, ◌++◌, Ok, Err, subst, sym, ap, ◌∙◌, refl, arith}
+use Rattle.std.proofs.Common.{◌≡◌, ℕ, List, [], ◌∷◌, ◌++◌, Result, Ok, Err, MatchResult, subst, sym, ap, ◌∙◌, refl, arith}
 use Rattle.lexer.specs.declared.place.Place.{Place}
 use Rattle.lexer.specs.declared.token.Token.{Token}
 use Rattle.parser.specs.declared.fault.ParseFault.{ParseFault}
@@ -9,12 +9,13 @@ use Rattle.parser.specs.declared.tree.Operator.{Operator}
 use Rattle.parser.specs.declared.tree.Expr.{Expr}
 use Rattle.parser.specs.declared.tree.Link.{Link}
 use Rattle.parser.specs.declared.tree.Expr.TheViews.{roll-Link}
+use Rattle.parser.specs.Cursor.{IsOfRules}
 use Rattle.parser.specs.Level.{level_number}
 use Rattle.parser.specs.WellFormed.{first_level, operand_level}
 use Rattle.parser.specs.Reading.{Ends, NoOperator, Stops, ReadsDeep}
 use Rattle.parser.specs.Rules.{Read, BeginsExpr, BeginsLinks, ReadLinks, LinksEnd, missed, related, LinksGoOn}
-use Rattle.parser.proofs.ExactChains.{level_is, chain_parts, goes_on, first_answer, operand_answer, chain_ends, chain_behind, LinksLeft, links_begin, links_left}
-use Rattle.parser.proofs.Rules.{links_go_on}
+use Rattle.parser.proofs.ExactChains.{Chain, level_is, chain_parts, goes_on, first_answer, operand_answer, chain_ends, chain_behind, LinksLeft, links_begin, links_left}
+use Rattle.parser.proofs.Rules.{links_go_on, gives-Alone}
 
 -- these operators were read, and each that may stand there go on so
 pub record LinksRead (level : Level) (levels : ℕ) (start now : Cursor) (links : List Link) : Type 0 where
@@ -71,13 +72,31 @@ links_given level levels a b c rest read (related same z some) = record {
 }
 
 -- the fault of the first operand is the chain's
-pub first_stops : (level : Level) (levels : ℕ) (a b : Cursor) (fault : ParseFault) → ReadsDeep {A = Expr} {B = Expr} levels (BeginsExpr (first_level (level_number level))) (Ends (first_level (level_number level))) a b (Err fault)
+first_stops : (level : Level) (levels : ℕ) (a b : Cursor) (fault : ParseFault) → ReadsDeep {A = Expr} {B = Expr} levels (BeginsExpr (first_level (level_number level))) (Ends (first_level (level_number level))) a b (Err fault)
     → (depth : ℕ) (e : Expr) (others : List Token) → BeginsExpr (level_number level) depth a.rest.now others e → Ends (level_number level) others → Stops levels depth fault
 first_stops level levels a b fault reads depth e others h ends =
     first_answer (level_number level) levels depth a b others (Err fault) (level_is level) (chain_parts (level_number level) depth a.rest.now others e (level_is level) h) ends reads
 
 -- where no operator comes behind it the chain ends
-pub first_alone : (level : Level) (levels : ℕ) (a b : Cursor) (first : Expr) → ReadsDeep levels (BeginsExpr (first_level (level_number level))) (Ends (first_level (level_number level))) a b (Ok first) → NoOperator (level_number level) b.rest.now
+first_alone : (level : Level) (levels : ℕ) (a b : Cursor) (first : Expr) → ReadsDeep levels (BeginsExpr (first_level (level_number level))) (Ends (first_level (level_number level))) a b (Ok first) → NoOperator (level_number level) b.rest.now
     → (depth : ℕ) (e : Expr) (others : List Token) → BeginsExpr (level_number level) depth a.rest.now others e → Ends (level_number level) others → b.rest.now ≡ others
 first_alone level levels a b first reads none depth e others h ends =
     chain_ends (level_number level) depth b.rest.now others none (chain_behind (level_number level) levels depth a b first e others (level_is level) reads h ends)
+
+-- the answer of the first operand is the chain's
+pub alone_given : (level levels : ℕ) (a b : Cursor) (found : Result Expr ParseFault) → MatchResult found (Read (BeginsExpr (first_level level) levels) a b) IsOfRules → MatchResult found (Read (BeginsExpr level levels) a b) IsOfRules
+alone_given level levels a b (Ok first) h = gives-Alone level levels a b first h
+alone_given level levels a b (Err fault) h = h
+
+pub alone_exact : (level : Level) (levels : ℕ) (a b : Cursor) (found : Result Expr ParseFault) → ReadsDeep levels (BeginsExpr (first_level (level_number level))) (Ends (first_level (level_number level))) a b found
+    → NoOperator (level_number level) b.rest.now → ReadsDeep levels (BeginsExpr (level_number level)) (Ends (level_number level)) a b found
+alone_exact level levels a b (Ok first) reads none = first_alone level levels a b first reads none
+alone_exact level levels a b (Err fault) reads none = first_stops level levels a b fault reads
+
+-- where an operator comes behind it more of the chain comes
+pub chain_from : (level : Level) (levels depth : ℕ) (a b : Cursor) (found : Result Expr ParseFault) (first e : Expr) (others : List Token) → found ≡ Ok first
+    → ReadsDeep levels (BeginsExpr (first_level (level_number level))) (Ends (first_level (level_number level))) a b found
+    → BeginsExpr (level_number level) depth a.rest.now others e → Ends (level_number level) others → Chain (level_number level) depth b.rest.now others
+chain_from level levels depth a b found first e others is reads h ends =
+    chain_behind (level_number level) levels depth a b first e others (level_is level)
+    (subst (λ r. ReadsDeep levels (BeginsExpr (first_level (level_number level))) (Ends (first_level (level_number level))) a b r) is reads) h ends

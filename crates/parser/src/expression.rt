@@ -32,11 +32,11 @@ pub fn expression<'a>(
     ensures exact { ReadsDeep levels (BeginsExpr (level_number level)) (Ends (level_number level))
         cursor.old cursor.new result }
 {
-    let first = first_operand(alloc, cursor, levels, level)?;
+    let found = first_operand(alloc, cursor, levels, level);
     if !cursor.has_operator(level) {
-        return Ok(first);
+        return found;
     }
-    let first = Box::new(alloc, first)?;
+    let first = boxed(alloc, found)?;
     let rest = links(alloc, cursor, levels, level)?;
     Ok(Expr::Chain { first, rest })
 }

@@ -14,47 +14,57 @@ use Rattle.parser.proofs.Lists.{pushed, emptied}
 use Rattle.parser.proofs.Kept.{was_read, last, not_kept}
 use Rattle.parser.proofs.Exact.{same_first, begins, stops_spent}
 use Rattle.parser.proofs.ExactLists.{parts_end}
-use Rattle.parser.proofs.ExactChains.{level_is, chain_behind, links_of}
-use Rattle.parser.proofs.Chains.{links_first, links_more, operand_stops, links_end, links_given, first_stops, first_alone}
+use Rattle.parser.proofs.ExactChains.{level_is, chain_parts, first_answer, links_of}
+use Rattle.parser.proofs.Chains.{links_first, links_more, operand_stops, links_end, links_given, alone_given, alone_exact, chain_from}
 use Rattle.parser.proofs.ExactExpressions.{factor_parts, number_read, name_taken, negated_behind, negated_answer, parenthesized_answer, opened, inner_answer, signed_parts, sign_taken, sign_missed_at, term_answer}
 use Rattle.parser.proofs.ExactActuals.{actual_parts, value_answer, width_left, width_absent, width_taken, width_answer, actual_list_parts, actual_answer, actual_list_begins, actual_list_goes_on, actual_list_left, opened_actuals, no_actuals}
 use Rattle.parser.proofs.Statements.{ActualsGrow, actuals_grow_first, actuals_grow, actuals_closed}
-use Rattle.parser.proofs.Rules.{gives-Number, gives-Not, gives-Signed, gives-Unsigned, gives-None, gives-Narrow, gives-Parenthesized, gives-Name, gives-Call, gives-Wide, gives-Chain, gives-Alone}
+use Rattle.parser.proofs.Rules.{gives-Number, gives-Not, gives-Signed, gives-Unsigned, gives-None, gives-Narrow, gives-Parenthesized, gives-Name, gives-Call, gives-Wide, gives-Chain}
 use Rattle.parser.proofs.Reading.{reads_fewer, reads_no_more, unchanged}
 use Rattle.parser.proofs.expression.+expression.Goals as goal
 use Rattle.parser.proofs.expression.+expression.Goals.{factor-in-Some+in-Word-1, factor-in-None-1}
 
 -- ---- chains
 
-pub expression-returns-in_err-first-clause-exact : goal.expression-returns-in_err-first-clause-exact
-expression-returns-in_err-first-clause-exact t c = λ depth e others h ends.
-    let m : Stops c.args.levels depth c.in_err-first.field-0.0 = first_stops c.args.level c.args.levels c.args.cursor.now c.first_operand.new.cursor c.in_err-first.field-0.0 c.in_err-first.ensures.exact depth e others h ends in
-    search rules
-
 pub expression-returns-then-not-has_operator-clause-given : goal.expression-returns-then-not-has_operator-clause-given
 expression-returns-then-not-has_operator-clause-given t c =
-    gives-Alone (level_number c.args.level) c.args.levels c.args.cursor.now c.first_operand.new.cursor c.in_ok-first.first c.in_ok-first.ensures.given
+    alone_given (level_number c.args.level) c.args.levels c.args.cursor.now c.first_operand-found.new.cursor c.first_operand-found.result c.first_operand-found.ensures.given
 
 pub expression-returns-then-not-has_operator-clause-exact : goal.expression-returns-then-not-has_operator-clause-exact
 expression-returns-then-not-has_operator-clause-exact t c =
-    first_alone c.args.level c.args.levels c.args.cursor.now c.first_operand.new.cursor c.in_ok-first.first c.in_ok-first.ensures.exact (search rules)
+    alone_exact c.args.level c.args.levels c.args.cursor.now c.first_operand-found.new.cursor c.first_operand-found.result c.first_operand-found.ensures.exact (search rules)
+
+pub expression-returns-in_err-first-clause-given : goal.expression-returns-in_err-first-clause-given
+expression-returns-in_err-first-clause-given t c =
+    let m : IsOfRules c.in_err-first.field-0.0 = not_kept (Read (BeginsExpr (first_level (level_number c.args.level)) c.args.levels) c.args.cursor.now c.first_operand-found.new.cursor) IsOfRules c.first_operand-found.result c.in_err-first.field-0.0 tt c.first_operand-found.ensures.given c.in_err-first.ensures.given in
+    search rules
+
+pub expression-returns-in_err-first-clause-exact : goal.expression-returns-in_err-first-clause-exact
+expression-returns-in_err-first-clause-exact t c = λ depth e others h ends.
+    let p = chain_parts (level_number c.args.level) depth c.args.cursor.now.rest.now others e (level_is c.args.level) h in
+    let m : Stops c.args.levels depth c.in_err-first.field-0.0 = not_kept (λ _. c.first_operand-found.new.cursor.rest.now ≡ p.middle) (Stops c.args.levels depth) c.first_operand-found.result c.in_err-first.field-0.0 tt
+    (first_answer (level_number c.args.level) c.args.levels depth c.args.cursor.now c.first_operand-found.new.cursor others c.first_operand-found.result (level_is c.args.level) p ends c.first_operand-found.ensures.exact) c.in_err-first.ensures.given in
+    search rules
 
 pub expression-returns-in_err-rest-clause-exact : goal.expression-returns-in_err-rest-clause-exact
 expression-returns-in_err-rest-clause-exact t c = λ depth e others h ends.
-    let k = chain_behind (level_number c.args.level) c.args.levels depth c.args.cursor.now c.first_operand.new.cursor c.in_ok-first.first e others (level_is c.args.level) c.in_ok-first.ensures.exact h ends in
-    let m : Stops c.args.levels depth c.in_err-rest.field-0.0 = c.in_err-rest.ensures.exact depth k.links others (links_of (level_number c.args.level) depth c.first_operand.new.cursor.rest.now others k) ends in
+    let k = chain_from c.args.level c.args.levels depth c.args.cursor.now c.first_operand-found.new.cursor c.first_operand-found.result c.in_ok-first.first.value e others c.in_ok-first.ensures.given c.first_operand-found.ensures.exact h ends in
+    let m : Stops c.args.levels depth c.in_err-rest.field-0.0 = c.in_err-rest.ensures.exact depth k.links others (links_of (level_number c.args.level) depth c.first_operand-found.new.cursor.rest.now others k) ends in
     search rules
 
 pub expression-returns-clause-given : goal.expression-returns-clause-given
 expression-returns-clause-given t c =
-    let some : ¬ NoOperator (level_number c.args.level) c.first_operand.new.cursor.rest.now = search rules in
-    gives-Chain (level_number c.args.level) c.args.levels c.args.cursor.now c.first_operand.new.cursor c.links.new.cursor c.in_ok-first.first c.in_ok-first-2.first c.in_ok-rest.rest c.in_ok-first-2.ensures.ok
-    (λ e. some (c.in_ok-rest.ensures.given.none e)) c.in_ok-first.ensures.given c.in_ok-rest.ensures.given.begun
+    let first = c.in_ok-first.first in
+    let some : ¬ NoOperator (level_number c.args.level) c.first_operand-found.new.cursor.rest.now = search rules in
+    gives-Chain (level_number c.args.level) c.args.levels c.args.cursor.now c.first_operand-found.new.cursor c.links.new.cursor first.value first c.in_ok-rest.rest refl
+    (λ e. some (c.in_ok-rest.ensures.given.none e))
+    (was_read (Read (BeginsExpr (first_level (level_number c.args.level)) c.args.levels) c.args.cursor.now c.first_operand-found.new.cursor) IsOfRules c.first_operand-found.result first.value c.in_ok-first.ensures.given c.first_operand-found.ensures.given)
+    c.in_ok-rest.ensures.given.begun
 
 pub expression-returns-clause-exact : goal.expression-returns-clause-exact
 expression-returns-clause-exact t c = λ depth e others h ends.
-    let k = chain_behind (level_number c.args.level) c.args.levels depth c.args.cursor.now c.first_operand.new.cursor c.in_ok-first.first e others (level_is c.args.level) c.in_ok-first.ensures.exact h ends in
-    c.in_ok-rest.ensures.exact depth k.links others (links_of (level_number c.args.level) depth c.first_operand.new.cursor.rest.now others k) ends
+    let k = chain_from c.args.level c.args.levels depth c.args.cursor.now c.first_operand-found.new.cursor c.first_operand-found.result c.in_ok-first.first.value e others c.in_ok-first.ensures.given c.first_operand-found.ensures.exact h ends in
+    c.in_ok-rest.ensures.exact depth k.links others (links_of (level_number c.args.level) depth c.first_operand-found.new.cursor.rest.now others k) ends
 
 -- ---- operators and their operands
 
