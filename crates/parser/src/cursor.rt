@@ -194,15 +194,14 @@ impl<'t, 'a> Cursor<'t, 'a> {
             (λ found. Took self.old self.new (operator found.0 found.1 ∷ [])) }
     {
         match self.rest {
-            [token, rest @ ..] => {
-                let operator = operator_of(token.kind)?;
-                if level_of(operator) != level {
-                    return None;
+            [token, rest @ ..] => match operator_of(token.kind) {
+                Some(operator) if level_of(operator) == level => {
+                    let place = token.place;
+                    self.rest = rest;
+                    Some((operator, place))
                 }
-                let place = token.place;
-                self.rest = rest;
-                Some((operator, place))
-            }
+                _ => None,
+            },
             _ => None,
         }
     }
