@@ -1,5 +1,5 @@
 -- What was read and kept, and why it wasn't.
-use Rattle.std.proofs.Common.{◌≡◌, Result, Ok, Err, MatchResult, IfOk, IfErr, List, [], ◌∷◌, ◌++◌, refl, sym, subst}
+use Rattle.std.proofs.Common.{◌≡◌, Result, Ok, Err, MatchResult, IfOk, IfErr, IsErr, IsErrAnd, List, [], ◌∷◌, ◌++◌, refl, sym, subst}
 use Rattle.parser.specs.declared.fault.ParseFault.{ParseFault}
 use Rattle.parser.specs.declared.fault.ParseFault.TheVariants.{Memory}
 use Rattle.parser.specs.declared.cursor.Cursor.{Cursor}
@@ -38,3 +38,8 @@ memory_out N (Err why) fault missed next same = absurd (missed next)
 
 pub was_taken : (a b : Cursor) (found : Result Name ParseFault) (name : Name) → found ≡ Ok name → IfOk found (λ n. Took a b (identifier n ∷ [])) → Took a b (identifier name ∷ [])
 was_taken a b found name is h = subst (λ r. IfOk r (λ n. Took a b (identifier n ∷ []))) is h
+
+-- what is said of a fault is said of an answer that hands it on
+pub handed_on : {A : Type 0} (Q : A → Type 0) (P : ParseFault → Type 0) (answer : Result A ParseFault) (fault : ParseFault) → IsErr answer × IsErrAnd answer (λ e. e ≡ fault) → P fault → MatchResult answer Q P
+handed_on Q P (Ok item) fault told h = let f = told.0 in cc
+handed_on Q P (Err e) fault told h = subst P (sym told.1) h

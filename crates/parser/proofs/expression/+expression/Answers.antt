@@ -11,7 +11,7 @@ use Rattle.parser.specs.Spelling.{Reads, mark, of_kind_at}
 use Rattle.parser.specs.Reading.{next_kind, NoOperator, NoSign, NoNext, Stops, Ends, EndsActual, ReadsDeep}
 use Rattle.parser.specs.WellFormed.{relation_level, product_level, factor_level, first_level, operand_level}
 use Rattle.parser.proofs.Lists.{pushed, emptied}
-use Rattle.parser.proofs.Kept.{was_read, last, not_kept}
+use Rattle.parser.proofs.Kept.{handed_on, was_read, last, not_kept}
 use Rattle.parser.proofs.Exact.{same_first, begins, stops_spent}
 use Rattle.parser.proofs.ExactLists.{parts_end}
 use Rattle.parser.proofs.ExactChains.{level_is, chain_parts, first_answer, links_of}
@@ -36,21 +36,21 @@ expression-returns-then-not-has_operator-clause-exact t c =
 
 pub expression-returns-in_err-first-clause-given : goal.expression-returns-in_err-first-clause-given
 expression-returns-in_err-first-clause-given t c =
-    let m : IsOfRules c.in_err-first.field-0.0 = not_kept (Read (BeginsExpr (first_level (level_number c.args.level)) c.args.levels) c.args.cursor.now c.first_operand-found.new.cursor) IsOfRules c.first_operand-found.result c.in_err-first.field-0.0 tt c.first_operand-found.ensures.given c.in_err-first.ensures.given in
-    search rules
+    handed_on _ _ c.from_residual.result c.in_err-first.field-0.0 c.from_residual.ensures
+    (not_kept (Read (BeginsExpr (first_level (level_number c.args.level)) c.args.levels) c.args.cursor.now c.first_operand-found.new.cursor) IsOfRules c.first_operand-found.result c.in_err-first.field-0.0 tt c.first_operand-found.ensures.given c.in_err-first.ensures.given)
 
 pub expression-returns-in_err-first-clause-exact : goal.expression-returns-in_err-first-clause-exact
 expression-returns-in_err-first-clause-exact t c = λ depth e others h ends.
     let p = chain_parts (level_number c.args.level) depth c.args.cursor.now.rest.now others e (level_is c.args.level) h in
-    let m : Stops c.args.levels depth c.in_err-first.field-0.0 = not_kept (λ _. c.first_operand-found.new.cursor.rest.now ≡ p.middle) (Stops c.args.levels depth) c.first_operand-found.result c.in_err-first.field-0.0 tt
-    (first_answer (level_number c.args.level) c.args.levels depth c.args.cursor.now c.first_operand-found.new.cursor others c.first_operand-found.result (level_is c.args.level) p ends c.first_operand-found.ensures.exact) c.in_err-first.ensures.given in
-    search rules
+    handed_on _ _ c.from_residual.result c.in_err-first.field-0.0 c.from_residual.ensures
+    (not_kept (λ _. c.first_operand-found.new.cursor.rest.now ≡ p.middle) (Stops c.args.levels depth) c.first_operand-found.result c.in_err-first.field-0.0 tt
+    (first_answer (level_number c.args.level) c.args.levels depth c.args.cursor.now c.first_operand-found.new.cursor others c.first_operand-found.result (level_is c.args.level) p ends c.first_operand-found.ensures.exact) c.in_err-first.ensures.given)
 
 pub expression-returns-in_err-rest-clause-exact : goal.expression-returns-in_err-rest-clause-exact
 expression-returns-in_err-rest-clause-exact t c = λ depth e others h ends.
     let k = chain_from c.args.level c.args.levels depth c.args.cursor.now c.first_operand-found.new.cursor c.first_operand-found.result c.in_ok-first.first.value e others c.in_ok-first.ensures.given c.first_operand-found.ensures.exact h ends in
-    let m : Stops c.args.levels depth c.in_err-rest.field-0.0 = c.in_err-rest.ensures.exact depth k.links others (links_of (level_number c.args.level) depth c.first_operand-found.new.cursor.rest.now others k) ends in
-    search rules
+    handed_on _ _ c.from_residual-in_err-rest.result c.in_err-rest.field-0.0 c.from_residual-in_err-rest.ensures
+    (c.in_err-rest.ensures.exact depth k.links others (links_of (level_number c.args.level) depth c.first_operand-found.new.cursor.rest.now others k) ends)
 
 pub expression-returns-clause-given : goal.expression-returns-clause-given
 expression-returns-clause-given t c =
@@ -84,9 +84,9 @@ links-loop-operator-smaller t c =
 
 pub links-returns-in_err-operand-clause-exact : goal.links-returns-in_err-operand-clause-exact
 links-returns-in_err-operand-clause-exact t c = λ depth links others h ends.
-    let m : Stops c.args.levels depth c.in_err-operand.field-0.0 = operand_stops c.args.level c.args.levels c.args.cursor.now c.loop-operator.cursor c.next_operator.new.cursor c.operand.new.cursor c.loop-operator.links.items
-    c.in-Some.operator c.in-Some.place c.in_err-operand.field-0.0 c.loop-operator.invariant (subst (λ xs. LinksGoOn c.args.level xs c.loop-operator.cursor c.next_operator.new.cursor c.in-Some.operator c.in-Some.place) c.deref.ensures.value c.in-Some.ensures.goes_on) c.in_err-operand.ensures.exact depth links others h ends in
-    search rules
+    handed_on _ _ c.from_residual.result c.in_err-operand.field-0.0 c.from_residual.ensures
+    (operand_stops c.args.level c.args.levels c.args.cursor.now c.loop-operator.cursor c.next_operator.new.cursor c.operand.new.cursor c.loop-operator.links.items
+    c.in-Some.operator c.in-Some.place c.in_err-operand.field-0.0 c.loop-operator.invariant (subst (λ xs. LinksGoOn c.args.level xs c.loop-operator.cursor c.next_operator.new.cursor c.in-Some.operator c.in-Some.place) c.deref.ensures.value c.in-Some.ensures.goes_on) c.in_err-operand.ensures.exact depth links others h ends)
 
 pub links-returns-clause-given : goal.links-returns-clause-given
 links-returns-clause-given t c = links_given c.args.level c.args.levels c.args.cursor.now c.loop-operator.cursor c.next_operator.new.cursor c.loop-operator.links.items c.loop-operator.invariant
@@ -150,15 +150,15 @@ operand-returns-in-Product-clause-exact t c =
 
 pub signed-returns-in_err-boxed-in-Some-clause-given : goal.signed-returns-in_err-boxed-in-Some-clause-given
 signed-returns-in_err-boxed-in-Some-clause-given t c =
-    let m : IsOfRules c.in_err-boxed-in-Some.field-0.0 = not_kept (Read (BeginsExpr product_level c.args.levels) c.take_sign.new.self c.expression-in-Some.new.cursor) IsOfRules c.expression-in-Some.result c.in_err-boxed-in-Some.field-0.0 tt c.expression-in-Some.ensures.given c.in_err-boxed-in-Some.ensures.given in
-    search rules
+    handed_on _ _ c.from_residual.result c.in_err-boxed-in-Some.field-0.0 c.from_residual.ensures
+    (not_kept (Read (BeginsExpr product_level c.args.levels) c.take_sign.new.self c.expression-in-Some.new.cursor) IsOfRules c.expression-in-Some.result c.in_err-boxed-in-Some.field-0.0 tt c.expression-in-Some.ensures.given c.in_err-boxed-in-Some.ensures.given)
 
 pub signed-returns-in_err-boxed-in-Some-clause-exact : goal.signed-returns-in_err-boxed-in-Some-clause-exact
 signed-returns-in_err-boxed-in-Some-clause-exact t c = λ depth e others h ends.
     let b = sign_taken depth c.in-Some.sign c.in-Some.place c.args.cursor.now.rest.now c.take_sign.new.self.rest.now others c.in-Some.ensures.spelled (signed_parts depth c.args.cursor.now.rest.now others e h) in
-    let m : Stops c.args.levels depth c.in_err-boxed-in-Some.field-0.0 = not_kept (λ _. c.expression-in-Some.new.cursor.rest.now ≡ others) (Stops c.args.levels depth) c.expression-in-Some.result c.in_err-boxed-in-Some.field-0.0 tt
-    (term_answer c.args.levels depth c.take_sign.new.self c.expression-in-Some.new.cursor others c.expression-in-Some.result b ends c.expression-in-Some.ensures.exact) c.in_err-boxed-in-Some.ensures.given in
-    search rules
+    handed_on _ _ c.from_residual.result c.in_err-boxed-in-Some.field-0.0 c.from_residual.ensures
+    (not_kept (λ _. c.expression-in-Some.new.cursor.rest.now ≡ others) (Stops c.args.levels depth) c.expression-in-Some.result c.in_err-boxed-in-Some.field-0.0 tt
+    (term_answer c.args.levels depth c.take_sign.new.self c.expression-in-Some.new.cursor others c.expression-in-Some.result b ends c.expression-in-Some.ensures.exact) c.in_err-boxed-in-Some.ensures.given)
 
 pub signed-returns-in_ok-boxed-in-Some-clause-given : goal.signed-returns-in_ok-boxed-in-Some-clause-given
 signed-returns-in_ok-boxed-in-Some-clause-given t c =
@@ -217,21 +217,21 @@ factor-returns-in_err-levels-clause-exact t c = λ depth e others h ends.
     let same : c.take_number.new.self ≡ c.args.cursor.now = c.in_default.ensures.kept in
     let b = negated_behind depth c.in-Some-take_word.place c.args.cursor.now c.take_number.new.self c.take_word.new.self others e same c.in-Some-take_word.ensures.spelled h in
     let n = b.nests in
-    let m : Stops c.args.levels depth c.in_err-levels.field-0.0 = stops_spent c.args.levels depth _ _ c.in_err-levels.ensures.spent (omega arith) in
-    search rules
+    handed_on _ _ c.from_residual.result c.in_err-levels.field-0.0 c.from_residual.ensures
+    (stops_spent c.args.levels depth _ _ c.in_err-levels.ensures.spent (omega arith))
 
 pub factor-returns-in_err-operand-clause-given : goal.factor-returns-in_err-operand-clause-given
 factor-returns-in_err-operand-clause-given t c =
-    let m : IsOfRules c.in_err-operand.field-0.0 = not_kept (Read (BeginsExpr factor_level c.in_ok-levels.levels) c.take_word.new.self c.factor.new.cursor) IsOfRules c.factor.result c.in_err-operand.field-0.0 tt c.factor.ensures.given c.in_err-operand.ensures.given in
-    search rules
+    handed_on _ _ c.from_residual-in_err-operand.result c.in_err-operand.field-0.0 c.from_residual-in_err-operand.ensures
+    (not_kept (Read (BeginsExpr factor_level c.in_ok-levels.levels) c.take_word.new.self c.factor.new.cursor) IsOfRules c.factor.result c.in_err-operand.field-0.0 tt c.factor.ensures.given c.in_err-operand.ensures.given)
 
 pub factor-returns-in_err-operand-clause-exact : goal.factor-returns-in_err-operand-clause-exact
 factor-returns-in_err-operand-clause-exact t c = λ depth e others h ends.
     let same : c.take_number.new.self ≡ c.args.cursor.now = c.in_default.ensures.kept in
     let b = negated_behind depth c.in-Some-take_word.place c.args.cursor.now c.take_number.new.self c.take_word.new.self others e same c.in-Some-take_word.ensures.spelled h in
-    let m : Stops c.args.levels depth c.in_err-operand.field-0.0 = not_kept (λ _. c.factor.new.cursor.rest.now ≡ others) (Stops c.args.levels depth) c.factor.result c.in_err-operand.field-0.0 tt
-    (negated_answer c.args.levels c.in_ok-levels.levels depth c.take_word.new.self c.factor.new.cursor others c.factor.result c.in_ok-levels.ensures.left b ends c.factor.ensures.exact) c.in_err-operand.ensures.given in
-    search rules
+    handed_on _ _ c.from_residual-in_err-operand.result c.in_err-operand.field-0.0 c.from_residual-in_err-operand.ensures
+    (not_kept (λ _. c.factor.new.cursor.rest.now ≡ others) (Stops c.args.levels depth) c.factor.result c.in_err-operand.field-0.0 tt
+    (negated_answer c.args.levels c.in_ok-levels.levels depth c.take_word.new.self c.factor.new.cursor others c.factor.result c.in_ok-levels.ensures.left b ends c.factor.ensures.exact) c.in_err-operand.ensures.given)
 
 pub factor-returns-clause-given : goal.factor-returns-clause-given
 factor-returns-clause-given t c =
@@ -255,8 +255,8 @@ named-returns-in_err-name-clause-exact t c = λ first depth e others h ends. abs
 pub named-returns-in_err-actuals-clause-exact : goal.named-returns-in_err-actuals-clause-exact
 named-returns-in_err-actuals-clause-exact t c = λ first depth e others h ends.
     let n = name_taken depth c.in_ok-name.name c.args.cursor.now.rest.now c.expect_name.new.self.rest.now others c.in_ok-name.ensures.spelled (factor_parts depth c.args.cursor.now.rest.now others e h) in
-    let m : Stops c.args.levels depth c.in_err-actuals.field-0.0 = c.in_err-actuals.ensures.exact depth n.actuals others n.begun ends.call in
-    search rules
+    handed_on _ _ c.from_residual-in_err-actuals.result c.in_err-actuals.field-0.0 c.from_residual-in_err-actuals.ensures
+    (c.in_err-actuals.ensures.exact depth n.actuals others n.begun ends.call)
 
 pub named-returns-then-is_empty-clause-given : goal.named-returns-then-is_empty-clause-given
 named-returns-then-is_empty-clause-given t c =
@@ -287,20 +287,20 @@ pub parenthesized-returns-in_err-levels-clause-exact : goal.parenthesized-return
 parenthesized-returns-in_err-levels-clause-exact t c = λ first depth e others h ends.
     let o = opened depth c.in_ok-open.open c.args.cursor.now.rest.now c.expect_symbol.new.self.rest.now others c.in_ok-open.ensures.spelled (factor_parts depth c.args.cursor.now.rest.now others e h) in
     let n = o.nests in
-    let m : Stops c.args.levels depth c.in_err-levels.field-0.0 = stops_spent c.args.levels depth _ _ c.in_err-levels.ensures.spent (omega arith) in
-    search rules
+    handed_on _ _ c.from_residual-in_err-levels.result c.in_err-levels.field-0.0 c.from_residual-in_err-levels.ensures
+    (stops_spent c.args.levels depth _ _ c.in_err-levels.ensures.spent (omega arith))
 
 pub parenthesized-returns-in_err-inner-clause-given : goal.parenthesized-returns-in_err-inner-clause-given
 parenthesized-returns-in_err-inner-clause-given t c =
-    let m : IsOfRules c.in_err-inner.field-0.0 = not_kept (Read (BeginsExpr relation_level c.in_ok-levels.levels) c.expect_symbol.new.self c.expression.new.cursor) IsOfRules c.expression.result c.in_err-inner.field-0.0 tt c.expression.ensures.given c.in_err-inner.ensures.given in
-    search rules
+    handed_on _ _ c.from_residual-in_err-inner.result c.in_err-inner.field-0.0 c.from_residual-in_err-inner.ensures
+    (not_kept (Read (BeginsExpr relation_level c.in_ok-levels.levels) c.expect_symbol.new.self c.expression.new.cursor) IsOfRules c.expression.result c.in_err-inner.field-0.0 tt c.expression.ensures.given c.in_err-inner.ensures.given)
 
 pub parenthesized-returns-in_err-inner-clause-exact : goal.parenthesized-returns-in_err-inner-clause-exact
 parenthesized-returns-in_err-inner-clause-exact t c = λ first depth e others h ends.
     let o = opened depth c.in_ok-open.open c.args.cursor.now.rest.now c.expect_symbol.new.self.rest.now others c.in_ok-open.ensures.spelled (factor_parts depth c.args.cursor.now.rest.now others e h) in
-    let m : Stops c.args.levels depth c.in_err-inner.field-0.0 = not_kept (λ _. c.expression.new.cursor.rest.now ≡ o.middle) (Stops c.args.levels depth) c.expression.result c.in_err-inner.field-0.0 tt
-    (inner_answer c.args.levels c.in_ok-levels.levels depth c.expect_symbol.new.self c.expression.new.cursor others c.expression.result c.in_ok-levels.ensures.left o c.expression.ensures.exact) c.in_err-inner.ensures.given in
-    search rules
+    handed_on _ _ c.from_residual-in_err-inner.result c.in_err-inner.field-0.0 c.from_residual-in_err-inner.ensures
+    (not_kept (λ _. c.expression.new.cursor.rest.now ≡ o.middle) (Stops c.args.levels depth) c.expression.result c.in_err-inner.field-0.0 tt
+    (inner_answer c.args.levels c.in_ok-levels.levels depth c.expect_symbol.new.self c.expression.new.cursor others c.expression.result c.in_ok-levels.ensures.left o c.expression.ensures.exact) c.in_err-inner.ensures.given)
 
 pub parenthesized-returns-in_err-expect_symbol-clause-exact : goal.parenthesized-returns-in_err-expect_symbol-clause-exact
 parenthesized-returns-in_err-expect_symbol-clause-exact t c = λ first depth e others h ends.
@@ -339,8 +339,8 @@ actuals-returns-clause-given t c =
 pub actuals-returns-in_err-actuals-clause-exact : goal.actuals-returns-in_err-actuals-clause-exact
 actuals-returns-in_err-actuals-clause-exact t c = λ depth actuals others h ends.
     let o = opened_actuals depth c.in-Some.field-0 c.args.cursor.now.rest.now c.take_symbol.new.self.rest.now others actuals c.in-Some.ensures.spelled ends h in
-    let m : Stops c.args.levels depth c.in_err-actuals.field-0.0 = c.in_err-actuals.ensures.exact depth actuals o.middle o.list o.closes in
-    search rules
+    handed_on _ _ c.from_residual.result c.in_err-actuals.field-0.0 c.from_residual.ensures
+    (c.in_err-actuals.ensures.exact depth actuals o.middle o.list o.closes)
 
 pub actuals-returns-in_err-expect_symbol-clause-exact : goal.actuals-returns-in_err-expect_symbol-clause-exact
 actuals-returns-in_err-expect_symbol-clause-exact t c = λ depth actuals others h ends.
@@ -383,15 +383,15 @@ actual_list-loop-actuals-smaller t c =
 
 pub actual_list-returns-in_err-put-clause-given : goal.actual_list-returns-in_err-put-clause-given
 actual_list-returns-in_err-put-clause-given t c =
-    let m : IsOfRules c.in_err-put.field-0.0 = not_kept (Read (BeginsActual c.args.levels) c.loop-actuals.cursor c.actual.new.cursor) IsOfRules c.actual.result c.in_err-put.field-0.0 tt c.actual.ensures.given c.in_err-put.ensures.given in
-    search rules
+    handed_on _ _ c.from_residual.result c.in_err-put.field-0.0 c.from_residual.ensures
+    (not_kept (Read (BeginsActual c.args.levels) c.loop-actuals.cursor c.actual.new.cursor) IsOfRules c.actual.result c.in_err-put.field-0.0 tt c.actual.ensures.given c.in_err-put.ensures.given)
 
 pub actual_list-returns-in_err-put-clause-exact : goal.actual_list-returns-in_err-put-clause-exact
 actual_list-returns-in_err-put-clause-exact t c = λ depth actuals others h ends.
     let p = c.loop-actuals.invariant.1 depth actuals others h ends in
-    let m : Stops c.args.levels depth c.in_err-put.field-0.0 = not_kept (λ _. c.actual.new.cursor.rest.now ≡ p.middle) (Stops c.args.levels depth) c.actual.result c.in_err-put.field-0.0 tt
-    (actual_answer c.args.levels depth c.loop-actuals.cursor c.actual.new.cursor others c.actual.result p ends c.actual.ensures.exact) c.in_err-put.ensures.given in
-    search rules
+    handed_on _ _ c.from_residual.result c.in_err-put.field-0.0 c.from_residual.ensures
+    (not_kept (λ _. c.actual.new.cursor.rest.now ≡ p.middle) (Stops c.args.levels depth) c.actual.result c.in_err-put.field-0.0 tt
+    (actual_answer c.args.levels depth c.loop-actuals.cursor c.actual.new.cursor others c.actual.result p ends c.actual.ensures.exact) c.in_err-put.ensures.given)
 
 pub actual_list-returns-in_default-clause-given : goal.actual_list-returns-in_default-clause-given
 actual_list-returns-in_default-clause-given t c =
@@ -413,14 +413,14 @@ pub actual-returns-in_err-levels-clause-exact : goal.actual-returns-in_err-level
 actual-returns-in_err-levels-clause-exact t c = λ depth x others h ends.
     let v = actual_parts depth c.args.cursor.now.rest.now others x h in
     let n = v.nests in
-    let m : Stops c.args.levels depth c.in_err-levels.field-0.0 = stops_spent c.args.levels depth _ _ c.in_err-levels.ensures.spent (omega arith) in
-    search rules
+    handed_on _ _ c.from_residual.result c.in_err-levels.field-0.0 c.from_residual.ensures
+    (stops_spent c.args.levels depth _ _ c.in_err-levels.ensures.spent (omega arith))
 
 pub actual-returns-in_err-value-clause-exact : goal.actual-returns-in_err-value-clause-exact
 actual-returns-in_err-value-clause-exact t c = λ depth x others h ends.
     let v = actual_parts depth c.args.cursor.now.rest.now others x h in
-    let m : Stops c.args.levels depth c.in_err-value.field-0.0 = value_answer c.args.levels c.in_ok-levels.levels depth c.args.cursor.now c.expression.new.cursor others (Err c.in_err-value.field-0.0) c.in_ok-levels.ensures.left ends v c.in_err-value.ensures.exact in
-    search rules
+    handed_on _ _ c.from_residual-in_err-value.result c.in_err-value.field-0.0 c.from_residual-in_err-value.ensures
+    (value_answer c.args.levels c.in_ok-levels.levels depth c.args.cursor.now c.expression.new.cursor others (Err c.in_err-value.field-0.0) c.in_ok-levels.ensures.left ends v c.in_err-value.ensures.exact)
 
 pub actual-returns-in_default-clause-given : goal.actual-returns-in_default-clause-given
 actual-returns-in_default-clause-given t c =
@@ -435,8 +435,8 @@ pub actual-returns-in_err-width-clause-exact : goal.actual-returns-in_err-width-
 actual-returns-in_err-width-clause-exact t c = λ depth x others h ends.
     let w = width_left c.args.levels c.in_ok-levels.levels depth c.args.cursor.now c.expression.new.cursor c.in_ok-value.value x others c.in_ok-levels.ensures.left c.in_ok-value.ensures.exact h ends in
     let b = width_taken depth c.in-Some.field-0 c.expression.new.cursor.rest.now c.take_symbol.new.self.rest.now others c.in-Some.ensures.spelled ends w in
-    let m : Stops c.args.levels depth c.in_err-width.field-0.0 = width_answer c.args.levels c.in_ok-levels.levels depth c.take_symbol.new.self c.expression-2.new.cursor others (Err c.in_err-width.field-0.0) c.in_ok-levels.ensures.left ends b c.in_err-width.ensures.exact in
-    search rules
+    handed_on _ _ c.from_residual-in_err-width.result c.in_err-width.field-0.0 c.from_residual-in_err-width.ensures
+    (width_answer c.args.levels c.in_ok-levels.levels depth c.take_symbol.new.self c.expression-2.new.cursor others (Err c.in_err-width.field-0.0) c.in_ok-levels.ensures.left ends b c.in_err-width.ensures.exact)
 
 pub actual-returns-clause-given : goal.actual-returns-clause-given
 actual-returns-clause-given t c =

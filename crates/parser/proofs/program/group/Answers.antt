@@ -3,6 +3,7 @@ use Rattle.lexer.specs.declared.token.Kind.TheVariants as kind
 use Rattle.lexer.specs.declared.token.Symbol.TheVariants as symbol
 use Rattle.parser.specs.declared.fault.ParseFault.TheVariants.{Memory}
 use Rattle.parser.specs.Spelling.{of_kind_at, identifier, mark}
+use Rattle.parser.proofs.Kept.{handed_on}
 use Rattle.parser.proofs.Exact.{begins, same_first}
 use Rattle.parser.proofs.ExactPrograms.{group_begins, group_names_end, group_behind_names, group_behind_colon, group_behind_type}
 use Rattle.parser.proofs.Programs.{group_stands}
@@ -16,8 +17,8 @@ returns-clause-given c =
 pub returns-in_err-names-clause-exact : goal.returns-in_err-names-clause-exact
 returns-in_err-names-clause-exact c = λ g others h _.
     let p = group_begins c.args.cursor.now.rest.now others g h in
-    let m : c.in_err-names.field-0.0 ≡ Memory = c.in_err-names.ensures.exact p.names p.middle p.begun (group_names_end c.args.cursor.now.rest.now others p) in
-    search rules
+    handed_on _ _ c.from_residual.result c.in_err-names.field-0.0 c.from_residual.ensures
+    (c.in_err-names.ensures.exact p.names p.middle p.begun (group_names_end c.args.cursor.now.rest.now others p))
 
 pub returns-in_err-expect_symbol-clause-exact : goal.returns-in_err-expect_symbol-clause-exact
 returns-in_err-expect_symbol-clause-exact c = λ g others h _.

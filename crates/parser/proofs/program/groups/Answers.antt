@@ -4,7 +4,7 @@ use Rattle.parser.specs.declared.fault.ParseFault.TheVariants.{Memory}
 use Rattle.parser.specs.Cursor.{IsOfRules}
 use Rattle.parser.specs.Reading.{Next, NoNext, ReadsEach, Anything}
 use Rattle.parser.specs.Rules.{Read, BeginsGroup, BeginsGroups}
-use Rattle.parser.proofs.Kept.{last, was_read, not_kept}
+use Rattle.parser.proofs.Kept.{handed_on, last, was_read, not_kept}
 use Rattle.parser.proofs.Lists.{pushed, emptied}
 use Rattle.parser.proofs.ExactPrograms.{groups_begin_with, groups_go_on_with, groups_left, groups_end, group_fewer}
 use Rattle.parser.proofs.Programs.{GroupsGrow, groups_grow_first, groups_grow}
@@ -36,14 +36,14 @@ loop-groups-smaller c =
 
 pub returns-in_err-put-clause-given : goal.returns-in_err-put-clause-given
 returns-in_err-put-clause-given c =
-    let m : IsOfRules c.in_err-put.field-0.0 = not_kept (Read BeginsGroup c.loop-groups.cursor c.group.new.cursor) IsOfRules c.group.result c.in_err-put.field-0.0 tt c.group.ensures.given c.in_err-put.ensures.given in
-    search rules
+    handed_on _ _ c.from_residual.result c.in_err-put.field-0.0 c.from_residual.ensures
+    (not_kept (Read BeginsGroup c.loop-groups.cursor c.group.new.cursor) IsOfRules c.group.result c.in_err-put.field-0.0 tt c.group.ensures.given c.in_err-put.ensures.given)
 
 pub returns-in_err-put-clause-exact : goal.returns-in_err-put-clause-exact
 returns-in_err-put-clause-exact c = λ groups others h ends.
     let p = c.loop-groups.invariant.1 groups others h ends in
-    let m : c.in_err-put.field-0.0 ≡ Memory = not_kept (λ _. c.group.new.cursor.rest.now ≡ p.middle) (λ fault. fault ≡ Memory) c.group.result c.in_err-put.field-0.0 refl (c.group.ensures.exact p.group p.middle p.begun tt) c.in_err-put.ensures.given in
-    search rules
+    handed_on _ _ c.from_residual.result c.in_err-put.field-0.0 c.from_residual.ensures
+    (not_kept (λ _. c.group.new.cursor.rest.now ≡ p.middle) (λ fault. fault ≡ Memory) c.group.result c.in_err-put.field-0.0 refl (c.group.ensures.exact p.group p.middle p.begun tt) c.in_err-put.ensures.given)
 
 pub returns-in_default-clause-given : goal.returns-in_default-clause-given
 returns-in_default-clause-given c =

@@ -6,7 +6,7 @@ use Rattle.parser.specs.Rules.{Read, BeginsList}
 use Rattle.parser.specs.Spelling.{identifier, identifiers}
 use Rattle.parser.proofs.Lists.{pushed, emptied}
 use Rattle.parser.proofs.Exact.{begins}
-use Rattle.parser.proofs.Kept.{last, rules_of, memory_out, was_taken}
+use Rattle.parser.proofs.Kept.{last, rules_of, memory_out, was_taken, handed_on}
 use Rattle.parser.proofs.Reading.{reads_fewer, unchanged}
 use Rattle.parser.proofs.ExactPrograms.{names_begin, names_go_on_with, names_left, names_end}
 use Rattle.parser.proofs.Programs.{NamesGrow, names_grow_first, names_grow}
@@ -39,14 +39,14 @@ loop-names-smaller c =
 
 pub returns-in_err-put-clause-given : goal.returns-in_err-put-clause-given
 returns-in_err-put-clause-given c =
-    let m : IsOfRules c.in_err-put.field-0.0 = rules_of _ c.expect_name.result c.in_err-put.field-0.0 c.expect_name.ensures.kept c.in_err-put.ensures.given in
-    search rules
+    handed_on _ _ c.from_residual.result c.in_err-put.field-0.0 c.from_residual.ensures
+    (rules_of _ c.expect_name.result c.in_err-put.field-0.0 c.expect_name.ensures.kept c.in_err-put.ensures.given)
 
 pub returns-in_err-put-clause-exact : goal.returns-in_err-put-clause-exact
 returns-in_err-put-clause-exact c = λ names others h ends.
     let g = c.loop-names.invariant.1 names others h ends in
-    let m : c.in_err-put.field-0.0 ≡ Memory = memory_out _ c.expect_name.result c.in_err-put.field-0.0 c.expect_name.ensures.missed (begins (identifier g.name) _ c.loop-names.cursor.rest.now others g.spelled) c.in_err-put.ensures.given in
-    search rules
+    handed_on _ _ c.from_residual.result c.in_err-put.field-0.0 c.from_residual.ensures
+    (memory_out _ c.expect_name.result c.in_err-put.field-0.0 c.expect_name.ensures.missed (begins (identifier g.name) _ c.loop-names.cursor.rest.now others g.spelled) c.in_err-put.ensures.given)
 
 pub returns-in_default-clause-given : goal.returns-in_default-clause-given
 returns-in_default-clause-given c =

@@ -4,6 +4,7 @@ use Rattle.lexer.specs.declared.token.Symbol.TheVariants as symbol
 use Rattle.parser.specs.declared.fault.ParseFault.TheVariants.{Memory}
 use Rattle.parser.specs.Rules.{Read, BeginsParameters}
 use Rattle.parser.specs.Spelling.{identifiers, of_kind_at, mark}
+use Rattle.parser.proofs.Kept.{handed_on}
 use Rattle.parser.proofs.Exact.{begins, same_first}
 use Rattle.parser.proofs.Lists.{emptied}
 use Rattle.parser.proofs.ExactPrograms.{no_parameters, parameters_opened, parameters_names_end, parameters_behind_names}
@@ -24,8 +25,8 @@ returns-clause-given c =
 pub returns-in_err-names-clause-exact : goal.returns-in_err-names-clause-exact
 returns-in_err-names-clause-exact c = λ names others h ends.
     let o = parameters_opened c.in-Some.field-0 c.args.cursor.now.rest.now c.take_symbol.new.self.rest.now others names c.in-Some.ensures.spelled h ends in
-    let m : c.in_err-names.field-0.0 ≡ Memory = c.in_err-names.ensures.exact o.names o.middle o.begun (parameters_names_end c.take_symbol.new.self.rest.now others o) in
-    search rules
+    handed_on _ _ c.from_residual.result c.in_err-names.field-0.0 c.from_residual.ensures
+    (c.in_err-names.ensures.exact o.names o.middle o.begun (parameters_names_end c.take_symbol.new.self.rest.now others o))
 
 pub returns-in_err-expect_symbol-clause-exact : goal.returns-in_err-expect_symbol-clause-exact
 returns-in_err-expect_symbol-clause-exact c = λ names others h ends.

@@ -7,7 +7,7 @@ use Rattle.parser.specs.Reading.{next_kind, Stops, ReadWithin, ReadsDeep, EndsSt
 use Rattle.parser.specs.Cursor.{IsOfRules}
 use Rattle.parser.specs.Rules.{Read, BeginsStatements, BeginsStmt}
 use Rattle.parser.proofs.Lists.{pushed, emptied}
-use Rattle.parser.proofs.Kept.{last, was_read, not_kept}
+use Rattle.parser.proofs.Kept.{handed_on, last, was_read, not_kept}
 use Rattle.parser.proofs.Exact.{begins, same_first, stops_above}
 use Rattle.parser.proofs.ExactLists.{parts_end}
 use Rattle.parser.proofs.Reading.{reads_fewer, reads_no_more, unchanged}
@@ -26,8 +26,8 @@ compound-returns-in_err-expect_word-clause-exact t c = λ depth found others h _
 pub compound-returns-in_err-statements-clause-exact : goal.compound-returns-in_err-statements-clause-exact
 compound-returns-in_err-statements-clause-exact t c = λ depth found others h _.
     let o = opened_compound depth c.in_ok-expect_word.field-0 c.args.cursor.now.rest.now c.expect_word.new.self.rest.now others found c.in_ok-expect_word.ensures.spelled h in
-    let m : Stops c.args.levels depth c.in_err-statements.field-0.0 = c.in_err-statements.ensures.exact depth found.0 o.middle o.list o.ends in
-    search rules
+    handed_on _ _ c.from_residual-in_err-statements.result c.in_err-statements.field-0.0 c.from_residual-in_err-statements.ensures
+    (c.in_err-statements.ensures.exact depth found.0 o.middle o.list o.ends)
 
 pub compound-returns-in_err-end-clause-exact : goal.compound-returns-in_err-end-clause-exact
 compound-returns-in_err-end-clause-exact t c = λ depth found others h _.
@@ -51,9 +51,9 @@ pub statement-returns-in_err-statements-in-Some-Word-Begin-clause-exact : goal.s
 statement-returns-in_err-statements-in-Some-Word-Begin-clause-exact t c = λ depth s others h ends.
     let first : next_kind c.args.cursor.now.rest.now ≡ Some (kind.Word word.Begin) = search rules in
     let k = compounded depth c.args.cursor.now.rest.now others s first ends h in
-    let m : Stops c.args.levels depth c.in_err-statements-in-Some-Word-Begin.field-0.0 = stops_above c.args.levels c.in_ok-levels.levels depth k.below c.in_err-statements-in-Some-Word-Begin.field-0.0
-    c.in_ok-levels.ensures.left k.less (c.in_err-statements-in-Some-Word-Begin.ensures.exact k.below k.found others k.begun tt) in
-    search rules
+    handed_on _ _ c.from_residual-in_err-statements-in-Some-Word-Begin.result c.in_err-statements-in-Some-Word-Begin.field-0.0 c.from_residual-in_err-statements-in-Some-Word-Begin.ensures
+    (stops_above c.args.levels c.in_ok-levels.levels depth k.below c.in_err-statements-in-Some-Word-Begin.field-0.0
+    c.in_ok-levels.ensures.left k.less (c.in_err-statements-in-Some-Word-Begin.ensures.exact k.below k.found others k.begun tt))
 
 pub statement-returns-in_ok-statements-in-Some-Word-Begin-clause-exact : goal.statement-returns-in_ok-statements-in-Some-Word-Begin-clause-exact
 statement-returns-in_ok-statements-in-Some-Word-Begin-clause-exact t c = λ depth s others h ends.
@@ -99,15 +99,15 @@ statements-loop-statements-smaller t c =
 
 pub statements-returns-in_err-put-clause-given : goal.statements-returns-in_err-put-clause-given
 statements-returns-in_err-put-clause-given t c =
-    let m : IsOfRules c.in_err-put.field-0.0 = not_kept (Read (BeginsStmt c.args.levels) c.loop-statements.cursor c.statement.new.cursor) IsOfRules c.statement.result c.in_err-put.field-0.0 tt c.statement.ensures.given c.in_err-put.ensures.given in
-    search rules
+    handed_on _ _ c.from_residual.result c.in_err-put.field-0.0 c.from_residual.ensures
+    (not_kept (Read (BeginsStmt c.args.levels) c.loop-statements.cursor c.statement.new.cursor) IsOfRules c.statement.result c.in_err-put.field-0.0 tt c.statement.ensures.given c.in_err-put.ensures.given)
 
 pub statements-returns-in_err-put-clause-exact : goal.statements-returns-in_err-put-clause-exact
 statements-returns-in_err-put-clause-exact t c = λ depth statements others h ends.
     let p = c.loop-statements.invariant.1 depth statements others h ends in
-    let m : Stops c.args.levels depth c.in_err-put.field-0.0 = not_kept (λ _. c.statement.new.cursor.rest.now ≡ p.middle) (Stops c.args.levels depth) c.statement.result c.in_err-put.field-0.0 tt
-    (statement_answer c.args.levels depth c.loop-statements.cursor c.statement.new.cursor others c.statement.result p ends c.statement.ensures.exact) c.in_err-put.ensures.given in
-    search rules
+    handed_on _ _ c.from_residual.result c.in_err-put.field-0.0 c.from_residual.ensures
+    (not_kept (λ _. c.statement.new.cursor.rest.now ≡ p.middle) (Stops c.args.levels depth) c.statement.result c.in_err-put.field-0.0 tt
+    (statement_answer c.args.levels depth c.loop-statements.cursor c.statement.new.cursor others c.statement.result p ends c.statement.ensures.exact) c.in_err-put.ensures.given)
 
 pub statements-returns-in_default-clause-given : goal.statements-returns-in_default-clause-given
 statements-returns-in_default-clause-given t c =

@@ -2,6 +2,7 @@ use Rattle.std.proofs.Common.{rules, ◌≡◌, ◌+◌, refl}
 use Rattle.lexer.specs.declared.token.Kind.TheVariants as kind
 use Rattle.lexer.specs.declared.token.Symbol.TheVariants as symbol
 use Rattle.parser.specs.Reading.{NoNext, Stops}
+use Rattle.parser.proofs.Kept.{handed_on}
 use Rattle.parser.proofs.Exact.{stops_above}
 use Rattle.parser.proofs.ExactStatements.{ends_value, simple_parts, becomes_taken, becomes_missed_at}
 use Rattle.parser.proofs.Statements.{gives-Assign, gives-Called}
@@ -24,9 +25,9 @@ pub returns-in_err-expression-in-Some-clause-exact : goal.returns-in_err-express
 returns-in_err-expression-in-Some-clause-exact c = λ first depth s others h ends.
     let p = simple_parts depth c.in_ok-name.name c.args.cursor.now.rest.now c.expect_name.new.self.rest.now others s c.in_ok-name.ensures.spelled ends h in
     let v = becomes_taken depth c.in-Some.becomes c.expect_name.new.self.rest.now c.take_symbol.new.self.rest.now others c.in-Some.ensures.spelled ends p in
-    let m : Stops (c.args.levels + 1) depth c.in_err-expression-in-Some.field-0.0 = stops_above (c.args.levels + 1) c.args.levels depth v.below c.in_err-expression-in-Some.field-0.0 refl v.less
-    (c.in_err-expression-in-Some.ensures.exact v.below v.value others v.begun (ends_value others ends)) in
-    search rules
+    handed_on _ _ c.from_residual-in_err-expression-in-Some.result c.in_err-expression-in-Some.field-0.0 c.from_residual-in_err-expression-in-Some.ensures
+    (stops_above (c.args.levels + 1) c.args.levels depth v.below c.in_err-expression-in-Some.field-0.0 refl v.less
+    (c.in_err-expression-in-Some.ensures.exact v.below v.value others v.begun (ends_value others ends)))
 
 pub returns-in_ok-expression-in-Some-clause-exact : goal.returns-in_ok-expression-in-Some-clause-exact
 returns-in_ok-expression-in-Some-clause-exact c = λ first depth s others h ends.
@@ -40,9 +41,9 @@ returns-in_err-actuals-in-None-clause-exact c = λ first depth s others h ends.
     let same : c.take_symbol.new.self ≡ c.expect_name.new.self = c.in-None.ensures.kept in
     let none : NoNext (kind.Symbol symbol.Becomes) c.expect_name.new.self.rest.now = c.in-None.ensures.missed in
     let v = becomes_missed_at depth c.expect_name.new.self c.take_symbol.new.self others same none p in
-    let m : Stops (c.args.levels + 1) depth c.in_err-actuals-in-None.field-0.0 = stops_above (c.args.levels + 1) c.args.levels depth v.below c.in_err-actuals-in-None.field-0.0 refl v.less
-    (c.in_err-actuals-in-None.ensures.exact v.below v.actuals others v.begun (ends_value others ends).call) in
-    search rules
+    handed_on _ _ c.from_residual-in_err-actuals-in-None.result c.in_err-actuals-in-None.field-0.0 c.from_residual-in_err-actuals-in-None.ensures
+    (stops_above (c.args.levels + 1) c.args.levels depth v.below c.in_err-actuals-in-None.field-0.0 refl v.less
+    (c.in_err-actuals-in-None.ensures.exact v.below v.actuals others v.begun (ends_value others ends).call))
 
 pub returns-in_ok-actuals-in-None-clause-exact : goal.returns-in_ok-actuals-in-None-clause-exact
 returns-in_ok-actuals-in-None-clause-exact c = λ first depth s others h ends.
