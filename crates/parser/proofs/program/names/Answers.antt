@@ -1,7 +1,5 @@
-use Rattle.std.proofs.Common.{rules, ◌≡◌, [], arith, ◌∙◌, ap}
+use Rattle.std.proofs.Common.{[], arith, ◌∙◌, ap}
 use Rattle.lexer.specs.declared.token.Symbol.TheVariants as symbol
-use Rattle.parser.specs.declared.fault.ParseFault.TheVariants.{Memory}
-use Rattle.parser.specs.Cursor.{IsOfRules}
 use Rattle.parser.specs.Rules.{Read, BeginsList}
 use Rattle.parser.specs.Spelling.{identifier, identifiers}
 use Rattle.parser.proofs.Lists.{pushed, emptied}

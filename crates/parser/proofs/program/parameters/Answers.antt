@@ -1,7 +1,6 @@
-use Rattle.std.proofs.Common.{rules, ◌≡◌, [], ap, sym}
+use Rattle.std.proofs.Common.{[], ap, sym}
 use Rattle.lexer.specs.declared.token.Kind.TheVariants as kind
 use Rattle.lexer.specs.declared.token.Symbol.TheVariants as symbol
-use Rattle.parser.specs.declared.fault.ParseFault.TheVariants.{Memory}
 use Rattle.parser.specs.Rules.{Read, BeginsParameters}
 use Rattle.parser.specs.Spelling.{identifiers, of_kind_at, mark}
 use Rattle.parser.proofs.Kept.{handed_on}

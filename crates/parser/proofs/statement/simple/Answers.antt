@@ -1,7 +1,7 @@
-use Rattle.std.proofs.Common.{rules, ◌≡◌, ◌+◌, refl}
+use Rattle.std.proofs.Common.{◌≡◌, ◌+◌, refl}
 use Rattle.lexer.specs.declared.token.Kind.TheVariants as kind
 use Rattle.lexer.specs.declared.token.Symbol.TheVariants as symbol
-use Rattle.parser.specs.Reading.{NoNext, Stops}
+use Rattle.parser.specs.Reading.{NoNext}
 use Rattle.parser.proofs.Kept.{handed_on}
 use Rattle.parser.proofs.Exact.{stops_above}
 use Rattle.parser.proofs.ExactStatements.{ends_value, simple_parts, becomes_taken, becomes_missed_at}
