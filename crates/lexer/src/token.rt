@@ -101,7 +101,7 @@ pub enum Kind {
 }
 
 /// A token with the bytes that it is spelled by and the place of the first.
-#[derive(Clone, Copy, Debug)]
+#[derive(Clone, Copy)]
 pub struct Token<'a> {
     pub kind: Kind,
     pub text: &'a [u8],

@@ -5,7 +5,7 @@ use lexer::place::Place;
 use types::{OrdinalRange, TypeId, TypeTable};
 
 /// A program with its names bound and its types known.
-#[derive(Debug, Drop)]
+#[derive(Drop)]
 pub struct Tree {
     /// By block number, the program's block first.
     pub blocks: Vec<Block>,
@@ -28,7 +28,7 @@ pub struct Block {
 }
 
 /// A declared variable, by its number in the order of declarations over the program.
-#[derive(Clone, Copy, Debug)]
+#[derive(Clone, Copy)]
 pub struct Variable {
     /// The number of the block that declares it.
     pub block: u32,

@@ -2,7 +2,7 @@ ghost use Rattle.std.specs.Prelude.{◌≡◌, Some, slice_get};
 ghost use Rattle.types.specs.Types.{range_at, required_forms};
 
 /// What a type is made of (ISO 7185:1990, 6.4).
-#[derive(Clone, Copy, Debug, PartialEq, Eq)]
+#[derive(Clone, Copy, PartialEq, Eq)]
 pub enum TypeForm {
     /// The required type integer: -2147483647 to 2147483647.
     Integer,
@@ -26,7 +26,7 @@ impl TypeForm {
 }
 
 /// A type of a table, by its number there.
-#[derive(Clone, Copy, Debug, PartialEq, Eq)]
+#[derive(Clone, Copy, PartialEq, Eq)]
 pub struct TypeId {
     pub index: usize,
 }

@@ -5,7 +5,7 @@ use crate::form::{OrdinalRange, TypeForm, TypeId};
 use std::alloc::{AllocError, Global};
 
 /// The types of a program.
-#[derive(Debug, Drop)]
+#[derive(Drop)]
 pub struct TypeTable {
     pub forms: Vec<TypeForm>,
 }
