@@ -239,59 +239,76 @@ fn operated(alloc: Global, operator: Instr, left: i32, right: i32) -> Result<Str
 
 const OF_TWO: &[Instr] = &[Instr::Multiply, Instr::Divide, Instr::Modulo];
 
+const FACTORS: &[i32] = &[-2147483647, -1, 1, 46340, 46341, 2147483647];
+
 const DIVIDENDS: &[i32] = &[0, 7, -7, 2147483647, -2147483648];
 
-/// Two numbers, their product of 32 bits, their quotient cut toward zero, and their modulo where the divisor is
-/// positive. Worked out by python3 over whole numbers of any size.
-static ARITHMETIC: [(OperatorRow, &str); 47] = [
-    ((OF_TWO, &[-2147483647], &[-2147483647]), "1 1 M4 "),
-    ((OF_TWO, &[-2147483647], &[-1]), "2147483647 2147483647 M4 "),
-    ((OF_TWO, &[-2147483647], &[1]), "-2147483647 -2147483647 0 "),
-    ((OF_TWO, &[-2147483647], &[46340]), "46340 -46341 4633 "),
+/// A number with each of the factors, a line each: their product of 32 bits, their quotient cut toward zero, and their
+/// modulo where the divisor is positive. Worked out by python3 over whole numbers of any size.
+static ARITHMETIC: [(OperatorRow, &str); 12] = [
     (
-        (OF_TWO, &[-2147483647], &[46341]),
-        "-2147437307 -46340 4634 ",
+        (OF_TWO, &[-2147483647], FACTORS),
+        "1 1 M4 \
+        2147483647 2147483647 M4 \
+        -2147483647 -2147483647 0 \
+        46340 -46341 4633 \
+        -2147437307 -46340 4634 \
+        -1 -1 0 ",
     ),
-    ((OF_TWO, &[-2147483647], &[2147483647]), "-1 -1 0 "),
-    ((OF_TWO, &[-1], &[-2147483647]), "2147483647 0 M4 "),
-    ((OF_TWO, &[-1], &[-1]), "1 1 M4 "),
-    ((OF_TWO, &[-1], &[1]), "-1 -1 0 "),
-    ((OF_TWO, &[-1], &[46340]), "-46340 0 46339 "),
-    ((OF_TWO, &[-1], &[46341]), "-46341 0 46340 "),
-    ((OF_TWO, &[-1], &[2147483647]), "-2147483647 0 2147483646 "),
-    ((OF_TWO, &[0], &[-2147483647]), "0 0 M4 "),
-    ((OF_TWO, &[0], &[-1]), "0 0 M4 "),
-    ((OF_TWO, &[0], &[1]), "0 0 0 "),
-    ((OF_TWO, &[0], &[46340]), "0 0 0 "),
-    ((OF_TWO, &[0], &[46341]), "0 0 0 "),
-    ((OF_TWO, &[0], &[2147483647]), "0 0 0 "),
-    ((OF_TWO, &[1], &[-2147483647]), "-2147483647 0 M4 "),
-    ((OF_TWO, &[1], &[-1]), "-1 -1 M4 "),
-    ((OF_TWO, &[1], &[1]), "1 1 0 "),
-    ((OF_TWO, &[1], &[46340]), "46340 0 1 "),
-    ((OF_TWO, &[1], &[46341]), "46341 0 1 "),
-    ((OF_TWO, &[1], &[2147483647]), "2147483647 0 1 "),
-    ((OF_TWO, &[46340], &[-2147483647]), "46340 0 M4 "),
-    ((OF_TWO, &[46340], &[-1]), "-46340 -46340 M4 "),
-    ((OF_TWO, &[46340], &[1]), "46340 46340 0 "),
-    ((OF_TWO, &[46340], &[46340]), "2147395600 1 0 "),
-    ((OF_TWO, &[46340], &[46341]), "2147441940 0 46340 "),
-    ((OF_TWO, &[46340], &[2147483647]), "-46340 0 46340 "),
-    ((OF_TWO, &[46341], &[-2147483647]), "-2147437307 0 M4 "),
-    ((OF_TWO, &[46341], &[-1]), "-46341 -46341 M4 "),
-    ((OF_TWO, &[46341], &[1]), "46341 46341 0 "),
-    ((OF_TWO, &[46341], &[46340]), "2147441940 1 1 "),
-    ((OF_TWO, &[46341], &[46341]), "-2147479015 1 0 "),
-    ((OF_TWO, &[46341], &[2147483647]), "2147437307 0 46341 "),
-    ((OF_TWO, &[2147483647], &[-2147483647]), "-1 -1 M4 "),
     (
-        (OF_TWO, &[2147483647], &[-1]),
-        "-2147483647 -2147483647 M4 ",
+        (OF_TWO, &[-1], FACTORS),
+        "2147483647 0 M4 \
+        1 1 M4 \
+        -1 -1 0 \
+        -46340 0 46339 \
+        -46341 0 46340 \
+        -2147483647 0 2147483646 ",
     ),
-    ((OF_TWO, &[2147483647], &[1]), "2147483647 2147483647 0 "),
-    ((OF_TWO, &[2147483647], &[46340]), "-46340 46341 41707 "),
-    ((OF_TWO, &[2147483647], &[46341]), "2147437307 46340 41707 "),
-    ((OF_TWO, &[2147483647], &[2147483647]), "1 1 0 "),
+    (
+        (OF_TWO, &[0], FACTORS),
+        "0 0 M4 \
+        0 0 M4 \
+        0 0 0 \
+        0 0 0 \
+        0 0 0 \
+        0 0 0 ",
+    ),
+    (
+        (OF_TWO, &[1], FACTORS),
+        "-2147483647 0 M4 \
+        -1 -1 M4 \
+        1 1 0 \
+        46340 0 1 \
+        46341 0 1 \
+        2147483647 0 1 ",
+    ),
+    (
+        (OF_TWO, &[46340], FACTORS),
+        "46340 0 M4 \
+        -46340 -46340 M4 \
+        46340 46340 0 \
+        2147395600 1 0 \
+        2147441940 0 46340 \
+        -46340 0 46340 ",
+    ),
+    (
+        (OF_TWO, &[46341], FACTORS),
+        "-2147437307 0 M4 \
+        -46341 -46341 M4 \
+        46341 46341 0 \
+        2147441940 1 1 \
+        -2147479015 1 0 \
+        2147437307 0 46341 ",
+    ),
+    (
+        (OF_TWO, &[2147483647], FACTORS),
+        "-1 -1 M4 \
+        -2147483647 -2147483647 M4 \
+        2147483647 2147483647 0 \
+        -46340 46341 41707 \
+        2147437307 46340 41707 \
+        1 1 0 ",
+    ),
     // What isn't a divisor.
     ((&[Instr::Divide], DIVIDENDS, &[0]), "M4 M4 M4 M4 M4 "),
     ((&[Instr::Modulo], DIVIDENDS, &[0]), "M4 M4 M4 M4 M4 "),
@@ -308,18 +325,23 @@ fn multiplies_and_divides(rt: HostRuntime) -> Result<(), Fail> {
     all_hold(rt.alloc(), &ARITHMETIC, operators_told)
 }
 
+const ASCENDING: &[i32] = &[-2147483647, -1, 0, 1, 46340, 46341, 2147483647];
+
 const OF_ONE: &[Instr] = &[Instr::Absolute, Instr::Square, Instr::Odd];
 
-/// A number, its absolute value, its square of 32 bits, and whether it is odd. Worked out by python3 over whole
-/// numbers of any size. The least number of 32 bits has no positive.
-static SINGLE: [(OperatorRow, &str); 9] = [
-    ((OF_ONE, &[0], &[-2147483647]), "2147483647 1 1 "),
-    ((OF_ONE, &[0], &[-1]), "1 1 1 "),
-    ((OF_ONE, &[0], &[0]), "0 0 0 "),
-    ((OF_ONE, &[0], &[1]), "1 1 1 "),
-    ((OF_ONE, &[0], &[46340]), "46340 2147395600 0 "),
-    ((OF_ONE, &[0], &[46341]), "46341 -2147479015 1 "),
-    ((OF_ONE, &[0], &[2147483647]), "2147483647 1 1 "),
+/// Each of the ascending numbers in a line: its absolute value, its square of 32 bits, and whether it is odd. Worked out
+/// by python3 over whole numbers of any size. The least number of 32 bits has no positive.
+static SINGLE: [(OperatorRow, &str); 3] = [
+    (
+        (OF_ONE, &[0], ASCENDING),
+        "2147483647 1 1 \
+        1 1 1 \
+        0 0 0 \
+        1 1 1 \
+        46340 2147395600 0 \
+        46341 -2147479015 1 \
+        2147483647 1 1 ",
+    ),
     ((&[Instr::Absolute], &[0], &[-2147483648]), "-2147483648 "),
     ((&[Instr::Divide], &[-2147483648], &[-1]), "-2147483648 "),
 ];
@@ -329,105 +351,67 @@ fn takes_absolute_values_squares_and_parity(rt: HostRuntime) -> Result<(), Fail>
     all_hold(rt.alloc(), &SINGLE, operators_told)
 }
 
-const ASCENDING: &[i32] = &[-2147483647, -1, 0, 1, 46340, 46341, 2147483647];
-
-/// Each relation of a number to each of the ascending ones. Worked out by hand.
-static RELATIONS: [(OperatorRow, &str); 42] = [
+/// Each relation of each of the ascending numbers, a line each, to each of them. Worked out by hand.
+static RELATIONS: [(OperatorRow, &str); 6] = [
     (
-        (&[Instr::Equal], &[-2147483647], ASCENDING),
-        "1 0 0 0 0 0 0 ",
-    ),
-    ((&[Instr::Equal], &[-1], ASCENDING), "0 1 0 0 0 0 0 "),
-    ((&[Instr::Equal], &[0], ASCENDING), "0 0 1 0 0 0 0 "),
-    ((&[Instr::Equal], &[1], ASCENDING), "0 0 0 1 0 0 0 "),
-    ((&[Instr::Equal], &[46340], ASCENDING), "0 0 0 0 1 0 0 "),
-    ((&[Instr::Equal], &[46341], ASCENDING), "0 0 0 0 0 1 0 "),
-    (
-        (&[Instr::Equal], &[2147483647], ASCENDING),
-        "0 0 0 0 0 0 1 ",
+        (&[Instr::Equal], ASCENDING, ASCENDING),
+        "1 0 0 0 0 0 0 \
+        0 1 0 0 0 0 0 \
+        0 0 1 0 0 0 0 \
+        0 0 0 1 0 0 0 \
+        0 0 0 0 1 0 0 \
+        0 0 0 0 0 1 0 \
+        0 0 0 0 0 0 1 ",
     ),
     (
-        (&[Instr::NotEqual], &[-2147483647], ASCENDING),
-        "0 1 1 1 1 1 1 ",
-    ),
-    ((&[Instr::NotEqual], &[-1], ASCENDING), "1 0 1 1 1 1 1 "),
-    ((&[Instr::NotEqual], &[0], ASCENDING), "1 1 0 1 1 1 1 "),
-    ((&[Instr::NotEqual], &[1], ASCENDING), "1 1 1 0 1 1 1 "),
-    ((&[Instr::NotEqual], &[46340], ASCENDING), "1 1 1 1 0 1 1 "),
-    ((&[Instr::NotEqual], &[46341], ASCENDING), "1 1 1 1 1 0 1 "),
-    (
-        (&[Instr::NotEqual], &[2147483647], ASCENDING),
-        "1 1 1 1 1 1 0 ",
+        (&[Instr::NotEqual], ASCENDING, ASCENDING),
+        "0 1 1 1 1 1 1 \
+        1 0 1 1 1 1 1 \
+        1 1 0 1 1 1 1 \
+        1 1 1 0 1 1 1 \
+        1 1 1 1 0 1 1 \
+        1 1 1 1 1 0 1 \
+        1 1 1 1 1 1 0 ",
     ),
     (
-        (&[Instr::Less], &[-2147483647], ASCENDING),
-        "0 1 1 1 1 1 1 ",
-    ),
-    ((&[Instr::Less], &[-1], ASCENDING), "0 0 1 1 1 1 1 "),
-    ((&[Instr::Less], &[0], ASCENDING), "0 0 0 1 1 1 1 "),
-    ((&[Instr::Less], &[1], ASCENDING), "0 0 0 0 1 1 1 "),
-    ((&[Instr::Less], &[46340], ASCENDING), "0 0 0 0 0 1 1 "),
-    ((&[Instr::Less], &[46341], ASCENDING), "0 0 0 0 0 0 1 "),
-    ((&[Instr::Less], &[2147483647], ASCENDING), "0 0 0 0 0 0 0 "),
-    (
-        (&[Instr::LessOrEqual], &[-2147483647], ASCENDING),
-        "1 1 1 1 1 1 1 ",
-    ),
-    ((&[Instr::LessOrEqual], &[-1], ASCENDING), "0 1 1 1 1 1 1 "),
-    ((&[Instr::LessOrEqual], &[0], ASCENDING), "0 0 1 1 1 1 1 "),
-    ((&[Instr::LessOrEqual], &[1], ASCENDING), "0 0 0 1 1 1 1 "),
-    (
-        (&[Instr::LessOrEqual], &[46340], ASCENDING),
-        "0 0 0 0 1 1 1 ",
+        (&[Instr::Less], ASCENDING, ASCENDING),
+        "0 1 1 1 1 1 1 \
+        0 0 1 1 1 1 1 \
+        0 0 0 1 1 1 1 \
+        0 0 0 0 1 1 1 \
+        0 0 0 0 0 1 1 \
+        0 0 0 0 0 0 1 \
+        0 0 0 0 0 0 0 ",
     ),
     (
-        (&[Instr::LessOrEqual], &[46341], ASCENDING),
-        "0 0 0 0 0 1 1 ",
+        (&[Instr::LessOrEqual], ASCENDING, ASCENDING),
+        "1 1 1 1 1 1 1 \
+        0 1 1 1 1 1 1 \
+        0 0 1 1 1 1 1 \
+        0 0 0 1 1 1 1 \
+        0 0 0 0 1 1 1 \
+        0 0 0 0 0 1 1 \
+        0 0 0 0 0 0 1 ",
     ),
     (
-        (&[Instr::LessOrEqual], &[2147483647], ASCENDING),
-        "0 0 0 0 0 0 1 ",
+        (&[Instr::Greater], ASCENDING, ASCENDING),
+        "0 0 0 0 0 0 0 \
+        1 0 0 0 0 0 0 \
+        1 1 0 0 0 0 0 \
+        1 1 1 0 0 0 0 \
+        1 1 1 1 0 0 0 \
+        1 1 1 1 1 0 0 \
+        1 1 1 1 1 1 0 ",
     ),
     (
-        (&[Instr::Greater], &[-2147483647], ASCENDING),
-        "0 0 0 0 0 0 0 ",
-    ),
-    ((&[Instr::Greater], &[-1], ASCENDING), "1 0 0 0 0 0 0 "),
-    ((&[Instr::Greater], &[0], ASCENDING), "1 1 0 0 0 0 0 "),
-    ((&[Instr::Greater], &[1], ASCENDING), "1 1 1 0 0 0 0 "),
-    ((&[Instr::Greater], &[46340], ASCENDING), "1 1 1 1 0 0 0 "),
-    ((&[Instr::Greater], &[46341], ASCENDING), "1 1 1 1 1 0 0 "),
-    (
-        (&[Instr::Greater], &[2147483647], ASCENDING),
-        "1 1 1 1 1 1 0 ",
-    ),
-    (
-        (&[Instr::GreaterOrEqual], &[-2147483647], ASCENDING),
-        "1 0 0 0 0 0 0 ",
-    ),
-    (
-        (&[Instr::GreaterOrEqual], &[-1], ASCENDING),
-        "1 1 0 0 0 0 0 ",
-    ),
-    (
-        (&[Instr::GreaterOrEqual], &[0], ASCENDING),
-        "1 1 1 0 0 0 0 ",
-    ),
-    (
-        (&[Instr::GreaterOrEqual], &[1], ASCENDING),
-        "1 1 1 1 0 0 0 ",
-    ),
-    (
-        (&[Instr::GreaterOrEqual], &[46340], ASCENDING),
-        "1 1 1 1 1 0 0 ",
-    ),
-    (
-        (&[Instr::GreaterOrEqual], &[46341], ASCENDING),
-        "1 1 1 1 1 1 0 ",
-    ),
-    (
-        (&[Instr::GreaterOrEqual], &[2147483647], ASCENDING),
-        "1 1 1 1 1 1 1 ",
+        (&[Instr::GreaterOrEqual], ASCENDING, ASCENDING),
+        "1 0 0 0 0 0 0 \
+        1 1 0 0 0 0 0 \
+        1 1 1 0 0 0 0 \
+        1 1 1 1 0 0 0 \
+        1 1 1 1 1 0 0 \
+        1 1 1 1 1 1 0 \
+        1 1 1 1 1 1 1 ",
     ),
 ];
 

@@ -7,8 +7,7 @@ use std::alloc::{AllocError, Global};
 use std::test::Fail;
 use test_words::machines::run_told;
 use test_words::rows::all_hold;
-use typed_tree::fault::TypeFault;
-use typed_tree::tree::{Expr, Representation, Stmt, Tree, WriteParameter};
+use test_words::texts::repeated;
 
 /// The code of a program with two variables. Each program of a test has a typed tree: one without would count as one
 /// for which there is no memory.
@@ -158,49 +157,11 @@ fn code_runs(rt: HostRuntime) -> Result<(), Fail> {
     all_hold(rt.alloc(), &RUNS, code_run_told)
 }
 
-/// A writeln of one parameter, and of so many more of three instructions each.
-fn long_tree(alloc: Global, statement: &str, more: usize) -> Result<Tree, TypeFault> {
-    let mut tree = tree_of(alloc, "a, b: integer", statement)?;
-    for block in &mut tree.blocks {
-        lengthen(&mut block.body, more)?;
-    }
-    Ok(tree)
-}
-
-fn lengthen(body: &mut Stmt, more: usize) -> Result<(), AllocError> {
-    if let Stmt::Compound { statements, .. } = body {
-        for statement in statements {
-            if let Stmt::Write { parameters, .. } = statement {
-                extend(parameters, more)?;
-            }
-        }
-    }
-    Ok(())
-}
-
-fn extend(parameters: &mut Vec<WriteParameter>, more: usize) -> Result<(), AllocError> {
-    for _ in 0..more {
-        parameters.push(one())?;
-    }
-    Ok(())
-}
-
-fn one() -> WriteParameter {
-    WriteParameter {
-        value: Expr::Constant {
-            number: 0,
-            value: 1,
-        },
-        representation: Representation::Integer,
-        width: None,
-    }
-}
-
+/// How many instructions a statement has whose last parameters are so many times `1`, of three instructions each.
 fn size_of(alloc: Global, row: &(&str, usize)) -> Result<usize, GenFault> {
-    match long_tree(alloc, row.0, row.1) {
-        Ok(tree) => Ok(generate(alloc, &tree)?.instructions.len()),
-        Err(_) => Err(GenFault::Memory),
-    }
+    let mut statement = repeated(alloc, row.0, ",1", row.1)?;
+    statement.push(')')?;
+    Ok(code_of(alloc, statement.as_str())?.instructions.len())
 }
 
 fn size_told(alloc: Global, row: &(&str, usize)) -> Result<String, AllocError> {
@@ -209,8 +170,8 @@ fn size_told(alloc: Global, row: &(&str, usize)) -> Result<String, AllocError> {
 
 /// Code has a million instructions at most; a sign is a fourth instruction of its parameter.
 static SIZES: [((&str, usize), &str); 2] = [
-    (("writeln(-1)", 333331), "Ok(1000000)"),
-    (("writeln(-1,-1)", 333330), "Err(TooLarge)"),
+    (("writeln(-1", 333331), "Ok(1000000)"),
+    (("writeln(-1,-1", 333330), "Err(TooLarge)"),
 ];
 
 #[test]
