@@ -1,4 +1,5 @@
 use crate::shown::{CELLS, agreed_told, refusal, repeated, show, shown_told, visits};
+use report::fault::Fault;
 use std::alloc::Global;
 use std::test::Fail;
 use test_words::rows::all_hold;
@@ -14,25 +15,19 @@ const LEAST: &str = "program p; begin end.";
 
 const MEBIBYTE: usize = 1_048_576;
 
-// Texts, and the line of their refusal, if there is one. The least program has 21 characters.
-static LENGTHS: [(Parts, &str); 2] = [
-    (&[(LEAST, 1), (" ", MEBIBYTE - 21)], ""),
-    (&[(LEAST, 1), (" ", MEBIBYTE - 20)], "1:1: refused L7\n"),
-];
-
-#[test]
-fn texts_up_to_a_mebibyte_are_taken(rt: HostRuntime) -> Result<(), Fail> {
-    assert!(rt; repeated(rt.alloc(), LENGTHS[0].0)?.len() == 1_048_576);
-    all_hold(rt.alloc(), &LENGTHS, parts_refusal)
-}
+// A text of most bytes. The least program has 21 characters.
+const LONGEST: Parts = &[(LEAST, 1), (" ", MEBIBYTE - 21)];
 
 const HEAD: &str = "program p; var x: integer; y: Boolean; begin ";
 
-// How deep a source nests: so many compounds in the program's compound, and in the innermost a statement, with so many
-// openings around what stands innermost. Each with the line of its refusal, if there is one. The program's compound is
-// the first level, and the innermost statement the last but what opens in it. It stands behind 45 characters and 6 for
-// each compound, and what it opens 5 columns on; the token behind an empty statement stands a column on.
-static DEPTHS: [(Parts, &str); 12] = [
+// Sources of most bytes or levels, and of one more, and the line of their refusal, if there is one.
+static LEVELS: [(Parts, &str); 14] = [
+    (LONGEST, ""),
+    (&[(LEAST, 1), (" ", MEBIBYTE - 20)], "1:1: refused L7\n"),
+    // How deep a source nests: so many compounds in the program's compound, and in the innermost a statement, with so
+    // many openings around what stands innermost. The program's compound is the first level, and the innermost
+    // statement the last but what opens in it. It stands behind 45 characters and 6 for each compound, and what it
+    // opens 5 columns on; the token behind an empty statement stands a column on.
     (
         &[
             (HEAD, 1),
@@ -154,38 +149,9 @@ static DEPTHS: [(Parts, &str); 12] = [
 ];
 
 #[test]
-fn nesting_goes_to_128(rt: HostRuntime) -> Result<(), Fail> {
-    all_hold(rt.alloc(), &DEPTHS, parts_refusal)
-}
-
-// What the source does, on the machine and by the interpreter.
-fn parts_told(alloc: Global, parts: Parts) -> Result<String, Fail> {
-    agreed_told(alloc, &repeated(alloc, parts)?)
-}
-
-const CHAIN: Parts = &[
-    ("program p(output); begin writeln(0", 1),
-    ("+1-1", 50_000),
-    (") end.", 1),
-];
-
-#[test]
-fn a_long_chain_uses_no_stack(rt: HostRuntime) -> Result<(), Fail> {
-    assert!(rt; parts_told(rt.alloc(), CHAIN)?.as_str() == "|         0\n||0");
-    Ok(())
-}
-
-const COMPOUND: Parts = &[("program p; begin ", 1), (";", 100_000), (" end.", 1)];
-
-fn parts_visits(alloc: Global, parts: Parts) -> Result<u64, Fail> {
-    Ok(visits(alloc, &repeated(alloc, parts)?)?)
-}
-
-#[test]
-fn a_long_compound_uses_no_stack(rt: HostRuntime) -> Result<(), Fail> {
-    assert!(rt; parts_told(rt.alloc(), COMPOUND)?.as_str() == "|||0");
-    assert!(rt; parts_visits(rt.alloc(), COMPOUND)? == 100_002);
-    Ok(())
+fn a_mebibyte_and_128_levels_are_taken(rt: HostRuntime) -> Result<(), Fail> {
+    assert!(rt; repeated(rt.alloc(), LONGEST)?.len() == 1_048_576);
+    all_hold(rt.alloc(), &LEVELS, parts_refusal)
 }
 
 // A sum of so many times `x+`, and the line of the refusal. Each has two sites and four instructions. The first site is
@@ -205,19 +171,78 @@ fn limits_are_told(rt: HostRuntime) -> Result<(), Fail> {
     all_hold(rt.alloc(), &LIMITS, parts_refusal)
 }
 
-const MANY_LINES: Parts = &[
-    ("program p(output); begin writeln(1)", 1),
-    ("; writeln(1)", 999),
-    (" end.", 1),
+const COMPOUND: Parts = &[("program p; begin ", 1), (";", 100_000), (" end.", 1)];
+
+// Sources, and what each does on the machine and by the interpreter. A long chain and a long compound use no stack, and
+// output passes its piece.
+static LONG: [(Parts, Parts); 3] = [
+    (
+        &[
+            ("program p(output); begin writeln(0", 1),
+            ("+1-1", 50_000),
+            (") end.", 1),
+        ],
+        &[("|         0\n||0", 1)],
+    ),
+    (COMPOUND, &[("|||0", 1)]),
+    (
+        &[
+            ("program p(output); begin writeln(1)", 1),
+            ("; writeln(1)", 999),
+            (" end.", 1),
+        ],
+        &[("|", 1), ("         1\n", 1_000), ("||0", 1)],
+    ),
 ];
 
-const THE_LINES: Parts = &[("|", 1), ("         1\n", 1_000), ("||0", 1)];
+// Whether a source does what it should.
+fn does(alloc: Global, source: Parts, wanted: Parts) -> Result<bool, Fail> {
+    let told = agreed_told(alloc, &repeated(alloc, source)?)?;
+    Ok(told.as_bytes() == repeated(alloc, wanted)?.as_slice())
+}
 
 #[test]
-fn output_passes_its_piece(rt: HostRuntime) -> Result<(), Fail> {
-    let wanted = repeated(rt.alloc(), THE_LINES)?;
-    assert!(rt; parts_told(rt.alloc(), MANY_LINES)?.as_bytes() == wanted.as_slice());
+fn long_sources_run(rt: HostRuntime) -> Result<(), Fail> {
+    for (source, wanted) in &LONG {
+        if !does(rt.alloc(), source, wanted)? {
+            return Err(Fail::new("a long source does something else"));
+        }
+    }
     Ok(())
+}
+
+// Sources, and how many statements and expressions they have.
+static VISITS: [(Parts, &str); 5] = [
+    // 4 statements, 2 targets, 6 factors, 2 operators and 1 sign.
+    (
+        &[(
+            "program p(output); var x, y: integer; begin x := 7; y := x - 10; writeln(x + y, -x) end.",
+            1,
+        )],
+        "15",
+    ),
+    (&[(LEAST, 1)], "2"),
+    // 2 statements, 2 values and 1 width.
+    (
+        &[("program p(output); begin write(1:2, true) end.", 1)],
+        "5",
+    ),
+    // 2 statements, and `not`, `odd`, a sign and a number.
+    (
+        &[("program p(output); begin write(not odd(-1)) end.", 1)],
+        "6",
+    ),
+    (COMPOUND, "100002"),
+];
+
+fn visits_told(alloc: Global, parts: &Parts) -> Result<String, Fault> {
+    let visits = visits(alloc, &repeated(alloc, parts)?, None)?;
+    Ok(format!(in alloc; "{visits}")?)
+}
+
+#[test]
+fn each_entry_is_visited_once(rt: HostRuntime) -> Result<(), Fail> {
+    all_hold(rt.alloc(), &VISITS, visits_told)
 }
 
 // Cells and a budget, and the output, the line of the stop and the status.
@@ -229,10 +254,10 @@ static RUNS: [((u32, u64), &str); 4] = [
     ((7, 0), "||budget used up\n|3"),
 ];
 
-fn limited_told(alloc: Global, row: &(u32, u64)) -> Result<String, Fail> {
+fn limited_told(alloc: Global, row: &(u32, u64)) -> Result<String, Fault> {
     let source = b"program p(output); var x: integer; begin x := 1; writeln(x) end.";
     let shown = show(alloc, source, row.0.clamp(1, CELLS), row.1)?;
-    shown_told(alloc, &shown)
+    Ok(shown_told(alloc, &shown)?)
 }
 
 #[test]

@@ -1,5 +1,5 @@
-use crate::shown::{agreed_told, checked, refusal, stop_told, visits};
-use command_line::{PcomWords, WordsFault, pcom_words};
+use crate::shown::{agreed_told, refusal, stop_told, visits};
+use command_line::{WordsFault, pcom_words};
 use pcode_assembler::code::{Point, Site};
 use report::fault::Fault;
 use report::text::fault_text;
@@ -108,30 +108,6 @@ fn run_told(alloc: Global, source: &&str) -> Result<String, Fail> {
 #[test]
 fn rows_run_as_the_rules_say(rt: HostRuntime) -> Result<(), Fail> {
     all_hold(rt.alloc(), &ROWS, run_told)
-}
-
-// Sources, and how many statements and expressions they have.
-static VISITS: [(&str, u64); 4] = [
-    // 4 statements, 2 targets, 6 factors, 2 operators and 1 sign.
-    (
-        "program p(output); var x, y: integer; begin x := 7; y := x - 10; writeln(x + y, -x) end.",
-        15,
-    ),
-    ("program p; begin end.", 2),
-    // 2 statements, 2 values and 1 width.
-    ("program p(output); begin write(1:2, true) end.", 5),
-    // 2 statements, and `not`, `odd`, a sign and a number.
-    ("program p(output); begin write(not odd(-1)) end.", 6),
-];
-
-#[test]
-fn each_entry_is_visited_once(rt: HostRuntime) -> Result<(), Fail> {
-    for (source, wanted) in &VISITS {
-        if visits(rt.alloc(), source.as_bytes())? != *wanted {
-            return Err(Fail::new(*source));
-        }
-    }
-    Ok(())
 }
 
 // Sources, and the line of their refusal.
@@ -341,7 +317,7 @@ static SENTENCES: [((&str, &str), &str); 19] = [
 ];
 
 fn sentence_of(alloc: Global, row: &(&str, &str)) -> Result<String, Fault> {
-    match checked(alloc, row.0.as_bytes(), Some(row.1.as_bytes())) {
+    match visits(alloc, row.0.as_bytes(), Some(row.1.as_bytes())) {
         Err(Fault::Memory) => Err(Fault::Memory),
         Err(fault) => Ok(format!(in alloc; "{fault}")?),
         Ok(_) => Ok(String::new(alloc)),
@@ -440,38 +416,22 @@ fn want_of_memory_has_its_line(rt: HostRuntime) {
     assert!(rt; told.as_slice() == b"no memory\n".as_slice() && status == 3);
 }
 
-// Words, and what they ask for.
+// Words, and the source that they name and whether it is to be run, or the status of their refusal.
 static WORDS: [(&[&str], &str); 5] = [
-    (&["pcom", "--go", "x.pas"], "run x.pas"),
-    (&["pcom", "x.pas"], "x.pas"),
-    (&["pcom"], "refused"),
-    (&["pcom", "--stop", "x.pas"], "refused"),
-    (&["pcom", "x.pas", "y.pas"], "refused"),
+    (&["pcom", "--go", "x.pas"], "x.pas true"),
+    (&["pcom", "x.pas"], "x.pas false"),
+    (&["pcom"], "refused 2"),
+    (&["pcom", "--stop", "x.pas"], "refused 2"),
+    (&["pcom", "x.pas", "y.pas"], "refused 2"),
 ];
 
 fn words_told(alloc: Global, words: &&[&str]) -> Result<String, Fault> {
     let told = match pcom_words(alloc, words) {
-        Ok(words) => asked(&words),
-        Err(WordsFault::Words(error)) => refused(error.exit_code()),
+        Ok(words) => format!(in alloc; "{} {}", words.source, words.go),
+        Err(WordsFault::Words(error)) => format!(in alloc; "refused {}", error.exit_code()),
         Err(WordsFault::Memory) => return Err(Fault::Memory),
     };
-    Ok(String::from_str(alloc, told)?)
-}
-
-fn asked(words: &PcomWords<'_>) -> &'static str {
-    match (words.source == "x.pas", words.go) {
-        (true, true) => "run x.pas",
-        (true, false) => "x.pas",
-        _ => "another source",
-    }
-}
-
-fn refused(status: i32) -> &'static str {
-    if status == 2 {
-        "refused"
-    } else {
-        "another status"
-    }
+    Ok(told?)
 }
 
 #[test]

@@ -96,55 +96,36 @@ pub(crate) fn agreed(alloc: Global, source: &[u8], cells: u32) -> Result<Shown, 
     }
 }
 
-// Some texts behind one another.
-fn joined(alloc: Global, parts: &[&[u8]]) -> Result<String, Fail> {
-    let mut text = Vec::new(alloc);
-    for part in parts {
-        text.extend_from_slice(part)?;
-    }
-    Ok(String::from_utf8(text)?)
+// A text that a call gave as bytes.
+fn text_of(bytes: &[u8]) -> &str {
+    str::from_utf8(bytes).unwrap_or("no text")
 }
 
 // The line of a stop, a bar and the status.
-pub(crate) fn stop_told(alloc: Global, stop: &Stop) -> Result<String, Fail> {
+pub(crate) fn stop_told(alloc: Global, stop: &Stop) -> Result<String, AllocError> {
     let (line, status) = stop_text(alloc, stop);
-    joined(
-        alloc,
-        &[line.as_slice(), b"|", &[b'0'.saturating_add(status)]],
-    )
+    format!(in alloc; "{}|{status}", text_of(line.as_slice()))
 }
 
 // The lines of the open sites, the output, and the line and the status of the stop, with bars between them.
-pub(crate) fn shown_told(alloc: Global, shown: &Shown) -> Result<String, Fail> {
+pub(crate) fn shown_told(alloc: Global, shown: &Shown) -> Result<String, AllocError> {
     let sites = lines(alloc, &shown.verdict)?;
     let stop = stop_told(alloc, &shown.stop)?;
-    let parts = [
-        sites.as_slice(),
-        b"|",
-        shown.output.as_slice(),
-        b"|",
-        stop.as_bytes(),
-    ];
-    joined(alloc, &parts)
+    format!(in alloc; "{}|{}|{stop}", text_of(&sites), text_of(&shown.output))
 }
 
 // What a run on ample cells shows, told.
 pub(crate) fn agreed_told(alloc: Global, source: &[u8]) -> Result<String, Fail> {
-    shown_told(alloc, &agreed(alloc, source, CELLS)?)
+    Ok(shown_told(alloc, &agreed(alloc, source, CELLS)?)?)
 }
 
-// What compiling finds out of a source.
-pub(crate) fn checked(
+// How many statements and expressions a source has, where it compiles.
+pub(crate) fn visits(
     alloc: Global,
     source: &[u8],
     certificate: Option<&[u8]>,
-) -> Result<Verdict, Fault> {
-    Ok(compile(alloc, source, certificate)?.verdict)
-}
-
-// How many statements and expressions a source has.
-pub(crate) fn visits(alloc: Global, source: &[u8]) -> Result<u64, Fault> {
-    Ok(checked(alloc, source, None)?.visits)
+) -> Result<u64, Fault> {
+    Ok(compile(alloc, source, certificate)?.verdict.visits)
 }
 
 // The line of a refusal; an empty text where the source compiles. Fails for want of memory, and where the line has no
@@ -154,7 +135,7 @@ pub(crate) fn refusal(
     source: &[u8],
     certificate: Option<&[u8]>,
 ) -> Result<String, Fail> {
-    match checked(alloc, source, certificate) {
+    match visits(alloc, source, certificate) {
         Ok(_) => Ok(String::new(alloc)),
         Err(Fault::Memory) => Err(Fault::Memory.into()),
         Err(fault) => refusal_told(alloc, &fault),
@@ -163,8 +144,9 @@ pub(crate) fn refusal(
 
 fn refusal_told(alloc: Global, fault: &Fault) -> Result<String, Fail> {
     let (line, status) = fault_text(alloc, fault);
-    if status == 2 && line.as_slice().ends_with(b"\n") {
-        joined(alloc, &[line.as_slice()])
+    let told = text_of(line.as_slice());
+    if status == 2 && told.ends_with("\n") {
+        Ok(String::from_str(alloc, told)?)
     } else {
         Err(Fail::new("no line of a refusal"))
     }
