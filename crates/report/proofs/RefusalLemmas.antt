@@ -19,7 +19,8 @@ use Rattle.code_generator.specs.declared.fault.GenFault.TheVariants as generate
 use Rattle.code_generator.specs.Code.{program_code}
 use Rattle.report.specs.declared.fault.Fault.{Fault}
 use Rattle.report.specs.Faults.{parser_fault, typing_fault, certificate_fault, generator_fault}
-use Rattle.report.specs.Headline.{IsWrittenAs, IsTypedTreeOf, IsSoundTreeOf}
+use Rattle.report.specs.Headline.{IsWrittenAs, IsTypedTreeOf}
+use Rattle.report.specs.Typed.{IsSoundTreeOf}
 use Rattle.report.specs.Refusals.{IsRefusal, IsCertificate}
 
 -- an answer that is this fault

@@ -7,8 +7,6 @@ use Rattle.parser.specs.declared.tree.Program.{Program}
 use Rattle.parser.specs.Syntax.{IsTreeOf}
 use Rattle.typed_tree.specs.declared.tree.Tree.{Tree}
 use Rattle.typed_tree.specs.declared.site.Site.{Site}
-use Rattle.typed_tree.specs.WellFormed.{IsWellFormed}
-use Rattle.typed_tree.specs.Ids.{AreInOrder}
 use Rattle.resolver.specs.Typing.{IsTyped}
 use Rattle.cert_checker.specs.Promise.{ClosedNeverErr}
 use Rattle.pcode_assembler.specs.declared.code.Code.{Code}
@@ -27,9 +25,3 @@ IsWrittenAs source program = (tokens : List Token) × IsTokenList source (map le
 -- the typed tree of a source text
 abbrev pub IsTypedTreeOf : Tree → List ℕ → Type 0
 IsTypedTreeOf tree source = (program : Program) × IsWrittenAs source program × IsTyped program tree
-
--- a typed tree of a source as the layers above need it: its names are in its tables, its sites in order
-pub record IsSoundTreeOf (source : List ℕ) (tree : Tree) : Type 0 where
-  pub well_formed : IsWellFormed tree
-  pub in_order : AreInOrder tree.sites.items
-  pub typed : IsTypedTreeOf tree source

@@ -3,3 +3,4 @@ pub mod Text
 pub mod Headline
 pub mod Whole
 pub mod Refusals
+pub mod Typed

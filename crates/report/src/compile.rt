@@ -5,8 +5,9 @@ ghost use Rattle.cert_checker.specs.Promise.{Valid, StatesHold};
 ghost use Rattle.code_generator.specs.Code.{program_code};
 ghost use Rattle.code_generator.specs.Follows.{Follows};
 ghost use Rattle.code_generator.specs.Tables.{site_table, point_table};
-ghost use Rattle.report.specs.Headline.{Headline, IsSoundTreeOf, IsTypedTreeOf};
+ghost use Rattle.report.specs.Headline.{Headline, IsTypedTreeOf};
 ghost use Rattle.report.specs.Refusals.{IsRefusal, text_of};
+ghost use Rattle.report.specs.Typed.{IsSoundTreeOf};
 ghost use Rattle.stack_machine.specs.Failures.{write_failures_of};
 ghost use Rattle.report.specs.Whole.{IsStripped, RunsStripped};
 

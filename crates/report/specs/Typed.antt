@@ -1,0 +1,12 @@
+-- What the layers above the resolver need of a source's typed tree.
+use Rattle.std.specs.Prelude.{ℕ, List}
+use Rattle.typed_tree.specs.declared.tree.Tree.{Tree}
+use Rattle.typed_tree.specs.WellFormed.{IsWellFormed}
+use Rattle.typed_tree.specs.Ids.{AreInOrder}
+use Rattle.report.specs.Headline.{IsTypedTreeOf}
+
+-- a typed tree of a source: its names are in its tables, its sites in order
+pub record IsSoundTreeOf (source : List ℕ) (tree : Tree) : Type 0 where
+  pub well_formed : IsWellFormed tree
+  pub in_order : AreInOrder tree.sites.items
+  pub typed : IsTypedTreeOf tree source
