@@ -1,7 +1,7 @@
-ghost use Rattle.std.specs.Prelude.{◌≡◌, ◌<◌, ◌≤◌, true, length, slice_index, take_while, IfOk, IfErr, IfSome, MatchOption, All};
+ghost use Rattle.std.specs.Prelude.{◌≡◌, ◌<◌, ◌≤◌, true, length, slice_index, take_while, IfSome, MatchOption, All};
 ghost use Rattle.std.specs.Char.{IsAsciiDigit, is_ascii_alphabetic, is_ascii_digit, is_ascii_alphanumeric};
 ghost use Rattle.lexer.specs.Piece as spec;
-ghost use Rattle.lexer.specs.Piece.{offset_of, piece_at};
+ghost use Rattle.lexer.specs.Piece.{piece_at};
 ghost use Rattle.lexer.specs.Shape.{Opens, is_blank_byte};
 
 use crate::symbol::symbol;
@@ -34,9 +34,7 @@ pub enum Refusal {
 
 /// What a text begins with, and its length. An empty text, of which `tokens` never asks, is refused.
 pub fn next_piece(text: &[u8]) -> Result<(Piece, usize), Refusal>
-    ensures exact { result ≡ piece_at text.now }
-    ensures cut { IfOk result (λ found. (0 < found.1) × (found.1 ≤ length text.now)) }
-    ensures within { IfErr result (λ refusal. offset_of refusal ≤ length text.now) }
+    ensures { result ≡ piece_at text.now }
 {
     if text.is_empty() {
         return Err(Refusal::UnknownByte);
@@ -77,9 +75,7 @@ fn is_blank(byte: u8) -> bool
 /// mark.
 fn comment(text: &[u8], opening: usize) -> Result<(Piece, usize), Refusal>
     requires { Opens text.now opening }
-    ensures exact { result ≡ piece_at text.now }
-    ensures cut { IfOk result (λ found. (0 < found.1) × (found.1 ≤ length text.now)) }
-    ensures within { IfErr result (λ refusal. offset_of refusal ≤ length text.now) }
+    ensures { result ≡ piece_at text.now }
 {
     for at in opening..text.len() {
         let rest = &text[at..];
@@ -96,9 +92,7 @@ fn comment(text: &[u8], opening: usize) -> Result<(Piece, usize), Refusal>
 /// A character string, at its first apostrophe (6.1.7).
 fn string(text: &[u8]) -> Result<(Piece, usize), Refusal>
     requires { slice_index text.now 0 ≡ 39 }
-    ensures exact { result ≡ piece_at text.now }
-    ensures cut { IfOk result (λ found. (0 < found.1) × (found.1 ≤ length text.now)) }
-    ensures within { IfErr result (λ refusal. offset_of refusal ≤ length text.now) }
+    ensures { result ≡ piece_at text.now }
 {
     let Some(length) = string_length(text) else {
         return Err(Refusal::OpenString);
@@ -114,8 +108,7 @@ fn string(text: &[u8]) -> Result<(Piece, usize), Refusal>
 
 /// Where the first byte stands that no string may have.
 fn bad_byte(string: &[u8]) -> Option<usize>
-    ensures exact { result ≡ spec.bad_byte string.now }
-    ensures within { IfSome result (λ offset. offset < length string.now) }
+    ensures { result ≡ spec.bad_byte string.now }
 {
     string.iter().position(|byte| !matches!(*byte, 32..=126))
 }
@@ -125,7 +118,7 @@ fn bad_byte(string: &[u8]) -> Option<usize>
 fn string_length(text: &[u8]) -> Option<usize>
     requires { slice_index text.now 0 ≡ 39 }
     ensures exact { spec.string_piece text.now result ≡ piece_at text.now }
-    ensures within { IfSome result (λ length_of. (2 ≤ length_of) × (length_of ≤ length text.now)) }
+    ensures within { IfSome result (λ length_of. length_of ≤ length text.now) }
 {
     let mut at = 1;
     while at < text.len() {
@@ -146,9 +139,7 @@ fn string_length(text: &[u8]) -> Option<usize>
 /// A number, at its first digit (6.1.5). Too large a value is told before a letter behind it.
 fn number(text: &[u8]) -> Result<(Piece, usize), Refusal>
     requires { is_ascii_digit (slice_index text.now 0) ≡ true }
-    ensures exact { result ≡ piece_at text.now }
-    ensures cut { IfOk result (λ found. (0 < found.1) × (found.1 ≤ length text.now)) }
-    ensures within { IfErr result (λ refusal. offset_of refusal ≤ length text.now) }
+    ensures { result ≡ piece_at text.now }
 {
     let length = digits_length(text);
     let Some(value) = value_of(&text[..length]) else {
@@ -186,8 +177,7 @@ fn value_of(digits: &[u8]) -> Option<u32>
 /// A word symbol or an identifier, at its first letter (6.1.2, 6.1.3).
 fn name(text: &[u8]) -> (Piece, usize)
     requires { is_ascii_alphabetic (slice_index text.now 0) ≡ true }
-    ensures exact { piece_at text.now ≡ Ok result }
-    ensures cut { (0 < result.1) × (result.1 ≤ length text.now) }
+    ensures { piece_at text.now ≡ Ok result }
 {
     let length = name_length(text);
     (Piece::Token(kind_of(&text[..length])), length)

@@ -8,22 +8,22 @@ use Rattle.lexer.proofs.piece.number.Goals.{else-length-text-via-then-length-tex
 pub value_of-requires : goal.value_of-requires
 value_of-requires c = all_digits c.args.text.now _ c.digits_length-length.ensures
 
-pub returns-in_default-clause-exact : goal.returns-in_default-clause-exact
-returns-in_default-clause-exact c =
+pub returns-in_default : goal.returns-in_default
+returns-in_default c =
     let text = c.args.text.now in
     let n = c.digits_length-length.result in
     sym (digits_at text n c.requires c.digits_length-length.ensures ∙ number_large n (take n text) (drop n text) c.in_default.ensures)
 
-pub returns-then-is_ascii_alphabetic-clause-exact : goal.returns-then-is_ascii_alphabetic-clause-exact
-returns-then-is_ascii_alphabetic-clause-exact c =
+pub returns-then-is_ascii_alphabetic : goal.returns-then-is_ascii_alphabetic
+returns-then-is_ascii_alphabetic c =
     let text = c.args.text.now in
     let n = c.digits_length-length.result in
     sym (digits_at text n c.requires c.digits_length-length.ensures
     ∙ number_touches n (take n text) (drop n text) c.in-Some.value c.in-Some.ensures.0 c.in-Some.ensures.1
     (letter_behind text n true c.if-length-text.true (sym c.if-is_ascii_alphabetic.ensures.value)))
 
-pub returns-clause-exact : goal.returns-clause-exact
-returns-clause-exact c =
+pub returns : goal.returns
+returns c =
     let text = c.args.text.now in
     let n = c.digits_length-length.result in
     let at = digits_at text n c.requires c.digits_length-length.ensures in

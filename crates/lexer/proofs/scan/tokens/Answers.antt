@@ -1,9 +1,11 @@
-use Rattle.std.proofs.Common.{◌≡◌, ◌++◌, ◌==◌, [], ◌∷◌, length, take, drop, inr, rules, sym, ◌∙◌, ap, subst}
+use Rattle.std.proofs.Common.{◌≡◌, ◌++◌, ◌-◌, ◌==◌, [], ◌∷◌, length, take, drop, inr, rules, arith, sym, ◌∙◌, ap, subst}
 use Rattle.std.proofs.lemmas.Bool.{false≢true}
+use Rattle.std.proofs.lemmas.List.{length-drop}
 use Rattle.lexer.specs.declared.token.Kind.{Kind}
 use Rattle.lexer.specs.Place.{start, place_after}
 use Rattle.lexer.specs.Piece.{offset_of}
 use Rattle.lexer.specs.Tokens.{Lexeme, Leaves, fault_of}
+use Rattle.lexer.proofs.Cuts.{piece_cut, fault_within}
 use Rattle.lexer.proofs.Rows.{place_behind, kept_token, kept_separator, leaves_more, place_more, place_stops, one_list, one_fault, list_or_fault}
 use Rattle.lexer.proofs.scan.tokens.Goals as goal
 use Rattle.lexer.proofs.scan.tokens.Goals.{in-Token+in_ok-push, in_default}
@@ -44,7 +46,7 @@ returns-in-Err-clause-fault c =
     let place = ap (λ q. place_after q (take (offset_of why) rest)) c.loop-rest.invariant.5 ∙ place_stops text pieces rest (offset_of why) c.loop-rest.invariant.3 in
     λ _. inr (
       c.if-text-gt-MAX_TEXT.false,
-      (pieces, rest, c.loop-rest.invariant.3, (λ e. false≢true (c.loop-rest-test.ensures ∙ ap (λ r. length r == 0) e)), why, sym c.in-Err.ensures.exact, c.fault_of.ensures ∙ ap (fault_of why) place),
+      (pieces, rest, c.loop-rest.invariant.3, (λ e. false≢true (c.loop-rest-test.ensures ∙ ap (λ r. length r == 0) e)), why, sym c.in-Err.ensures, c.fault_of.ensures ∙ ap (fault_of why) place),
     )
 
 pub loop-rest-preserved : goal.loop-rest-preserved
@@ -61,7 +63,7 @@ loop-rest-preserved c =
       search rules,
       search rules,
       pieces ++ found ∷ [],
-      subst (λ r. Leaves text (pieces ++ found ∷ []) r) (sym behind) (leaves_more text pieces rest found leaves (sym c.in-Ok.ensures.exact)),
+      subst (λ r. Leaves text (pieces ++ found ∷ []) r) (sym behind) (leaves_more text pieces rest found leaves (sym c.in-Ok.ensures)),
       elim c.match-piece.branch [
         | in-Token+in_ok-push w ↦
             rw w.tokens-is (kept_token c.loop-rest.tokens.items w.push.new.self.items w.in-Token.kind _ text pieces rest found leaves c.loop-rest.invariant.4 w.in_ok-push.ensures.items (same w.in-Token.kind) w.in-Token.is)
@@ -72,3 +74,18 @@ loop-rest-preserved c =
 
 pub loop-rest-init : goal.loop-rest-init
 loop-rest-init c = search rules
+
+pub fault_of-requires-clause-within : goal.fault_of-requires-clause-within
+fault_of-requires-clause-within c = fault_within c.loop-rest.rest.now c.in-Err.refusal (sym c.in-Err.ensures)
+
+pub split_at-requires : goal.split_at-requires
+split_at-requires c = (piece_cut c.loop-rest.rest.now c.in-Ok.found (sym c.in-Ok.ensures)).1
+
+pub loop-rest-smaller : goal.loop-rest-smaller
+loop-rest-smaller c =
+    let rest = c.loop-rest.rest.now in
+    let found = c.in-Ok.found in
+    let cut = piece_cut rest found (sym c.in-Ok.ensures) in
+    let behind : c.split_at.result.1.now ≡ drop found.1 rest = search rules in
+    let left : length c.split_at.result.1.now ≡ length rest - found.1 = ap length behind ∙ length-drop found.1 rest in
+    omega (arith, cut.0, cut.1, left)
