@@ -1,3 +1,4 @@
 mod Regions
 mod Definitions
 mod Refused
+mod Faults
