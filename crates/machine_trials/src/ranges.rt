@@ -5,7 +5,7 @@ use std::test::Fail;
 use test_words::rows::all_hold;
 
 /// What is done with one range or with two.
-#[derive(Debug, Clone, Copy)]
+#[derive(Clone, Copy)]
 enum Operation {
     Meet,
     Join,
