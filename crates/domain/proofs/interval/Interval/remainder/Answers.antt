@@ -2,7 +2,7 @@ use Rattle.std.proofs.Common.{◌≡◌, pos, ◌-ℤ◌, ◌≤ℤ◌, ◌<ℤ�
 use Rattle.std.proofs.lemmas.Int.{ints, clamps, to_z-of_z}
 use Rattle.std.specs.Int.{int_min, int_rem_euclid}
 use Rattle.domain.specs.Interval.{Interval, HasMember, vacant, is_vacant, between, remainder}
-use Rattle.domain.specs.Ranges.{left-vacant, right-vacant, remainder-has, as_is, less_one, same_min, same_between}
+use Rattle.domain.specs.Ranges.{left-vacant, right-vacant, remainder-has, as_is, end-min, less_one, same_min, same_between}
 use Rattle.domain.proofs.interval.Interval.remainder.Goals as goal
 use Rattle.domain.proofs.interval.Interval.remainder.Goals.{then-is_empty-via-then-is_empty, then-is_empty-via-else-is_empty+then-is_empty-2, then-is_empty-via-else-is_empty+else-is_empty-2+then-last-lt1}
 
@@ -37,6 +37,20 @@ returns-then-is_empty-clause-ends c =
 pub returns-then-is_empty-clause-members : goal.returns-then-is_empty-clause-members
 returns-then-is_empty-clause-members c = λ x y left right present.
     subst (λ (i : Interval). HasMember i (int_rem_euclid x y)) (sym (returns-then-is_empty-clause-ends c)) (remainder-has c.args.self.now c.args.divisor.now x y left right present)
+
+-- the greatest remainder is an end
+pub between_ends-requires-clause-last_end : goal.between_ends-requires-clause-last_end
+between_ends-requires-clause-last_end c =
+    let last = c.last-greatest.result in
+    rw (less_one last c.last-greatest.ensures.bounds (omega (arith, ints))) (omega (arith, ints), omega (arith, ints))
+
+pub between_ends-requires-2-clause-last_end : goal.between_ends-requires-2-clause-last_end
+between_ends-requires-2-clause-last_end c =
+    let last = c.last-greatest.result in
+    let greatest = less_one last c.last-greatest.ensures.bounds (omega (arith, ints)) in
+    let own = as_is c.last-2.result c.last-2.ensures.bounds in
+    let least = to_z-of_z w64 c.min.result (record { sfits = c.min.type_inv }) ∙ c.min.ensures.value ∙ same_min _ _ (last -ℤ pos 1) c.last-2.result greatest own in
+    end-min (last -ℤ pos 1) c.last-2.result _ (omega (arith, ints), omega (arith, ints)) c.last-2.ensures.bounds least
 
 pub returns-then-first-lt0-clause-ends : goal.returns-then-first-lt0-clause-ends
 returns-then-first-lt0-clause-ends c =
