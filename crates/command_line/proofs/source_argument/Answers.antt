@@ -1,4 +1,4 @@
-use Rattle.std.proofs.Common.{ap, Some, true}
+use Rattle.std.proofs.Common.{ap, arith, refl, Some, true}
 use Rattle.clap.specs.declared.builder.action.ArgAction.TheVariants.{Set}
 use Rattle.clap.specs.Words.{Rule}
 use Rattle.command_line.proofs.source_argument.Goals as goal
@@ -11,3 +11,8 @@ returns-clause-argument c =
       plain = rw (c.action.ensures, c.required.ensures, c.help.ensures, c.value_name.ensures) c.new.ensures.plain;
       own = rw (c.action.ensures, c.required.ensures, c.help.ensures, c.value_name.ensures) c.new.ensures.optional.1;
     }
+
+pub returns-clause-value : goal.returns-clause-value
+returns-clause-value c =
+    rw (c.action.ensures, c.required.ensures, c.help.ensures, c.value_name.ensures)
+    (refl, refl, c.new.ensures.values.0, rw c.new.ensures.values.1 (omega arith))
