@@ -1,8 +1,10 @@
 -- The fault of a layer, as the whole compiler tells it, is a refusal of the source.
-use Rattle.std.proofs.Common.{◌≡◌, ◌⊎◌, ⊎_elim, ℕ, ◌<◌, List, Some, Result, Err, IfErr, map, length, refl, sym, subst}
+use Rattle.std.proofs.Common.{◌≡◌, ◌≢◌, ◌⊎◌, ⊎_elim, ℕ, ◌<◌, List, Some, Result, Err, IfErr, map, length, refl, sym, subst}
 use Rattle.std.specs.Prelude.{MatchResult}
 use Rattle.lexer.specs.declared.token.Token.{Token}
-use Rattle.lexer.specs.Tokens.{IsTokenList, lexeme_of}
+use Rattle.lexer.specs.declared.fault.LexFault.{LexFault}
+use Rattle.lexer.specs.declared.fault.LexFault.TheVariants as lex
+use Rattle.lexer.specs.Tokens.{IsTokenList, IsFirstFault, lexeme_of}
 use Rattle.parser.specs.declared.fault.ParseFault.{ParseFault}
 use Rattle.parser.specs.declared.fault.ParseFault.TheVariants as parse
 use Rattle.parser.specs.declared.tree.Program.{Program}
@@ -18,7 +20,7 @@ use Rattle.code_generator.specs.declared.fault.GenFault.{GenFault}
 use Rattle.code_generator.specs.declared.fault.GenFault.TheVariants as generate
 use Rattle.code_generator.specs.Code.{program_code}
 use Rattle.report.specs.declared.fault.Fault.{Fault}
-use Rattle.report.specs.Faults.{parser_fault, typing_fault, certificate_fault, generator_fault}
+use Rattle.report.specs.Faults.{lexer_fault, parser_fault, typing_fault, certificate_fault, generator_fault}
 use Rattle.report.specs.Headline.{IsWrittenAs, IsTypedTreeOf}
 use Rattle.report.specs.Typed.{IsSoundTreeOf}
 use Rattle.report.specs.Refusals.{IsRefusal, IsCertificate}
@@ -32,6 +34,11 @@ refused_by source text answer y fault is same h =
 pub untyped_by : (source : List ℕ) (answer : Result Tree Fault) (y fault : Fault) → answer ≡ Err y → y ≡ fault → ((text : List ℕ) → IsRefusal source text fault) → MatchResult answer (IsSoundTreeOf source) (λ fault. (text : List ℕ) → IsRefusal source text fault)
 untyped_by source answer y fault is same h =
     subst (λ r. MatchResult r (IsSoundTreeOf source) (λ fault. (text : List ℕ) → IsRefusal source text fault)) (sym is) (λ text. subst (IsRefusal source text) (sym same) (h text))
+
+-- tokens are refused of a source for its first fault
+pub lexing-refusal : (source text : List ℕ) (fault : LexFault) → (fault ≢ lex.Memory → IsFirstFault source fault) → IsRefusal source text (lexer_fault fault)
+lexing-refusal source text lex.Memory h = tt
+lexing-refusal source text fault h = h (λ same. cc)
 
 -- syntax is refused of a source whose tokens have that fault
 pub parsing-refusal : (source text : List ℕ) (fault : ParseFault) (tokens : List Token) → IsTokenList source (map lexeme_of tokens) → IsFaultOf fault tokens → IsRefusal source text (parser_fault fault)

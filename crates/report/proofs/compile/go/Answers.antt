@@ -33,5 +33,11 @@ returns-in_err-compiled-clause-refused g c =
     let told = err_from_is_err_and c.from_residual.result c.from_residual.ensures.1 in
     refused_by source text c.from_residual.result told.0 c.in_err-compiled.field-0.0 told.1 told.2 c.in_err-compiled.ensures.refused
 
+pub returns-clause-write_failed : goal.returns-clause-write_failed
+returns-clause-write_failed g c = c.run-stop.ensures.write_failed
+
+pub returns-clause-input_left : goal.returns-clause-input_left
+returns-clause-input_left g c = c.run-stop.ensures.input_left
+
 pub returns-clause-unwritten : goal.returns-clause-unwritten
 returns-clause-unwritten g c = search rules

@@ -1,7 +1,7 @@
 use Rattle.std.proofs.Common.{subst}
 use Rattle.std.proofs.lemmas.Result.{err_from_is_err_and}
 use Rattle.parser.specs.Syntax.{IsTreeOf, IsFaultOf}
-use Rattle.report.proofs.RefusalLemmas.{untyped_by, parsing-refusal, typing-refusal}
+use Rattle.report.proofs.RefusalLemmas.{untyped_by, lexing-refusal, parsing-refusal, typing-refusal}
 use Rattle.report.proofs.compile.typed.Goals as goal
 
 pub returns : goal.returns
@@ -12,6 +12,13 @@ returns c =
       in_order = c.in_ok-tree.ensures.in_order;
       typed = (program, (c.in_ok-tokens.tokens.items, c.in_ok-tokens.ensures.list, subst (IsTreeOf program) c.deref.ensures.value c.in_ok-program.ensures.exact), c.in_ok-tree.ensures.typed);
     }
+
+pub returns-in_err-tokens : goal.returns-in_err-tokens
+returns-in_err-tokens c =
+    let source = c.args.source.now in
+    let told = err_from_is_err_and c.from_residual.result c.from_residual.ensures.1 in
+    untyped_by source c.from_residual.result told.0 _ told.1 told.2
+    (λ text. lexing-refusal source text c.in_err-tokens.field-0.0 c.in_err-tokens.ensures.fault)
 
 pub returns-in_err-program : goal.returns-in_err-program
 returns-in_err-program c =
