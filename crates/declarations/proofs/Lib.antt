@@ -1,4 +1,3 @@
 mod Regions
 mod Definitions
 mod Refused
-mod Faults

@@ -1,10 +1,10 @@
-use Rattle.std.proofs.Common.{rules, ◌≡◌, inl, inr, All, codes, map, refl, sym, subst, ◌∙◌, arith}
+use Rattle.std.proofs.Common.{rules, ◌≡◌, ◌⊎◌, inl, inr, ⊎_elim, All, codes, map, refl, sym, subst, ◌∙◌, arith}
 use Rattle.std.proofs.lemmas.List.{take_all}
 use Rattle.std.proofs.lemmas.List.Elements.{All-more}
 use Rattle.declarations.specs.Names.{folded}
 use Rattle.scopes.specs.declared.denotation.Denotation.TheVariants.{Output}
-use Rattle.declarations.specs.Regions.{Passes}
-use Rattle.declarations.proofs.Faults.{refused_by, no_memory}
+use Rattle.typed_tree.specs.declared.fault.TypeFault.TheVariants.{Memory}
+use Rattle.declarations.specs.Regions.{Passes, CannotPassParameters}
 use Rattle.declarations.proofs.Refused.{stuck_at}
 use Rattle.declarations.proofs.Regions.{not_unlike, not_same, Passes-map_more}
 use Rattle.declarations.proofs.declarations.declare_parameters.Goals as goal
@@ -24,13 +24,9 @@ loop-name-preserved c =
 pub returns-in_err-declare : goal.returns-in_err-declare
 returns-in_err-declare c =
     let parameters = c.args.parameters.now in
-    refused_by c.from_residual-in_err-declare.result _ _ _ _ c.from_residual-in_err-declare.ensures.1
-    (λ q. inr (stuck_at (λ name. (name.text.now, Output)) parameters c.loop-name.name-index _ _ _ c.loop-name-test.true c.loop-name.invariant.passed q))
-    c.in_err-declare.ensures.refused
-
--- there is no memory for a name
-pub returns-in_err-folded : goal.returns-in_err-folded
-returns-in_err-folded c = no_memory c.from_residual.result _ _ _ c.from_residual.ensures.1 refl
+    let h : (c.in_err-declare.field-0.0 ≡ Memory) ⊎ CannotPassParameters parameters c.args.scopes.now =
+    ⊎_elim inl (λ q. inr (inr (stuck_at (λ name. (name.text.now, Output)) parameters c.loop-name.name-index _ _ _ c.loop-name-test.true c.loop-name.invariant.passed q))) c.in_err-declare.ensures.refused in
+    search rules
 
 -- a parameter that isn't output
 pub returns-then-ne : goal.returns-then-ne

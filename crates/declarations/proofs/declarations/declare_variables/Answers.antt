@@ -1,7 +1,7 @@
-use Rattle.std.proofs.Common.{[], refl, subst}
+use Rattle.std.proofs.Common.{rules, ◌≡◌, ◌⊎◌, inl, inr, ⊎_elim, [], refl, subst}
 use Rattle.std.proofs.lemmas.List.{take_all}
-use Rattle.declarations.specs.Regions.{PassesGroups}
-use Rattle.declarations.proofs.Faults.{refused_by}
+use Rattle.typed_tree.specs.declared.fault.TypeFault.TheVariants.{Memory}
+use Rattle.declarations.specs.Regions.{PassesGroups, CannotPassGroups}
 use Rattle.declarations.proofs.Refused.{stuck_at_group}
 use Rattle.declarations.proofs.Regions.{PassesGroups-next}
 use Rattle.declarations.proofs.declarations.declare_variables.Goals as goal
@@ -15,9 +15,11 @@ loop-group-preserved c =
 -- a group can't be passed
 pub returns-in_err-declare_group : goal.returns-in_err-declare_group
 returns-in_err-declare_group c =
-    refused_by c.from_residual.result _ _ _ _ c.from_residual.ensures.1
-    (stuck_at_group c.args.groups.now c.loop-group.group-index c.group-item.result c.args.scopes.now c.loop-group.scopes [] c.loop-group.variables.items c.loop-group-test.true c.group-item.is c.loop-group.invariant)
-    c.in_err-declare_group.ensures
+    let h : (c.in_err-declare_group.field-0.0 ≡ Memory) ⊎ CannotPassGroups c.args.groups.now c.args.scopes.now [] =
+    ⊎_elim inl
+    (λ q. inr (stuck_at_group c.args.groups.now c.loop-group.group-index c.group-item.result c.args.scopes.now c.loop-group.scopes [] c.loop-group.variables.items c.loop-group-test.true c.group-item.is c.loop-group.invariant q))
+    c.in_err-declare_group.ensures in
+    search rules
 
 pub loop-group-init : goal.loop-group-init
 loop-group-init c = (refl, c.new-variables.ensures.items)

@@ -1,4 +1,4 @@
-use Rattle.std.proofs.Common.{◌≡◌, ◌++◌, ℕ, ◌+◌, ◌<◌, ◌≤◌, List, [], ◌∷◌, flat_map, length, map, take, get_or, sym, ap, subst, ◌∙◌, append-nil, append_assoc}
+use Rattle.std.proofs.Common.{◌≡◌, ◌++◌, ℕ, ◌+◌, ◌<◌, List, [], ◌∷◌, flat_map, length, map, take, get_or, sym, ap, subst, ◌∙◌, append-nil, append_assoc, arith}
 use Rattle.std.proofs.lemmas.List.{map-append, take_more, take_all}
 use Rattle.std.proofs.lemmas.Grind.{flat_map-append}
 use Rattle.parser.specs.declared.tree.Name.{Name}
@@ -38,7 +38,7 @@ loop-group-preserved c =
     let groups = c.args.program.now.block.variables.items in
     let i = c.loop-group.group-index in
     let group = c.group-item.result in
-    let within : i < length groups = subst (λ l. i < length l) c.deref-group-items.ensures.value c.loop-group-test.true in
+    let within : i < length groups = omega (arith, ap length c.deref-group-items.ensures.value, c.loop-group-test.true) in
     c.in_ok-fold_names-2.ensures
     ∙ ap (λ l. l ++ letters c.deref-in-loop-group.result.now) c.loop-group.invariant
     ∙ ap (λ l. letters (c.args.program.now.parameters.items ++ names_of (take i groups)) ++ letters l) c.deref-in-loop-group.ensures.value
@@ -50,7 +50,7 @@ returns c =
     let program = c.args.program.now in
     let groups = program.block.variables.items in
     let whole : take c.loop-group.group-index groups ≡ groups =
-    take_all c.loop-group.group-index groups (subst (λ l. length l ≤ c.loop-group.group-index) c.deref-group-items.ensures.value c.loop-group-test.false) in
+    take_all c.loop-group.group-index groups (omega (arith, ap length c.deref-group-items.ensures.value, c.loop-group-test.false)) in
     let names : map (λ key. key.items) c.deref-2.result.now ≡ letters (defined_names program) =
     ap (map (λ key. key.items)) c.deref-2.ensures.value ∙ c.loop-group.invariant ∙ ap (λ gs. letters (program.parameters.items ++ names_of gs)) whole in
     subst (λ (ns : List (List ℕ)). Opens ns c.args.scopes.now c.open.new.self) names c.in_ok-open.ensures.opened

@@ -1,5 +1,5 @@
-use Rattle.std.proofs.Common.{refl}
-use Rattle.declarations.proofs.Faults.{memory_alone}
+use Rattle.std.proofs.Common.{rules, ◌≡◌, ⊎_elim, refl}
+use Rattle.typed_tree.specs.declared.fault.TypeFault.TheVariants.{Memory}
 use Rattle.declarations.proofs.Refused.{required_stuck}
 use Rattle.declarations.proofs.Regions.{Passes-map_more, Passes-all}
 use Rattle.declarations.proofs.declarations.open_required.Goals as goal
@@ -11,9 +11,11 @@ loop-name-preserved c = Passes-map_more (λ p. (p.0.now, p.1)) _ c.loop-name.nam
 -- none of them was defined before
 pub returns-in_err-declare-clause-refused : goal.returns-in_err-declare-clause-refused
 returns-in_err-declare-clause-refused c =
-    memory_alone c.from_residual-in_err-declare.result _ _ c.from_residual-in_err-declare.ensures.1
-    (required_stuck (λ p. (p.0.now, p.1)) _ c.loop-name.name-index _ _ _ _ refl c.loop-name-test.true c.in_ok-open.ensures.opened c.loop-name.invariant)
-    c.in_err-declare.ensures.refused
+    let memory : c.in_err-declare.field-0.0 ≡ Memory =
+    ⊎_elim (λ m. m)
+    (λ stuck. absurd (required_stuck (λ p. (p.0.now, p.1)) _ c.loop-name.name-index _ _ _ _ refl c.loop-name-test.true c.in_ok-open.ensures.opened c.loop-name.invariant stuck))
+    c.in_err-declare.ensures.refused in
+    search rules
 
 pub loop-name-init : goal.loop-name-init
 loop-name-init c = refl
