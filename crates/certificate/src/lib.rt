@@ -7,14 +7,14 @@ pub mod reader;
 pub use reader::read;
 
 /// The version that the first line of a certificate names.
-#[derive(Clone, Copy, Debug, PartialEq, Eq)]
+#[derive(Clone, Copy)]
 pub enum Version {
     /// `pcert 1`.
     One,
 }
 
 /// What a certificate text says.
-#[derive(Debug, PartialEq, Eq, Drop)]
+#[derive(Drop)]
 pub struct Certificate {
     pub version: Version,
 }

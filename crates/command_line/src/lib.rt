@@ -12,7 +12,7 @@ use clap::{Arg, ArgAction, Command};
 use std::alloc::{AllocError, Global};
 
 /// What the words of `pcom` say.
-#[derive(Clone, Copy, Debug)]
+#[derive(Clone, Copy)]
 pub struct PcomWords<'a> {
     /// The path of the source.
     pub source: &'a str,
@@ -21,7 +21,7 @@ pub struct PcomWords<'a> {
 }
 
 /// Why words are not taken, and the text to print.
-#[derive(Debug, Drop)]
+#[derive(Drop)]
 pub enum WordsFault {
     Memory,
     /// The help, the version or a fault, as clap tells it.

@@ -9,11 +9,11 @@ use Rattle.std.proofs.lemmas.List.{append-nil, map-append, length-map}
 use Rattle.std.proofs.Math.ListN.{get_or-map}
 use Rattle.std.proofs.lemmas.List.Elements.{All-cons}
 use Rattle.std.proofs.lemmas.List.Quantifiers.{all_pairs_push}
-use Rattle.parser.specs.declared.tree.Program.{Program}
-use Rattle.parser.specs.declared.tree.Name.{Name}
-use Rattle.parser.specs.declared.tree.VariableGroup.{VariableGroup}
-use Rattle.parser.specs.declared.tree.TypeDenoter.{TypeDenoter}
-use Rattle.parser.specs.declared.tree.TypeDenoter.TheVariants as denoter
+use Rattle.syntax_tree.specs.declared.Program.{Program}
+use Rattle.syntax_tree.specs.declared.Name.{Name}
+use Rattle.syntax_tree.specs.declared.VariableGroup.{VariableGroup}
+use Rattle.syntax_tree.specs.declared.TypeDenoter.{TypeDenoter}
+use Rattle.syntax_tree.specs.declared.TypeDenoter.TheVariants as denoter
 use Rattle.types.specs.declared.form.TypeId.{TypeId}
 use Rattle.typed_tree.specs.declared.tree.Variable.{Variable as DeclaredVariable}
 use Rattle.scopes.specs.declared.denotation.Denotation.{Denotation}

@@ -5,8 +5,8 @@ use Rattle.std.specs.Char.{to_ascii_lowercase}
 use Rattle.std.proofs.lemmas.List.{map-append, length-map, take_more, take_all, length-take}
 use Rattle.std.proofs.lemmas.Bool.Decides.{nat_tests}
 use Rattle.std.proofs.lemmas.Slice.Eq.{bytes_eq-Decides}
-use Rattle.parser.specs.declared.tree.Name.{Name}
-use Rattle.parser.specs.declared.tree.VariableGroup.{VariableGroup}
+use Rattle.syntax_tree.specs.declared.Name.{Name}
+use Rattle.syntax_tree.specs.declared.VariableGroup.{VariableGroup}
 use Rattle.typed_tree.specs.declared.tree.Variable.{Variable as DeclaredVariable}
 use Rattle.types.specs.declared.form.TypeId.{TypeId}
 use Rattle.scopes.specs.declared.denotation.Denotation.TheVariants.{Variable}

@@ -1,7 +1,7 @@
 -- What the declarations of a program leave, and when they break a rule (ISO 7185:1990, 6.2.2, 6.4.1, 6.5.1, 6.10).
 -- It says nothing of which of several broken rules is told, nor of its place.
 use Rattle.std.specs.Prelude.{◌≡◌, ◌⊎◌, ◌<◌, ◌≤◌, ℕ, Bool, List, Some, All, codes, map, length, nat_lt, ok_or}
-use Rattle.parser.specs.declared.tree.Program.{Program}
+use Rattle.syntax_tree.specs.declared.Program.{Program}
 use Rattle.types.specs.declared.form.TypeId.{TypeId}
 use Rattle.typed_tree.specs.declared.tree.Variable.{Variable}
 use Rattle.scopes.specs.declared.denotation.Denotation.TheVariants as denotes

@@ -6,8 +6,8 @@ ghost use Rattle.scopes.specs.Growth.{Opens, Defines, CannotDefine};
 ghost use Rattle.declarations.specs.Regions.{placed, OpensRequired, PassesParameters, PassesGroup, PassesGroups, DenotesType, CannotPassParameters, CannotPassGroup, CannotPassGroups, DenotesNoType};
 ghost use Rattle.typed_tree.specs.declared.fault.TypeFault.TheVariants.{Memory};
 
-use lexer::place::Place;
-use parser::tree as syntax;
+use place::Place;
+use syntax_tree as syntax;
 use scopes::{Denotation, RequiredFunction, RequiredProcedure, ScopeFault, Scopes};
 use std::alloc::{AllocError, Global};
 use typed_tree::fault::TypeFault;

@@ -4,7 +4,7 @@ ghost use Rattle.typed_tree.specs.Faults.{Gives};
 ghost use Rattle.typed_tree.specs.declared.fault.TypeFault.TheVariants.{Memory};
 
 use crate::declarations::{declare_parameters, declare_variables, open_block, open_required};
-use parser::tree::Program;
+use syntax_tree::Program;
 use scopes::Scopes;
 use std::alloc::Global;
 use typed_tree::fault::TypeFault;

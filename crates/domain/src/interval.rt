@@ -13,7 +13,7 @@ const LIMIT: i64 = 4611686018427387903;
 
 /// A range of whole numbers between -4611686018427387903 and 4611686018427387903. It is empty where its first number
 /// is above its last; the empty range is written 1..0.
-#[derive(Clone, Copy, PartialEq, Eq)]
+#[derive(Clone, Copy)]
 pub struct Interval {
     first: i64,
     last: i64,

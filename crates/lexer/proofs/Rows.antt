@@ -3,7 +3,7 @@ use Rattle.std.proofs.Common.{◌≡◌, ℕ, ◌+◌, ◌-◌, List, [], ◌∷
 use Rattle.std.proofs.lemmas.List.{append-nil, map_push, length-append, take-append-drop}
 use Rattle.std.proofs.lemmas.List.Sums.{fold-append}
 use Rattle.std.proofs.Math.Seq.{take-append-add}
-use Rattle.lexer.specs.declared.place.Place.{Place}
+use Rattle.place.specs.declared.Place.{Place}
 use Rattle.lexer.specs.declared.fault.LexFault.{LexFault}
 use Rattle.lexer.specs.declared.piece.Piece.{Piece}
 use Rattle.lexer.specs.declared.piece.Piece.TheVariants as piece
@@ -11,7 +11,7 @@ use Rattle.lexer.specs.declared.token.Kind.{Kind}
 use Rattle.lexer.specs.declared.token.Token.{Token}
 use Rattle.lexer.specs.declared.piece.Refusal.{Refusal}
 use Rattle.lexer.specs.declared.piece.Refusal.TheVariants.{UnknownByte}
-use Rattle.lexer.specs.Place.{start, past, place_of, place_after}
+use Rattle.place.specs.Place.{start, past, place_of, place_after}
 use Rattle.lexer.specs.Piece.{piece_at, offset_of}
 use Rattle.lexer.specs.Tokens.{Lexeme, Leaves, lexemes, lexemes_of, lexeme_of, IsTokenList, IsFirstFault, fault_of}
 use Rattle.lexer.proofs.Symbols.{nothing_at}

@@ -1,7 +1,7 @@
 -- The numbers and the places of the faults of a text, L1 to L8.
 -- This doesn't say which text has which fault.
 use Rattle.std.specs.Prelude.{ℕ, Option, Some, None}
-use Rattle.lexer.specs.declared.place.Place.{Place}
+use Rattle.place.specs.declared.Place.{Place}
 use Rattle.lexer.specs.declared.fault.LexFault.{LexFault}
 use Rattle.lexer.specs.declared.fault.LexFault.TheVariants.{Memory, UnknownByte, OpenComment, OpenString, EmptyString, LargeNumber, TouchingLetter, LongText, StringByte}
 

@@ -2,7 +2,7 @@
 -- each of its class and as long as can be.
 -- This doesn't say what the tokens mean together: that is syntax.
 use Rattle.std.specs.Prelude.{◌≡◌, ◌≢◌, ℕ, ◌+◌, ◌-◌, ◌<◌, ◌≤◌, List, [], ◌∷◌, ◌++◌, length, take, drop, Ok, Err, ◌⊎◌}
-use Rattle.lexer.specs.declared.place.Place.{Place}
+use Rattle.place.specs.declared.Place.{Place}
 use Rattle.lexer.specs.declared.token.Kind.{Kind}
 use Rattle.lexer.specs.declared.token.Token.{Token}
 use Rattle.lexer.specs.declared.piece.Piece.{Piece}
@@ -11,7 +11,7 @@ use Rattle.lexer.specs.declared.piece.Refusal.{Refusal}
 use Rattle.lexer.specs.declared.piece.Refusal.TheVariants as refusal
 use Rattle.lexer.specs.declared.fault.LexFault.{LexFault}
 use Rattle.lexer.specs.declared.fault.LexFault.TheVariants as fault
-use Rattle.lexer.specs.Place.{start, place_of, place_after}
+use Rattle.place.specs.Place.{start, place_of, place_after}
 use Rattle.lexer.specs.Piece.{piece_at, offset_of}
 
 -- the most bytes that a text may have

@@ -1,7 +1,7 @@
 ghost use Rattle.std.specs.Prelude.{◌≡◌};
 ghost use Rattle.lexer.specs.declared.fault.LexFault.TheVariants.{Memory};
 
-use crate::place::Place;
+use place::Place;
 use std::alloc::{AllocError, AllocFailed};
 use thiserror::Error;
 

@@ -3,7 +3,6 @@
 
 pub mod fault;
 mod piece;
-pub mod place;
 mod scan;
 mod symbol;
 pub mod token;

@@ -1,12 +1,12 @@
 ghost use Rattle.std.specs.Prelude.{◌≡◌, ◌+◌, ◌^◌, ◌<◌, ◌≤◌, ◌↔◌, ◌≢◌, List, map, length, take, IfOk, IfErr, IsErrOf};
 ghost use Rattle.lexer.specs.Piece.{offset_of};
-ghost use Rattle.lexer.specs.Place.{start, place_after};
+ghost use Rattle.place.specs.Place.{start, place_after};
 ghost use Rattle.lexer.specs.Tokens.{Lexeme, lexeme_of, fault_of, IsTokenList, IsFirstFault};
 ghost use Rattle.lexer.specs.declared.fault.LexFault.{LexFault};
 
 use crate::fault::LexFault;
 use crate::piece::{Piece, Refusal, next_piece};
-use crate::place::Place;
+use place::Place;
 use crate::token::Token;
 use std::alloc::Global;
 

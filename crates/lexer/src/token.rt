@@ -1,7 +1,7 @@
-use crate::place::Place;
+use place::Place;
 
 /// A word symbol (6.1.2).
-#[derive(Clone, Copy, Debug, PartialEq, Eq)]
+#[derive(Clone, Copy, PartialEq, Eq)]
 pub enum Word {
     And,
     Array,
@@ -41,7 +41,7 @@ pub enum Word {
 }
 
 /// A special symbol that is no word (6.1.2), each of its spellings alike (6.1.9).
-#[derive(Clone, Copy, Debug, PartialEq, Eq)]
+#[derive(Clone, Copy, PartialEq, Eq)]
 pub enum Symbol {
     /// `+`
     Plus,
@@ -88,7 +88,7 @@ pub enum Symbol {
 }
 
 /// The class of a token (6.1.1).
-#[derive(Clone, Copy, Debug, PartialEq, Eq)]
+#[derive(Clone, Copy, PartialEq, Eq)]
 pub enum Kind {
     Word(Word),
     /// A letter, and then letters and digits (6.1.3).

@@ -1,14 +1,14 @@
 -- The operators of a chain that are read one by one: what was read of them, and what is left.
 use Rattle.std.proofs.Common.{◌≡◌, ℕ, List, [], ◌∷◌, ◌++◌, Result, Ok, Err, MatchResult, subst, sym, ap, ◌∙◌, refl, arith}
-use Rattle.lexer.specs.declared.place.Place.{Place}
+use Rattle.place.specs.declared.Place.{Place}
 use Rattle.lexer.specs.declared.token.Token.{Token}
 use Rattle.parser.specs.declared.fault.ParseFault.{ParseFault}
 use Rattle.parser.specs.declared.cursor.Cursor.{Cursor}
 use Rattle.parser.specs.declared.operator.Level.{Level}
-use Rattle.parser.specs.declared.tree.Operator.{Operator}
-use Rattle.parser.specs.declared.tree.Expr.{Expr}
-use Rattle.parser.specs.declared.tree.Link.{Link}
-use Rattle.parser.specs.declared.tree.Expr.TheViews.{roll-Link}
+use Rattle.syntax_tree.specs.declared.Operator.{Operator}
+use Rattle.syntax_tree.specs.declared.Expr.{Expr}
+use Rattle.syntax_tree.specs.declared.Link.{Link}
+use Rattle.syntax_tree.specs.declared.Expr.TheViews.{roll-Link}
 use Rattle.parser.specs.Cursor.{IsOfRules}
 use Rattle.parser.specs.Level.{level_number}
 use Rattle.parser.specs.WellFormed.{first_level, operand_level}

@@ -2,7 +2,7 @@
 use Rattle.std.proofs.Common.{◌≡◌, ℕ, ◌+◌, ◌<◌, ◌≤◌, max, Result, Ok, Err, List, [], ◌∷◌, ◌++◌, Some, fold, refl, subst, sym, ap, ◌∙◌, arith}
 use Rattle.lexer.specs.declared.token.Token.{Token}
 use Rattle.parser.specs.Spelling.{Lexeme, Spelling, Reads}
-use Rattle.lexer.specs.declared.place.Place.{Place}
+use Rattle.place.specs.declared.Place.{Place}
 use Rattle.parser.specs.declared.fault.ParseFault.{ParseFault}
 use Rattle.parser.specs.declared.fault.ParseFault.TheVariants.{Memory, NoProgram, TooDeep, LeftOut}
 use Rattle.parser.specs.declared.cursor.Cursor.{Cursor}

@@ -3,7 +3,7 @@
 use Rattle.std.proofs.Common.{◌≡◌, ℕ, ◌+◌, ◌≤◌, max, Bool, true, false, ◌&&◌, ◌||◌, nat_le, nat_lt, nat_eq, List, [], ◌∷◌, ◌++◌, map, length, Some, Result, Ok, refl, subst, sym, ap, ◌∙◌, arith}
 use Rattle.std.specs.List.{list_all}
 use Rattle.std.proofs.lemmas.Bool.{le-leb, leb-true, leb-false, ltb-true, eqb-true}
-use Rattle.lexer.specs.declared.place.Place.{Place}
+use Rattle.place.specs.declared.Place.{Place}
 use Rattle.lexer.specs.declared.token.Kind.{Kind}
 use Rattle.lexer.specs.declared.token.Kind.TheVariants as kind
 use Rattle.lexer.specs.declared.token.Symbol.TheVariants as symbol
@@ -13,14 +13,14 @@ use Rattle.parser.specs.declared.fault.ParseFault.{ParseFault}
 use Rattle.parser.specs.declared.cursor.Cursor.{Cursor}
 use Rattle.parser.specs.declared.operator.Level.{Level}
 use Rattle.parser.specs.declared.operator.Level.TheVariants.{Relation, Sum, Product}
-use Rattle.parser.specs.declared.tree.Operator.{Operator}
-use Rattle.parser.specs.declared.tree.Operator.TheVariants as op
-use Rattle.parser.specs.declared.tree.Expr.{Expr}
-use Rattle.parser.specs.declared.tree.Actual.{Actual}
-use Rattle.parser.specs.declared.tree.Link.{Link}
-use Rattle.parser.specs.declared.tree.Expr.TheOpen as expr
-use Rattle.parser.specs.declared.tree.Expr.TheViews.{out-Expr, roll-out-Expr, out-Link, roll-out-Link}
-use Rattle.parser.specs.declared.tree.Expr.TheFolds.{map-Expr}
+use Rattle.syntax_tree.specs.declared.Operator.{Operator}
+use Rattle.syntax_tree.specs.declared.Operator.TheVariants as op
+use Rattle.syntax_tree.specs.declared.Expr.{Expr}
+use Rattle.syntax_tree.specs.declared.Actual.{Actual}
+use Rattle.syntax_tree.specs.declared.Link.{Link}
+use Rattle.syntax_tree.specs.declared.Expr.TheOpen as expr
+use Rattle.syntax_tree.specs.declared.Expr.TheViews.{out-Expr, roll-out-Expr, out-Link, roll-out-Link}
+use Rattle.syntax_tree.specs.declared.Expr.TheFolds.{map-Expr}
 use Rattle.parser.specs.Spelling.{Spelling, Reads, expr_spelling, actual_spelling, link_spelling, joined, operator_kind, operator}
 use Rattle.parser.specs.Spelling as spell
 use Rattle.parser.specs.WellFormed.{Form, LinkForm, expr_form, is_actual, link_form, chain_form, fits, is_link, operator_level, first_level, operand_level, relation_level, sum_level, signed_level, product_level, factor_level}

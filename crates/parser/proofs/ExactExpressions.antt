@@ -2,22 +2,22 @@
 use Rattle.std.proofs.Common.{◌≡◌, ℕ, ◌+◌, ◌≤◌, Bool, true, false, nat_le, List, [], ◌∷◌, ◌++◌, map, Some, Result, refl, subst, sym, ap, ◌∙◌, arith}
 use Rattle.std.specs.List.{list_all}
 use Rattle.std.proofs.lemmas.Bool.{leb-true, leb-false}
-use Rattle.lexer.specs.declared.place.Place.{Place}
+use Rattle.place.specs.declared.Place.{Place}
 use Rattle.lexer.specs.declared.token.Kind.TheVariants as kind
 use Rattle.lexer.specs.declared.token.Symbol.TheVariants as symbol
 use Rattle.lexer.specs.declared.token.Word.TheVariants as word
 use Rattle.lexer.specs.declared.token.Token.{Token}
 use Rattle.parser.specs.declared.fault.ParseFault.{ParseFault}
 use Rattle.parser.specs.declared.cursor.Cursor.{Cursor}
-use Rattle.parser.specs.declared.tree.Name.{Name}
-use Rattle.parser.specs.declared.tree.Sign.{Sign}
-use Rattle.parser.specs.declared.tree.Sign.TheVariants.{Plus, Minus}
-use Rattle.parser.specs.declared.tree.Expr.{Expr}
-use Rattle.parser.specs.declared.tree.Actual.{Actual}
-use Rattle.parser.specs.declared.tree.Link.{Link}
-use Rattle.parser.specs.declared.tree.Expr.TheOpen as expr
-use Rattle.parser.specs.declared.tree.Expr.TheViews.{out-Expr, roll-Expr, roll-out-Expr}
-use Rattle.parser.specs.declared.tree.Expr.TheFolds.{map-Expr}
+use Rattle.syntax_tree.specs.declared.Name.{Name}
+use Rattle.syntax_tree.specs.declared.Sign.{Sign}
+use Rattle.syntax_tree.specs.declared.Sign.TheVariants.{Plus, Minus}
+use Rattle.syntax_tree.specs.declared.Expr.{Expr}
+use Rattle.syntax_tree.specs.declared.Actual.{Actual}
+use Rattle.syntax_tree.specs.declared.Link.{Link}
+use Rattle.syntax_tree.specs.declared.Expr.TheOpen as expr
+use Rattle.syntax_tree.specs.declared.Expr.TheViews.{out-Expr, roll-Expr, roll-out-Expr}
+use Rattle.syntax_tree.specs.declared.Expr.TheFolds.{map-Expr}
 use Rattle.parser.specs.Spelling.{Spelling, Reads, expr_spelling, actual_spelling, link_spelling, of_kind_at, mark, identifier, sign, in_parentheses}
 use Rattle.parser.specs.Spelling as spell
 use Rattle.parser.specs.WellFormed.{Form, LinkForm, expr_form, is_actual, link_form, chain_form, fits, has_items, relation_level, signed_level, product_level, factor_level}

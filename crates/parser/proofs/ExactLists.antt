@@ -1,7 +1,7 @@
 -- The rules of lists read each spelling of their form, part by part: the parts are actuals or statements.
 use Rattle.std.proofs.Common.{◌≡◌, ℕ, ◌<◌, ◌≤◌, Bool, true, max, List, [], ◌∷◌, map, length, Some, ap, arith}
 use Rattle.std.specs.List.{list_all}
-use Rattle.lexer.specs.declared.place.Place.{Place}
+use Rattle.place.specs.declared.Place.{Place}
 use Rattle.lexer.specs.declared.token.Kind.TheVariants as kind
 use Rattle.lexer.specs.declared.token.Symbol.{Symbol}
 use Rattle.lexer.specs.declared.token.Token.{Token}

@@ -1,7 +1,7 @@
 -- The rules of statements read each spelling of their form: by the first token, form by form.
 use Rattle.std.proofs.Common.{◌≡◌, ℕ, ◌+◌, ◌<◌, ◌≤◌, true, Bool, List, [], ◌∷◌, ◌++◌, map, length, Some, Result, Ok, refl, subst, sym, ap, ◌∙◌, arith}
 use Rattle.std.specs.List.{list_all}
-use Rattle.lexer.specs.declared.place.Place.{Place}
+use Rattle.place.specs.declared.Place.{Place}
 use Rattle.lexer.specs.declared.token.Kind.{Kind}
 use Rattle.lexer.specs.declared.token.Kind.TheVariants as kind
 use Rattle.lexer.specs.declared.token.Symbol.TheVariants as symbol
@@ -9,13 +9,13 @@ use Rattle.lexer.specs.declared.token.Token.{Token}
 use Rattle.lexer.specs.declared.token.Word.TheVariants as word
 use Rattle.parser.specs.declared.fault.ParseFault.{ParseFault}
 use Rattle.parser.specs.declared.cursor.Cursor.{Cursor}
-use Rattle.parser.specs.declared.tree.Actual.{Actual}
-use Rattle.parser.specs.declared.tree.Expr.{Expr}
-use Rattle.parser.specs.declared.tree.Name.{Name}
-use Rattle.parser.specs.declared.tree.Stmt.{Stmt}
-use Rattle.parser.specs.declared.tree.Stmt.TheOpen as stmt
-use Rattle.parser.specs.declared.tree.Stmt.TheViews.{out-Stmt, roll-out-Stmt}
-use Rattle.parser.specs.declared.tree.Stmt.TheFolds.{map-Stmt, fold-roll-Stmt}
+use Rattle.syntax_tree.specs.declared.Actual.{Actual}
+use Rattle.syntax_tree.specs.declared.Expr.{Expr}
+use Rattle.syntax_tree.specs.declared.Name.{Name}
+use Rattle.syntax_tree.specs.declared.Stmt.{Stmt}
+use Rattle.syntax_tree.specs.declared.Stmt.TheOpen as stmt
+use Rattle.syntax_tree.specs.declared.Stmt.TheViews.{out-Stmt, roll-out-Stmt}
+use Rattle.syntax_tree.specs.declared.Stmt.TheFolds.{map-Stmt, fold-roll-Stmt}
 use Rattle.parser.specs.Spelling.{Lexeme, Spelling, Reads, expr_spelling, actual_spelling, stmt_spelling, of_kind, of_kind_at, mark, word_symbol, identifier, separated, in_parentheses}
 use Rattle.parser.specs.Spelling as spell
 use Rattle.parser.specs.WellFormed.{relation_level, is_expression, is_actual, is_statement, has_items}

@@ -3,7 +3,7 @@ use Rattle.std.proofs.Common.{◌≡◌, Result, Ok, Err, MatchResult, IfOk, IfE
 use Rattle.parser.specs.declared.fault.ParseFault.{ParseFault}
 use Rattle.parser.specs.declared.fault.ParseFault.TheVariants.{Memory}
 use Rattle.parser.specs.declared.cursor.Cursor.{Cursor}
-use Rattle.parser.specs.declared.tree.Name.{Name}
+use Rattle.syntax_tree.specs.declared.Name.{Name}
 use Rattle.parser.specs.Cursor.{IsOfRules, Took}
 use Rattle.parser.specs.Kept.{Added, NotKept}
 use Rattle.parser.specs.Spelling.{identifier}

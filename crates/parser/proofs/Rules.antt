@@ -6,20 +6,20 @@ use Rattle.std.specs.List.{list_all}
 use Rattle.std.specs.declared.alloc.Global.{Global}
 use Rattle.std.specs.declared.boxed.Box.{Box}
 use Rattle.std.specs.declared.vec.Vec.{Vec}
-use Rattle.lexer.specs.declared.place.Place.{Place}
+use Rattle.place.specs.declared.Place.{Place}
 use Rattle.lexer.specs.declared.token.Kind.TheVariants as kind
 use Rattle.lexer.specs.declared.token.Symbol.TheVariants as symbol
 use Rattle.lexer.specs.declared.token.Word.TheVariants as word
 use Rattle.parser.specs.declared.fault.ParseFault.{ParseFault}
 use Rattle.parser.specs.declared.cursor.Cursor.{Cursor}
-use Rattle.parser.specs.declared.tree.Name.{Name}
-use Rattle.parser.specs.declared.tree.Sign.{Sign}
-use Rattle.parser.specs.declared.tree.Operator.{Operator}
-use Rattle.parser.specs.declared.tree.Expr.{Expr}
-use Rattle.parser.specs.declared.tree.Actual.{Actual}
-use Rattle.parser.specs.declared.tree.Link.{Link}
-use Rattle.parser.specs.declared.tree.Expr.TheVariants as tree
-use Rattle.parser.specs.declared.tree.Expr.TheViews.{roll-Link, roll-Actual}
+use Rattle.syntax_tree.specs.declared.Name.{Name}
+use Rattle.syntax_tree.specs.declared.Sign.{Sign}
+use Rattle.syntax_tree.specs.declared.Operator.{Operator}
+use Rattle.syntax_tree.specs.declared.Expr.{Expr}
+use Rattle.syntax_tree.specs.declared.Actual.{Actual}
+use Rattle.syntax_tree.specs.declared.Link.{Link}
+use Rattle.syntax_tree.specs.declared.Expr.TheVariants as tree
+use Rattle.syntax_tree.specs.declared.Expr.TheViews.{roll-Link, roll-Actual}
 use Rattle.parser.specs.Cursor.{Took, IsOfRules}
 use Rattle.parser.specs.Spelling.{expr_spelling, link_spelling, actual_spelling, joined, in_parentheses, of_kind_at, mark, identifier, operator, sign}
 use Rattle.parser.specs.WellFormed.{Form, LinkForm, expr_form, link_form, chain_form, is_actual, is_expression, has_items, is_link, fits, operator_level, first_level, operand_level, relation_level, signed_level, product_level, factor_level}

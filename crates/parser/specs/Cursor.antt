@@ -1,7 +1,7 @@
 -- The tokens that a parser has left to read, and the faults that its rules tell.
 -- This doesn't say what a rule reads.
 use Rattle.std.specs.Prelude.{ℕ, [], ◌∷◌, length}
-use Rattle.lexer.specs.declared.place.Place.{Place}
+use Rattle.place.specs.declared.Place.{Place}
 use Rattle.parser.specs.Spelling.{Spelling, Reads}
 use Rattle.parser.specs.declared.cursor.Cursor.{Cursor}
 use Rattle.parser.specs.declared.fault.ParseFault.{ParseFault}

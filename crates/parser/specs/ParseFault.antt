@@ -1,7 +1,7 @@
 -- The numbers and the places of the faults of a list of tokens, P1 to P3.
 -- This doesn't say which list has which fault.
 use Rattle.std.specs.Prelude.{ℕ, Option, Some, None}
-use Rattle.lexer.specs.declared.place.Place.{Place}
+use Rattle.place.specs.declared.Place.{Place}
 use Rattle.parser.specs.declared.fault.ParseFault.{ParseFault}
 use Rattle.parser.specs.declared.fault.ParseFault.TheVariants.{Memory, NoProgram, TooDeep, LeftOut}
 

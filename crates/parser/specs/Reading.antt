@@ -3,7 +3,7 @@
 -- with it.
 -- This doesn't say what a rule answers to other tokens.
 use Rattle.std.specs.Prelude.{◌≡◌, ℕ, ◌<◌, ◌≤◌, List, [], ◌∷◌, Option, Some, None, Result, MatchResult}
-use Rattle.lexer.specs.declared.place.Place.{Place}
+use Rattle.place.specs.declared.Place.{Place}
 use Rattle.lexer.specs.declared.token.Kind.{Kind}
 use Rattle.lexer.specs.declared.token.Kind.TheVariants as kind
 use Rattle.lexer.specs.declared.token.Symbol.TheVariants as symbol
@@ -12,8 +12,8 @@ use Rattle.lexer.specs.declared.token.Word.TheVariants as word
 use Rattle.parser.specs.declared.fault.ParseFault.{ParseFault}
 use Rattle.parser.specs.declared.fault.ParseFault.TheVariants.{Memory, TooDeep}
 use Rattle.parser.specs.declared.cursor.Cursor.{Cursor}
-use Rattle.parser.specs.declared.tree.Sign.{Sign}
-use Rattle.parser.specs.declared.tree.Operator.{Operator}
+use Rattle.syntax_tree.specs.declared.Sign.{Sign}
+use Rattle.syntax_tree.specs.declared.Operator.{Operator}
 use Rattle.parser.specs.Spelling.{sign, operator_kind}
 use Rattle.parser.specs.WellFormed.{operator_level}
 

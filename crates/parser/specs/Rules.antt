@@ -3,23 +3,23 @@
 -- This doesn't say when a rule refuses its tokens: see Reading.
 use Rattle.std.specs.Prelude.{◌≡◌, ℕ, ◌+◌, ◌<◌, ◌≤◌, true, List, [], ◌∷◌, ◌++◌, map, length}
 use Rattle.std.specs.List.{list_all}
-use Rattle.lexer.specs.declared.place.Place.{Place}
+use Rattle.place.specs.declared.Place.{Place}
 use Rattle.lexer.specs.declared.token.Kind.TheVariants as kind
 use Rattle.lexer.specs.declared.token.Symbol.{Symbol}
 use Rattle.lexer.specs.declared.token.Symbol.TheVariants as symbol
 use Rattle.lexer.specs.declared.token.Token.{Token}
 use Rattle.lexer.specs.declared.token.Word.TheVariants as word
 use Rattle.parser.specs.declared.cursor.Cursor.{Cursor}
-use Rattle.parser.specs.declared.tree.Expr.{Expr}
-use Rattle.parser.specs.declared.tree.Link.{Link}
-use Rattle.parser.specs.declared.tree.Operator.{Operator}
+use Rattle.syntax_tree.specs.declared.Expr.{Expr}
+use Rattle.syntax_tree.specs.declared.Link.{Link}
+use Rattle.syntax_tree.specs.declared.Operator.{Operator}
 use Rattle.parser.specs.declared.operator.Level.{Level}
-use Rattle.parser.specs.declared.tree.Actual.{Actual}
-use Rattle.parser.specs.declared.tree.Stmt.{Stmt}
-use Rattle.parser.specs.declared.tree.Name.{Name}
-use Rattle.parser.specs.declared.tree.VariableGroup.{VariableGroup}
-use Rattle.parser.specs.declared.tree.Block.{Block}
-use Rattle.parser.specs.declared.tree.Program.{Program}
+use Rattle.syntax_tree.specs.declared.Actual.{Actual}
+use Rattle.syntax_tree.specs.declared.Stmt.{Stmt}
+use Rattle.syntax_tree.specs.declared.Name.{Name}
+use Rattle.syntax_tree.specs.declared.VariableGroup.{VariableGroup}
+use Rattle.syntax_tree.specs.declared.Block.{Block}
+use Rattle.syntax_tree.specs.declared.Program.{Program}
 use Rattle.parser.specs.Spelling.{Spelling, Reads, expr_spelling, link_spelling, actual_spelling, stmt_spelling, joined, identifiers, group_spelling, variables_spelling, block_spelling, program_spelling, separated, in_parentheses, word_symbol, of_kind_at, mark, operator}
 use Rattle.parser.specs.WellFormed.{expr_form, link_form, fits, operator_level, relation_level, is_link, is_actual, is_statement, is_group, is_block, is_program}
 use Rattle.parser.specs.Cursor.{Took}

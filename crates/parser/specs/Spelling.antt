@@ -2,7 +2,7 @@
 -- (variables), 6.10 (programs). A tree keeps its parentheses, so each tree has one spelling.
 -- This doesn't say which trees there may be: see WellFormed and Nesting.
 use Rattle.std.specs.Prelude.{◌≡◌, ℕ, List, [], ◌∷◌, ◌++◌, map, Option, Some, None, IfSome}
-use Rattle.lexer.specs.declared.place.Place.{Place}
+use Rattle.place.specs.declared.Place.{Place}
 use Rattle.lexer.specs.declared.token.Kind.{Kind}
 use Rattle.lexer.specs.declared.token.Kind.TheVariants as kind
 use Rattle.lexer.specs.declared.token.Word.{Word}
@@ -10,26 +10,26 @@ use Rattle.lexer.specs.declared.token.Word.TheVariants as word
 use Rattle.lexer.specs.declared.token.Symbol.{Symbol}
 use Rattle.lexer.specs.declared.token.Symbol.TheVariants as symbol
 use Rattle.lexer.specs.declared.token.Token.{Token}
-use Rattle.parser.specs.declared.tree.Name.{Name}
-use Rattle.parser.specs.declared.tree.Sign.{Sign}
-use Rattle.parser.specs.declared.tree.Sign.TheVariants.{Plus, Minus}
-use Rattle.parser.specs.declared.tree.Operator.{Operator}
-use Rattle.parser.specs.declared.tree.Operator.TheVariants as op
-use Rattle.parser.specs.declared.tree.TypeDenoter.{TypeDenoter}
-use Rattle.parser.specs.declared.tree.TypeDenoter.TheVariants as denoter
-use Rattle.parser.specs.declared.tree.VariableGroup.{VariableGroup}
-use Rattle.parser.specs.declared.tree.Block.{Block}
-use Rattle.parser.specs.declared.tree.Program.{Program}
-use Rattle.parser.specs.declared.tree.Expr.{Expr}
-use Rattle.parser.specs.declared.tree.Link.{Link}
-use Rattle.parser.specs.declared.tree.Actual.{Actual}
-use Rattle.parser.specs.declared.tree.Expr.TheOpen.{Expr-F, Link-F, Actual-F}
-use Rattle.parser.specs.declared.tree.Expr.TheOpen as expr
-use Rattle.parser.specs.declared.tree.Expr.TheFolds.{fold-Expr, fold-Link, fold-Actual}
-use Rattle.parser.specs.declared.tree.Stmt.{Stmt}
-use Rattle.parser.specs.declared.tree.Stmt.TheOpen.{Stmt-F}
-use Rattle.parser.specs.declared.tree.Stmt.TheOpen as stmt
-use Rattle.parser.specs.declared.tree.Stmt.TheFolds.{fold-Stmt}
+use Rattle.syntax_tree.specs.declared.Name.{Name}
+use Rattle.syntax_tree.specs.declared.Sign.{Sign}
+use Rattle.syntax_tree.specs.declared.Sign.TheVariants.{Plus, Minus}
+use Rattle.syntax_tree.specs.declared.Operator.{Operator}
+use Rattle.syntax_tree.specs.declared.Operator.TheVariants as op
+use Rattle.syntax_tree.specs.declared.TypeDenoter.{TypeDenoter}
+use Rattle.syntax_tree.specs.declared.TypeDenoter.TheVariants as denoter
+use Rattle.syntax_tree.specs.declared.VariableGroup.{VariableGroup}
+use Rattle.syntax_tree.specs.declared.Block.{Block}
+use Rattle.syntax_tree.specs.declared.Program.{Program}
+use Rattle.syntax_tree.specs.declared.Expr.{Expr}
+use Rattle.syntax_tree.specs.declared.Link.{Link}
+use Rattle.syntax_tree.specs.declared.Actual.{Actual}
+use Rattle.syntax_tree.specs.declared.Expr.TheOpen.{Expr-F, Link-F, Actual-F}
+use Rattle.syntax_tree.specs.declared.Expr.TheOpen as expr
+use Rattle.syntax_tree.specs.declared.Expr.TheFolds.{fold-Expr, fold-Link, fold-Actual}
+use Rattle.syntax_tree.specs.declared.Stmt.{Stmt}
+use Rattle.syntax_tree.specs.declared.Stmt.TheOpen.{Stmt-F}
+use Rattle.syntax_tree.specs.declared.Stmt.TheOpen as stmt
+use Rattle.syntax_tree.specs.declared.Stmt.TheFolds.{fold-Stmt}
 
 -- what a tree says of a token: its kind, and where the tree keeps them its text and its place
 pub record Lexeme : Type 0 where

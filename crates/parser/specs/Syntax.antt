@@ -2,7 +2,7 @@
 -- This doesn't say at which token a list goes wrong, nor whether P1 or P2 is told of a list that has no tree however deep.
 use Rattle.std.specs.Prelude.{◌≡◌, ℕ, ◌≤◌, List, Bool, true, false, IsTrue, Option, Some, None, Result, MatchResult, find}
 use Rattle.std.specs.Option.{option_map}
-use Rattle.lexer.specs.declared.place.Place.{Place}
+use Rattle.place.specs.declared.Place.{Place}
 use Rattle.lexer.specs.declared.token.Kind.{Kind}
 use Rattle.lexer.specs.declared.token.Kind.TheVariants as kind
 use Rattle.lexer.specs.declared.token.Word.TheVariants as word
@@ -10,7 +10,7 @@ use Rattle.lexer.specs.declared.token.Symbol.TheVariants as symbol
 use Rattle.lexer.specs.declared.token.Token.{Token}
 use Rattle.parser.specs.declared.fault.ParseFault.{ParseFault}
 use Rattle.parser.specs.declared.fault.ParseFault.TheVariants.{Memory, NoProgram, TooDeep, LeftOut}
-use Rattle.parser.specs.declared.tree.Program.{Program}
+use Rattle.syntax_tree.specs.declared.Program.{Program}
 use Rattle.parser.specs.Spelling.{Spells, program_spelling}
 use Rattle.parser.specs.WellFormed.{is_program}
 use Rattle.parser.specs.Nesting.{nesting}

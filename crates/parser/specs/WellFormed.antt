@@ -3,21 +3,21 @@
 -- This says nothing of names and types.
 use Rattle.std.specs.Prelude.{ℕ, ◌+◌, if◌then◌else◌, List, [], ◌∷◌, length, Bool, true, false, ◌&&◌, ◌||◌, Option, Some, None, nat_eq, nat_lt, nat_le}
 use Rattle.std.specs.List.{list_all}
-use Rattle.parser.specs.declared.tree.VariableGroup.{VariableGroup}
-use Rattle.parser.specs.declared.tree.Block.{Block}
-use Rattle.parser.specs.declared.tree.Program.{Program}
-use Rattle.parser.specs.declared.tree.Expr.{Expr}
-use Rattle.parser.specs.declared.tree.Link.{Link}
-use Rattle.parser.specs.declared.tree.Actual.{Actual}
-use Rattle.parser.specs.declared.tree.Operator.{Operator}
-use Rattle.parser.specs.declared.tree.Operator.TheVariants as op
-use Rattle.parser.specs.declared.tree.Expr.TheOpen.{Expr-F, Link-F, Actual-F}
-use Rattle.parser.specs.declared.tree.Expr.TheOpen as expr
-use Rattle.parser.specs.declared.tree.Expr.TheFolds.{fold-Expr, fold-Link, fold-Actual}
-use Rattle.parser.specs.declared.tree.Stmt.{Stmt}
-use Rattle.parser.specs.declared.tree.Stmt.TheOpen.{Stmt-F}
-use Rattle.parser.specs.declared.tree.Stmt.TheOpen as stmt
-use Rattle.parser.specs.declared.tree.Stmt.TheFolds.{fold-Stmt}
+use Rattle.syntax_tree.specs.declared.VariableGroup.{VariableGroup}
+use Rattle.syntax_tree.specs.declared.Block.{Block}
+use Rattle.syntax_tree.specs.declared.Program.{Program}
+use Rattle.syntax_tree.specs.declared.Expr.{Expr}
+use Rattle.syntax_tree.specs.declared.Link.{Link}
+use Rattle.syntax_tree.specs.declared.Actual.{Actual}
+use Rattle.syntax_tree.specs.declared.Operator.{Operator}
+use Rattle.syntax_tree.specs.declared.Operator.TheVariants as op
+use Rattle.syntax_tree.specs.declared.Expr.TheOpen.{Expr-F, Link-F, Actual-F}
+use Rattle.syntax_tree.specs.declared.Expr.TheOpen as expr
+use Rattle.syntax_tree.specs.declared.Expr.TheFolds.{fold-Expr, fold-Link, fold-Actual}
+use Rattle.syntax_tree.specs.declared.Stmt.{Stmt}
+use Rattle.syntax_tree.specs.declared.Stmt.TheOpen.{Stmt-F}
+use Rattle.syntax_tree.specs.declared.Stmt.TheOpen as stmt
+use Rattle.syntax_tree.specs.declared.Stmt.TheFolds.{fold-Stmt}
 
 -- how tightly an expression's outermost form binds, and whether it is well formed
 pub record Form : Type 0 where

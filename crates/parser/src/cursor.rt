@@ -2,8 +2,8 @@ ghost use Rattle.std.specs.Prelude.{◌≡◌, [], ◌∷◌, IfSome, IfOk, ℕ,
 
 use crate::fault::ParseFault;
 use crate::operator::{Level, level_of, operator_of};
-use crate::tree::{Name, Operator, Sign};
-use lexer::place::Place;
+use syntax_tree::{Name, Operator, Sign};
+use place::Place;
 use lexer::token::{Kind, Symbol, Token, Word};
 
 /// The tokens that are left to read.

@@ -10,8 +10,8 @@ use crate::fault::ParseFault;
 use crate::memory::{boxed, put};
 use crate::nesting::inside;
 use crate::operator::Level;
-use crate::tree::{Actual, Expr, Link, Operator};
-use lexer::place::Place;
+use syntax_tree::{Actual, Expr, Link, Operator};
+use place::Place;
 use lexer::token::{Kind, Symbol, Word};
 use std::alloc::Global;
 

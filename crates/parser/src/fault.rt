@@ -1,12 +1,12 @@
 ghost use Rattle.std.specs.Prelude.{◌≡◌};
 ghost use Rattle.parser.specs.declared.fault.ParseFault.TheVariants.{Memory};
 
-use lexer::place::Place;
+use place::Place;
 use std::alloc::{AllocError, AllocFailed};
 use thiserror::Error;
 
 /// Why a list of tokens has no syntax tree.
-#[derive(Clone, Copy, Debug, PartialEq, Eq, Error)]
+#[derive(Clone, Copy, Debug, Error)]
 pub enum ParseFault {
     #[error("no memory")]
     Memory,

@@ -9,7 +9,6 @@ mod nesting;
 mod operator;
 mod program;
 mod statement;
-pub mod tree;
 
 pub use nesting::MAX_NESTING;
 pub use program::parse;

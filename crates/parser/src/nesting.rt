@@ -2,7 +2,7 @@ ghost use Rattle.std.specs.Prelude.{◌≡◌, ◌+◌, IfErr, MatchResult};
 ghost use Rattle.parser.specs.Cursor.{IsOfRules};
 
 use crate::fault::ParseFault;
-use lexer::place::Place;
+use place::Place;
 
 /// How deep a program may nest. Its own compound statement is the first level; each statement in a
 /// compound statement, each actual with its width, each expression in parentheses and each operand

@@ -1,10 +1,10 @@
 ghost use Rattle.std.specs.Prelude.{◌≡◌, IfSome, IfNone};
-ghost use Rattle.parser.specs.declared.tree.Operator.{Operator};
+ghost use Rattle.syntax_tree.specs.declared.Operator.{Operator};
 ghost use Rattle.parser.specs.Spelling.{operator_kind};
 ghost use Rattle.parser.specs.WellFormed.{operator_level};
 ghost use Rattle.parser.specs.Level.{level_number};
 
-use crate::tree::Operator;
+use syntax_tree::Operator;
 use lexer::token::{Kind, Symbol, Word};
 
 /// The operators of one precedence (6.7.2.1).

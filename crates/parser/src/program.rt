@@ -9,8 +9,8 @@ use crate::fault::ParseFault;
 use crate::memory::put;
 use crate::nesting::{MAX_NESTING, inside};
 use crate::statement::compound;
-use crate::tree::{Block, Name, Program, TypeDenoter, VariableGroup};
-use lexer::place::Place;
+use syntax_tree::{Block, Name, Program, TypeDenoter, VariableGroup};
+use place::Place;
 use lexer::token::{Kind, Symbol, Token, Word};
 use std::alloc::Global;
 

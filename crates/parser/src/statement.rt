@@ -9,8 +9,8 @@ use crate::fault::ParseFault;
 use crate::memory::put;
 use crate::nesting::inside;
 use crate::operator::Level;
-use crate::tree::Stmt;
-use lexer::place::Place;
+use syntax_tree::Stmt;
+use place::Place;
 use lexer::token::{Kind, Symbol, Word};
 use std::alloc::Global;
 

@@ -1,7 +1,7 @@
 use crate::instr::Instr;
 
 /// A place of the source at which a run may commit an error, in plain numbers.
-#[derive(Clone, Copy, PartialEq, Eq)]
+#[derive(Clone, Copy)]
 pub struct Site {
     /// Its place in the table, from 0.
     pub id: u32,

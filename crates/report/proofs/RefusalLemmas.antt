@@ -7,7 +7,7 @@ use Rattle.lexer.specs.declared.fault.LexFault.TheVariants as lex
 use Rattle.lexer.specs.Tokens.{IsTokenList, IsFirstFault, lexeme_of}
 use Rattle.parser.specs.declared.fault.ParseFault.{ParseFault}
 use Rattle.parser.specs.declared.fault.ParseFault.TheVariants as parse
-use Rattle.parser.specs.declared.tree.Program.{Program}
+use Rattle.syntax_tree.specs.declared.Program.{Program}
 use Rattle.parser.specs.Syntax.{IsFaultOf}
 use Rattle.typed_tree.specs.declared.tree.Tree.{Tree}
 use Rattle.resolver.specs.Typing.{HasTyping}

@@ -4,7 +4,7 @@ use Rattle.std.specs.Prelude.{◌≡◌, ℕ, ◌<◌, List, Option, Some, None,
 use denote.Ref.{Bor}
 use Rattle.lexer.specs.declared.token.Token.{Token}
 use Rattle.lexer.specs.Tokens.{IsTokenList, IsFirstFault, lexeme_of}
-use Rattle.parser.specs.declared.tree.Program.{Program}
+use Rattle.syntax_tree.specs.declared.Program.{Program}
 use Rattle.parser.specs.declared.fault.ParseFault.TheVariants as parse
 use Rattle.parser.specs.Syntax.{IsFaultOf}
 use Rattle.typed_tree.specs.declared.tree.Tree.{Tree}

@@ -1,7 +1,7 @@
 -- The lines that the programs print for an open site, a fault and a stop, each with its line end, and the status that
 -- a program ends with. It says nothing of which of them comes.
 use Rattle.std.specs.Prelude.{ℕ, List, [], ◌∷◌, ◌++◌, Option, Some, None, decimal, codes}
-use Rattle.lexer.specs.declared.place.Place.{Place}
+use Rattle.place.specs.declared.Place.{Place}
 use Rattle.lexer.specs.declared.fault.LexFault.{LexFault}
 use Rattle.lexer.specs.declared.fault.LexFault.TheVariants as lex
 use Rattle.parser.specs.declared.fault.ParseFault.{ParseFault}

@@ -9,7 +9,7 @@ use certificate::fault::ReadFault;
 use code_generator::fault::GenFault;
 use itoa::Buffer;
 use lexer::fault::LexFault;
-use lexer::place::Place;
+use place::Place;
 use parser::fault::ParseFault;
 use smallvec::SmallVec;
 use stack_machine::stop::{InputFault, MachineFault, Stop};

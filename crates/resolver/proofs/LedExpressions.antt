@@ -5,15 +5,15 @@ use Rattle.std.specs.declared.alloc.Global.{Global}
 use Rattle.std.proofs.Math.Seq.{drop-append_seam, drop-length}
 use Rattle.std.proofs.lemmas.Bool.Decides.{nat_tests}
 use Rattle.std.proofs.lemmas.List.{drop-append-le}
-use Rattle.lexer.specs.declared.place.Place.{Place}
-use Rattle.parser.specs.declared.tree.Name.{Name}
-use Rattle.parser.specs.declared.tree.Expr.{Expr as SyntaxExpr}
-use Rattle.parser.specs.declared.tree.Link.{Link as SyntaxLink}
-use Rattle.parser.specs.declared.tree.Actual.{Actual as SyntaxActual}
-use Rattle.parser.specs.declared.tree.Expr.TheVariants as syntax
-use Rattle.parser.specs.declared.tree.Expr.TheOpen as syntax_layer
-use Rattle.parser.specs.declared.tree.Expr.TheViews.{roll-Expr as roll-SyntaxExpr, out-Expr as out-SyntaxExpr, roll-out-Expr as roll-out-SyntaxExpr}
-use Rattle.parser.specs.declared.tree.Expr.TheFolds.{map-Expr as map-SyntaxExpr, fold-Actual as fold-SyntaxActual, fold-Link as fold-SyntaxLink, fold-roll-Expr as fold-roll-SyntaxExpr, ind-Expr as ind-SyntaxExpr}
+use Rattle.place.specs.declared.Place.{Place}
+use Rattle.syntax_tree.specs.declared.Name.{Name}
+use Rattle.syntax_tree.specs.declared.Expr.{Expr as SyntaxExpr}
+use Rattle.syntax_tree.specs.declared.Link.{Link as SyntaxLink}
+use Rattle.syntax_tree.specs.declared.Actual.{Actual as SyntaxActual}
+use Rattle.syntax_tree.specs.declared.Expr.TheVariants as syntax
+use Rattle.syntax_tree.specs.declared.Expr.TheOpen as syntax_layer
+use Rattle.syntax_tree.specs.declared.Expr.TheViews.{roll-Expr as roll-SyntaxExpr, out-Expr as out-SyntaxExpr, roll-out-Expr as roll-out-SyntaxExpr}
+use Rattle.syntax_tree.specs.declared.Expr.TheFolds.{map-Expr as map-SyntaxExpr, fold-Actual as fold-SyntaxActual, fold-Link as fold-SyntaxLink, fold-roll-Expr as fold-roll-SyntaxExpr, ind-Expr as ind-SyntaxExpr}
 use Rattle.scopes.specs.declared.denotation.Denotation.TheVariants as denotes
 use Rattle.scopes.specs.declared.denotation.RequiredFunction.{RequiredFunction}
 use Rattle.resolver.specs.declared.expressions.Typed.{Typed}

@@ -3,17 +3,17 @@ use Rattle.std.proofs.Common.{◌≡◌, ℕ, ℤ, pos, suc, ◌+◌, Bool, true
 use Rattle.std.specs.List.{flat_map}
 use Rattle.std.proofs.lemmas.List.Folds.{flat_map-map}
 use Rattle.std.proofs.lemmas.Simd.{map-map}
-use Rattle.lexer.specs.declared.place.Place.{Place}
-use Rattle.parser.specs.declared.tree.Operator.{Operator}
-use Rattle.parser.specs.declared.tree.Operator.TheVariants as op
-use Rattle.parser.specs.declared.tree.Sign.{Sign as SyntaxSign}
-use Rattle.parser.specs.declared.tree.Sign.TheVariants as syntax_sign
-use Rattle.parser.specs.declared.tree.Expr.{Expr as SyntaxExpr}
-use Rattle.parser.specs.declared.tree.Link.{Link as SyntaxLink}
-use Rattle.parser.specs.declared.tree.Actual.{Actual as SyntaxActual}
-use Rattle.parser.specs.declared.tree.Expr.TheOpen as syntax
-use Rattle.parser.specs.declared.tree.Expr.TheViews.{roll-Expr as roll-SyntaxExpr, roll-Link as roll-SyntaxLink, roll-Actual as roll-SyntaxActual, out-Link as out-SyntaxLink}
-use Rattle.parser.specs.declared.tree.Expr.TheFolds.{map-Expr as map-SyntaxExpr, map-Link as map-SyntaxLink, map-Actual as map-SyntaxActual, fold-roll-Expr as fold-roll-SyntaxExpr, fold-roll-Link as fold-roll-SyntaxLink, fold-roll-Actual as fold-roll-SyntaxActual, ind-Expr as ind-SyntaxExpr}
+use Rattle.place.specs.declared.Place.{Place}
+use Rattle.syntax_tree.specs.declared.Operator.{Operator}
+use Rattle.syntax_tree.specs.declared.Operator.TheVariants as op
+use Rattle.syntax_tree.specs.declared.Sign.{Sign as SyntaxSign}
+use Rattle.syntax_tree.specs.declared.Sign.TheVariants as syntax_sign
+use Rattle.syntax_tree.specs.declared.Expr.{Expr as SyntaxExpr}
+use Rattle.syntax_tree.specs.declared.Link.{Link as SyntaxLink}
+use Rattle.syntax_tree.specs.declared.Actual.{Actual as SyntaxActual}
+use Rattle.syntax_tree.specs.declared.Expr.TheOpen as syntax
+use Rattle.syntax_tree.specs.declared.Expr.TheViews.{roll-Expr as roll-SyntaxExpr, roll-Link as roll-SyntaxLink, roll-Actual as roll-SyntaxActual, out-Link as out-SyntaxLink}
+use Rattle.syntax_tree.specs.declared.Expr.TheFolds.{map-Expr as map-SyntaxExpr, map-Link as map-SyntaxLink, map-Actual as map-SyntaxActual, fold-roll-Expr as fold-roll-SyntaxExpr, fold-roll-Link as fold-roll-SyntaxLink, fold-roll-Actual as fold-roll-SyntaxActual, ind-Expr as ind-SyntaxExpr}
 use Rattle.scopes.specs.declared.denotation.Denotation.{Denotation}
 use Rattle.scopes.specs.declared.denotation.Denotation.TheVariants as denotes
 use Rattle.scopes.specs.declared.denotation.RequiredFunction.{RequiredFunction}

@@ -3,8 +3,8 @@ use Rattle.std.proofs.Common.{◌≡◌, ℕ, ◌<◌, ◌⊎◌, inl, inr, Bool
 use Rattle.std.specs.List.{flat_map}
 use Rattle.std.proofs.lemmas.List.{length-map}
 use Rattle.std.proofs.lemmas.Bool.Decides.{nat_tests}
-use Rattle.parser.specs.declared.tree.Program.{Program}
-use Rattle.parser.specs.declared.tree.Stmt.{Stmt as SyntaxStmt}
+use Rattle.syntax_tree.specs.declared.Program.{Program}
+use Rattle.syntax_tree.specs.declared.Stmt.{Stmt as SyntaxStmt}
 use Rattle.scopes.specs.declared.denotation.Denotation.{Denotation}
 use Rattle.resolver.specs.declared.resolver.Resolver.{Resolver}
 use Rattle.scopes.specs.Scopes.{Region, found}

@@ -4,15 +4,15 @@ use Rattle.std.specs.List.{flat_map}
 use Rattle.std.specs.declared.alloc.Global.{Global}
 use Rattle.std.proofs.lemmas.Bool.Decides.{nat_tests}
 use Rattle.std.proofs.lemmas.List.{map-append}
-use Rattle.lexer.specs.declared.place.Place.{Place}
-use Rattle.parser.specs.declared.tree.Name.{Name}
-use Rattle.parser.specs.declared.tree.Sign.{Sign as SyntaxSign}
-use Rattle.parser.specs.declared.tree.Sign.TheVariants as syntax_sign
-use Rattle.parser.specs.declared.tree.Expr.{Expr as SyntaxExpr}
-use Rattle.parser.specs.declared.tree.Expr.TheVariants as syntax
-use Rattle.parser.specs.declared.tree.Expr.TheViews.{out-Link as out-SyntaxLink, out-Actual as out-SyntaxActual}
-use Rattle.parser.specs.declared.tree.Link.{Link as SyntaxLink}
-use Rattle.parser.specs.declared.tree.Actual.{Actual as SyntaxActual}
+use Rattle.place.specs.declared.Place.{Place}
+use Rattle.syntax_tree.specs.declared.Name.{Name}
+use Rattle.syntax_tree.specs.declared.Sign.{Sign as SyntaxSign}
+use Rattle.syntax_tree.specs.declared.Sign.TheVariants as syntax_sign
+use Rattle.syntax_tree.specs.declared.Expr.{Expr as SyntaxExpr}
+use Rattle.syntax_tree.specs.declared.Expr.TheVariants as syntax
+use Rattle.syntax_tree.specs.declared.Expr.TheViews.{out-Link as out-SyntaxLink, out-Actual as out-SyntaxActual}
+use Rattle.syntax_tree.specs.declared.Link.{Link as SyntaxLink}
+use Rattle.syntax_tree.specs.declared.Actual.{Actual as SyntaxActual}
 use Rattle.scopes.specs.declared.denotation.Denotation.TheVariants as denotes
 use Rattle.scopes.specs.declared.denotation.RequiredFunction.{RequiredFunction}
 use Rattle.resolver.specs.declared.expressions.Typed.{Typed}

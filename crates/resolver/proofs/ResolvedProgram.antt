@@ -1,8 +1,8 @@
 -- The typed tree of a program, from what a resolver made of its statements.
 use Rattle.std.proofs.Common.{◌≡◌, ◌<◌, ◌≤◌, ◌⊎◌, inl, inr, Bool, true, false, List, [], ◌∷◌, ◌++◌, map, length, IsTrue, All, append-nil, refl, sym, ap, subst, ◌∙◌, arith}
 use Rattle.std.specs.List.{range_with_len, flat_map}
-use Rattle.parser.specs.declared.tree.Program.{Program}
-use Rattle.parser.specs.declared.tree.Stmt.{Stmt as SyntaxStmt}
+use Rattle.syntax_tree.specs.declared.Program.{Program}
+use Rattle.syntax_tree.specs.declared.Stmt.{Stmt as SyntaxStmt}
 use Rattle.resolver.specs.declared.resolver.Resolver.{Resolver}
 use Rattle.typed_tree.specs.declared.tree.Block.{Block}
 use Rattle.typed_tree.specs.declared.tree.Stmt.{Stmt}

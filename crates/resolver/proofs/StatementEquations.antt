@@ -4,15 +4,15 @@ use Rattle.std.specs.List.{flat_map, list_all}
 use Rattle.std.proofs.Common.{Vec}
 use Rattle.std.specs.declared.alloc.Global.{Global}
 use Rattle.std.proofs.lemmas.List.Folds.{flat_map-map}
-use Rattle.lexer.specs.declared.place.Place.{Place}
-use Rattle.parser.specs.declared.tree.Name.{Name}
-use Rattle.parser.specs.declared.tree.Expr.{Expr as SyntaxExpr}
-use Rattle.parser.specs.declared.tree.Actual.{Actual as SyntaxActual}
-use Rattle.parser.specs.declared.tree.Stmt.{Stmt as SyntaxStmt}
-use Rattle.parser.specs.declared.tree.Stmt.TheVariants as syntax_stmt
-use Rattle.parser.specs.declared.tree.Stmt.TheOpen as syntax_stmt_layer
-use Rattle.parser.specs.declared.tree.Stmt.TheViews.{roll-Stmt as roll-SyntaxStmt}
-use Rattle.parser.specs.declared.tree.Stmt.TheFolds.{map-Stmt as map-SyntaxStmt, fold-roll-Stmt as fold-roll-SyntaxStmt}
+use Rattle.place.specs.declared.Place.{Place}
+use Rattle.syntax_tree.specs.declared.Name.{Name}
+use Rattle.syntax_tree.specs.declared.Expr.{Expr as SyntaxExpr}
+use Rattle.syntax_tree.specs.declared.Actual.{Actual as SyntaxActual}
+use Rattle.syntax_tree.specs.declared.Stmt.{Stmt as SyntaxStmt}
+use Rattle.syntax_tree.specs.declared.Stmt.TheVariants as syntax_stmt
+use Rattle.syntax_tree.specs.declared.Stmt.TheOpen as syntax_stmt_layer
+use Rattle.syntax_tree.specs.declared.Stmt.TheViews.{roll-Stmt as roll-SyntaxStmt}
+use Rattle.syntax_tree.specs.declared.Stmt.TheFolds.{map-Stmt as map-SyntaxStmt, fold-roll-Stmt as fold-roll-SyntaxStmt}
 use Rattle.typed_tree.specs.declared.site.SiteKind.TheVariants as kind
 use Rattle.typed_tree.specs.declared.tree.Access.{Access}
 use Rattle.typed_tree.specs.declared.tree.RangeTest.{RangeTest}

@@ -3,16 +3,16 @@ use Rattle.std.proofs.Common.{◌≡◌, ℕ, ◌+◌, Bool, true, ◌&&◌, Lis
 use Rattle.std.specs.List.{flat_map}
 use Rattle.std.proofs.lemmas.List.Folds.{flat_map-map}
 use Rattle.std.proofs.lemmas.Simd.{map-map}
-use Rattle.parser.specs.declared.tree.Name.{Name}
-use Rattle.parser.specs.declared.tree.Expr.{Expr as SyntaxExpr}
-use Rattle.parser.specs.declared.tree.Link.{Link as SyntaxLink}
-use Rattle.parser.specs.declared.tree.Actual.{Actual as SyntaxActual}
-use Rattle.parser.specs.declared.tree.Expr.TheOpen.{Actual-F as SyntaxActual-F}
-use Rattle.parser.specs.declared.tree.Expr.TheViews.{out-Actual as out-SyntaxActual}
-use Rattle.parser.specs.declared.tree.Stmt.{Stmt as SyntaxStmt}
-use Rattle.parser.specs.declared.tree.Stmt.TheOpen as syntax_stmt
-use Rattle.parser.specs.declared.tree.Stmt.TheViews.{roll-Stmt as roll-SyntaxStmt}
-use Rattle.parser.specs.declared.tree.Stmt.TheFolds.{map-Stmt as map-SyntaxStmt, fold-roll-Stmt as fold-roll-SyntaxStmt, ind-Stmt as ind-SyntaxStmt}
+use Rattle.syntax_tree.specs.declared.Name.{Name}
+use Rattle.syntax_tree.specs.declared.Expr.{Expr as SyntaxExpr}
+use Rattle.syntax_tree.specs.declared.Link.{Link as SyntaxLink}
+use Rattle.syntax_tree.specs.declared.Actual.{Actual as SyntaxActual}
+use Rattle.syntax_tree.specs.declared.Expr.TheOpen.{Actual-F as SyntaxActual-F}
+use Rattle.syntax_tree.specs.declared.Expr.TheViews.{out-Actual as out-SyntaxActual}
+use Rattle.syntax_tree.specs.declared.Stmt.{Stmt as SyntaxStmt}
+use Rattle.syntax_tree.specs.declared.Stmt.TheOpen as syntax_stmt
+use Rattle.syntax_tree.specs.declared.Stmt.TheViews.{roll-Stmt as roll-SyntaxStmt}
+use Rattle.syntax_tree.specs.declared.Stmt.TheFolds.{map-Stmt as map-SyntaxStmt, fold-roll-Stmt as fold-roll-SyntaxStmt, ind-Stmt as ind-SyntaxStmt}
 use Rattle.typed_tree.specs.declared.site.SiteKind.TheVariants as kind
 use Rattle.typed_tree.specs.declared.tree.Width.{Width}
 use Rattle.typed_tree.specs.declared.tree.Stmt.{Stmt}

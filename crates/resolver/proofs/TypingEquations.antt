@@ -4,16 +4,16 @@ use Rattle.std.specs.List.{flat_map}
 use Rattle.std.proofs.Common.{Box, Vec}
 use Rattle.std.specs.declared.alloc.Global.{Global}
 use Rattle.std.proofs.lemmas.List.Folds.{flat_map-map}
-use Rattle.lexer.specs.declared.place.Place.{Place}
-use Rattle.parser.specs.declared.tree.Name.{Name}
-use Rattle.parser.specs.declared.tree.Sign.{Sign as SyntaxSign}
-use Rattle.parser.specs.declared.tree.Expr.{Expr as SyntaxExpr}
-use Rattle.parser.specs.declared.tree.Link.{Link as SyntaxLink}
-use Rattle.parser.specs.declared.tree.Actual.{Actual as SyntaxActual}
-use Rattle.parser.specs.declared.tree.Expr.TheVariants as syntax
-use Rattle.parser.specs.declared.tree.Expr.TheOpen as syntax_layer
-use Rattle.parser.specs.declared.tree.Expr.TheViews.{roll-Expr as roll-SyntaxExpr, out-Link as out-SyntaxLink, out-Actual as out-SyntaxActual}
-use Rattle.parser.specs.declared.tree.Expr.TheFolds.{map-Expr as map-SyntaxExpr, map-Actual as map-SyntaxActual, fold-Actual as fold-SyntaxActual, fold-Link as fold-SyntaxLink, fold-roll-Expr as fold-roll-SyntaxExpr, fold_out-Link as fold_out-SyntaxLink, fold_out-Actual as fold_out-SyntaxActual}
+use Rattle.place.specs.declared.Place.{Place}
+use Rattle.syntax_tree.specs.declared.Name.{Name}
+use Rattle.syntax_tree.specs.declared.Sign.{Sign as SyntaxSign}
+use Rattle.syntax_tree.specs.declared.Expr.{Expr as SyntaxExpr}
+use Rattle.syntax_tree.specs.declared.Link.{Link as SyntaxLink}
+use Rattle.syntax_tree.specs.declared.Actual.{Actual as SyntaxActual}
+use Rattle.syntax_tree.specs.declared.Expr.TheVariants as syntax
+use Rattle.syntax_tree.specs.declared.Expr.TheOpen as syntax_layer
+use Rattle.syntax_tree.specs.declared.Expr.TheViews.{roll-Expr as roll-SyntaxExpr, out-Link as out-SyntaxLink, out-Actual as out-SyntaxActual}
+use Rattle.syntax_tree.specs.declared.Expr.TheFolds.{map-Expr as map-SyntaxExpr, map-Actual as map-SyntaxActual, fold-Actual as fold-SyntaxActual, fold-Link as fold-SyntaxLink, fold-roll-Expr as fold-roll-SyntaxExpr, fold_out-Link as fold_out-SyntaxLink, fold_out-Actual as fold_out-SyntaxActual}
 use Rattle.types.specs.declared.form.TypeId.{TypeId}
 use Rattle.typed_tree.specs.declared.site.SiteKind.TheVariants as kind
 use Rattle.typed_tree.specs.declared.tree.Monadic.{Monadic}

@@ -2,13 +2,13 @@
 -- its scopes hold, and those whose typings have too many entries or sites (ISO 7185:1990, 6.2.2, 6.4.2.2, 6.7, 6.8).
 -- It says nothing of which fault is told, nor of its place.
 use Rattle.std.specs.Prelude.{◌≡◌, ℕ, ℤ, ◌+◌, ◌<◌, ◌⊎◌, Bool, true, false, IsTrue, List, Some, None, map, flat_map, length, ok_or}
-use Rattle.parser.specs.declared.tree.Name.{Name}
-use Rattle.parser.specs.declared.tree.Expr.{Expr as SyntaxExpr}
-use Rattle.parser.specs.declared.tree.Expr.TheViews.{out-Actual as out-SyntaxActual}
-use Rattle.parser.specs.declared.tree.Actual.{Actual as SyntaxActual}
-use Rattle.parser.specs.declared.tree.Sign.{Sign}
-use Rattle.parser.specs.declared.tree.Link.{Link as SyntaxLink}
-use Rattle.parser.specs.declared.tree.Stmt.{Stmt as SyntaxStmt}
+use Rattle.syntax_tree.specs.declared.Name.{Name}
+use Rattle.syntax_tree.specs.declared.Expr.{Expr as SyntaxExpr}
+use Rattle.syntax_tree.specs.declared.Expr.TheViews.{out-Actual as out-SyntaxActual}
+use Rattle.syntax_tree.specs.declared.Actual.{Actual as SyntaxActual}
+use Rattle.syntax_tree.specs.declared.Sign.{Sign}
+use Rattle.syntax_tree.specs.declared.Link.{Link as SyntaxLink}
+use Rattle.syntax_tree.specs.declared.Stmt.{Stmt as SyntaxStmt}
 use Rattle.scopes.specs.declared.denotation.Denotation.TheVariants as denotes
 use Rattle.scopes.specs.declared.fault.ScopeFault.TheVariants as fault
 use Rattle.scopes.specs.declared.denotation.RequiredFunction.{RequiredFunction}

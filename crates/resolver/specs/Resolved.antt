@@ -3,17 +3,17 @@
 -- It says nothing of how the scopes came about, nor of a piece that is refused.
 use Rattle.std.specs.Prelude.{◌≡◌, ℕ, ℤ, ◌+◌, ◌<◌, ◌++◌, ◌&&◌, Bool, true, false, IsTrue, List, [], ◌∷◌, map, flat_map, length, Option, Some, None, Ok, All}
 use Rattle.std.specs.List.{range_with_len}
-use Rattle.lexer.specs.declared.place.Place.{Place}
-use Rattle.parser.specs.declared.tree.Name.{Name}
-use Rattle.parser.specs.declared.tree.Expr.{Expr as SyntaxExpr}
+use Rattle.place.specs.declared.Place.{Place}
+use Rattle.syntax_tree.specs.declared.Name.{Name}
+use Rattle.syntax_tree.specs.declared.Expr.{Expr as SyntaxExpr}
 use Rattle.std.specs.declared.alloc.Global.{Global}
 use Rattle.std.specs.declared.boxed.Box.{Box}
-use Rattle.parser.specs.declared.tree.Sign.{Sign}
-use Rattle.parser.specs.declared.tree.Expr.TheFolds.{fold-Link as fold-SyntaxLink, fold-Actual as fold-SyntaxActual}
-use Rattle.parser.specs.declared.tree.Expr.TheViews.{out-Actual as out-SyntaxActual}
-use Rattle.parser.specs.declared.tree.Link.{Link as SyntaxLink}
-use Rattle.parser.specs.declared.tree.Actual.{Actual as SyntaxActual}
-use Rattle.parser.specs.declared.tree.Stmt.{Stmt as SyntaxStmt}
+use Rattle.syntax_tree.specs.declared.Sign.{Sign}
+use Rattle.syntax_tree.specs.declared.Expr.TheFolds.{fold-Link as fold-SyntaxLink, fold-Actual as fold-SyntaxActual}
+use Rattle.syntax_tree.specs.declared.Expr.TheViews.{out-Actual as out-SyntaxActual}
+use Rattle.syntax_tree.specs.declared.Link.{Link as SyntaxLink}
+use Rattle.syntax_tree.specs.declared.Actual.{Actual as SyntaxActual}
+use Rattle.syntax_tree.specs.declared.Stmt.{Stmt as SyntaxStmt}
 use Rattle.scopes.specs.declared.denotation.Denotation.{Denotation}
 use Rattle.scopes.specs.declared.denotation.Denotation.TheVariants as denotes
 use Rattle.scopes.specs.declared.denotation.RequiredFunction.{RequiredFunction}

@@ -4,24 +4,24 @@
 use Rattle.std.specs.Prelude.{◌≡◌, cond, not, ℕ, ℤ, pos, ◌<◌, ◌≤◌, ◌&&◌, ◌++◌, if◌then◌else◌, Bool, true, false, IsTrue, List, [], ◌∷◌, Option, Some, None, All, map, length, drop, nat_eq, slice_get, flat_map, ◌⊎◌}
 use Rattle.std.specs.List.{range_with_len, list_all}
 use Rattle.std.specs.Ordering.{int_eq}
-use Rattle.lexer.specs.declared.place.Place.{Place}
-use Rattle.parser.specs.declared.tree.Program.{Program}
-use Rattle.parser.specs.declared.tree.Name.{Name}
-use Rattle.parser.specs.declared.tree.Sign.{Sign as SyntaxSign}
-use Rattle.parser.specs.declared.tree.Sign.TheVariants as syntax_sign
-use Rattle.parser.specs.declared.tree.Operator.{Operator}
-use Rattle.parser.specs.declared.tree.Operator.TheVariants as op
-use Rattle.parser.specs.declared.tree.Expr.{Expr as SyntaxExpr}
-use Rattle.parser.specs.declared.tree.Expr.TheOpen.{Expr-F as SyntaxExpr-F, Link-F as SyntaxLink-F, Actual-F as SyntaxActual-F}
-use Rattle.parser.specs.declared.tree.Expr.TheOpen.Expr-F.{Number as WrittenNumber, Name as WrittenName, Call as WrittenFunction, Parenthesized as WrittenParentheses, Not as WrittenNot, Signed as WrittenSigned, Chain as WrittenChain}
-use Rattle.parser.specs.declared.tree.Expr.TheViews.{out-Expr as out-SyntaxExpr, out-Actual as out-SyntaxActual}
-use Rattle.parser.specs.declared.tree.Expr.TheFolds.{fold-Expr as fold-SyntaxExpr}
-use Rattle.parser.specs.declared.tree.Link.{Link as SyntaxLink}
-use Rattle.parser.specs.declared.tree.Actual.{Actual as SyntaxActual}
-use Rattle.parser.specs.declared.tree.Stmt.{Stmt as SyntaxStmt}
-use Rattle.parser.specs.declared.tree.Stmt.TheOpen.{Stmt-F as SyntaxStmt-F}
-use Rattle.parser.specs.declared.tree.Stmt.TheOpen.Stmt-F.{Empty as WrittenEmpty, Assign as WrittenAssign, Call as WrittenCall, Compound as WrittenCompound}
-use Rattle.parser.specs.declared.tree.Stmt.TheFolds.{fold-Stmt as fold-SyntaxStmt}
+use Rattle.place.specs.declared.Place.{Place}
+use Rattle.syntax_tree.specs.declared.Program.{Program}
+use Rattle.syntax_tree.specs.declared.Name.{Name}
+use Rattle.syntax_tree.specs.declared.Sign.{Sign as SyntaxSign}
+use Rattle.syntax_tree.specs.declared.Sign.TheVariants as syntax_sign
+use Rattle.syntax_tree.specs.declared.Operator.{Operator}
+use Rattle.syntax_tree.specs.declared.Operator.TheVariants as op
+use Rattle.syntax_tree.specs.declared.Expr.{Expr as SyntaxExpr}
+use Rattle.syntax_tree.specs.declared.Expr.TheOpen.{Expr-F as SyntaxExpr-F, Link-F as SyntaxLink-F, Actual-F as SyntaxActual-F}
+use Rattle.syntax_tree.specs.declared.Expr.TheOpen.Expr-F.{Number as WrittenNumber, Name as WrittenName, Call as WrittenFunction, Parenthesized as WrittenParentheses, Not as WrittenNot, Signed as WrittenSigned, Chain as WrittenChain}
+use Rattle.syntax_tree.specs.declared.Expr.TheViews.{out-Expr as out-SyntaxExpr, out-Actual as out-SyntaxActual}
+use Rattle.syntax_tree.specs.declared.Expr.TheFolds.{fold-Expr as fold-SyntaxExpr}
+use Rattle.syntax_tree.specs.declared.Link.{Link as SyntaxLink}
+use Rattle.syntax_tree.specs.declared.Actual.{Actual as SyntaxActual}
+use Rattle.syntax_tree.specs.declared.Stmt.{Stmt as SyntaxStmt}
+use Rattle.syntax_tree.specs.declared.Stmt.TheOpen.{Stmt-F as SyntaxStmt-F}
+use Rattle.syntax_tree.specs.declared.Stmt.TheOpen.Stmt-F.{Empty as WrittenEmpty, Assign as WrittenAssign, Call as WrittenCall, Compound as WrittenCompound}
+use Rattle.syntax_tree.specs.declared.Stmt.TheFolds.{fold-Stmt as fold-SyntaxStmt}
 use Rattle.scopes.specs.declared.denotation.Denotation.{Denotation}
 use Rattle.scopes.specs.declared.denotation.Denotation.TheVariants as denotes
 use Rattle.scopes.specs.declared.denotation.RequiredProcedure.TheVariants as procedure

@@ -8,8 +8,8 @@ ghost use Rattle.scopes.specs.declared.denotation.Denotation.TheVariants as deno
 ghost use Rattle.typed_tree.specs.declared.fault.TypeFault.TheVariants.{Memory};
 
 use crate::resolver::Resolver;
-use lexer::place::Place;
-use parser::tree as syntax;
+use place::Place;
+use syntax_tree as syntax;
 use scopes::{Denotation, RequiredFunction};
 use std::alloc::Global;
 use typed_tree::fault::TypeFault;

@@ -8,7 +8,7 @@ ghost use Rattle.resolver.specs.declared.resolver.TheConstants.{MOST_SITES};
 
 use crate::resolver::Resolver;
 use declarations::declare_program;
-use parser::tree as syntax;
+use syntax_tree as syntax;
 use std::alloc::Global;
 use typed_tree::fault::TypeFault;
 use typed_tree::tree::{Block, Tree};

@@ -6,8 +6,8 @@ ghost use Rattle.scopes.specs.Scopes.{found};
 ghost use Rattle.resolver.specs.declared.resolver.TheConstants.{MOST_SITES, MOST_ENTRIES};
 
 use declarations::{Declarations, find};
-use lexer::place::Place;
-use parser::tree as syntax;
+use place::Place;
+use syntax_tree as syntax;
 use scopes::{Denotation, Scopes};
 use std::alloc::Global;
 use typed_tree::fault::TypeFault;

@@ -4,7 +4,7 @@ ghost use Rattle.scopes.specs.declared.fault.ScopeFault.TheVariants.{Memory};
 use std::alloc::{AllocError, AllocFailed};
 
 /// Why a name has no meaning, or gets none.
-#[derive(Clone, Copy, PartialEq, Eq)]
+#[derive(Clone, Copy)]
 pub enum ScopeFault {
     Memory,
     DeclaredTwice,

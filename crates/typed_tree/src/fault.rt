@@ -1,12 +1,12 @@
 ghost use Rattle.std.specs.Prelude.{◌≡◌};
 ghost use Rattle.typed_tree.specs.declared.fault.TypeFault.TheVariants.{Memory};
 
-use lexer::place::Place;
+use place::Place;
 use std::alloc::{AllocError, AllocFailed};
 use thiserror::Error;
 
 /// Why a syntax tree has no typed tree.
-#[derive(Clone, Copy, Debug, PartialEq, Eq, Error)]
+#[derive(Clone, Copy, Debug, Error)]
 pub enum TypeFault {
     #[error("no memory")]
     Memory,

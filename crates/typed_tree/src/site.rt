@@ -1,10 +1,10 @@
 ghost use Rattle.std.specs.Prelude.{◌≡◌, ◌≤◌, length};
 ghost use Rattle.typed_tree.specs.Sites.{number_of, name_of, kind_of};
 
-use lexer::place::Place;
+use place::Place;
 
 /// A kind of error that a program may commit (ISO 7185:1990, 3.1), in the order of the numbers 1 to 13.
-#[derive(Clone, Copy, PartialEq, Eq)]
+#[derive(Clone, Copy)]
 pub enum SiteKind {
     /// An index outside its type.
     Index = 1,
@@ -83,7 +83,7 @@ impl SiteKind {
 }
 
 /// A place of the source at which a run may commit an error.
-#[derive(Clone, Copy, PartialEq, Eq)]
+#[derive(Clone, Copy)]
 pub struct Site {
     /// From 0, in the order of places and then of kinds.
     pub id: u32,
@@ -92,7 +92,7 @@ pub struct Site {
 }
 
 /// A use of read, readln or eoln, at which a run may stop for its input.
-#[derive(Clone, Copy, PartialEq, Eq)]
+#[derive(Clone, Copy)]
 pub struct Point {
     /// From 0, in the order of places.
     pub id: u32,

@@ -1,7 +1,7 @@
 ghost use Rattle.std.specs.Prelude.{◌≡◌};
 
 use crate::site::{Point, Site};
-use lexer::place::Place;
+use place::Place;
 use types::{OrdinalRange, TypeId, TypeTable};
 
 /// A program with its names bound and its types known.
@@ -19,7 +19,7 @@ pub struct Tree {
 }
 
 /// The body of a block.
-#[derive(Debug, Drop)]
+#[derive(Drop)]
 pub struct Block {
     /// Its compound statement.
     pub body: Stmt,
@@ -36,7 +36,7 @@ pub struct Variable {
 }
 
 /// A variable access (ISO 7185:1990, 6.5.1): an entry of its own.
-#[derive(Clone, Copy, Debug)]
+#[derive(Clone, Copy)]
 pub struct Access {
     /// Its number in the order of entry over the program.
     pub number: u32,
@@ -45,7 +45,7 @@ pub struct Access {
 }
 
 /// A test that an ordinal lies in the range of a type, at a site.
-#[derive(Clone, Copy, Debug)]
+#[derive(Clone, Copy)]
 pub struct RangeTest {
     pub site: u32,
     /// Within -2147483647 to 2147483647.
@@ -53,7 +53,7 @@ pub struct RangeTest {
 }
 
 /// A statement. Each has its number in the order of entry over the program.
-#[derive(Debug, Drop)]
+#[derive(Drop)]
 pub enum Stmt {
     Empty {
         number: u32,
@@ -78,7 +78,7 @@ pub enum Stmt {
 }
 
 /// A value that is written (ISO 7185:1990, 6.9.3), before its width is evaluated.
-#[derive(Debug, Drop)]
+#[derive(Drop)]
 pub struct WriteParameter {
     pub value: Expr,
     pub representation: Representation,
@@ -87,21 +87,21 @@ pub struct WriteParameter {
 }
 
 /// How a value is written, by its type (6.9.3.3, 6.9.3.5).
-#[derive(Clone, Copy, Debug)]
+#[derive(Clone, Copy)]
 pub enum Representation {
     Integer,
     Boolean,
 }
 
 /// A total width (6.9.3.1), tested at the site: it has to be at least 1.
-#[derive(Debug, Drop)]
+#[derive(Drop)]
 pub struct Width {
     pub value: Expr,
     pub site: u32,
 }
 
 /// An operation on one operand: a sign (6.7.2.2), `not` (6.7.2.3), or a required function (6.6.6.2, 6.6.6.5).
-#[derive(Clone, Copy, Debug)]
+#[derive(Clone, Copy)]
 pub enum Monadic {
     Plus,
     Minus,
@@ -113,7 +113,7 @@ pub enum Monadic {
 }
 
 /// An operation on two operands (6.7.2.1).
-#[derive(Clone, Copy, Debug)]
+#[derive(Clone, Copy)]
 pub enum Dyadic {
     /// The result is tested at the site `overflow`, as for the next two.
     Plus { overflow: u32 },
@@ -129,7 +129,7 @@ pub enum Dyadic {
 }
 
 /// A relation of two ordinals (6.7.2.5).
-#[derive(Clone, Copy, Debug)]
+#[derive(Clone, Copy)]
 pub enum Relation {
     Equal,
     NotEqual,
@@ -142,7 +142,7 @@ pub enum Relation {
 /// An expression, its parentheses gone. Each factor, sign and operator has its number in the order of
 /// entry over the program; an operator is entered after its left operand and before its right one.
 #[cycle(expression)]
-#[derive(Debug, Drop)]
+#[derive(Drop)]
 pub enum Expr {
     /// A number or a constant, of -2147483647 to 2147483647; a Boolean is 0 or 1.
     Constant {
@@ -168,7 +168,7 @@ pub enum Expr {
 
 /// An operator of a chain, and its right operand.
 #[cycle(expression)]
-#[derive(Debug, Drop)]
+#[derive(Drop)]
 pub struct Link {
     pub number: u32,
     pub operation: Dyadic,

@@ -2,7 +2,7 @@ ghost use Rattle.std.specs.Prelude.{◌≡◌, Some, slice_get};
 ghost use Rattle.types.specs.Types.{range_at, required_forms};
 
 /// What a type is made of (ISO 7185:1990, 6.4).
-#[derive(Clone, Copy, PartialEq, Eq)]
+#[derive(Clone, Copy)]
 pub enum TypeForm {
     /// The required type integer: -2147483647 to 2147483647.
     Integer,
@@ -32,7 +32,7 @@ pub struct TypeId {
 }
 
 /// The first and the last value of an ordinal type.
-#[derive(Clone, Copy, Debug, PartialEq, Eq)]
+#[derive(Clone, Copy)]
 pub struct OrdinalRange {
     pub first: i32,
     pub last: i32,

@@ -1,7 +1,7 @@
 use Rattle.std.proofs.Common.{◌≡◌, ℕ, ◌+◌, ◌<◌, List, [], ◌∷◌, ◌++◌, Vec, map, take, length, get_or, sym, ap, ◌∙◌, append-nil, append_assoc}
 use Rattle.std.specs.declared.alloc.Global.{Global}
 use Rattle.std.proofs.lemmas.List.{map-append, take_more, take_all}
-use Rattle.parser.specs.declared.tree.Name.{Name}
+use Rattle.syntax_tree.specs.declared.Name.{Name}
 use Rattle.declarations.specs.Names.{folded}
 use Rattle.declarations.proofs.declarations.fold_names.Goals as goal
 

@@ -1,8 +1,8 @@
 use Rattle.std.proofs.Common.{◌≡◌, ◌++◌, ℕ, ◌+◌, ◌<◌, List, [], ◌∷◌, flat_map, length, map, take, get_or, sym, ap, subst, ◌∙◌, append-nil, append_assoc, arith}
 use Rattle.std.proofs.lemmas.List.{map-append, take_more, take_all}
 use Rattle.std.proofs.lemmas.Grind.{flat_map-append}
-use Rattle.parser.specs.declared.tree.Name.{Name}
-use Rattle.parser.specs.declared.tree.VariableGroup.{VariableGroup}
+use Rattle.syntax_tree.specs.declared.Name.{Name}
+use Rattle.syntax_tree.specs.declared.VariableGroup.{VariableGroup}
 use Rattle.scopes.specs.Growth.{Opens}
 use Rattle.declarations.specs.Names.{folded, defined_names}
 use Rattle.declarations.proofs.declarations.open_block.Goals as goal

@@ -2,7 +2,7 @@ use Rattle.std.proofs.Common.{◌≡◌, ◌++◌, ◌-◌, ◌==◌, [], ◌∷
 use Rattle.std.proofs.lemmas.Bool.{false≢true}
 use Rattle.std.proofs.lemmas.List.{length-drop}
 use Rattle.lexer.specs.declared.token.Kind.{Kind}
-use Rattle.lexer.specs.Place.{start, place_after}
+use Rattle.place.specs.Place.{start, place_after}
 use Rattle.lexer.specs.Piece.{offset_of}
 use Rattle.lexer.specs.Tokens.{Lexeme, Leaves, fault_of}
 use Rattle.lexer.proofs.Cuts.{piece_cut, fault_within}

@@ -1,6 +1,6 @@
 use Rattle.std.proofs.Common.{◌≡◌, ℕ, ◌+◌, ◌≤◌, List, length, map}
 use Rattle.lexer.specs.declared.piece.Piece.{Piece}
-use Rattle.lexer.specs.Place.{start}
+use Rattle.place.specs.Place.{start}
 use Rattle.lexer.specs.Tokens.{Leaves, lexemes, lexeme_of}
 use Rattle.lexer.proofs.Rows.{place_behind}
 use Rattle.lexer.proofs.scan.tokens.Given as goal

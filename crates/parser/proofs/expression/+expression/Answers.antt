@@ -2,7 +2,7 @@ use Rattle.std.proofs.Common.{rules, arith, ◌≡◌, refl, ap, ◌∙◌, sym,
 use Rattle.lexer.specs.declared.token.Kind.TheVariants as kind
 use Rattle.lexer.specs.declared.token.Symbol.TheVariants as symbol
 use Rattle.lexer.specs.declared.token.Word.TheVariants as word
-use Rattle.parser.specs.declared.tree.Actual.{Actual}
+use Rattle.syntax_tree.specs.declared.Actual.{Actual}
 use Rattle.parser.specs.declared.cursor.Cursor.{Cursor}
 use Rattle.parser.specs.Cursor.{IsOfRules, Took}
 use Rattle.parser.specs.Level.{level_number}

@@ -1,7 +1,7 @@
 use Rattle.std.proofs.Common.{rules, arith, ◌≡◌, ap, sym, subst, ◌∙◌, [], ◌∷◌, Some, MatchResult}
 use Rattle.lexer.specs.declared.token.Kind.TheVariants as kind
 use Rattle.lexer.specs.declared.token.Word.TheVariants as word
-use Rattle.parser.specs.declared.tree.Stmt.{Stmt}
+use Rattle.syntax_tree.specs.declared.Stmt.{Stmt}
 use Rattle.parser.specs.Spelling.{Reads, of_kind_at, word_symbol}
 use Rattle.parser.specs.Reading.{next_kind, Stops, ReadWithin, ReadsDeep, EndsStmt}
 use Rattle.parser.specs.Cursor.{IsOfRules}

@@ -2,7 +2,7 @@ use Rattle.std.proofs.Common.{◌≡◌, Some, IfSome, IfNone, true, false, refl
 use Rattle.typed_tree.specs.declared.tree.Representation.{Representation}
 use Rattle.typed_tree.specs.declared.tree.WriteParameter.{WriteParameter}
 use Rattle.resolver.specs.Typing.{is_written_as}
-use Rattle.parser.specs.declared.tree.Expr.TheViews.{out-Actual as out-SyntaxActual}
+use Rattle.syntax_tree.specs.declared.Expr.TheViews.{out-Actual as out-SyntaxActual}
 use Rattle.resolver.proofs.ResolvedStatements.{AreFormedWidths, no_width_formed, one_width_formed, parameter_is_formed, MakesWidths, no_width_made, one_width_made, parameter_made}
 use Rattle.resolver.proofs.StaysFormed.{later_made}
 use Rattle.resolver.proofs.Refusals.{refused_by, refused_for}

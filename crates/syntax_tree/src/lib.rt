@@ -1,0 +1,146 @@
+//! The syntax tree of a Pascal program (ISO 7185:1990, 6.2 to 6.10), as its tokens spell it.
+#![tactic(auto)]
+
+use place::Place;
+
+/// An identifier where it stands (6.1.3). Upper and lower case letters are alike.
+#[derive(Clone, Copy)]
+pub struct Name<'a> {
+    pub text: &'a [u8],
+    pub place: Place,
+}
+
+/// A program (6.10).
+#[derive(Drop)]
+pub struct Program<'a> {
+    pub name: Name<'a>,
+    /// The program parameters, in order; none where no parentheses stand.
+    pub parameters: Vec<Name<'a>>,
+    pub block: Block<'a>,
+}
+
+/// A block (6.2.1).
+#[derive(Drop)]
+pub struct Block<'a> {
+    pub variables: Vec<VariableGroup<'a>>,
+    /// The statements of its compound statement: one or more.
+    pub statements: Vec<Stmt<'a>>,
+    /// Its last `end`.
+    pub end: Place,
+}
+
+/// Variables that are declared together (6.5.1): one or more names.
+#[derive(Drop)]
+pub struct VariableGroup<'a> {
+    pub names: Vec<Name<'a>>,
+    pub denoter: TypeDenoter<'a>,
+}
+
+/// What denotes a type (6.4.1).
+#[derive(Clone, Copy)]
+pub enum TypeDenoter<'a> {
+    Name(Name<'a>),
+}
+
+/// A statement (6.8).
+#[derive(Drop)]
+pub enum Stmt<'a> {
+    Empty,
+    /// `name := value`, with the place of `:=`.
+    Assign {
+        name: Name<'a>,
+        becomes: Place,
+        value: Expr<'a>,
+    },
+    /// The call of a procedure; no actuals where no parentheses stand.
+    Call {
+        name: Name<'a>,
+        actuals: Vec<Actual<'a>>,
+    },
+    /// One or more statements.
+    Compound {
+        statements: Vec<Stmt<'a>>,
+    },
+}
+
+/// A sign (6.7.2.2).
+#[derive(Clone, Copy)]
+pub enum Sign {
+    Plus,
+    Minus,
+}
+
+/// An operator between two operands (6.7.2.1).
+#[derive(Clone, Copy)]
+pub enum Operator {
+    Plus,
+    Minus,
+    Or,
+    Times,
+    Div,
+    Mod,
+    And,
+    Equal,
+    NotEqual,
+    Less,
+    Greater,
+    LessOrEqual,
+    GreaterOrEqual,
+}
+
+/// An expression (6.7.1), its parentheses kept.
+#[cycle(expression)]
+#[derive(Drop)]
+pub enum Expr<'a> {
+    /// A number up to 2147483647.
+    Number {
+        value: u32,
+        place: Place,
+    },
+    /// A variable, a constant or a call without actuals.
+    Name(Name<'a>),
+    /// The call of a function with its actuals: one or more.
+    Call {
+        name: Name<'a>,
+        actuals: Vec<Actual<'a>>,
+    },
+    /// `( inner )`, with the place of the opening parenthesis.
+    Parenthesized {
+        open: Place,
+        inner: Box<Expr<'a>>,
+    },
+    /// `not operand`, with the place of the word.
+    Not {
+        place: Place,
+        operand: Box<Expr<'a>>,
+    },
+    /// A sign, which covers the whole first term of a sum.
+    Signed {
+        sign: Sign,
+        place: Place,
+        term: Box<Expr<'a>>,
+    },
+    /// A first operand, and one or more operators of one precedence with their right operands: a term, a simple
+    /// expression, or a relation, which has one operator alone.
+    Chain {
+        first: Box<Expr<'a>>,
+        rest: Vec<Link<'a>>,
+    },
+}
+
+/// An operator of a chain and the operand behind it.
+#[cycle(expression)]
+#[derive(Drop)]
+pub struct Link<'a> {
+    pub operator: Operator,
+    pub place: Place,
+    pub operand: Expr<'a>,
+}
+
+/// An actual parameter (6.7.3); in a write or writeln it may have a total width (6.9.3.1).
+#[cycle(expression)]
+#[derive(Drop)]
+pub struct Actual<'a> {
+    pub value: Expr<'a>,
+    pub width: Option<Expr<'a>>,
+}
