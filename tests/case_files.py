@@ -54,7 +54,7 @@ class Case:
     name: str
     place: str
     words: tuple = ()
-    source: bytes | None = None
+    source: bytes = None
     input: bytes = b""
     writes: bytes = b""
     tells: bytes = b""
