@@ -1,0 +1,215 @@
+r"""Reads the cases of tests/cases, for `tests/run` and `tests/refuse_memory`. A file SUBJECT.cases has cases like this:
+
+    # What the case shows, and where its values come from.
+    case division_by_zero
+    words --go
+    source
+    |program p(output); var x: integer;
+    |begin x := 0; write(1:1); write(10 div x) end.
+    writes
+    |1\
+    tells
+    |2:36: possible error: division by zero
+    |2:36: error: division by zero
+    status 4
+
+`case` names a case; no two have one name. The rest may be left out and stands in any order:
+
+    words W1 W2    the words of the command line, none where none are given: so a source is compiled and not run
+    source         the text of source.pas, whose path is the last word; a case without it has a line of words
+    input          what standard input holds
+    writes         what is written to standard output
+    tells          what is written to standard error
+    status N       the status, 0 where none is given
+
+Behind `source`, `input`, `writes` and `tells` stand the lines of the text. `|TEXT` is a line with its end, and without
+its end where the last character is `\`. `N|TEXT` is TEXT N times, without a line end. `\xHH` is a byte, `\\` is a
+backslash, and a blank at the end of a line is `\x20`. An empty line or a comment ends a text. Comments begin with `#`
+and may stand between all lines."""
+
+import os
+import re
+from dataclasses import dataclass
+
+FOLDER = os.path.join(os.path.dirname(os.path.abspath(__file__)), "cases")
+SOURCE = "source.pas"
+ENDING = ".cases"
+TEXTS = ("source", "input", "writes", "tells")
+NAME = re.compile(r"[A-Za-z0-9_]+")
+TEXT_LINE = re.compile(r"(|[1-9][0-9]*)\|(.*)")
+ESCAPE = re.compile(r"\\(x[0-9A-Fa-f]{2}|.|$)")
+
+
+class Fault(Exception):
+    """What is wrong in a file of cases, with the file and the line."""
+
+    def __init__(self, place, what):
+        super().__init__(f"{place}: {what}")
+
+
+@dataclass
+class Case:
+    """A case, and the file and the line where it begins."""
+
+    name: str
+    place: str
+    words: tuple = ()
+    source: bytes = None
+    input: bytes = b""
+    writes: bytes = b""
+    tells: bytes = b""
+    status: int = 0
+
+
+def read_cases(folder=FOLDER):
+    """The cases of all files of a folder, and a line for each fault in them."""
+    cases, faults = [], []
+    for entry in sorted(os.listdir(folder)):
+        if entry.endswith(ENDING):
+            read_file(folder, entry, cases, faults)
+        else:
+            faults.append(f"{entry}: no file of cases, whose names end in {ENDING}")
+    return without_namesakes(cases, faults), faults
+
+
+def read_file(folder, entry, cases, faults):
+    """Adds the cases and the faults of a file. A case with a fault isn't read on, but the one behind it is."""
+    with open(os.path.join(folder, entry), encoding="latin-1", newline="\n") as it:
+        lines = it.read().split("\n")
+    for group in groups([(f"{entry}:{number}", line) for number, line in enumerate(lines, 1)]):
+        try:
+            cases.append(read_case(group))
+        except Fault as fault:
+            faults.append(str(fault))
+
+
+def is_silent(line):
+    return line == "" or line.startswith("#")
+
+
+def groups(lines):
+    """The lines of each case. What stands before the first is a group too, and no case, unless it is silent."""
+    found = []
+    for place, line in lines:
+        if line.split()[:1] == ["case"] or (not found and not is_silent(line)):
+            found.append([])
+        if found:
+            found[-1].append((place, line))
+    return found
+
+
+def without_namesakes(cases, faults):
+    """The cases but those whose name another had before, each of which is a fault."""
+    first = {}
+    for case in cases:
+        if case.name in first:
+            faults.append(f"{case.place}: the name {case.name} stands at {first[case.name].place} already")
+        else:
+            first[case.name] = case
+    return list(first.values())
+
+
+def read_case(lines):
+    begin, head = lines[0]
+    parts = {}
+    text = None
+    for place, line in lines[1:]:
+        check_bytes(place, line)
+        found = TEXT_LINE.fullmatch(line)
+        if not found:
+            text = None if is_silent(line) else read_part(place, line, parts)
+        elif text is None:
+            raise Fault(place, "a line of text that belongs to nothing")
+        else:
+            parts[text] += text_of(place, *found.groups())
+    return checked(begin, Case(name_of(begin, head), begin, **parts), parts)
+
+
+def check_bytes(place, line):
+    if not (line.isascii() and line.isprintable()) and not line.startswith("#"):
+        raise Fault(place, "a byte that is no printable character; \\xHH stands for it")
+
+
+def name_of(place, head):
+    words = head.split()
+    if len(words) != 2 or words[0] != "case" or not NAME.fullmatch(words[1]):
+        raise Fault(place, f"`case` and a name of letters, digits and _ should stand here, not `{head}`")
+    return words[1]
+
+
+def read_part(place, line, parts):
+    """Reads a line that begins a part of a case; gives the part's name if lines of text follow."""
+    part, *rest = line.split()
+    if part in parts:
+        raise Fault(place, f"`{part}` stands twice in a case")
+    if part in TEXTS and not rest:
+        parts[part] = b""
+        return part
+    if part == "words":
+        parts[part] = tuple(rest)
+    elif part == "status" and len(rest) == 1 and re.fullmatch("[0-9]{1,3}", rest[0]):
+        parts[part] = int(rest[0])
+    else:
+        raise Fault(place, f"no line of a case: `{line}`")
+    return None
+
+
+def text_of(place, count, text):
+    """The bytes of a line of text."""
+    if text.endswith(" "):
+        raise Fault(place, "a blank at the end of a line; \\x20 stands for it")
+    open_ended = (len(text) - len(text.rstrip("\\"))) % 2 == 1
+    if count and open_ended:
+        raise Fault(place, "a text that is repeated has no line end that \\ could leave out")
+    line = unescaped(place, text[:-1] if open_ended else text)
+    if count:
+        return line * int(count)
+    return line if open_ended else line + b"\n"
+
+
+def unescaped(place, text):
+    def character(found):
+        if found[1] == "\\":
+            return "\\"
+        if len(found[1]) == 3:
+            return chr(int(found[1][1:], 16))
+        raise Fault(place, f"`{found[0]}` is no byte; \\xHH is one, and \\\\ is a backslash")
+
+    return ESCAPE.sub(character, text).encode("latin-1")
+
+
+def checked(place, case, parts):
+    if "source" not in parts and "words" not in parts:
+        raise Fault(place, f"{case.name} has neither words nor a source")
+    for part in TEXTS[1:]:
+        if parts.get(part) == b"":
+            raise Fault(place, f"{case.name} has `{part}` without a text")
+    return case
+
+
+def placed(case, folder):
+    """Puts a case's source into a folder, where the program is to run, and gives the words of the command line."""
+    if case.source is None:
+        return list(case.words)
+    with open(os.path.join(folder, SOURCE), "wb") as it:
+        it.write(case.source)
+    return [*case.words, SOURCE]
+
+
+def lines_of(text):
+    """The lines that give a text back in a file of cases."""
+    *whole, rest = text.split(b"\n")
+    return [f"|{escaped(line)}" for line in whole] + ([f"|{escaped(rest)}\\"] if rest else [])
+
+
+def escaped(line):
+    characters = [character_of(byte) for byte in line]
+    if characters and characters[-1] == " ":
+        characters[-1] = "\\x20"
+    return "".join(characters)
+
+
+def character_of(byte):
+    if byte == ord("\\"):
+        return "\\\\"
+    return chr(byte) if 32 <= byte < 127 else f"\\x{byte:02x}"

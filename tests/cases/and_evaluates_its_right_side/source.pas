@@ -1,1 +1,0 @@
-program p(output); var z: integer; begin z := 0; writeln((1 > 2) and (1 div z = 1)) end.

@@ -1,1 +1,0 @@
-program p(output); var b, c: Boolean; begin b := 3 >= 3; c := not b or (1 <> 1); writeln(b, c, b and c, b = c, false < true) end.

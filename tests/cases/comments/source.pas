@@ -1,1 +1,0 @@
-program p(output); { one *) begin (* two } writeln(1 { of (* any } ) (* kind *) end.

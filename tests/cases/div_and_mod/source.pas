@@ -1,1 +1,0 @@
-program p(output); begin writeln(-7 div 2, -7 mod 2, (-7) mod 2) end.

@@ -1,1 +1,0 @@
-program p(output); var x: integer; begin x := 0; write(1:1); write(10 div x) end.

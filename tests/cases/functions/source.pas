@@ -1,1 +1,0 @@
-program p(output); begin writeln(abs(-maxint), abs(5), sqr(-3), odd(-1), odd(0), odd(7)) end.

@@ -1,1 +1,0 @@
-program p(output); var x: integer; begin writeln(2147483647 + 1 + x) end.

@@ -1,1 +1,0 @@
-PROGRAM P(OUTPUT); VAR Number: INTEGER; BEGIN NUMBER := MaxInt; WriteLn(number) END.

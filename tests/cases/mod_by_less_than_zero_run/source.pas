@@ -1,1 +1,0 @@
-program p(output); var x: integer; begin x := -2; write(7 mod x) end.

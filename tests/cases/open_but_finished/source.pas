@@ -1,1 +1,0 @@
-program p(output); var x: integer; begin x := 2147483647; x := x - 1; x := x + 1; x := x + 0; writeln(x) end.

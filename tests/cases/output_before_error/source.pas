@@ -1,1 +1,0 @@
-program p(output); var x: integer; begin writeln(1); writeln(2, x) end.

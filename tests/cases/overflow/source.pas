@@ -1,1 +1,0 @@
-program p; var x: integer; begin x := 2147483647; x := x + 1 end.

@@ -1,1 +1,0 @@
-program p(output); begin writeln(2 + 3 * 4, -2 * 3 + 1, 7 - 2 - 1, not (1 = 1) or (2 > 1)) end.

@@ -1,1 +1,0 @@
-program p(output); var maxint: integer; begin maxint := 3; writeln(maxint) end.

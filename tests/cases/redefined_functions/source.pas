@@ -1,1 +1,0 @@
-program p(output); var abs, odd, write: integer; begin abs := 1; odd := 2; write := 3; writeln(abs + odd + write:1) end.

@@ -1,1 +1,0 @@
-program p; var b: Boolean; begin b := 1 = true end.

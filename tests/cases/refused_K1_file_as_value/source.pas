@@ -1,1 +1,0 @@
-program p(output); begin writeln(1, output) end.

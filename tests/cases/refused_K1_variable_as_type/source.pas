@@ -1,1 +1,0 @@
-program p; var x: integer; y: x; begin end.

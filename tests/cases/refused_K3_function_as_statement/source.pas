@@ -1,1 +1,0 @@
-program p; begin odd(1) end.

@@ -1,1 +1,0 @@
-program p; var x: integer; begin x := abs(1:2) end.

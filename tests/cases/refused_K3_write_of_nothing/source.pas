@@ -1,1 +1,0 @@
-program p(output); begin write(output) end.

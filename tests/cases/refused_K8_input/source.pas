@@ -1,1 +1,0 @@
-program p(input); begin end.

@@ -1,1 +1,0 @@
-program p(output, data); begin end.

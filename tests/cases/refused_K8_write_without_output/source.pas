@@ -1,1 +1,0 @@
-program p; begin write(1) end.

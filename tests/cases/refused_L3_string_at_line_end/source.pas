@@ -1,2 +1,0 @@
-program p; begin 'open
-' end.

@@ -1,1 +1,0 @@
-program p; begin 2147483648 end.

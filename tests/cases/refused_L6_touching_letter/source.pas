@@ -1,1 +1,0 @@
-program p; begin if 10div 2 = 5 then end.

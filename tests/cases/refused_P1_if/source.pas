@@ -1,1 +1,0 @@
-program p; begin if 1 then end.

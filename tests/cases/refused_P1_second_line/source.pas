@@ -1,4 +1,0 @@
-program p;
-  begin
-  writeln(1;
-end.

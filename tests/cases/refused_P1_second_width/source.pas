@@ -1,1 +1,0 @@
-program p(output); begin write(1:2:3) end.

@@ -1,1 +1,0 @@
-program p; begin x := y@ end.

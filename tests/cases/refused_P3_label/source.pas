@@ -1,1 +1,0 @@
-program p; label 1; begin end.

@@ -1,1 +1,0 @@
-program p(output); var output: integer; begin end.

@@ -1,1 +1,0 @@
-program p; var x, x: integer; begin end.

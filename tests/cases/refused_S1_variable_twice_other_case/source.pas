@@ -1,1 +1,0 @@
-program p; var x: integer; X: integer; begin end.

@@ -1,1 +1,0 @@
-program p; var x: integer; integer: integer; begin end.

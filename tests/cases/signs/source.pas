@@ -1,1 +1,0 @@
-program p(output); begin writeln(-1 + 2, +5 - 7, -(1 + 2), -(-3)) end.

@@ -1,1 +1,0 @@
-program p(output); var x: integer; begin x := 46340; writeln(sqr(x)); x := x + 1; writeln(sqr(x)) end.

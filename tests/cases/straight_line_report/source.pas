@@ -1,1 +1,0 @@
-program p(output); var x, y: integer; begin x := 7; y := x - 10; writeln(x + y, -x) end.

@@ -1,1 +1,0 @@
-program p(output); var x: integer; begin writeln(x) end.

@@ -1,1 +1,0 @@
-program p(output); begin writeln(2147483647, -2147483647) end.

@@ -1,1 +1,0 @@
-program p(output); begin write(5:0) end.

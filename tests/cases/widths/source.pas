@@ -1,1 +1,0 @@
-program p(output); begin write(true:2, 5:1) end.

@@ -1,1 +1,0 @@
-program p(output); begin writeln; writeln(output); writeln(output, 1, 2); writeln(3) end.
