@@ -1,22 +1,16 @@
 -- How a run of code is told in a text: what it wrote, and behind that a word for its stop. It does not say that no
 -- writer fails.
-use Rattle.std.specs.Prelude.{◌≡◌, ℕ, List, [], ◌++◌, Some, Bool, ◌==◌, ◌&&◌, if◌then◌else◌, codes}
-use Rattle.pcode_assembler.specs.declared.code.Site.{Site}
+use Rattle.std.specs.Prelude.{◌≡◌, ℕ, List, [], ◌++◌, Some, ◌==◌, if◌then◌else◌, codes}
 use Rattle.stack_machine.specs.declared.stop.Stop.{Stop}
 use Rattle.stack_machine.specs.declared.stop.Stop.TheVariants as stop
 use Rattle.stack_machine.specs.declared.stop.MachineFault.TheVariants as machine
 use Rattle.stack_machine.specs.Does.{Tells}
 use Rattle.stack_machine.specs.Run.{Outcome}
-use Rattle.test_words.specs.declared.machines.TheConstants.{CHECKED}
 
--- whether two sites are the same
-abbrev pub is_same : Site → Site → Bool
-is_same a b = (a.id == b.id) && (a.line == b.line) && (a.column == b.column) && (a.kind == b.kind)
-
--- the word of a stop; none where the run finished
+-- the word of a stop; none where the run finished. Of the errors that of the first site has a word of its own.
 abbrev pub word_of : Stop → List ℕ
 word_of stop.Finished = []
-word_of (stop.Error site) = if is_same site CHECKED then codes "error" else codes "another stop"
+word_of (stop.Error site) = if site.id == 0 then codes "error" else codes "another stop"
 word_of stop.More = codes "more"
 word_of stop.StoreFull = codes "full"
 word_of stop.WriteFailed = codes "failed"

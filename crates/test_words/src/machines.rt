@@ -18,13 +18,13 @@ pub const CHECKED: Site = Site {
     kind: 11,
 };
 
-/// How a run stops, in a word; none where it finishes.
+/// How a run stops, in a word; none where it finishes. Of the errors that of the first site has a word of its own.
 pub fn word_of(stop: Stop) -> &'static str
     ensures { result.now ≡ word_of stop }
 {
     match stop {
         Stop::Finished => "",
-        Stop::Error(CHECKED) => "error",
+        Stop::Error(Site { id: 0, .. }) => "error",
         Stop::More => "more",
         Stop::StoreFull => "full",
         Stop::WriteFailed => "failed",

@@ -1,13 +1,13 @@
 use crate::sources::{fault_told, tree_of};
-use meaning::interpret;
 use meaning::outcome::{Ending, Outcome};
+use meaning::{interpret, laws};
 use std::alloc::{AllocError, Global};
 use std::test::Fail;
 use test_words::rows::all_hold;
 use typed_tree::tree::Tree;
 
-/// What a run of a program writes, and behind it how it ends: nothing where it finishes, `!` and the id of the site
-/// where it errs.
+/// What a run of a program writes, and behind it how it ends: nothing where it finishes, `!0` where it errs at its
+/// first site.
 fn statements_told(alloc: Global, statements: &&str) -> Result<String, AllocError> {
     match tree_of(alloc, "x: integer", statements) {
         Ok(tree) => tree_told(alloc, &tree),
@@ -28,86 +28,8 @@ fn word_of(ending: Ending) -> &'static str {
     match ending {
         Ending::Finished => "",
         Ending::Error(0) => "!0",
-        Ending::Error(1) => "!1",
-        Ending::Error(2) => "!2",
         _ => "another ending",
     }
-}
-
-/// Programs, and what they write.
-static RUNS: [(&str, &str); 26] = [
-    // Values stand right in their width.
-    ("x := 7; writeln(5 - 10, x)", "        -5         7\n"),
-    // What came before an undefined variable is written.
-    ("writeln(5 - 10, x)", "        -5!1"),
-    // A Boolean is cut to its width or set right in it, and an integer is never cut.
-    ("write(true:2, 5:1)", "tr5"),
-    ("write(false:7, 123:2)", "  false123"),
-    ("write(false)", "false"),
-    // A width of zero is an error before anything is written.
-    ("write(5:0)", "!0"),
-    // A sign covers the whole first term.
-    (
-        "writeln(-7 div 2, -7 mod 2, (-7) mod 2)",
-        "        -3        -1         1\n",
-    ),
-    // Sums and differences stay within integer.
-    ("write(2147483647 + 1)", "!0"),
-    ("write(2147483646 + 1)", "2147483647"),
-    ("write((-2147483647) - 1)", "!0"),
-    ("write(2147483647 - 1)", "2147483646"),
-    ("write(-2147483647:1)", "-2147483647"),
-    ("write(+(-7):1)", "-7"),
-    // By hand: the truth tables.
-    (
-        "write(false and false:1, false and true:1, true and false:1, true and true:1)",
-        "ffft",
-    ),
-    (
-        "write(false or false:1, false or true:1, true or false:1, true or true:1)",
-        "fttt",
-    ),
-    ("write(not false:1, not true:1)", "tf"),
-    // By hand: a magnitude, whether it is odd, and a square where that is of type integer.
-    (
-        "write(abs(-2147483647):1, odd(-2147483647):6, sqr(-2147483647):11)",
-        "2147483647  true!2",
-    ),
-    (
-        "write(abs(-46341):1, odd(-46341):6, sqr(-46341):11)",
-        "46341  true!2",
-    ),
-    (
-        "write(abs(-46340):1, odd(-46340):6, sqr(-46340):11)",
-        "46340 false 2147395600",
-    ),
-    (
-        "write(abs(-3):1, odd(-3):6, sqr(-3):11)",
-        "3  true          9",
-    ),
-    (
-        "write(abs(-1):1, odd(-1):6, sqr(-1):11)",
-        "1  true          1",
-    ),
-    ("write(abs(0):1, odd(0):6, sqr(0):11)", "0 false          0"),
-    ("write(abs(1):1, odd(1):6, sqr(1):11)", "1  true          1"),
-    (
-        "write(abs(46340):1, odd(46340):6, sqr(46340):11)",
-        "46340 false 2147395600",
-    ),
-    (
-        "write(abs(46341):1, odd(46341):6, sqr(46341):11)",
-        "46341  true!2",
-    ),
-    (
-        "write(abs(2147483647):1, odd(2147483647):6, sqr(2147483647):11)",
-        "2147483647  true!2",
-    ),
-];
-
-#[test]
-fn programs_write_what_they_should(rt: HostRuntime) -> Result<(), Fail> {
-    all_hold(rt.alloc(), &RUNS, statements_told)
 }
 
 /// The operands of the tables, in order: about 0 and the root of maxint, and the ends of integer.
@@ -228,4 +150,12 @@ static OPERATORS: [(&str, &str); 9] = [
 #[test]
 fn operators_give_what_the_tables_say(rt: HostRuntime) -> Result<(), Fail> {
     all_hold(rt.alloc(), &OPERATORS, operator_told)
+}
+
+#[test]
+fn laws_are_called(_rt: HostRuntime) -> Result<(), Fail> {
+    laws::turns_extend_the_output();
+    laws::endings_stay();
+    laws::chains_go_left_to_right();
+    Ok(())
 }

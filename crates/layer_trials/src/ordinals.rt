@@ -4,19 +4,23 @@ use std::process::Abort;
 use std::test::Fail;
 use types::{MAXINT, OrdinalRange, TypeForm, TypeId, TypeTable, required_form};
 
+/// Whether a range is that from the first number to the last.
+fn has_range(range: Option<OrdinalRange>, first: i32, last: i32) -> bool {
+    match range {
+        Some(range) => range.first == first && range.last == last,
+        None => false,
+    }
+}
+
 /// Whether integer is as it should be in the table of the required types.
 fn integer_holds(table: &TypeTable) -> bool
     requires { vec_len table.now.forms ≡ 2 }
 {
     let integer = TypeTable::INTEGER;
-    let range = OrdinalRange {
-        first: -2147483647,
-        last: 2147483647,
-    };
     table.same(integer, integer)
         && table.compatible(integer, integer)
         && table.cells(integer) == 1
-        && table.range(integer) == Some(range)
+        && has_range(table.range(integer), -2147483647, 2147483647)
         && MAXINT == 2147483647
 }
 
@@ -36,7 +40,7 @@ fn boolean_holds(table: &TypeTable) -> bool
     table.same(boolean, boolean)
         && table.compatible(boolean, boolean)
         && table.cells(boolean) == 1
-        && table.range(boolean) == Some(OrdinalRange { first: 0, last: 1 })
+        && has_range(table.range(boolean), 0, 1)
 }
 
 /// Whether neither type is the other there.
@@ -51,9 +55,10 @@ fn are_apart(table: &TypeTable) -> bool
 
 /// Whether the required forms are these two.
 fn forms_hold() -> bool {
-    required_form(TypeTable::INTEGER) == Some(TypeForm::Integer)
-        && required_form(TypeTable::BOOLEAN) == Some(TypeForm::Boolean)
+    matches!(required_form(TypeTable::INTEGER), Some(TypeForm::Integer))
+        && matches!(required_form(TypeTable::BOOLEAN), Some(TypeForm::Boolean))
         && required_form(TypeId { index: 2 }).is_none()
+        && has_range(Some(TypeForm::Boolean.range()), 0, 1)
 }
 
 #[test]

@@ -4,7 +4,7 @@ use std::process::Abort;
 use std::test::Fail;
 use types::TypeTable;
 
-// What is done to the regions.
+/// What is done to the regions.
 #[derive(Clone, Copy)]
 enum Step {
     /// A region opens that knows these names.
@@ -15,23 +15,37 @@ enum Step {
     Close,
 }
 
-// What a step gives: the root that a name denotes, where it asks for a name.
+/// What a step gives: the root that a name denotes, where it asks for a name.
 type Given = Result<Option<u32>, ScopeFault>;
 
-static STEPS: [(Step, Given); 12] = [
-    (Step::Find("a"), Err(ScopeFault::NotDeclared)),
-    (Step::Open(&["a", "b"]), Ok(None)),
-    (Step::Declare("a", 0), Ok(None)),
-    (Step::Open(&["a"]), Ok(None)),
-    (Step::Find("a"), Err(ScopeFault::UsedBeforeDeclared)),
-    (Step::Declare("a", 1), Ok(None)),
-    (Step::Find("a"), Ok(Some(1))),
-    (Step::Find("b"), Err(ScopeFault::UsedBeforeDeclared)),
-    (Step::Find("c"), Err(ScopeFault::NotDeclared)),
-    (Step::Declare("a", 2), Err(ScopeFault::DeclaredTwice)),
-    (Step::Close, Ok(None)),
-    (Step::Find("a"), Ok(Some(0))),
+/// Steps, and in a word what they give.
+static STEPS: [(Step, &str); 12] = [
+    (Step::Find("a"), "not declared"),
+    (Step::Open(&["a", "b"]), "done"),
+    (Step::Declare("a", 0), "done"),
+    (Step::Open(&["a"]), "done"),
+    (Step::Find("a"), "used before"),
+    (Step::Declare("a", 1), "done"),
+    (Step::Find("a"), "root 1"),
+    (Step::Find("b"), "used before"),
+    (Step::Find("c"), "not declared"),
+    (Step::Declare("a", 2), "declared twice"),
+    (Step::Close, "done"),
+    (Step::Find("a"), "root 0"),
 ];
+
+fn word_of(given: Given) -> &'static str {
+    match given {
+        Ok(None) => "done",
+        Ok(Some(0)) => "root 0",
+        Ok(Some(1)) => "root 1",
+        Ok(Some(_)) => "another root",
+        Err(ScopeFault::Memory) => "no memory",
+        Err(ScopeFault::DeclaredTwice) => "declared twice",
+        Err(ScopeFault::UsedBeforeDeclared) => "used before",
+        Err(ScopeFault::NotDeclared) => "not declared",
+    }
+}
 
 fn opened(alloc: Global, scopes: &mut Scopes, names: &[&str]) -> Given {
     let mut known = Vec::new(alloc);
@@ -75,7 +89,10 @@ fn the_innermost_region_decides(rt: HostRuntime) -> Result<(), Fail> {
     let alloc = rt.alloc();
     let mut scopes = Scopes::new(alloc);
     for (step, wanted) in &STEPS {
-        assert!(rt; given(alloc, &mut scopes, *step) == *wanted);
+        let word = word_of(given(alloc, &mut scopes, *step));
+        if word != *wanted {
+            return Err(Fail::new(word));
+        }
     }
     Ok(())
 }

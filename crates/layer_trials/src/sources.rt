@@ -9,7 +9,7 @@ use typed_tree::tree::Tree;
 
 /// The typed tree of a source, or why it has none. Each source of a test has a syntax tree: one without would count as
 /// one for which there is no memory.
-pub(crate) fn resolved(alloc: Global, source: &str) -> Result<Tree, TypeFault> {
+fn resolved(alloc: Global, source: &str) -> Result<Tree, TypeFault> {
     match tokens(alloc, source.as_bytes()) {
         Ok(list) => list_resolved(alloc, &list),
         Err(_) => Err(TypeFault::Memory),

@@ -1,0 +1,43 @@
+use crate::sources::tree_of;
+use code_generator::fault::GenFault;
+use code_generator::generate::generate;
+use pcode_assembler::code::Code;
+use std::alloc::Global;
+use std::test::Fail;
+use test_words::machines::run_told;
+use test_words::rows::all_hold;
+
+/// The code of a program with two variables. Each program of a test has a typed tree: one without would count as one
+/// for which there is no memory.
+fn code_of(alloc: Global, statements: &str) -> Result<Code, GenFault> {
+    match tree_of(alloc, "a, b: integer", statements) {
+        Ok(tree) => generate(alloc, &tree),
+        Err(_) => Err(GenFault::Memory),
+    }
+}
+
+/// What the run of a program writes in a store of so many cells, and behind it how it stops.
+fn code_run_told(alloc: Global, row: &(&str, u32)) -> Result<String, Fail> {
+    let code = code_of(alloc, row.0)?;
+    run_told(alloc, &code, row.1.max(1).min(9), 1000)
+}
+
+/// Programs and the cells of the store, of which a width beside its value takes one.
+static RUNS: [((&str, u32), &str); 7] = [
+    (
+        ("a := 7; b := a - 10; writeln(a + b, -a)", 8),
+        "         4        -7\n",
+    ),
+    (("write(-7 mod 2)", 8), "        -1"),
+    // The left operand is undefined, and it is the first that is looked at.
+    (("write(a div b)", 8), "error"),
+    (("write(true : 2, 5 : 1)", 8), "tr5"),
+    (("write(sqr(9))", 8), "        81"),
+    (("write(1 : 1 + 2)", 9), "  1"),
+    (("write(1 : 1 + 2)", 8), "full"),
+];
+
+#[test]
+fn code_runs(rt: HostRuntime) -> Result<(), Fail> {
+    all_hold(rt.alloc(), &RUNS, code_run_told)
+}

@@ -1,0 +1,116 @@
+use check_remover::remove::remove;
+use pcode_assembler::code::{Code, Site};
+use pcode_assembler::instr::Instr;
+use std::alloc::{AllocError, Global};
+use std::test::Fail;
+use test_words::machines::run_told;
+use test_words::rows::all_hold;
+
+const OVERFLOW: Site = Site {
+    id: 0,
+    line: 1,
+    column: 1,
+    kind: 11,
+};
+
+const FITS: Site = Site {
+    id: 1,
+    line: 1,
+    column: 2,
+    kind: 2,
+};
+
+const SITES: [Site; 2] = [OVERFLOW, FITS];
+
+const SUM: Instr = Instr::CheckSum { site: 0 };
+
+const IN_RANGE: Instr = Instr::CheckRange {
+    site: 1,
+    low: 1,
+    high: 9,
+};
+
+/// A number that neither check lets pass: with the range's check gone the sum's stops the run, and with both gone the
+/// sum is written.
+const WHOLE: &[Instr] = &[
+    Instr::Enter {
+        variables: 0,
+        evaluation: 2,
+    },
+    Instr::LoadConstant { value: 2147483647 },
+    IN_RANGE,
+    Instr::LoadConstant { value: 2 },
+    SUM,
+    Instr::Add,
+    Instr::LoadConstant { value: 1 },
+    Instr::WriteInteger,
+    Instr::Stop,
+];
+
+fn code_of(alloc: Global, instructions: &[Instr]) -> Result<Code, AllocError> {
+    Ok(Code {
+        sites: SITES.to_vec(alloc)?,
+        points: Vec::new(alloc),
+        instructions: instructions.to_vec(alloc)?,
+    })
+}
+
+/// What is left of instructions where these sites are open.
+fn rest(alloc: Global, instructions: &[Instr], open_sites: &[Site]) -> Result<Code, AllocError> {
+    remove(alloc, &code_of(alloc, instructions)?, open_sites)
+}
+
+/// How many instructions are left of the whole, and what they do.
+fn rest_told(alloc: Global, open_sites: &&[Site]) -> Result<String, Fail> {
+    let code = rest(alloc, WHOLE, open_sites)?;
+    let told = run_told(alloc, &code, 6, 100)?;
+    Ok(format!(in alloc; "{} {told}", code.instructions.len())?)
+}
+
+static RUNS: [(&[Site], &str); 4] = [
+    (&[OVERFLOW, FITS], "9 another stop"),
+    (&[FITS], "8 another stop"),
+    (&[OVERFLOW], "8 error"),
+    (&[], "7 -2147483647"),
+];
+
+#[test]
+fn checks_of_open_sites_stay(rt: HostRuntime) -> Result<(), Fail> {
+    all_hold(rt.alloc(), &RUNS, rest_told)
+}
+
+/// A jump to a check at the end, behind a check of the other site.
+const CHECKS_LAST: &[Instr] = &[Instr::Jump { target: 2 }, SUM, IN_RANGE];
+
+/// What is left of the last checks, in words; the table of sites stays.
+fn last_checks_told(alloc: Global, open_sites: &[Site]) -> Result<&'static str, AllocError> {
+    let code = rest(alloc, CHECKS_LAST, open_sites)?;
+    if !matches!(
+        code.sites.as_slice(),
+        [Site { id: 0, .. }, Site { id: 1, .. }]
+    ) {
+        return Ok("other sites");
+    }
+    Ok(match code.instructions.as_slice() {
+        [Instr::Jump { target: 2 }, Instr::CheckSum { site: 0 }] => "to the end, behind the sum",
+        [Instr::Jump { target: 1 }, Instr::CheckRange { site: 1, .. }] => "to the range",
+        [Instr::Jump { target: 1 }] => "to the end",
+        _ => "another code",
+    })
+}
+
+static JUMPS: [(&[Site], &str); 3] = [
+    (&[OVERFLOW], "to the end, behind the sum"),
+    (&[FITS], "to the range"),
+    (&[], "to the end"),
+];
+
+#[test]
+fn jumps_are_moved_over_removed_checks(rt: HostRuntime) -> Result<(), Fail> {
+    for (open_sites, wanted) in &JUMPS {
+        if last_checks_told(rt.alloc(), open_sites)? != *wanted {
+            return Err(Fail::new(*wanted));
+        }
+    }
+    Ok(())
+}
