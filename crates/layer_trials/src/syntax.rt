@@ -1,4 +1,4 @@
-use lexer::place::Place;
+use place::Place;
 use lexer::token::{Kind, Symbol, Token, Word};
 use parser::fault::ParseFault;
 use parser::parse;
