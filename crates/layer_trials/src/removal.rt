@@ -82,35 +82,33 @@ fn checks_of_open_sites_stay(rt: HostRuntime) -> Result<(), Fail> {
 /// A jump to a check at the end, behind a check of the other site.
 const CHECKS_LAST: &[Instr] = &[Instr::Jump { target: 2 }, SUM, IN_RANGE];
 
-/// What is left of the last checks, in words; the table of sites stays.
-fn last_checks_told(alloc: Global, open_sites: &[Site]) -> Result<&'static str, AllocError> {
-    let code = rest(alloc, CHECKS_LAST, open_sites)?;
-    if !matches!(
-        code.sites.as_slice(),
-        [Site { id: 0, .. }, Site { id: 1, .. }]
-    ) {
-        return Ok("other sites");
+fn word_of(instruction: Instr) -> &'static str {
+    match instruction {
+        Instr::Jump { target: 1 } => "jump to 1; ",
+        Instr::Jump { target: 2 } => "jump to 2; ",
+        Instr::CheckSum { site: 0 } => "sum; ",
+        Instr::CheckRange { site: 1, .. } => "range; ",
+        _ => "another; ",
     }
-    Ok(match code.instructions.as_slice() {
-        [Instr::Jump { target: 2 }, Instr::CheckSum { site: 0 }] => "to the end, behind the sum",
-        [Instr::Jump { target: 1 }, Instr::CheckRange { site: 1, .. }] => "to the range",
-        [Instr::Jump { target: 1 }] => "to the end",
-        _ => "another code",
-    })
+}
+
+/// What is left of the last checks and the jump to them.
+fn last_told(alloc: Global, open_sites: &&[Site]) -> Result<String, AllocError> {
+    let code = rest(alloc, CHECKS_LAST, open_sites)?;
+    let mut told = String::new(alloc);
+    for instruction in &code.instructions {
+        told.push_str(word_of(*instruction))?;
+    }
+    Ok(told)
 }
 
 static JUMPS: [(&[Site], &str); 3] = [
-    (&[OVERFLOW], "to the end, behind the sum"),
-    (&[FITS], "to the range"),
-    (&[], "to the end"),
+    (&[OVERFLOW], "jump to 2; sum; "),
+    (&[FITS], "jump to 1; range; "),
+    (&[], "jump to 1; "),
 ];
 
 #[test]
 fn jumps_are_moved_over_removed_checks(rt: HostRuntime) -> Result<(), Fail> {
-    for (open_sites, wanted) in &JUMPS {
-        if last_checks_told(rt.alloc(), open_sites)? != *wanted {
-            return Err(Fail::new(*wanted));
-        }
-    }
-    Ok(())
+    all_hold(rt.alloc(), &JUMPS, last_told)
 }

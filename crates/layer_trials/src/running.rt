@@ -329,8 +329,8 @@ const ASCENDING: &[i32] = &[-2147483647, -1, 0, 1, 46340, 46341, 2147483647];
 
 const OF_ONE: &[Instr] = &[Instr::Absolute, Instr::Square, Instr::Odd];
 
-/// Each of the ascending numbers in a line: its absolute value, its square of 32 bits, and whether it is odd. Worked out
-/// by python3 over whole numbers of any size. The least number of 32 bits has no positive.
+/// Each of the ascending numbers in a line: its absolute value, its square of 32 bits, and whether it is odd. Worked
+/// out by python3 over whole numbers of any size. The least number of 32 bits has no positive.
 static SINGLE: [(OperatorRow, &str); 3] = [
     (
         (OF_ONE, &[0], ASCENDING),
