@@ -7,9 +7,9 @@ ghost use Rattle.declarations.specs.Regions.{placed, OpensRequired, PassesParame
 ghost use Rattle.typed_tree.specs.declared.fault.TypeFault.TheVariants.{Memory};
 
 use place::Place;
-use syntax_tree as syntax;
 use scopes::{Denotation, RequiredFunction, RequiredProcedure, ScopeFault, Scopes};
 use std::alloc::{AllocError, Global};
+use syntax_tree as syntax;
 use typed_tree::fault::TypeFault;
 use typed_tree::tree::Variable;
 use types::{MAXINT, TypeId, TypeTable};

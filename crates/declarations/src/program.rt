@@ -4,9 +4,9 @@ ghost use Rattle.typed_tree.specs.Faults.{Gives};
 ghost use Rattle.typed_tree.specs.declared.fault.TypeFault.TheVariants.{Memory};
 
 use crate::declarations::{declare_parameters, declare_variables, open_block, open_required};
-use syntax_tree::Program;
 use scopes::Scopes;
 use std::alloc::Global;
+use syntax_tree::Program;
 use typed_tree::fault::TypeFault;
 use typed_tree::tree::Variable;
 

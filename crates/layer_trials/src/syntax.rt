@@ -1,7 +1,7 @@
-use place::Place;
 use lexer::token::{Kind, Symbol, Token, Word};
 use parser::fault::ParseFault;
 use parser::parse;
+use place::Place;
 use std::alloc::{AllocError, Global};
 use std::test::Fail;
 use test_words::texts::next_random;

@@ -6,8 +6,8 @@ ghost use Rattle.lexer.specs.declared.fault.LexFault.{LexFault};
 
 use crate::fault::LexFault;
 use crate::piece::{Piece, Refusal, next_piece};
-use place::Place;
 use crate::token::Token;
+use place::Place;
 use std::alloc::Global;
 
 /// The most bytes that a text may have.

@@ -2,9 +2,9 @@ ghost use Rattle.std.specs.Prelude.{◌≡◌, [], ◌∷◌, IfSome, IfOk, ℕ,
 
 use crate::fault::ParseFault;
 use crate::operator::{Level, level_of, operator_of};
-use syntax_tree::{Name, Operator, Sign};
-use place::Place;
 use lexer::token::{Kind, Symbol, Token, Word};
+use place::Place;
+use syntax_tree::{Name, Operator, Sign};
 
 /// The tokens that are left to read.
 #[derive(Clone, Copy)]

@@ -10,10 +10,10 @@ use crate::fault::ParseFault;
 use crate::memory::{boxed, put};
 use crate::nesting::inside;
 use crate::operator::Level;
-use syntax_tree::{Actual, Expr, Link, Operator};
-use place::Place;
 use lexer::token::{Kind, Symbol, Word};
+use place::Place;
 use std::alloc::Global;
+use syntax_tree::{Actual, Expr, Link, Operator};
 
 // expression = simple [relation simple]
 // simple = signed {("+" | "-" | "or") term}

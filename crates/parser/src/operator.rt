@@ -4,8 +4,8 @@ ghost use Rattle.parser.specs.Spelling.{operator_kind};
 ghost use Rattle.parser.specs.WellFormed.{operator_level};
 ghost use Rattle.parser.specs.Level.{level_number};
 
-use syntax_tree::Operator;
 use lexer::token::{Kind, Symbol, Word};
+use syntax_tree::Operator;
 
 /// The operators of one precedence (6.7.2.1).
 #[derive(Clone, Copy, PartialEq, Eq)]

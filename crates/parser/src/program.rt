@@ -9,10 +9,10 @@ use crate::fault::ParseFault;
 use crate::memory::put;
 use crate::nesting::{MAX_NESTING, inside};
 use crate::statement::compound;
-use syntax_tree::{Block, Name, Program, TypeDenoter, VariableGroup};
-use place::Place;
 use lexer::token::{Kind, Symbol, Token, Word};
+use place::Place;
 use std::alloc::Global;
+use syntax_tree::{Block, Name, Program, TypeDenoter, VariableGroup};
 
 /// The syntax tree that the tokens spell (6.2 to 6.10), its parentheses kept. P3 where a token
 /// stands that only forms left out have: the first of these, before all else. Otherwise P1 at the

@@ -9,10 +9,10 @@ use crate::fault::ParseFault;
 use crate::memory::put;
 use crate::nesting::inside;
 use crate::operator::Level;
-use syntax_tree::Stmt;
-use place::Place;
 use lexer::token::{Kind, Symbol, Word};
+use place::Place;
 use std::alloc::Global;
+use syntax_tree::Stmt;
 
 // compound = "begin" statements "end"
 /// The statements of a compound statement (6.8.3.2), and its `end`. Below it `levels` levels are

@@ -9,9 +9,9 @@ ghost use Rattle.typed_tree.specs.declared.fault.TypeFault.TheVariants.{Memory};
 
 use crate::resolver::Resolver;
 use place::Place;
-use syntax_tree as syntax;
 use scopes::{Denotation, RequiredFunction};
 use std::alloc::Global;
+use syntax_tree as syntax;
 use typed_tree::fault::TypeFault;
 use typed_tree::site::SiteKind;
 use typed_tree::tree::{Dyadic, Expr, Link, Monadic, Relation};

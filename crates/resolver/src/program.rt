@@ -8,8 +8,8 @@ ghost use Rattle.resolver.specs.declared.resolver.TheConstants.{MOST_SITES};
 
 use crate::resolver::Resolver;
 use declarations::declare_program;
-use syntax_tree as syntax;
 use std::alloc::Global;
+use syntax_tree as syntax;
 use typed_tree::fault::TypeFault;
 use typed_tree::tree::{Block, Tree};
 use types::TypeTable;

@@ -7,9 +7,9 @@ ghost use Rattle.resolver.specs.declared.resolver.TheConstants.{MOST_SITES, MOST
 
 use declarations::{Declarations, find};
 use place::Place;
-use syntax_tree as syntax;
 use scopes::{Denotation, Scopes};
 use std::alloc::Global;
+use syntax_tree as syntax;
 use typed_tree::fault::TypeFault;
 use typed_tree::site::{Site, SiteKind};
 use typed_tree::tree::{Access, Variable};

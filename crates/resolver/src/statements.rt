@@ -5,8 +5,8 @@ ghost use Rattle.resolver.specs.Typing.{writes_nothing, values_of_type, is_writt
 use crate::expressions::{Typed, first_place};
 use crate::resolver::Resolver;
 use place::Place;
-use syntax_tree as syntax;
 use scopes::{Denotation, RequiredProcedure};
+use syntax_tree as syntax;
 use typed_tree::fault::TypeFault;
 use typed_tree::site::SiteKind;
 use typed_tree::tree::{RangeTest, Representation, Stmt, Width, WriteParameter};
