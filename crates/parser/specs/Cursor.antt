@@ -19,11 +19,13 @@ place_of_next c = elim c.rest.now as (λ _. Place) [ [] ↦ c.end | token ∷ ot
 
 -- just past a token, on its line, the column held at 2^32 - 1
 abbrev pub past_token : Token → Place
-past_token token = record { line = token.place.line; column = min (token.place.column + length token.text.now) (2 ^ 32 - 1) }
+past_token token =
+    record { line = token.place.line; column = min (token.place.column + length token.text.now) (2 ^ 32 - 1) }
 
 -- just past the last token, or where a text begins if there is none
 abbrev pub end_of : List Token → Place
-end_of tokens = elim (slice_get tokens (length tokens - 1)) as (λ _. Place) [ None ↦ start | Some token ↦ past_token token ]
+end_of tokens =
+    elim (slice_get tokens (length tokens - 1)) as (λ _. Place) [ None ↦ start | Some token ↦ past_token token ]
 
 -- a fault that a rule of the grammar tells: a form left out is told before any rule is tried
 abbrev pub IsOfRules : ParseFault → Type 0
