@@ -1,6 +1,7 @@
 -- Two expressions from the same tokens are written alike: by how many tokens there are, and level by level.
 use Rattle.std.proofs.Common.{◌≡◌, ℕ, zero, suc, ◌+◌, ◌<◌, ◌≤◌, Bool, true, false, nat_le, ◌&&◌, List, [], ◌∷◌, ◌++◌, map, length, Option, Some, None, refl, subst, sym, ap, ◌∙◌, arith}
 use Rattle.std.specs.List.{list_all}
+use Rattle.std.specs.Option.{option_map}
 use Rattle.std.proofs.lemmas.Bool.{leb-true, leb-false}
 use Rattle.std.proofs.lemmas.List.{append-nil}
 use Rattle.place.specs.declared.Place.{Place}
@@ -17,7 +18,7 @@ use Rattle.syntax_tree.specs.declared.Actual.{Actual}
 use Rattle.syntax_tree.specs.declared.Link.{Link}
 use Rattle.syntax_tree.specs.declared.Expr.TheOpen as expr
 use Rattle.syntax_tree.specs.declared.Expr.TheViews.{out-Expr, roll-Expr, roll-out-Expr, out-Link, roll-out-Link, out-Actual, roll-Actual, roll-out-Actual}
-use Rattle.syntax_tree.specs.declared.Expr.TheFolds.{map-Expr, map-Actual, fold-roll-Expr, fold-roll-Link, fold-roll-Actual}
+use Rattle.syntax_tree.specs.declared.Expr.TheFolds.{map-Expr, fold-roll-Expr, fold-roll-Link, fold-roll-Actual}
 use Rattle.parser.specs.Spelling.{Lexeme, Spelling, IsSpelledBy, Reads, expr_spelling, actual_spelling, link_spelling, of_kind_at, mark, identifier, sign, operator, operator_kind, in_parentheses, joined, separated}
 use Rattle.parser.specs.Spelling as spell
 use Rattle.parser.specs.WellFormed.{Form, LinkForm, expr_form, is_actual, is_expression, link_form, chain_form, fits, has_items, is_link, operator_level, first_level, operand_level, relation_level, sum_level, signed_level, product_level, factor_level}
@@ -35,9 +36,17 @@ use Rattle.parser.proofs.ExactExpressions.{chain_no_factor, chain_unsigned, term
 use Rattle.parser.proofs.OneTree.{Alike, first_is_one, last_is_one, at_is_one, name_is_one}
 use Rattle.parser.proofs.OneTreeLists.{Parts, EndsPart, more, last, Part, OnePart, InParentheses, in_commas, parenthesized_alike}
 
--- what is written of one layer
-notation_of : (d : expr.Expr-F Expr Actual Link)
-    → expr_notation (roll-Expr d) ≡ note.expr_step (map-Expr Expr Actual Link Notation Notation Notation expr_notation actual_notation link_notation d)
+-- the form, the spelling and the notation of one layer
+abbrev form_layer : expr.Expr-F Expr Actual Link → Form
+form_layer d = form.expr_step (map-Expr Expr Actual Link Form Bool LinkForm expr_form is_actual link_form d)
+
+abbrev spelling_layer : expr.Expr-F Expr Actual Link → Spelling
+spelling_layer d = spell.expr_step (map-Expr Expr Actual Link Spelling Spelling Spelling expr_spelling actual_spelling link_spelling d)
+
+abbrev notation_layer : expr.Expr-F Expr Actual Link → Notation
+notation_layer d = note.expr_step (map-Expr Expr Actual Link Notation Notation Notation expr_notation actual_notation link_notation d)
+
+notation_of : (d : expr.Expr-F Expr Actual Link) → expr_notation (roll-Expr d) ≡ notation_layer d
 notation_of d = fold-roll-Expr Notation Notation Notation note.expr_step note.actual_step note.link_step d
 
 -- an expression of at least this level that begins these tokens
@@ -47,8 +56,9 @@ pub record Stands (level : ℕ) (a c : List Token) (e : Expr) : Type 0 where
 
 -- two from the same tokens, fewer than so many, are written alike
 abbrev pub One : ℕ → ℕ → Type 0
-One level n = (a c d : List Token) (e f : Expr) → length a < n → Stands level a c e → Stands level a d f → Ends level c → Ends level d → Alike Notation
-    (expr_notation e) (expr_notation f) c d
+One level n =
+    (a c d : List Token) (e f : Expr) → length a < n → Stands level a c e → Stands level a d f → Ends level c → Ends level d
+    → Alike Notation (expr_notation e) (expr_notation f) c d
 
 -- ---- chains
 
@@ -67,8 +77,7 @@ record ChainAs (level : ℕ) (a c : List Token) (w : Notation) : Type 0 where
   pub written : w ≡ chained (expr_notation first) (map link_notation links)
 
 chain_with : (level : ℕ) (a c : List Token) (first : Expr) (links : List Link) → (chain_form (expr_form first) (map link_form links)).level ≡ level
-    → (chain_form (expr_form first) (map link_form links)).well ≡ true
-    → Reads a (expr_spelling first ++ joined (map link_spelling links)) c
+    → (chain_form (expr_form first) (map link_form links)).well ≡ true → Reads a (expr_spelling first ++ joined (map link_spelling links)) c
     → ChainAs level a c (bracketed note.chain (expr_notation first ++ row (map link_notation links)))
 unfolding chained
 chain_with level a c first [] e w s = let no : false ≡ true = w in cc
@@ -85,11 +94,8 @@ chain_with level a c first (l ∷ ls) e w s =
       written = refl;
     }
 
-chain_of : (level : ℕ) (a c : List Token) (d : expr.Expr-F Expr Actual Link) → IsLevel level
-    → (form.expr_step (map-Expr Expr Actual Link Form Bool LinkForm expr_form is_actual link_form d)).level ≡ level
-    → (form.expr_step (map-Expr Expr Actual Link Form Bool LinkForm expr_form is_actual link_form d)).well ≡ true
-    → Reads a (spell.expr_step (map-Expr Expr Actual Link Spelling Spelling Spelling expr_spelling actual_spelling link_spelling d)) c
-    → ChainAs level a c (note.expr_step (map-Expr Expr Actual Link Notation Notation Notation expr_notation actual_notation link_notation d))
+chain_of : (level : ℕ) (a c : List Token) (d : expr.Expr-F Expr Actual Link) → IsLevel level → (form_layer d).level ≡ level → (form_layer d).well ≡ true
+    → Reads a (spelling_layer d) c → ChainAs level a c (notation_layer d)
 chain_of level a c (expr.Number v p) is e w s = let b = level_below level is in absurd (omega arith)
 chain_of level a c (expr.Name m) is e w s = let b = level_below level is in absurd (omega arith)
 chain_of level a c (expr.Call m v) is e w s = let b = level_below level is in absurd (omega arith)
@@ -159,8 +165,8 @@ record LinkParted (level : ℕ) (a c : List Token) (l : Link) (ls : List Link) :
   pub no_more : length middle ≤ length a
 
 link_parted : (level : ℕ) (b c : List Token) (l : Link) (ls : List Link) → IsLevel level
-    → Reads b (expr_spelling (out-Link l).operand ++ joined (map link_spelling ls)) c
-    → list_all (is_link level) (map link_form (l ∷ ls)) ≡ true → Ends level c → LinkParted level b c l ls
+    → Reads b (expr_spelling (out-Link l).operand ++ joined (map link_spelling ls)) c → list_all (is_link level) (map link_form (l ∷ ls)) ≡ true → Ends level c
+    → LinkParted level b c l ls
 link_parted level b c l ls is h f ends =
     let r = parted (expr_spelling (out-Link l).operand) (joined (map link_spelling ls)) b c h in
     let all = and_right (is_link level (link_form l)) (list_all (is_link level) (map link_form ls)) f in
@@ -177,8 +183,7 @@ link_parted level b c l ls is h f ends =
     }
 
 links_alike : (level n : ℕ) (a c d : List Token) (ls ms : List Link) → IsLevel level → One (operand_level level) n → length a ≤ n → Linked level a c ls
-    → Linked level a d ms
-    → Alike (List Notation) (map link_notation ls) (map link_notation ms) c d
+    → Linked level a d ms → Alike (List Notation) (map link_notation ls) (map link_notation ms) c d
 links_alike level n a c d [] [] is one few h k = record { written = refl; left = sym h.spelled ∙ k.spelled }
 links_alike level n a c d [] (m ∷ ms) is one few h k = absurd (no_link level a c d m ms h k)
 links_alike level n a c d (l ∷ ls) [] is one few h k = absurd (no_link level a d c l ls k h)
@@ -233,11 +238,8 @@ data SignedAs (a c : List Token) (w : Notation) : Type 0 where
   signed : (s : Sign) (p : Place) (e : Expr) → Reads a (sign s p ∷ expr_spelling e) c → fits product_level (expr_form e) ≡ true → w ≡ bracketed note.signed
       (token (sign s p) ∷ expr_notation e) → SignedAs a c w
 
-signed_of : (a c : List Token) (d : expr.Expr-F Expr Actual Link)
-    → (form.expr_step (map-Expr Expr Actual Link Form Bool LinkForm expr_form is_actual link_form d)).level ≡ signed_level
-    → (form.expr_step (map-Expr Expr Actual Link Form Bool LinkForm expr_form is_actual link_form d)).well ≡ true
-    → Reads a (spell.expr_step (map-Expr Expr Actual Link Spelling Spelling Spelling expr_spelling actual_spelling link_spelling d)) c
-    → SignedAs a c (note.expr_step (map-Expr Expr Actual Link Notation Notation Notation expr_notation actual_notation link_notation d))
+signed_of : (a c : List Token) (d : expr.Expr-F Expr Actual Link) → (form_layer d).level ≡ signed_level → (form_layer d).well ≡ true
+    → Reads a (spelling_layer d) c → SignedAs a c (notation_layer d)
 signed_of a c (expr.Number v p) e w s = absurd (omega arith)
 signed_of a c (expr.Name m) e w s = absurd (omega arith)
 signed_of a c (expr.Call m v) e w s = absurd (omega arith)
@@ -309,12 +311,13 @@ record ActualAs (a c : List Token) (w : Notation) : Type 0 where
   pub written : w ≡ bracketed note.actual (expr_notation value ++ behind)
 
 actual_written : (e : Expr) (w : Option Expr)
-    → actual_notation (roll-Actual (record { value = e; width = w })) ≡ note.actual_step (map-Actual Expr Actual Link Notation Notation Notation expr_notation actual_notation link_notation (record { value = e; width = w }))
-actual_written e w = fold-roll-Actual Notation Notation Notation note.expr_step note.actual_step note.link_step (record { value = e; width = w })
+    → actual_notation (roll-Actual (record { value = e; width = w })) ≡ bracketed note.actual (expr_notation e ++ width_notation (option_map expr_notation w))
+actual_written e None = fold-roll-Actual Notation Notation Notation note.expr_step note.actual_step note.link_step (record { value = e; width = None })
+actual_written e (Some w) =
+    fold-roll-Actual Notation Notation Notation note.expr_step note.actual_step note.link_step (record { value = e; width = Some w })
 
 actual_with : (a c : List Token) (e : Expr) (w : Option Expr) → Reads a (actual_spelling (roll-Actual (record { value = e; width = w }))) c
-    → is_actual (roll-Actual (record { value = e; width = w })) ≡ true
-    → ActualAs a c (actual_notation (roll-Actual (record { value = e; width = w })))
+    → is_actual (roll-Actual (record { value = e; width = w })) ≡ true → ActualAs a c (actual_notation (roll-Actual (record { value = e; width = w })))
 actual_with a c e None h f = record {
   value = e;
   middle = c;
@@ -429,10 +432,8 @@ call_as a c n (x ∷ xs) h f =
     named n (x ∷ xs) h (sym (all_mapped is_actual (x ∷ xs)) ∙ and_right (has_items (map is_actual (x ∷ xs)))
     (list_all (λ well. well) (map is_actual (x ∷ xs))) f) refl
 
-factor_of : (a c : List Token) (d : expr.Expr-F Expr Actual Link)
-    → fits factor_level (form.expr_step (map-Expr Expr Actual Link Form Bool LinkForm expr_form is_actual link_form d)) ≡ true
-    → Reads a (spell.expr_step (map-Expr Expr Actual Link Spelling Spelling Spelling expr_spelling actual_spelling link_spelling d)) c
-    → FactorAs a c (note.expr_step (map-Expr Expr Actual Link Notation Notation Notation expr_notation actual_notation link_notation d))
+factor_of : (a c : List Token) (d : expr.Expr-F Expr Actual Link) → fits factor_level (form_layer d) ≡ true → Reads a (spelling_layer d) c
+    → FactorAs a c (notation_layer d)
 unfolding named_notation
 factor_of a c (expr.Number v p) f s = number v p s refl
 factor_of a c (expr.Name n) f s = named n [] s refl refl
@@ -464,8 +465,7 @@ begins_so a c w (negated p e h f x) = begins _ _ a c h
 begins_so a c w (parenthesized p e h f x) = begins _ _ a c h
 
 factors_alike : (n : ℕ) (a c d : List Token) (v w : Notation) → One relation_level n → One factor_level n → length a ≤ n
-    → (x : FactorAs a c v) (y : FactorAs a d w) → Some (first_kind x) ≡ Some (first_kind y)
-    → Ends factor_level c → Ends factor_level d → Alike Notation v w c d
+    → (x : FactorAs a c v) (y : FactorAs a d w) → Some (first_kind x) ≡ Some (first_kind y) → Ends factor_level c → Ends factor_level d → Alike Notation v w c d
 factors_alike n a c d v w inner factor few (number i p h x) (number j q k y) same ends_one ends_two =
     let b = first_is_one (of_kind_at (kind.Number i) p) (of_kind_at (kind.Number j) q) [] [] a c d h k in
     record {

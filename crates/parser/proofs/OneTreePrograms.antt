@@ -195,7 +195,8 @@ variables_alike a c d (g ∷ gs) (h ∷ hs) i j =
 record BlockAs (a c : List Token) (b : Block) : Type 0 where
   pub middle : List Token
   pub variables : Variables a middle b.variables.items
-  pub behind : Reads middle (word_symbol word.Begin ∷ separated symbol.Semicolon (map stmt_spelling b.statements.items) ++ of_kind_at (kind.Word word.End) b.end ∷ []) c
+  pub behind : Reads middle
+      (word_symbol word.Begin ∷ separated symbol.Semicolon (map stmt_spelling b.statements.items) ++ of_kind_at (kind.Word word.End) b.end ∷ []) c
   pub some : has_items b.statements.items ≡ true
   pub formed : list_all is_statement b.statements.items ≡ true
 
