@@ -26,8 +26,10 @@ Holds (Defined path) environment store = (v : Value) × (value_at environment st
 
 -- each fact about a variable of the list holds
 pub record AllHold (facts : Facts) (environment : Environment) (store : Store) : Type 0 where
-  pub ranges : (root : ℕ) (range : Interval) → slice_get facts.ranges root ≡ Some range → Holds (Range (record { root = root }) range) environment store
-  pub defined : (root : ℕ) → slice_get facts.defined root ≡ Some true → Holds (Defined (record { root = root })) environment store
+  pub ranges : (root : ℕ) (range : Interval) → slice_get facts.ranges root ≡ Some range
+      → Holds (Range (record { root = root }) range) environment store
+  pub defined : (root : ℕ) → slice_get facts.defined root ≡ Some true
+      → Holds (Defined (record { root = root })) environment store
 
 -- what a state says: no run comes to a dead one
 abbrev pub StateHolds : State → Environment → Store → Type 0
@@ -37,4 +39,5 @@ StateHolds (Live facts) environment store = AllHold facts environment store
 -- two visible variables whose places overlap are a listed pair
 abbrev pub Separate : Environment → List (ℕ × ℕ) → Type 0
 Separate environment pairs =
-    (a b : ℕ) (p q : Place) → environment a ≡ Some p → environment b ≡ Some q → a ≢ b → overlap p q ≡ true → Contains pairs (a, b) ⊎ Contains pairs (b, a)
+    (a b : ℕ) (p q : Place) → environment a ≡ Some p → environment b ≡ Some q → a ≢ b → overlap p q ≡ true
+    → Contains pairs (a, b) ⊎ Contains pairs (b, a)

@@ -15,8 +15,8 @@ use Rattle.cert_checker.specs.Holds.{StateHolds, Separate}
 abbrev pub open_in : List ℕ → List Site → List Site
 open_in ids sites = filter (λ site. list_any (λ id. id == site.id) ids) sites
 
--- A certificate is valid for a program, and these sites are open. A certificate of version 1 claims nothing, so it breaks
--- no rule, and no field speaks of it.
+-- A certificate is valid for a program, and these sites are open. A certificate of version 1 claims nothing, so it
+-- breaks no rule, and no field speaks of it.
 pub record Valid (tree : Tree) (certificate : Certificate) (open_sites : List Site) : Type 0 where
   pub unbroken : (program_walk tree).broken ≡ []
   pub open_are : open_sites ≡ open_in (program_walk tree).open_ids tree.sites.items
@@ -24,7 +24,8 @@ pub record Valid (tree : Tree) (certificate : Certificate) (open_sites : List Si
 -- in no run does an error come at a site of the table that isn't open
 abbrev pub ClosedNeverErr : Tree → List Site → Type 0
 ClosedNeverErr tree open_sites =
-    (input : List ℕ) (turns : ℕ) (site : Site) → Contains tree.sites.items site → (meaning tree input turns).ending ≡ Error site.id → Contains open_sites site
+    (input : List ℕ) (turns : ℕ) (site : Site)
+    → Contains tree.sites.items site → (meaning tree input turns).ending ≡ Error site.id → Contains open_sites site
 
 -- the entries of a run
 abbrev pub visits_of : Reply (Unit {0}) → List Visit
@@ -34,9 +35,12 @@ visits_of (Stops ending state) = state.visited
 -- the walk links to the number of an entry a state that holds there
 abbrev pub HoldsAt : List Entry → Visit → Type 0
 HoldsAt linked visit =
-    (entry : Entry) × Contains linked entry × (entry.number ≡ visit.number) × StateHolds entry.state visit.environment visit.store
+    (entry : Entry) × Contains linked entry × (entry.number ≡ visit.number)
+    × StateHolds entry.state visit.environment visit.store
 
--- whenever a run enters a statement or expression, the state that is linked to it holds, and no two variables share a place
+-- whenever a run enters a statement or expression, the state that is linked to it holds, and no two variables share a
+-- place
 abbrev pub StatesHold : Tree → Type 0
 StatesHold tree =
-    (input : List ℕ) (turns : ℕ) (visit : Visit) → Contains (visits_of (run tree input turns)) visit → HoldsAt (program_walk tree).linked visit × Separate visit.environment []
+    (input : List ℕ) (turns : ℕ) (visit : Visit) → Contains (visits_of (run tree input turns)) visit
+    → HoldsAt (program_walk tree).linked visit × Separate visit.environment []

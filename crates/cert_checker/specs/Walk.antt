@@ -71,7 +71,8 @@ give value state = record { value = value; after = state; open_ids = []; broken 
 -- the entry into a statement or an expression
 abbrev pub enter : ℕ → Walking (Unit {0})
 enter number state =
-    record { value = tt; after = state; open_ids = []; broken = []; linked = record { number = number; state = state } ∷ [] }
+    record
+    { value = tt; after = state; open_ids = []; broken = []; linked = record { number = number; state = state } ∷ [] }
 
 -- a site is left open unless it is closed
 abbrev pub left_open : Bool → ℕ → List ℕ
@@ -111,7 +112,8 @@ divisor site range = tested (not (has_number range (pos 0))) site (without_zero_
 
 -- the assignment of a value of a range to a variable
 abbrev pub assign : ℕ → Interval → Walking (Unit {0})
-assign root range state = record { value = tt; after = with_value root range state; open_ids = []; broken = []; linked = [] }
+assign root range state =
+    record { value = tt; after = with_value root range state; open_ids = []; broken = []; linked = [] }
 
 -- the start of a block of so many variables
 abbrev pub begin : ℕ → Walking (Unit {0})

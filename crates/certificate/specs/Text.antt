@@ -35,7 +35,8 @@ lines (byte ∷ more) =
 -- the fault of a line that has its end: only the heading may be the first, and no line may follow it
 abbrev pub ended_fault : ℕ → List ℕ → Option ReadFault
 ended_fault number bytes =
-    if number == 1 then (if bytes_eq bytes (heading One) then None else Some (FirstLine number)) else Some (NotInGrammar number)
+    if number == 1 then (if bytes_eq bytes (heading One) then None else Some (FirstLine number))
+    else Some (NotInGrammar number)
 
 -- the fault of a line of the number: first that it has no end
 abbrev pub line_fault : ℕ → Line → Option ReadFault

@@ -51,4 +51,6 @@ strip open_sites code = strip_by (is_among open_sites) code
 -- each instruction that stays is found where a jump to it goes, its own jump moved
 abbrev pub KeepsInstructions : List Site → List Instr → List Instr → Type 0
 KeepsInstructions open_sites code stripped =
-    (place : ℕ) (i : Instr) → slice_get code place ≡ Some i → stays (is_among open_sites) i ≡ true → slice_get stripped (moved_place (is_among open_sites) code place) ≡ Some (moved (moved_place (is_among open_sites) code) i)
+    (place : ℕ) (i : Instr) → slice_get code place ≡ Some i → stays (is_among open_sites) i ≡ true
+    → slice_get stripped (moved_place (is_among open_sites) code place)
+    ≡ Some (moved (moved_place (is_among open_sites) code) i)

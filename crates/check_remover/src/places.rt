@@ -14,7 +14,8 @@ pub fn places_of(
     code: &[Instr],
     open_ids: &HashSet<u32>,
 ) -> Result<Vec<usize>, AllocError>
-    ensures { IfOk result (λ places. IsPlaces (moved_place (contains nat_eq open_ids.now) code.now) (length code.now) places.items) }
+    ensures { IfOk result (λ places.
+        IsPlaces (moved_place (contains nat_eq open_ids.now) code.now) (length code.now) places.items) }
 {
     let mut places = Vec::new(alloc);
     let mut kept = 0;

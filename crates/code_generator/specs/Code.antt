@@ -100,7 +100,8 @@ link_code = fold-Link (List Instr) (List Instr) expr_step link_step
 -- the code of an assignment: the value, its check, and the store
 abbrev pub assign_code : ℕ → RangeTest → Expr → List Instr
 assign_code root fits value =
-    expr_code value ++ (instr.CheckRange fits.site fits.range.first fits.range.last ∷ instr.Store 0 (variable_offset root) ∷ [])
+    expr_code value
+    ++ (instr.CheckRange fits.site fits.range.first fits.range.last ∷ instr.Store 0 (variable_offset root) ∷ [])
 
 -- the width of a value that has none
 abbrev pub default_width : Representation → Instr
@@ -120,7 +121,8 @@ write_instr representation.Boolean = instr.WriteBoolean
 -- the code that writes a value
 abbrev pub parameter_code : WriteParameter → List Instr
 parameter_code parameter =
-    expr_code parameter.value ++ (width_code parameter.width parameter.representation ++ (write_instr parameter.representation ∷ []))
+    expr_code parameter.value
+    ++ (width_code parameter.width parameter.representation ++ (write_instr parameter.representation ∷ []))
 
 -- a line end behind a writeln
 abbrev pub line_end_code : Bool → List Instr
@@ -188,4 +190,5 @@ body_code variables (Some block) = block_code variables block.body
 
 -- the code of a program: its block, and the end of the run
 abbrev pub program_code : Tree → List Instr
-program_code tree = body_code (operand (length tree.variables.items)) (slice_get tree.blocks.items 0) ++ (instr.Stop ∷ [])
+program_code tree =
+    body_code (operand (length tree.variables.items)) (slice_get tree.blocks.items 0) ++ (instr.Stop ∷ [])

@@ -37,7 +37,8 @@ StopsAs tree ending.Finished s = s ≡ stop.Finished
 StopsAs tree (ending.Error id) s =
     (site : Site) × (slice_get tree.sites.items id ≡ Some site) × (s ≡ stop.Error (in_plain_numbers site))
 StopsAs tree (ending.Input id fault) s =
-    (point : Point) × (slice_get tree.points.items id ≡ Some point) × (s ≡ stop.Input (point_in_plain_numbers point) (same_fault fault))
+    (point : Point) × (slice_get tree.points.items id ≡ Some point)
+    × (s ≡ stop.Input (point_in_plain_numbers point) (same_fault fault))
 StopsAs tree ending.More s = ⊥
 
 -- the run did all that the program does
@@ -62,6 +63,10 @@ IsExplained tree cells means run _ = (turns : ℕ) × DoesAll tree (means turns)
 -- the code follows the program
 pub record Follows (code : Code) (tree : Tree) : Type 0 where
   -- no run is at fault, and each run has its reason in the program
-  pub sound : (input : List ℕ) (cells budget : ℕ) → IsExplained tree cells (meaning tree input) (machine code input cells budget) (machine code input cells budget).stop
+  pub sound : (input : List ℕ) (cells budget : ℕ)
+      → IsExplained tree cells (meaning tree input)
+      (machine code input cells budget) (machine code input cells budget).stop
   -- what the program does is done by some run, unless the store was full
-  pub complete : (input : List ℕ) (cells turns : ℕ) → ((budget : ℕ) × DoesAsMuch tree (meaning tree input turns) (machine code input cells budget)) ⊎ ((budget : ℕ) × ((machine code input cells budget).stop ≡ stop.StoreFull))
+  pub complete : (input : List ℕ) (cells turns : ℕ)
+      → ((budget : ℕ) × DoesAsMuch tree (meaning tree input turns) (machine code input cells budget))
+      ⊎ ((budget : ℕ) × ((machine code input cells budget).stop ≡ stop.StoreFull))

@@ -8,7 +8,8 @@ use Rattle.typed_tree.specs.Sites.{number_of}
 
 -- a site in plain numbers
 abbrev pub in_plain_numbers : Site → Plain
-in_plain_numbers site = record { id = site.id; line = site.place.line; column = site.place.column; kind = number_of site.kind }
+in_plain_numbers site =
+    record { id = site.id; line = site.place.line; column = site.place.column; kind = number_of site.kind }
 
 -- a point in plain numbers
 abbrev pub point_in_plain_numbers : Point → PlainPoint

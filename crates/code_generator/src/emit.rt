@@ -92,7 +92,8 @@ fn emit_parameter(code: &mut Vec<Instr>, parameter: &WriteParameter) -> Result<(
 
 /// The width of a value that is written, checked, or the default one.
 fn emit_width(code: &mut Vec<Instr>, parameter: &WriteParameter) -> Result<(), AllocError>
-    ensures { OnOk result (code.new.items ≡ code.old.items ++ width_code parameter.now.width parameter.now.representation) }
+    ensures { OnOk result (
+        code.new.items ≡ code.old.items ++ width_code parameter.now.width parameter.now.representation) }
 {
     match &parameter.width {
         None => put(code, width_without(parameter.representation)),

@@ -49,7 +49,8 @@ impl From<clap::Error> for WordsFault {
 
 /// Reads the words of `pcom [--go] SOURCE`, the program's name first.
 pub fn pcom_words<'a>(alloc: Global, words: &'a [&'a str]) -> Result<PcomWords<'a>, WordsFault>
-    ensures { MatchResult result (AreSaid (map (λ w. w.now) words.entry.now)) (IsWordsFault (map (λ w. w.now) words.entry.now)) }
+    ensures { MatchResult result
+        (AreSaid (map (λ w. w.now) words.entry.now)) (IsWordsFault (map (λ w. w.now) words.entry.now)) }
 {
     let command = Command::new(alloc, "pcom")
         .version("0.1.0")

@@ -41,7 +41,8 @@ is_included a b = is_vacant a || (int_le b.first a.first && int_le a.last b.last
 -- the least range that includes both
 abbrev pub joined : Interval → Interval → Interval
 joined a b =
-    if is_vacant a then b else (if is_vacant b then a else record { first = int_min a.first b.first; last = int_max a.last b.last })
+    if is_vacant a then b
+    else (if is_vacant b then a else record { first = int_min a.first b.first; last = int_max a.last b.last })
 
 -- the range from a first to a last number
 abbrev pub between : ℤ → ℤ → Interval
@@ -53,11 +54,15 @@ common a b = between (int_max a.first b.first) (int_min a.last b.last)
 
 -- the sums of a number of each
 abbrev pub sum : Interval → Interval → Interval
-sum a b = if is_vacant a || is_vacant b then vacant else record { first = a.first +ℤ b.first; last = a.last +ℤ b.last }
+sum a b =
+    if is_vacant a || is_vacant b then vacant
+    else record { first = a.first +ℤ b.first; last = a.last +ℤ b.last }
 
 -- the differences of a number of each
 abbrev pub difference : Interval → Interval → Interval
-difference a b = if is_vacant a || is_vacant b then vacant else record { first = a.first -ℤ b.last; last = a.last -ℤ b.first }
+difference a b =
+    if is_vacant a || is_vacant b then vacant
+    else record { first = a.first -ℤ b.last; last = a.last -ℤ b.first }
 
 -- the negatives
 abbrev pub negated : Interval → Interval
@@ -70,7 +75,8 @@ hull p q r s = record { first = int_min (int_min p q) (int_min r s); last = int_
 -- the products of a number of each
 abbrev pub product : Interval → Interval → Interval
 product a b =
-    if is_vacant a || is_vacant b then vacant else hull (a.first *ℤ b.first) (a.first *ℤ b.last) (a.last *ℤ b.first) (a.last *ℤ b.last)
+    if is_vacant a || is_vacant b then vacant
+    else hull (a.first *ℤ b.first) (a.first *ℤ b.last) (a.last *ℤ b.first) (a.last *ℤ b.last)
 
 -- the absolute value of a number
 abbrev pub magnitude : ℤ → ℤ
@@ -84,17 +90,23 @@ size a = int_max (magnitude a.first) (magnitude a.last)
 abbrev pub squared : Interval → Interval
 squared a =
     if is_vacant a then vacant
-    else (if has_number a (pos 0) then record { first = pos 0; last = size a *ℤ size a } else record { first = int_min (a.first *ℤ a.first) (a.last *ℤ a.last); last = int_max (a.first *ℤ a.first) (a.last *ℤ a.last) })
+    else (if has_number a (pos 0) then record { first = pos 0; last = size a *ℤ size a }
+    else record
+    { first = int_min (a.first *ℤ a.first) (a.last *ℤ a.last); last = int_max (a.first *ℤ a.first) (a.last *ℤ a.last) })
 
 -- the absolute values
 abbrev pub absolute : Interval → Interval
 absolute a =
     if is_vacant a then vacant
-    else (if has_number a (pos 0) then record { first = pos 0; last = size a } else record { first = int_min (magnitude a.first) (magnitude a.last); last = size a })
+    else (if has_number a (pos 0) then record { first = pos 0; last = size a }
+    else record { first = int_min (magnitude a.first) (magnitude a.last); last = size a })
 
 -- the numbers of a range, an end that is 0 cut off
 abbrev pub without_zero_end : Interval → Interval
-without_zero_end a = between (if int_eq a.first (pos 0) then pos 1 else a.first) (if int_eq a.last (pos 0) then neg_ℤ (pos 1) else a.last)
+without_zero_end a =
+    between
+    (if int_eq a.first (pos 0) then pos 1 else a.first)
+    (if int_eq a.last (pos 0) then neg_ℤ (pos 1) else a.last)
 
 -- the numbers of a range from n on
 abbrev pub at_least : ℤ → Interval → Interval
@@ -104,9 +116,11 @@ at_least n a = between (int_max n a.first) a.last
 abbrev pub quotient : Interval → Interval → Interval
 quotient a b =
     if is_vacant a || is_vacant b then vacant
-    else (if has_number b (pos 0) then record { first = neg_ℤ (size a); last = size a } else hull (int_div a.first b.first) (int_div a.first b.last) (int_div a.last b.first) (int_div a.last b.last))
+    else (if has_number b (pos 0) then record { first = neg_ℤ (size a); last = size a }
+    else hull (int_div a.first b.first) (int_div a.first b.last) (int_div a.last b.first) (int_div a.last b.last))
 
--- the remainders of a number of a by one of b that is at least 1: none is negative, nor greater than a dividend that isn't
+-- the remainders of a number of a by one of b that is at least 1: none is negative, nor greater than a dividend that
+-- isn't
 abbrev pub remainder : Interval → Interval → Interval
 remainder a b =
     if is_vacant a || is_vacant b then vacant
@@ -139,11 +153,15 @@ truths first last = record { first = truth first; last = truth last }
 
 -- what and gives for a number of each
 abbrev pub both : Interval → Interval → Interval
-both a b = if is_vacant a || is_vacant b then vacant else truths (always_true a && always_true b) (not (never_true a || never_true b))
+both a b =
+    if is_vacant a || is_vacant b then vacant
+    else truths (always_true a && always_true b) (not (never_true a || never_true b))
 
 -- what or gives for a number of each
 abbrev pub either : Interval → Interval → Interval
-either a b = if is_vacant a || is_vacant b then vacant else truths (always_true a || always_true b) (not (never_true a && never_true b))
+either a b =
+    if is_vacant a || is_vacant b then vacant
+    else truths (always_true a || always_true b) (not (never_true a && never_true b))
 
 -- what not gives for a number of a range
 abbrev pub complement : Interval → Interval

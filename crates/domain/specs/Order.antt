@@ -20,10 +20,14 @@ span-descending p q z low high = (omega (arith, ints, clamps), omega (arith, int
 -- ---- products
 
 times-le : (k : ℕ) (x y : ℤ) → x ≤ℤ y → (x *ℤ pos k) ≤ℤ (y *ℤ pos k)
-times-le k (pos a) (pos b) below = let more = mul-le-mul_right {m = a} {n = b} k (omega (arith, ints)) in omega (arith, ints)
+times-le k (pos a) (pos b) below =
+    let more = mul-le-mul_right {m = a} {n = b} k (omega (arith, ints)) in
+    omega (arith, ints)
 times-le k (pos a) (negsuc b) below = absurd below.le
 times-le k (negsuc a) (pos b) below = omega (arith, ints)
-times-le k (negsuc a) (negsuc b) below = let more = mul-le-mul_right {m = suc b} {n = suc a} k (omega (arith, ints)) in omega (arith, ints)
+times-le k (negsuc a) (negsuc b) below =
+    let more = mul-le-mul_right {m = suc b} {n = suc a} k (omega (arith, ints)) in
+    omega (arith, ints)
 
 times-le_negative : (k : ℕ) (x y : ℤ) → x ≤ℤ y → (y *ℤ negsuc k) ≤ℤ (x *ℤ negsuc k)
 times-le_negative k x y below =
@@ -34,9 +38,11 @@ pub product-between : (first x last y : ℤ) → first ≤ℤ x → x ≤ℤ las
 product-between first x last (pos k) low high =
     span-ascending (first *ℤ pos k) (last *ℤ pos k) (x *ℤ pos k) (times-le k first x low) (times-le k x last high)
 product-between first x last (negsuc k) low high =
-    span-descending (first *ℤ negsuc k) (last *ℤ negsuc k) (x *ℤ negsuc k) (times-le_negative k x last high) (times-le_negative k first x low)
+    span-descending (first *ℤ negsuc k) (last *ℤ negsuc k) (x *ℤ negsuc k)
+    (times-le_negative k x last high) (times-le_negative k first x low)
 
-pub product-between_right : (first y last x : ℤ) → first ≤ℤ y → y ≤ℤ last → HasMember (span (x *ℤ first) (x *ℤ last)) (x *ℤ y)
+pub product-between_right : (first y last x : ℤ) → first ≤ℤ y → y ≤ℤ last
+    → HasMember (span (x *ℤ first) (x *ℤ last)) (x *ℤ y)
 product-between_right first y last x low high =
     let there = product-between first y last x low high in
     rw (*ℤ_comm x first, *ℤ_comm x last, *ℤ_comm x y) there
@@ -72,7 +78,9 @@ quotient-le : (k : ℕ) (x y : ℤ) → x ≤ℤ y → int_div x (pos k) ≤ℤ 
 quotient-le k (pos a) (pos b) below = let more = div-le a b k (omega (arith, ints)) in omega (arith, ints)
 quotient-le k (pos a) (negsuc b) below = absurd below.le
 quotient-le k (negsuc a) (pos b) below = omega (arith, ints)
-quotient-le k (negsuc a) (negsuc b) below = let more = div-le (suc b) (suc a) k (omega (arith, ints)) in omega (arith, ints)
+quotient-le k (negsuc a) (negsuc b) below =
+    let more = div-le (suc b) (suc a) k (omega (arith, ints)) in
+    omega (arith, ints)
 
 quotient-negsuc : (x : ℤ) (k : ℕ) → int_div x (negsuc k) ≡ neg_ℤ (int_div x (pos (suc k)))
 quotient-negsuc (pos a) k = refl
@@ -83,13 +91,17 @@ quotient-le_negative k x y below =
     let more = quotient-le (suc k) x y below in omega (arith, ints, quotient-negsuc x k, quotient-negsuc y k)
 
 -- dividends from a first to a last one give quotients between the quotients of these
-pub quotient-between : (first x last y : ℤ) → first ≤ℤ x → x ≤ℤ last → HasMember (span (int_div first y) (int_div last y)) (int_div x y)
+pub quotient-between : (first x last y : ℤ) → first ≤ℤ x → x ≤ℤ last
+    → HasMember (span (int_div first y) (int_div last y)) (int_div x y)
 quotient-between first x last (pos k) low high =
-    span-ascending (int_div first (pos k)) (int_div last (pos k)) (int_div x (pos k)) (quotient-le k first x low) (quotient-le k x last high)
+    span-ascending (int_div first (pos k)) (int_div last (pos k)) (int_div x (pos k))
+    (quotient-le k first x low) (quotient-le k x last high)
 quotient-between first x last (negsuc k) low high =
-    span-descending (int_div first (negsuc k)) (int_div last (negsuc k)) (int_div x (negsuc k)) (quotient-le_negative k x last high) (quotient-le_negative k first x low)
+    span-descending (int_div first (negsuc k)) (int_div last (negsuc k)) (int_div x (negsuc k))
+    (quotient-le_negative k x last high) (quotient-le_negative k first x low)
 
-divisor-between : (first y last : ℕ) (x : ℤ) → 0 < first → first ≤ y → y ≤ last → HasMember (span (int_div x (pos first)) (int_div x (pos last))) (int_div x (pos y))
+divisor-between : (first y last : ℕ) (x : ℤ) → 0 < first → first ≤ y → y ≤ last
+    → HasMember (span (int_div x (pos first)) (int_div x (pos last))) (int_div x (pos y))
 divisor-between first y last (pos a) present low high =
     let less = div-le_divisor a first y present low in
     let more = div-le_divisor a y last (omega arith) high in
@@ -97,22 +109,28 @@ divisor-between first y last (pos a) present low high =
 divisor-between first y last (negsuc a) present low high =
     let less = div-le_divisor (suc a) first y present low in
     let more = div-le_divisor (suc a) y last (omega arith) high in
-    span-ascending (neg_ℤ (pos (suc a / first))) (neg_ℤ (pos (suc a / last))) (neg_ℤ (pos (suc a / y))) (omega (arith, ints)) (omega (arith, ints))
+    span-ascending (neg_ℤ (pos (suc a / first))) (neg_ℤ (pos (suc a / last))) (neg_ℤ (pos (suc a / y)))
+    (omega (arith, ints)) (omega (arith, ints))
 
 span-negated : (p q z : ℤ) → HasMember (span p q) z → HasMember (span (neg_ℤ q) (neg_ℤ p)) (neg_ℤ z)
 span-negated p q z (low, high) = (omega (arith, ints, clamps), omega (arith, ints, clamps))
 
 -- divisors of one sign from a first to a last one give quotients between the quotients by these
-pub quotient-between_positive : (first y last x : ℤ) → pos 0 <ℤ first → first ≤ℤ y → y ≤ℤ last → HasMember (span (int_div x first) (int_div x last)) (int_div x y)
-quotient-between_positive (pos first) (pos y) (pos last) x present low high = divisor-between first y last x (omega (arith, ints)) (omega (arith, ints)) (omega (arith, ints))
+pub quotient-between_positive : (first y last x : ℤ) → pos 0 <ℤ first → first ≤ℤ y → y ≤ℤ last
+    → HasMember (span (int_div x first) (int_div x last)) (int_div x y)
+quotient-between_positive (pos first) (pos y) (pos last) x present low high =
+    divisor-between first y last x (omega (arith, ints)) (omega (arith, ints)) (omega (arith, ints))
 quotient-between_positive (negsuc first) y last x present low high = absurd present.lt
 quotient-between_positive (pos first) (negsuc y) last x present low high = absurd low.le
 quotient-between_positive (pos first) (pos y) (negsuc last) x present low high = absurd high.le
 
-pub quotient-between_negative : (first y last x : ℤ) → last <ℤ pos 0 → first ≤ℤ y → y ≤ℤ last → HasMember (span (int_div x first) (int_div x last)) (int_div x y)
+pub quotient-between_negative : (first y last x : ℤ) → last <ℤ pos 0 → first ≤ℤ y → y ≤ℤ last
+    → HasMember (span (int_div x first) (int_div x last)) (int_div x y)
 quotient-between_negative (negsuc first) (negsuc y) (negsuc last) x present low high =
-    let there = divisor-between (suc last) (suc y) (suc first) x (omega arith) (omega (arith, ints)) (omega (arith, ints)) in
-    rw (quotient-negsuc x first, quotient-negsuc x last, quotient-negsuc x y) (span-negated (int_div x (pos (suc last))) (int_div x (pos (suc first))) (int_div x (pos (suc y))) there)
+    let there =
+    divisor-between (suc last) (suc y) (suc first) x (omega arith) (omega (arith, ints)) (omega (arith, ints)) in
+    rw (quotient-negsuc x first, quotient-negsuc x last, quotient-negsuc x y)
+    (span-negated (int_div x (pos (suc last))) (int_div x (pos (suc first))) (int_div x (pos (suc y))) there)
 quotient-between_negative first y (pos last) x present low high = absurd (omega (arith, ints))
 quotient-between_negative first (pos y) (negsuc last) x present low high = absurd high.le
 quotient-between_negative (pos first) (negsuc y) (negsuc last) x present low high = absurd low.le
@@ -120,9 +138,12 @@ quotient-between_negative (pos first) (negsuc y) (negsuc last) x present low hig
 -- a quotient's magnitude isn't greater than the dividend's
 pub quotient-le_magnitude : (x y : ℤ) → (neg_ℤ (magnitude x) ≤ℤ int_div x y) × (int_div x y ≤ℤ magnitude x)
 quotient-le_magnitude (pos a) (pos b) = (omega (arith, ints, clamps), omega (arith, ints, clamps, div-le_self a b))
-quotient-le_magnitude (pos a) (negsuc b) = (omega (arith, ints, clamps, div-le_self a (suc b)), omega (arith, ints, clamps))
-quotient-le_magnitude (negsuc a) (pos b) = (omega (arith, ints, clamps, div-le_self (suc a) b), omega (arith, ints, clamps))
-quotient-le_magnitude (negsuc a) (negsuc b) = (omega (arith, ints, clamps), omega (arith, ints, clamps, div-le_self (suc a) (suc b)))
+quotient-le_magnitude (pos a) (negsuc b) =
+    (omega (arith, ints, clamps, div-le_self a (suc b)), omega (arith, ints, clamps))
+quotient-le_magnitude (negsuc a) (pos b) =
+    (omega (arith, ints, clamps, div-le_self (suc a) b), omega (arith, ints, clamps))
+quotient-le_magnitude (negsuc a) (negsuc b) =
+    (omega (arith, ints, clamps), omega (arith, ints, clamps, div-le_self (suc a) (suc b)))
 
 -- ---- remainders
 

@@ -43,12 +43,15 @@ Opens text opening =
 abbrev pub ends_comment : List ℕ → Bool
 ends_comment [] = false
 ends_comment (b ∷ bs) =
-    if begins (codes "}") (b ∷ bs) then length bs == 0 else (if begins (codes "*)") (b ∷ bs) then length bs == 1 else ends_comment bs)
+    if begins (codes "}") (b ∷ bs) then length bs == 0
+    else (if begins (codes "*)") (b ∷ bs) then length bs == 1
+    else ends_comment bs)
 
 -- an opening mark of a comment, and then bytes whose first closing mark is their end: either mark closes either
 abbrev pub is_comment : List ℕ → Bool
 is_comment bytes =
-    (begins (codes "{") bytes && ends_comment (drop 1 bytes)) || (begins (codes "(*") bytes && ends_comment (drop 2 bytes))
+    (begins (codes "{") bytes && ends_comment (drop 1 bytes))
+    || (begins (codes "(*") bytes && ends_comment (drop 2 bytes))
 
 abbrev pub is_letters : List ℕ → Bool
 is_letters [] = false

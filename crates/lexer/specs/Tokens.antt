@@ -64,7 +64,8 @@ fault_of (refusal.StringByte offset) place = fault.StringByte place
 abbrev pub StopsAt : List ℕ → LexFault → Type 0
 StopsAt text found =
     (pieces : List (Piece × ℕ)) × (rest : List ℕ) × Leaves text pieces rest × (rest ≢ []) × (why : Refusal)
-    × (piece_at rest ≡ Err why) × (found ≡ fault_of why (place_of (take (length text - length rest + offset_of why) text)))
+    × (piece_at rest ≡ Err why)
+    × (found ≡ fault_of why (place_of (take (length text - length rest + offset_of why) text)))
 
 -- the first fault of a text: that it is too long is told before all others
 abbrev pub IsFirstFault : List ℕ → LexFault → Type 0

@@ -1,5 +1,6 @@
--- What holds of the meaning of every program (ISO 7185:1990, 6.7.2.1, 6.8): a run with more turns goes on from where the
--- shorter one was, and a chain of operators is calculated from left to right. It says nothing of what the single steps are.
+-- What holds of the meaning of every program (ISO 7185:1990, 6.7.2.1, 6.8): a run with more turns goes on from where
+-- the shorter one was, and a chain of operators is calculated from left to right. It says nothing of what the single
+-- steps are.
 use Rattle.std.specs.Prelude.{◌≡◌, ◌≢◌, ℕ, ◌+◌, List, ◌++◌}
 use Rattle.std.specs.declared.alloc.Global.{Global}
 use Rattle.std.specs.declared.boxed.Box.{Box}
@@ -29,5 +30,7 @@ EndingsStay =
 -- where the beginning of a chain stops, the chain stops there, whatever stands to the right
 abbrev pub ChainsGoLeftToRight : Type 0
 ChainsGoLeftToRight =
-    (first : Box Expr Global) (rest longer : Vec Link Global) (more : List Link) (env : Environment) (s t : State) (end : Ending) →
-    longer.items ≡ rest.items ++ more → value_of (Chain first rest) env s ≡ Stops end t → value_of (Chain first longer) env s ≡ Stops end t
+    (first : Box Expr Global) (rest longer : Vec Link Global) (more : List Link)
+    (env : Environment) (s t : State) (end : Ending)
+    → longer.items ≡ rest.items ++ more → value_of (Chain first rest) env s ≡ Stops end t
+    → value_of (Chain first longer) env s ≡ Stops end t

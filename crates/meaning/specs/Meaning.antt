@@ -185,12 +185,14 @@ completed (b ∷ c ∷ bytes) = b ∷ completed (c ∷ bytes)
 
 -- the state at the start of a run: nothing is defined, and the program's own activation is the first
 abbrev pub first_state : List ℕ → ℕ → State
-first_state input turns = record { store = []; input = completed input; output = []; turns = turns; activations = 1; visited = [] }
+first_state input turns =
+    record { store = []; input = completed input; output = []; turns = turns; activations = 1; visited = [] }
 
 -- the variables of the program's block lie in its activation
 abbrev pub program_environment : Tree → Environment
 program_environment tree root =
-    if nat_lt root (length tree.variables.items) then Some (record { activation = 0; variable = root; steps = [] }) else None
+    if nat_lt root (length tree.variables.items) then Some (record { activation = 0; variable = root; steps = [] })
+    else None
 
 -- what a program writes, and how it ends
 pub record Meaning : Type 0 where

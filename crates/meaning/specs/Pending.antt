@@ -83,12 +83,15 @@ resumed env (work.Parameters parameters ends_line) next operands = do
 resumed env (work.Parameter parameter) next operands = do
   _ ← parameter_of parameter.now env
   next operands
-resumed env (work.Width parameter) next operands = giving (width_of parameter.now.width parameter.now.representation env) next operands
+resumed env (work.Width parameter) next operands =
+    giving (width_of parameter.now.width parameter.now.representation env) next operands
 resumed env (work.WidthTest site) next operands = with_top (λ w. giving (positive site w) next) operands
 resumed env (work.Write representation) next operands =
     with_top (λ w rest. with_top (λ v below. write (text_of representation v w) >>= λ _. next below) rest) operands
 resumed env (work.Store root fits) next operands =
-    with_top (λ v below. require (is_in fits.range v) fits.site >>= λ _. store (place_of env root) v >>= λ _. next below) operands
+    with_top
+    (λ v below. require (is_in fits.range v) fits.site >>= λ _. store (place_of env root) v >>= λ _. next below)
+    operands
 resumed env (work.Value expression) next operands = giving (value_of expression.now env) next operands
 resumed env (work.Monadic operation) next operands = with_top (λ v. giving (operated operation v) next) operands
 resumed env (work.Links links) next operands = linking env (map link_of links.now) next operands
@@ -118,7 +121,8 @@ abbrev pub rest_of : Environment → Run → State → Reply (Unit {0})
 rest_of env run s = pending_of env (reverse run.pending.items) (reverse run.values.items) s
 
 -- a step answered: it goes on to what the reply goes on to, or the reply stops with this ending and this output
-abbrev pub Continues : (KeptPlace → KeptPlace → Ordering) → Environment → Reply (Unit {0}) → Result (Option Ending) AllocError → Run → Type 0
+abbrev pub Continues : (KeptPlace → KeptPlace → Ordering) → Environment → Reply (Unit {0})
+    → Result (Option Ending) AllocError → Run → Type 0
 Continues cmp env reply (Err e) run = Unit {0}
 Continues cmp env reply (Ok None) run = (s : State) × Agrees cmp run s × (reply ≡ rest_of env run s)
 Continues cmp env reply (Ok (Some ending)) run = (s : State) × (run.output.items ≡ s.output) × (reply ≡ Stops ending s)
@@ -128,13 +132,15 @@ abbrev pub IsFlat : Environment → Type 0
 IsFlat env = (root : ℕ) → place_of env root ≡ record { activation = 0; variable = root; steps = [] }
 
 -- a step does a piece of work: in each state that the run agrees with
-abbrev pub Does : (KeptPlace → KeptPlace → Ordering) → (Environment → Resumption → Resumption) → Run → Result (Option Ending) AllocError → Run → Type 0
+abbrev pub Does : (KeptPlace → KeptPlace → Ordering) → (Environment → Resumption → Resumption) → Run
+    → Result (Option Ending) AllocError → Run → Type 0
 Does cmp piece old result new =
     (env : Environment) → IsFlat env → (s : State) → Agrees cmp old s →
     Continues cmp env (piece env (pending_of env (reverse old.pending.items)) (reverse old.values.items) s) result new
 
 -- a run is done: what it wrote and how it ended are those of all that it had to do
-abbrev pub Finishes : (KeptPlace → KeptPlace → Ordering) → (Environment → Action (Unit {0})) → Run → Result Ending AllocError → Run → Type 0
+abbrev pub Finishes : (KeptPlace → KeptPlace → Ordering) → (Environment → Action (Unit {0})) → Run
+    → Result Ending AllocError → Run → Type 0
 Finishes cmp all old result new =
     (env : Environment) → IsFlat env → (s : State) → Agrees cmp old s →
     IfOk result (λ ending. ended (all env s) ≡ record { output = new.output.items; ending = ending })

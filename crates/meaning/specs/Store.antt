@@ -57,4 +57,6 @@ is_beginning (s ∷ ss) (t ∷ ts) = step_eq s t && is_beginning ss ts
 -- one place is a part of the other, or they are the same
 abbrev pub overlap : Place → Place → Bool
 overlap p q =
-    nat_eq p.activation q.activation && (nat_eq p.variable q.variable && (if is_beginning p.steps q.steps then Bool.true else is_beginning q.steps p.steps))
+    nat_eq p.activation q.activation
+    && (nat_eq p.variable q.variable
+    && (if is_beginning p.steps q.steps then Bool.true else is_beginning q.steps p.steps))

@@ -108,7 +108,8 @@ impl<'t> Run<'t> {
     fn plan(&mut self, next: Work<'t>, later: Work<'t>) -> Result<Option<Ending>, AllocError>
         ensures weight { OnOk result (sum_by weight_of self.new.pending.items
             ≡ sum_by weight_of self.old.pending.items + weight_of later.entry + weight_of next.entry) }
-        ensures does { Does ⟦<Place as Ord>⟧.cmp (λ env rest. resumed env next.entry (resumed env later.entry rest)) self.old result self.new }
+        ensures does { Does ⟦<Place as Ord>⟧.cmp (λ env rest. resumed env next.entry (resumed env later.entry rest))
+            self.old result self.new }
     {
         put(&mut self.pending, later)?;
         put(&mut self.pending, next)?;
@@ -122,7 +123,8 @@ impl<'t> Run<'t> {
         ensures fewer { OnOk result (
             sum_by weight_of self.new.pending.items
             < sum_by weight_of self.old.pending.items + weight_of (Work.Statements statements.entry)) }
-        ensures does { Does ⟦<Place as Ord>⟧.cmp (λ env. resumed env (Work.Statements statements.entry)) self.old result self.new }
+        ensures does { Does ⟦<Place as Ord>⟧.cmp (λ env. resumed env (Work.Statements statements.entry))
+            self.old result self.new }
     {
         match statements.split_first() {
             Some((first, rest)) => self.plan(Work::Statement(first), Work::Statements(rest)),
@@ -134,7 +136,8 @@ impl<'t> Run<'t> {
         ensures fewer { OnOk result (
             sum_by weight_of self.new.pending.items
             < sum_by weight_of self.old.pending.items + weight_of (Work.Statement statement.entry)) }
-        ensures does { Does ⟦<Place as Ord>⟧.cmp (λ env. resumed env (Work.Statement statement.entry)) self.old result self.new }
+        ensures does { Does ⟦<Place as Ord>⟧.cmp (λ env. resumed env (Work.Statement statement.entry))
+            self.old result self.new }
     {
         match statement {
             Stmt::Empty { .. } => Ok(None),
@@ -167,7 +170,8 @@ impl<'t> Run<'t> {
         ensures fewer { OnOk result (
             sum_by weight_of self.new.pending.items
             < sum_by weight_of self.old.pending.items + weight_of (Work.Parameters parameters.entry ends_line)) }
-        ensures does { Does ⟦<Place as Ord>⟧.cmp (λ env. resumed env (Work.Parameters parameters.entry ends_line)) self.old result self.new }
+        ensures does { Does ⟦<Place as Ord>⟧.cmp (λ env. resumed env (Work.Parameters parameters.entry ends_line))
+            self.old result self.new }
     {
         match parameters.split_first() {
             Some((first, rest)) => self.plan(
@@ -185,7 +189,8 @@ impl<'t> Run<'t> {
         ensures fewer { OnOk result (
             sum_by weight_of self.new.pending.items
             < sum_by weight_of self.old.pending.items + weight_of (Work.Parameter parameter.entry)) }
-        ensures does { Does ⟦<Place as Ord>⟧.cmp (λ env. resumed env (Work.Parameter parameter.entry)) self.old result self.new }
+        ensures does { Does ⟦<Place as Ord>⟧.cmp (λ env. resumed env (Work.Parameter parameter.entry))
+            self.old result self.new }
     {
         put(&mut self.pending, Work::Write(parameter.representation))?;
         self.plan(Work::Value(&parameter.value), Work::Width(parameter))
@@ -195,7 +200,8 @@ impl<'t> Run<'t> {
         ensures fewer { OnOk result (
             sum_by weight_of self.new.pending.items
             < sum_by weight_of self.old.pending.items + weight_of (Work.Width parameter.entry)) }
-        ensures does { Does ⟦<Place as Ord>⟧.cmp (λ env. resumed env (Work.Width parameter.entry)) self.old result self.new }
+        ensures does { Does ⟦<Place as Ord>⟧.cmp (λ env. resumed env (Work.Width parameter.entry))
+            self.old result self.new }
     {
         match &parameter.width {
             Some(width) => self.plan(
@@ -216,7 +222,8 @@ impl<'t> Run<'t> {
 
     fn write(&mut self, representation: Representation) -> Result<Option<Ending>, AllocError>
         ensures same { self.new.pending.items ≡ self.old.pending.items }
-        ensures does { Does ⟦<Place as Ord>⟧.cmp (λ env. resumed env (Work.Write representation)) self.old result self.new }
+        ensures does { Does ⟦<Place as Ord>⟧.cmp (λ env. resumed env (Work.Write representation))
+            self.old result self.new }
     {
         let width = self.popped();
         let value = self.popped();
@@ -255,7 +262,8 @@ impl<'t> Run<'t> {
         ensures fewer { OnOk result (
             sum_by weight_of self.new.pending.items
             < sum_by weight_of self.old.pending.items + weight_of (Work.Value expression.entry)) }
-        ensures does { Does ⟦<Place as Ord>⟧.cmp (λ env. resumed env (Work.Value expression.entry)) self.old result self.new }
+        ensures does { Does ⟦<Place as Ord>⟧.cmp (λ env. resumed env (Work.Value expression.entry))
+            self.old result self.new }
     {
         match expression {
             Expr::Constant { value, .. } => self.go_on(Ok(Value::Number(Ordinal::new(*value)))),
@@ -271,7 +279,8 @@ impl<'t> Run<'t> {
 
     fn variable(&mut self, root: u32, defined: u32) -> Result<Option<Ending>, AllocError>
         ensures same { self.new.pending.items ≡ self.old.pending.items }
-        ensures does { Does ⟦<Place as Ord>⟧.cmp (λ env. giving (fetch (place_of env root) defined)) self.old result self.new }
+        ensures does { Does ⟦<Place as Ord>⟧.cmp (λ env. giving (fetch (place_of env root) defined))
+            self.old result self.new }
     {
         let value = self.store.get(&self.place(root)).copied();
         self.go_on(value.ok_or(defined))
@@ -279,7 +288,8 @@ impl<'t> Run<'t> {
 
     fn monadic(&mut self, operation: Monadic) -> Result<Option<Ending>, AllocError>
         ensures same { self.new.pending.items ≡ self.old.pending.items }
-        ensures does { Does ⟦<Place as Ord>⟧.cmp (λ env. resumed env (Work.Monadic operation)) self.old result self.new }
+        ensures does { Does ⟦<Place as Ord>⟧.cmp (λ env. resumed env (Work.Monadic operation))
+            self.old result self.new }
     {
         let operand = self.popped();
         self.go_on(operated_value(operation, operand))
@@ -289,7 +299,8 @@ impl<'t> Run<'t> {
         ensures fewer { OnOk result (
             sum_by weight_of self.new.pending.items
             < sum_by weight_of self.old.pending.items + weight_of (Work.Links links.entry)) }
-        ensures does { Does ⟦<Place as Ord>⟧.cmp (λ env. resumed env (Work.Links links.entry)) self.old result self.new }
+        ensures does { Does ⟦<Place as Ord>⟧.cmp (λ env. resumed env (Work.Links links.entry))
+            self.old result self.new }
     {
         match links.split_first() {
             Some((first, rest)) => {
@@ -302,7 +313,8 @@ impl<'t> Run<'t> {
 
     fn combine(&mut self, operation: Dyadic) -> Result<Option<Ending>, AllocError>
         ensures same { self.new.pending.items ≡ self.old.pending.items }
-        ensures does { Does ⟦<Place as Ord>⟧.cmp (λ env. resumed env (Work.Combine operation)) self.old result self.new }
+        ensures does { Does ⟦<Place as Ord>⟧.cmp (λ env. resumed env (Work.Combine operation))
+            self.old result self.new }
     {
         let right = self.popped();
         let left = self.popped();

@@ -1,5 +1,6 @@
 -- The headline: what a checker's list of open sites promises of a program, for every input and every number of turns
--- (ISO 7185:1990, 3.1). It does not say that an open site can err, that a run ends, or that memory and the store suffice.
+-- (ISO 7185:1990, 3.1). It does not say that an open site can err, that a run ends, or that memory and the store
+-- suffice.
 use Rattle.std.specs.Prelude.{ℕ, List, map}
 use Rattle.lexer.specs.declared.token.Token.{Token}
 use Rattle.lexer.specs.Tokens.{IsTokenList, lexeme_of}

@@ -33,7 +33,8 @@ abbrev pub IsRefusal : List ℕ → List ℕ → Fault → Type 0
 IsRefusal source text Memory = Unit {0}
 IsRefusal source text (Lex fault) = IsFirstFault source fault
 IsRefusal source text (Parse parse.Memory) = ⊥
-IsRefusal source text (Parse fault) = (tokens : List Token) × IsTokenList source (map lexeme_of tokens) × IsFaultOf fault tokens
+IsRefusal source text (Parse fault) =
+    (tokens : List Token) × IsTokenList source (map lexeme_of tokens) × IsFaultOf fault tokens
 IsRefusal source text (Typing typing.Memory) = ⊥
 IsRefusal source text (Typing fault) = (program : Program) × IsWrittenAs source program × (¬ HasTyping program)
 IsRefusal source text (Certificate fault) = (tree : Tree) × IsTypedTreeOf tree source × (first_fault text ≡ Some fault)

@@ -33,7 +33,8 @@ place_text line column = decimal line ++ codes ":" ++ decimal column
 
 -- one line for an open site
 abbrev pub open_line : Site → List ℕ
-open_line site = place_text site.place.line site.place.column ++ codes ": possible error: " ++ name_of site.kind ++ 10 ∷ []
+open_line site =
+    place_text site.place.line site.place.column ++ codes ": possible error: " ++ name_of site.kind ++ 10 ∷ []
 
 -- a letter and a number
 abbrev pub code_text : Code → List ℕ
@@ -95,7 +96,8 @@ refusal_of (fault.Generate f) = generator_refusal f
 abbrev pub refusal_line : Refusal → List ℕ
 refusal_line Memory = codes "no memory\n"
 refusal_line (At place code) = place_text place.line place.column ++ codes ": refused " ++ code_text code ++ 10 ∷ []
-refusal_line (Certificate line code) = codes "certificate:" ++ decimal line ++ codes ": refused " ++ code_text code ++ 10 ∷ []
+refusal_line (Certificate line code) =
+    codes "certificate:" ++ decimal line ++ codes ": refused " ++ code_text code ++ 10 ∷ []
 refusal_line (Whole code) = codes "refused " ++ code_text code ++ 10 ∷ []
 
 -- the status of a refusal: 3 for want of memory, 2 for all else
@@ -132,7 +134,8 @@ machine_text machine.WrongDivisor = codes "M4"
 abbrev pub stop_line : Stop → List ℕ
 stop_line stop.Finished = []
 stop_line (stop.Error site) = place_text site.line site.column ++ codes ": error: " ++ error_name site.kind ++ 10 ∷ []
-stop_line (stop.Input point fault) = place_text point.line point.column ++ codes ": input: " ++ input_name fault ++ 10 ∷ []
+stop_line (stop.Input point fault) =
+    place_text point.line point.column ++ codes ": input: " ++ input_name fault ++ 10 ∷ []
 stop_line stop.More = codes "budget used up\n"
 stop_line stop.StoreFull = codes "store full\n"
 stop_line (stop.Fault fault) = codes "machine fault " ++ machine_text fault ++ 10 ∷ []

@@ -1,5 +1,5 @@
--- What the whole compiler gives: the answers of its layers, one over the other, and a run of the code without the checks
--- of the sites that aren't open. It does not say that a run ends, nor what a writer that fails does not take.
+-- What the whole compiler gives: the answers of its layers, one over the other, and a run of the code without the
+-- checks of the sites that aren't open. It does not say that a run ends, nor what a writer that fails does not take.
 use Rattle.std.specs.Prelude.{◌≡◌, ℕ, List, Option}
 use Rattle.typed_tree.specs.declared.tree.Tree.{Tree}
 use Rattle.typed_tree.specs.declared.site.Site.{Site}
@@ -23,10 +23,11 @@ pub record IsStripped (tree : Tree) (open_sites : List Site) (code : Code) : Typ
   pub sites : code.sites.items ≡ site_table tree.sites.items
   pub points : code.points.items ≡ point_table tree.points.items
 
--- The typed tree of a source was checked by the certificate of a text, with this verdict, for whose open sites the headline
--- holds, and its code without the other checks was run: the stop is that of the run, and the writer's known bytes grew
--- by its output, or by a beginning of it where the writer failed.
-pub record RunsStripped (source text : List ℕ) (verdict : Verdict) (stop : Stop) (cells budget : ℕ) (before after : Option (List ℕ)) : Type 0 where
+-- The typed tree of a source was checked by the certificate of a text, with this verdict, for whose open sites the
+-- headline holds, and its code without the other checks was run: the stop is that of the run, and the writer's known
+-- bytes grew by its output, or by a beginning of it where the writer failed.
+pub record RunsStripped (source text : List ℕ) (verdict : Verdict) (stop : Stop) (cells budget : ℕ)
+    (before after : Option (List ℕ)) : Type 0 where
   pub tree : Tree
   pub typed : IsTypedTreeOf tree source
   pub certificate : Certificate

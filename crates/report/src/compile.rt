@@ -54,7 +54,8 @@ pub fn compile(alloc: Global, source: &[u8], certificate: Option<&[u8]>) -> Resu
     // A source is refused for what the first layer that refuses it says, and for nothing else but memory.
     ensures refused { IfErr result (IsRefusal source.now (text_of certificate.entry)) }
 
-    // The list of open sites is the checker's, and it counted as many entries as the program has statements and expressions.
+    // The list of open sites is the checker's, and it counted as many entries as the program has statements and
+    // expressions.
     ensures checked { IfOk result (λ c. Valid c.tree c.certificate c.verdict.open_sites.items) }
     ensures visits { IfOk result (λ c. c.verdict.visits ≡ entries c.tree) }
 
@@ -120,7 +121,8 @@ pub fn go<R: Feed, W: Sink>(
 
 // The typed tree of a source, whatever its certificate.
 fn typed(alloc: Global, source: &[u8]) -> Result<Tree, Fault>
-    ensures { MatchResult result (IsSoundTreeOf source.now) (λ fault. (text : List ℕ) → IsRefusal source.now text fault) }
+    ensures { MatchResult result (IsSoundTreeOf source.now)
+        (λ fault. (text : List ℕ) → IsRefusal source.now text fault) }
 {
     let tokens = tokens(alloc, source)?;
     let program = parse(alloc, &tokens)?;

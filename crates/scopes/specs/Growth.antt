@@ -1,5 +1,5 @@
--- How regions grow (ISO 7185:1990, 6.2.2): a region opens with the names that its block defines, and then the definitions
--- are passed one after another. It says nothing of which definitions a program has.
+-- How regions grow (ISO 7185:1990, 6.2.2): a region opens with the names that its block defines, and then the
+-- definitions are passed one after another. It says nothing of which definitions a program has.
 use Rattle.std.specs.Prelude.{◌≡◌, ◌⊎◌, ℕ, ◌++◌, Bool, true, false, List, [], ◌∷◌, Option, Some, None, if◌then◌else◌, nat_eq, map, Vec}
 use Rattle.std.specs.List.{list_any}
 use Rattle.std.specs.Cmp.Lexicographic.{pointwise}
@@ -34,7 +34,8 @@ pub record Defines (name : List ℕ) (denotation : Denotation) (old new : List R
   pub was_last : old ≡ outer ++ before ∷ []
   pub last : new ≡ outer ++ after ∷ []
   pub undefined : is_defined (said before name) ≡ false
-  pub says : (other : List ℕ) → said after other ≡ (if pointwise nat_eq other name then Some (Some denotation) else said before other)
+  pub says : (other : List ℕ)
+      → said after other ≡ (if pointwise nat_eq other name then Some (Some denotation) else said before other)
 
 -- the innermost region defines the name already
 pub record DefinesAlready (name : List ℕ) (regions : List Region) : Type 0 where

@@ -1,5 +1,5 @@
--- What is told of the output of a run: the bytes that the writer holds, and those held back for it. It does not say when
--- these go out, nor how many of them a writer took that failed.
+-- What is told of the output of a run: the bytes that the writer holds, and those held back for it. It does not say
+-- when these go out, nor how many of them a writer took that failed.
 use Rattle.std.specs.Prelude.{◌≡◌, ℕ, List, [], ◌++◌, Option, Result, Ok, Err}
 use Rattle.std.specs.Io.KnownBytes.{Appends}
 

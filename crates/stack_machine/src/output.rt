@@ -173,7 +173,8 @@ fn write_all<W: Sink>(piece: &[u8], writer: &mut W) -> Result<(), Stop>
     requires { W.failures writer.old < 2 ^ 64 - 1 }
     ensures only { IsOkUnless result Stop.WriteFailed }
     ensures failures { W.failures writer.new ≡ W.failures writer.old + failures_told result }
-    ensures bytes { PassesOrLoses result (all_told (W.contents writer.old)) (all_told (W.contents writer.new)) piece.now }
+    ensures bytes { PassesOrLoses result
+        (all_told (W.contents writer.old)) (all_told (W.contents writer.new)) piece.now }
 {
     let mut rest = piece;
     while !rest.is_empty() {

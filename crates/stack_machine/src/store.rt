@@ -297,7 +297,8 @@ impl Store {
 
     /// The topmost two numbers, which another may replace.
     fn operands(&self) -> Result<(i32, i32), MachineFault>
-        ensures within { IfOk result (λ _. (self.now.frame + 6 ≤ self.now.used) × (self.now.used < self.now.limit + 2)) }
+        ensures within { IfOk result
+            (λ _. (self.now.frame + 6 ≤ self.now.used) × (self.now.used < self.now.limit + 2)) }
         ensures value { result ≡ frames.operands (view self.now) }
     {
         self.has(2)?;

@@ -77,7 +77,8 @@ module _ (variables sites : ℕ) where
 
   abbrev pub stmt_is_well_formed : Stmt-F Bool → Bool
   stmt_is_well_formed (Empty number) = true
-  stmt_is_well_formed (Assign number target fits value) = nat_lt target.root variables && (is_well_formed_test fits && is_well_formed_expr value)
+  stmt_is_well_formed (Assign number target fits value) =
+      nat_lt target.root variables && (is_well_formed_test fits && is_well_formed_expr value)
   stmt_is_well_formed (Write number parameters ends_line) = all_hold (map is_well_formed_parameter parameters.items)
   stmt_is_well_formed (Compound number statements) = all_hold statements.items
 
@@ -93,4 +94,5 @@ module _ (variables sites : ℕ) where
 pub record IsWellFormed (tree : Tree) : Type 0 where
   -- the four links of a frame and its variables have offsets of 32 bits
   pub few_variables : length tree.variables.items ≤ 4294967291
-  pub body : is_well_formed_body (length tree.variables.items) (length tree.sites.items) (slice_get tree.blocks.items 0) ≡ true
+  pub body : is_well_formed_body (length tree.variables.items) (length tree.sites.items) (slice_get tree.blocks.items 0)
+      ≡ true
