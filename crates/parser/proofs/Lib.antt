@@ -10,11 +10,6 @@ pub mod ExactStatements
 pub mod Kept
 pub mod Led
 pub mod Lists
-pub mod OneTree
-pub mod OneTreeExpressions
-pub mod OneTreeLists
-pub mod OneTreePrograms
-pub mod OneTreeStatements
 pub mod Programs
 pub mod Reading
 pub mod Rules

@@ -2,7 +2,6 @@ pub mod Cursor
 pub mod Kept
 pub mod Level
 pub mod Nesting
-pub mod Notation
 pub mod ParseFault
 pub mod Reading
 pub mod Rules

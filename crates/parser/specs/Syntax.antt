@@ -14,7 +14,6 @@ use Rattle.syntax_tree.specs.declared.Program.{Program}
 use Rattle.parser.specs.Spelling.{Spells, program_spelling}
 use Rattle.parser.specs.WellFormed.{is_program}
 use Rattle.parser.specs.Nesting.{nesting}
-use Rattle.parser.specs.Notation.{notation}
 
 -- how deep a program may nest
 abbrev pub most : ℕ
@@ -46,12 +45,6 @@ HasNoTree tokens = (tree : Program) → ¬ IsTreeOf tree tokens
 -- the tokens have no tree, however deep it nests
 abbrev pub HasNoTreeAtAll : List Token → Type 0
 HasNoTreeAtAll tokens = (tree : Program) → IsTrue (is_program tree) → ¬ Spells tokens (program_spelling tree)
-
--- well formed trees that the tokens spell are one: they are written alike, each form in its brackets
-unfoldable pub HasOneTree : List Token → Type 0
-HasOneTree tokens =
-    (one two : Program) → IsTrue (is_program one) → IsTrue (is_program two)
-    → Spells tokens (program_spelling one) → Spells tokens (program_spelling two) → notation one ≡ notation two
 
 -- memory ran out, or there is no tree, or each is too deep
 abbrev pub IsRefused : List Token → ParseFault → Type 0

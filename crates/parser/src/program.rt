@@ -2,7 +2,7 @@ ghost use Rattle.std.specs.Prelude.{◌≡◌, IfErr, MatchOption, MatchResult};
 ghost use Rattle.parser.specs.Cursor.{IsOfRules};
 ghost use Rattle.parser.specs.Rules.{Read, BeginsList, BeginsNames, BeginsParameters, BeginsGroup, BeginsGroups, BeginsVariables, BeginsBlock, Stop};
 ghost use Rattle.parser.specs.Reading.{ReadsEach, ReadsDeep, NoNext, BeginsStatementPart, Anything};
-ghost use Rattle.parser.specs.Syntax.{first_left_out, is_left_out, IsTreeOf, IsRefused, Answers, HasOneTree};
+ghost use Rattle.parser.specs.Syntax.{first_left_out, is_left_out, IsTreeOf, IsRefused, Answers};
 
 use crate::cursor::Cursor;
 use crate::fault::ParseFault;
@@ -19,12 +19,10 @@ use syntax_tree::{Block, Name, Program, TypeDenoter, VariableGroup};
 /// first token with which no program goes on, or just past the last, or P2 where the nesting passes
 /// `MAX_NESTING`; nesting alone is never P1. The clauses leave the places of P1 and P2 open, and let
 /// P2 stand where P1 might.
-#[tactic(auto, using(crate::proofs::OneTreePrograms::one_tree))]
 pub fn parse<'a>(alloc: Global, tokens: &[Token<'a>]) -> Result<Program<'a>, ParseFault>
     ensures left_out { MatchOption (first_left_out tokens.now) (IfErr result IsOfRules)
         (λ place. result ≡ Err (ParseFault.LeftOut place)) }
     ensures exact { Answers result tokens.now }
-    ensures one_tree { HasOneTree tokens.now }
 {
     match first_left_out(tokens) {
         Some(place) => Err(ParseFault::LeftOut(place)),

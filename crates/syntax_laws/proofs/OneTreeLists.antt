@@ -8,12 +8,12 @@ use Rattle.lexer.specs.declared.token.Symbol.TheVariants as symbol
 use Rattle.lexer.specs.declared.token.Token.{Token}
 use Rattle.parser.specs.Spelling.{Spelling, Reads, mark, separated, in_parentheses}
 use Rattle.parser.specs.Reading.{next_kind, Next, NoNext}
-use Rattle.parser.specs.Notation.{Notation}
+use Rattle.syntax_laws.specs.Notation.{Notation}
 use Rattle.parser.proofs.Lists.{and_left, and_right}
 use Rattle.parser.proofs.Reading.{reads_no_more}
 use Rattle.parser.proofs.Exact.{parted, begins}
 use Rattle.parser.proofs.Led.{led, list_begins}
-use Rattle.parser.proofs.OneTree.{Alike, first_is_one, last_is_one}
+use Rattle.syntax_laws.proofs.OneTree.{Alike, first_is_one, last_is_one}
 
 -- what the parts of a list are: the symbol between them, what stands behind them all, and how they are spelled, formed and written
 pub record Parts (A : Type 0) : Type 0 where

@@ -25,16 +25,16 @@ use Rattle.parser.specs.WellFormed.{Form, LinkForm, expr_form, is_actual, is_exp
 use Rattle.parser.specs.WellFormed as form
 use Rattle.parser.specs.Reading.{next_kind, Ends}
 use Rattle.parser.specs.Nesting.{expr_levels}
-use Rattle.parser.specs.Notation.{Notation, bracketed, token, row, expr_notation, link_notation, actual_notation, width_notation}
-use Rattle.parser.specs.Notation as note
+use Rattle.syntax_laws.specs.Notation.{Notation, bracketed, token, row, expr_notation, link_notation, actual_notation, width_notation}
+use Rattle.syntax_laws.specs.Notation as note
 use Rattle.parser.proofs.Lists.{and_left, and_right, all_mapped}
 use Rattle.parser.proofs.Reading.{reads_no_more}
 use Rattle.parser.proofs.Equations.{spelling_of, form_of, spelling-Alone, spelling-Wide, form-Alone, form-Wide}
 use Rattle.parser.proofs.Exact.{parted, begins}
 use Rattle.parser.proofs.ExactChains.{IsLevel, relation, sum, product, level_below, level_unsigned, operand_above, operand_below, fits_level, fits_well, fits_if, ends_above, close_ends, comma_ends, colon_ends, link_spelled, operator_of_link, operand_of_link, parts_of, behind_with}
 use Rattle.parser.proofs.ExactExpressions.{chain_no_factor, chain_unsigned, term_unsigned}
-use Rattle.parser.proofs.OneTree.{Alike, first_is_one, last_is_one, at_is_one, name_is_one}
-use Rattle.parser.proofs.OneTreeLists.{Parts, EndsPart, more, last, Part, OnePart, InParentheses, in_commas, parenthesized_alike}
+use Rattle.syntax_laws.proofs.OneTree.{Alike, first_is_one, last_is_one, at_is_one, name_is_one}
+use Rattle.syntax_laws.proofs.OneTreeLists.{Parts, EndsPart, more, last, Part, OnePart, InParentheses, in_commas, parenthesized_alike}
 
 -- the form, the spelling and the notation of one layer
 abbrev form_layer : expr.Expr-F Expr Actual Link → Form

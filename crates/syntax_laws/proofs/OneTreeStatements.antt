@@ -17,15 +17,15 @@ use Rattle.parser.specs.Spelling as spell
 use Rattle.parser.specs.WellFormed.{relation_level, is_actual, is_statement, has_items}
 use Rattle.parser.specs.WellFormed as form
 use Rattle.parser.specs.Reading.{next_kind, NoNext, Next, Ends}
-use Rattle.parser.specs.Notation.{Notation, bracketed, token, row, expr_notation, actual_notation, stmt_notation}
-use Rattle.parser.specs.Notation as note
+use Rattle.syntax_laws.specs.Notation.{Notation, bracketed, token, row, expr_notation, actual_notation, stmt_notation}
+use Rattle.syntax_laws.specs.Notation as note
 use Rattle.parser.proofs.Lists.{and_left, and_right, all_mapped, length_map}
 use Rattle.parser.proofs.Exact.{parted, begins}
 use Rattle.parser.proofs.ExactChains.{semicolon_ends, end_ends}
 use Rattle.parser.proofs.ExactPrograms.{some_items}
-use Rattle.parser.proofs.OneTree.{Alike, first_is_one, last_is_one, at_is_one, name_is_one}
-use Rattle.parser.proofs.OneTreeLists.{Parts, EndsPart, more, last, Part, OnePart, Listed, list_alike}
-use Rattle.parser.proofs.OneTreeExpressions.{one_expression, actuals_alike}
+use Rattle.syntax_laws.proofs.OneTree.{Alike, first_is_one, last_is_one, at_is_one, name_is_one}
+use Rattle.syntax_laws.proofs.OneTreeLists.{Parts, EndsPart, more, last, Part, OnePart, Listed, list_alike}
+use Rattle.syntax_laws.proofs.OneTreeExpressions.{one_expression, actuals_alike}
 
 -- the parts of a list of statements
 abbrev pub statement_parts : Parts Stmt
