@@ -100,3 +100,9 @@ fn answers_any_list(rt: HostRuntime) -> Result<(), Fail> {
     }
     Ok(())
 }
+
+#[test]
+fn the_law_is_called(_rt: HostRuntime) -> Result<(), Fail> {
+    syntax_laws::tokens_have_one_tree();
+    Ok(())
+}

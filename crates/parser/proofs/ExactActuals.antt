@@ -95,7 +95,7 @@ pub record IsWide (levels : ℕ) (a c : List Token) : Type 0 where
   pub formed : is_expression width ≡ true
   pub nests : 1 + expr_levels width ≤ levels
 
-no_colon : (c : List Token) → EndsActual c → ¬ (next_kind c ≡ Some (kind.Symbol symbol.Colon))
+pub no_colon : (c : List Token) → EndsActual c → ¬ (next_kind c ≡ Some (kind.Symbol symbol.Colon))
 no_colon c (comma h) e = let no : Some (kind.Symbol symbol.Comma) ≡ Some (kind.Symbol symbol.Colon) = sym h ∙ e in cc
 no_colon c (parenthesis h) e = let no : Some (kind.Symbol symbol.CloseParenthesis) ≡ Some (kind.Symbol symbol.Colon) = sym h ∙ e in cc
 

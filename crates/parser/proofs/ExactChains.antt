@@ -106,12 +106,12 @@ level_unsigned level relation e = absurd (omega arith)
 level_unsigned level sum e = absurd (omega arith)
 level_unsigned level product e = absurd (omega arith)
 
-operand_above : (level : ℕ) → IsLevel level → level + 1 ≤ operand_level level
+pub operand_above : (level : ℕ) → IsLevel level → level + 1 ≤ operand_level level
 operand_above level relation = omega arith
 operand_above level sum = omega arith
 operand_above level product = omega arith
 
-operand_below : (level : ℕ) → IsLevel level → operand_level level ≤ 4
+pub operand_below : (level : ℕ) → IsLevel level → operand_level level ≤ 4
 operand_below level relation = omega arith
 operand_below level sum = omega arith
 operand_below level product = omega arith
@@ -180,10 +180,10 @@ link_level level f h = eqb-true f.level level (and_left (nat_eq f.level level) (
 link_fits : (level : ℕ) (f : LinkForm) → is_link level f ≡ true → fits (operand_level level) f.operand ≡ true
 link_fits level f h = and_right (nat_eq f.level level) (fits (operand_level level) f.operand) h
 
-operator_of_link : (level : ℕ) (l : Link) → is_link level (link_form l) ≡ true → operator_level (out-Link l).operator ≡ level
+pub operator_of_link : (level : ℕ) (l : Link) → is_link level (link_form l) ≡ true → operator_level (out-Link l).operator ≡ level
 operator_of_link level l h = sym (ap (λ (f : LinkForm). f.level) (link_formed l)) ∙ link_level level (link_form l) h
 
-operand_of_link : (level : ℕ) (l : Link) → is_link level (link_form l) ≡ true → fits (operand_level level) (expr_form (out-Link l).operand) ≡ true
+pub operand_of_link : (level : ℕ) (l : Link) → is_link level (link_form l) ≡ true → fits (operand_level level) (expr_form (out-Link l).operand) ≡ true
 operand_of_link level l h = sym (ap (λ (f : LinkForm). fits (operand_level level) f.operand) (link_formed l)) ∙ link_fits level (link_form l) h
 
 -- ---- chains
@@ -219,7 +219,7 @@ pub record HasParts (level : ℕ) (first : Form) (link : LinkForm) (links : List
   pub all : list_all (is_link level) (link ∷ links) ≡ true
   pub few : nat_lt relation_level level || nat_eq (length links) 0 ≡ true
 
-parts_of : (first : Form) (link : LinkForm) (links : List LinkForm) → (chain_form first (link ∷ links)).well ≡ true → HasParts link.level first link links
+pub parts_of : (first : Form) (link : LinkForm) (links : List LinkForm) → (chain_form first (link ∷ links)).well ≡ true → HasParts link.level first link links
 parts_of first link links h =
     let rest = and_right (fits (first_level link.level) first) (list_all (is_link link.level) (link ∷ links) && (nat_lt relation_level link.level || nat_eq (length links) 0)) h in
     record {
@@ -325,7 +325,7 @@ ends_with level a c (l ∷ ls) none h f =
 pub chain_ends : (level levels : ℕ) (a c : List Token) → NoOperator level a → Chain level levels a c → a ≡ c
 chain_ends level levels a c none h = ends_with level a c h.links none h.spelled h.formed
 
-behind_with : (level above : ℕ) (a c : List Token) (links : List Link) → level + 1 ≤ above → above ≤ 4 → Ends level c → Reads a (joined (map link_spelling links)) c → list_all (is_link level) (map link_form links) ≡ true → Ends above a
+pub behind_with : (level above : ℕ) (a c : List Token) (links : List Link) → level + 1 ≤ above → above ≤ 4 → Ends level c → Reads a (joined (map link_spelling links)) c → list_all (is_link level) (map link_form links) ≡ true → Ends above a
 unfolding binds
 behind_with level above a c [] k m ends h f = subst (λ x. Ends above x) (sym h) (ends_above level above c (omega arith) ends)
 behind_with level above a c (l ∷ ls) k m ends h f =

@@ -45,7 +45,7 @@ pub data IsFactor (levels : ℕ) (tokens others : List Token) : Type 0 where
       → fits relation_level (expr_form e) ≡ true → 1 + expr_levels e ≤ levels → IsFactor levels tokens others
 
 -- no chain binds as tightly as a factor
-chain_no_factor : (first : Form) (links : List Link) → fits factor_level (chain_form first (map link_form links)) ≡ true → ⊥
+pub chain_no_factor : (first : Form) (links : List Link) → fits factor_level (chain_form first (map link_form links)) ≡ true → ⊥
 chain_no_factor first [] h = let no : false ≡ true = fits_well factor_level (chain_form first []) h in cc
 chain_no_factor first (l ∷ ls) h =
     let k = fits_level factor_level (chain_form first (map link_form (l ∷ ls))) h in let m = level_below (link_form l).level (link_is_level l) in absurd (omega arith)
@@ -166,7 +166,7 @@ pub data IsSigned (levels : ℕ) (tokens others : List Token) : Type 0 where
   alone : (e : Expr) → BeginsExpr product_level levels tokens others e → IsSigned levels tokens others
   signed : (s : Sign) (p : Place) (e : Expr) → Reads tokens (sign s p ∷ expr_spelling e) others → fits product_level (expr_form e) ≡ true → expr_levels e ≤ levels → IsSigned levels tokens others
 
-chain_unsigned : (first : Form) (links : List Link) → (chain_form first (map link_form links)).level ≡ signed_level → ⊥
+pub chain_unsigned : (first : Form) (links : List Link) → (chain_form first (map link_form links)).level ≡ signed_level → ⊥
 chain_unsigned first [] h = absurd (omega arith)
 chain_unsigned first (l ∷ ls) h = level_unsigned (link_form l).level (link_is_level l) h
 
@@ -211,7 +211,7 @@ factor_unsigned levels Minus p a b c k (named n xs h f m) = let no : Some kind.I
 factor_unsigned levels Minus p a b c k (negated q e h f n) = let no : Some (kind.Word word.Not) ≡ Some (kind.Symbol symbol.Minus) = sym (begins _ _ a c h) ∙ begins _ [] a b k in cc
 factor_unsigned levels Minus p a b c k (parenthesized q e h f n) = let no : Some (kind.Symbol symbol.OpenParenthesis) ≡ Some (kind.Symbol symbol.Minus) = sym (begins _ _ a c h) ∙ begins _ [] a b k in cc
 
-term_unsigned : (levels : ℕ) (s : Sign) (p : Place) (a b c : List Token) (e : Expr) → Reads a (sign s p ∷ []) b → BeginsExpr product_level levels a c e → ⊥
+pub term_unsigned : (levels : ℕ) (s : Sign) (p : Place) (a b c : List Token) (e : Expr) → Reads a (sign s p ∷ []) b → BeginsExpr product_level levels a c e → ⊥
 term_unsigned levels s p a b c e k h = let r = chain_parts product_level levels a c e product h in factor_unsigned levels s p a b r.middle k (factor_parts levels a r.middle r.first r.begun)
 
 -- what stands behind a sign

@@ -34,7 +34,7 @@ use Rattle.parser.proofs.Led.{led, list_begins, led_next, led_some, led_ends}
 pub other_kind : (k l : Kind) (a : List Token) → Next k a → ¬ (Some k ≡ Some l) → NoNext l a
 other_kind k l a h differ e = differ (sym h ∙ e)
 
-some_items : {A : Type 0} (xs : List A) → has_items xs ≡ true → 0 < length xs
+pub some_items : {A : Type 0} (xs : List A) → has_items xs ≡ true → 0 < length xs
 some_items [] h = let no : false ≡ true = h in cc
 some_items (x ∷ xs) h = omega arith
 

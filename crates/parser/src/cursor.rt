@@ -1,4 +1,5 @@
 ghost use Rattle.std.specs.Prelude.{◌≡◌, [], ◌∷◌, IfSome, IfOk, ℕ, ◌↔◌, IsTrue, IfErr, IfNone, MatchBool};
+ghost use Rattle.parser.specs.Cursor.{end_of};
 
 use crate::fault::ParseFault;
 use crate::operator::{Level, level_of, operator_of};
@@ -22,7 +23,8 @@ impl<'t, 'a> Cursor<'t, 'a> {
     ghost use Rattle.parser.specs.Reading.{next_kind, NoSign, NoOperator};
 
     pub fn new(tokens: &'t [Token<'a>]) -> Self
-        ensures { result.rest.now ≡ tokens.now }
+        ensures rest { result.rest.now ≡ tokens.now }
+        ensures end { result.end ≡ end_of tokens.now }
     {
         Cursor {
             rest: tokens,
@@ -214,7 +216,9 @@ fn is_of_kind(token: &Token<'_>, kind: Kind) -> bool
 }
 
 /// Just past the last token, or where a text begins if there is none.
-fn end_of(tokens: &[Token<'_>]) -> Place {
+fn end_of(tokens: &[Token<'_>]) -> Place
+    ensures { result ≡ end_of tokens.now }
+{
     match tokens.last() {
         None => Place::START,
         Some(token) => {
