@@ -1,4 +1,5 @@
--- A law of the syntax (ISO 7185:1990, 6.2 to 6.10): no list of tokens has two trees. It says nothing of how deep they nest.
+-- A law of the syntax (ISO 7185:1990, 6.2 to 6.10): no list of tokens has two trees. It says nothing of how deep they
+-- nest.
 use Rattle.std.specs.Prelude.{◌≡◌, List, IsTrue}
 use Rattle.lexer.specs.declared.token.Token.{Token}
 use Rattle.syntax_tree.specs.declared.Program.{Program}
