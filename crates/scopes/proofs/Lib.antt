@@ -1,1 +1,2 @@
 mod Inserts
+pub mod Known

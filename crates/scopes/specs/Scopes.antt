@@ -1,8 +1,11 @@
 -- What a name denotes (ISO 7185:1990, 6.2.2): the innermost region that defines it decides, and there a use before
--- the definition has no meaning. It says nothing of how names are spelled; here they are in small letters.
-use Rattle.std.specs.Prelude.{ℕ, List, [], ◌∷◌, Option, Some, None, Result, Ok, Err, nat_eq}
+-- the definition has no meaning. A region opens with the names that its block defines, and then the definitions are
+-- passed one after another. It says nothing of how names are spelled; here they are in small letters.
+use Rattle.std.specs.Prelude.{◌≡◌, ℕ, Bool, true, false, List, [], ◌∷◌, Option, Some, None, IsSome, Result, Ok, Err, Vec, if◌then◌else◌, nat_eq, map, fold}
 use Rattle.std.specs.Cmp.Lexicographic.{pointwise}
 use Rattle.std.specs.Map.{lookup}
+use Rattle.std.specs.HashMap.{HashMap}
+use Rattle.std.specs.declared.alloc.Global.{Global}
 use Rattle.scopes.specs.declared.denotation.Denotation.{Denotation}
 use Rattle.scopes.specs.declared.fault.ScopeFault.{ScopeFault}
 use Rattle.scopes.specs.declared.fault.ScopeFault.TheVariants as fault
@@ -21,11 +24,38 @@ decided None outer = outer
 decided (Some None) outer = Err fault.UsedBeforeDeclared
 decided (Some (Some denotation)) outer = Ok denotation
 
--- what a name denotes in regions, the outermost first, where those round them say `outer`
-abbrev pub found_within : Result Denotation ScopeFault → List Region → List ℕ → Result Denotation ScopeFault
-found_within outer [] name = outer
-found_within outer (region ∷ inner) name = found_within (decided (said region name) outer) inner name
-
--- what a name denotes in regions, the outermost first
+-- what a name denotes in regions, the innermost first
 abbrev pub found : List Region → List ℕ → Result Denotation ScopeFault
-found regions name = found_within (Err fault.NotDeclared) regions name
+found [] name = Err fault.NotDeclared
+found (region ∷ outer) name = decided (said region name) (found outer name)
+
+-- a region that says this of a name: where it lists the name already, at its place, and else behind all others
+abbrev pub put : Region → List ℕ → Option Denotation → Region
+put [] name says = (name, says) ∷ []
+put (entry ∷ entries) name says =
+    if pointwise nat_eq name entry.0 then (entry.0, says) ∷ entries else entry ∷ put entries name says
+
+-- the region of a block that defines these names: all of them in order, each once, and none defined yet
+abbrev pub opened : List (List ℕ) → Region
+opened = fold (λ region name. put region name None) []
+
+-- a definition of the name was passed
+abbrev pub is_defined : Option (Option Denotation) → Bool
+is_defined None = false
+is_defined (Some None) = false
+is_defined (Some (Some denotation)) = true
+
+-- the regions once the innermost has passed the definition of a name, which may come once
+abbrev pub define : List ℕ → Denotation → List Region → Result (List Region) ScopeFault
+define name denotation [] = Err fault.NotDeclared
+define name denotation (region ∷ outer) =
+    if is_defined (said region name) then Err fault.DeclaredTwice else Ok (put region name (Some denotation) ∷ outer)
+
+-- a region is open, and the innermost one lists the name
+abbrev pub Knows : List Region → List ℕ → Type 0
+Knows [] name = ⊥
+Knows (region ∷ outer) name = IsSome (said region name)
+
+-- the region that a table is
+abbrev pub region_of : {S : Type 0} → HashMap (Vec ℕ Global) (Option Denotation) S → Region
+region_of table = map (λ entry. (entry.0.items, entry.1)) table.entries

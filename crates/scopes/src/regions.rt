@@ -1,19 +1,19 @@
-ghost use Rattle.std.specs.Prelude.{◌≡◌, ◌-◌, List, [], OnOk, OnErr, IfErr, length, map, nat_eq, take};
+ghost use Rattle.std.specs.Prelude.{◌≡◌, ◌⊎◌, ◌∷◌, List, [], Ok, Err, OnOk, OnErr, IfErr, MatchResult, drop, map, nat_eq, reverse};
 ghost use Rattle.std.specs.Cmp.Lexicographic.{pointwise};
 ghost use Rattle.std.specs.HashMap.{get_by};
-ghost use Rattle.scopes.specs.Scopes.{Region, decided};
-ghost use Rattle.scopes.specs.Growth.{Opens, Defines, Refuses, is_defined, region_of};
+ghost use Rattle.scopes.specs.Scopes.{Region, decided, is_defined, opened, region_of};
+ghost use Rattle.scopes.specs.declared.fault.ScopeFault.TheVariants.{Memory};
 
 use crate::denotation::Denotation;
 use crate::fault::ScopeFault;
 use indexmap::IndexMap;
-use std::alloc::{AllocError, Global};
+use std::alloc::Global;
 use std::marker::Model;
 
 // A region's names, each with what it denotes once its definition was passed.
 type Region = IndexMap<Vec<u8>, Option<Denotation>>;
 
-/// The regions round a place of a program, the outermost first. Names are in lower case.
+/// The regions round a place of a program, the innermost first in its model. Names are in lower case.
 #[derive(Drop)]
 pub struct Scopes {
     blocks: Vec<Region>,
@@ -22,11 +22,11 @@ pub struct Scopes {
 impl Model for Scopes {
     ghost Value = { List Region };
 
-    ghost view = { λ s. map region_of s.blocks.items };
+    ghost view = { λ s. reverse (map region_of s.blocks.items) };
 }
 
 impl Scopes {
-    ghost use Rattle.scopes.specs.Scopes.{found};
+    ghost use Rattle.scopes.specs.Scopes.{Knows, define, found};
 
     /// No region.
     pub fn new(alloc: Global) -> Scopes
@@ -37,30 +37,30 @@ impl Scopes {
         }
     }
 
-    /// Begins a region, with all names that its block will define. Without memory none begins.
-    pub fn open(&mut self, alloc: Global, names: &[Vec<u8>]) -> Result<(), AllocError>
-        ensures opened { OnOk result (Opens (map (λ name. name.items) names.now) self.old self.new) }
+    /// Begins a region with all names that its block will define, each once. Without memory none begins.
+    pub fn open(&mut self, alloc: Global, names: &[Vec<u8>]) -> Result<(), ScopeFault>
+        ensures opened { OnOk result (self.new ≡ opened (map (λ name. name.items) names.now) ∷ self.old) }
+        ensures refused { IfErr result (λ fault. fault ≡ Memory) }
         ensures unchanged { OnErr result (self.new ≡ self.old) }
     {
-        let mut region = IndexMap::new(alloc);
-        for name in names {
-            region.insert(name.clone()?, None)?;
-        }
+        let region = region(alloc, names)?;
         self.blocks.push(region)?;
         Ok(())
     }
 
     /// Ends the innermost region.
     pub fn close(&mut self)
-        ensures { self.new ≡ take (length self.old - 1) self.old }
+        ensures { self.new ≡ drop 1 self.old }
     {
         let _ = self.blocks.pop();
     }
 
-    /// Passes the definition of a name of the innermost region. A refusal leaves all regions as they were.
+    /// Passes the definition of a name that the innermost region lists: once, or it is `DeclaredTwice`. A refusal leaves
+    /// all regions as they were.
     pub fn declare(&mut self, name: Vec<u8>, denotation: Denotation) -> Result<(), ScopeFault>
-        ensures defined { OnOk result (Defines name.items denotation self.old self.new) }
-        ensures refused { IfErr result (Refuses name.items self.old) }
+        requires known { Knows self.old name.items }
+        ensures defined { OnOk result (define name.items denotation self.old ≡ Ok self.new) }
+        ensures refused { IfErr result (λ fault. (fault ≡ Memory) ⊎ (define name.items denotation self.old ≡ Err fault)) }
         ensures unchanged { OnErr result (self.new ≡ self.old) }
     {
         let Some(region) = self.blocks.last_mut() else {
@@ -83,6 +83,17 @@ impl Scopes {
         }
         found
     }
+}
+
+// The region of a block that defines these names.
+fn region(alloc: Global, names: &[Vec<u8>]) -> Result<Region, ScopeFault>
+    ensures { MatchResult result (λ region. region_of region ≡ opened (map (λ name. name.items) names.now)) (λ fault. fault ≡ Memory) }
+{
+    let mut region = IndexMap::new(alloc);
+    for name in names {
+        region.insert(name.clone()?, None)?;
+    }
+    Ok(region)
 }
 
 // Whether the definition of a name was passed in a region.

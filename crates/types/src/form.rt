@@ -1,5 +1,5 @@
-ghost use Rattle.std.specs.Prelude.{◌≡◌, Some, slice_get};
-ghost use Rattle.types.specs.Types.{range_at, required_forms};
+ghost use Rattle.std.specs.Prelude.{◌≡◌, Some};
+ghost use Rattle.types.specs.Types.{form_range, is_same};
 
 /// What a type is made of (ISO 7185:1990, 6.4).
 #[derive(Clone, Copy)]
@@ -13,7 +13,7 @@ pub enum TypeForm {
 impl TypeForm {
     /// The values of the type, which is ordinal.
     pub fn range(self) -> OrdinalRange
-        ensures { Some result ≡ range_at (Some self) }
+        ensures { Some result ≡ form_range (Some self) }
     {
         match self {
             TypeForm::Integer => OrdinalRange {
@@ -26,9 +26,18 @@ impl TypeForm {
 }
 
 /// A type of a table, by its number there.
-#[derive(Clone, Copy, PartialEq, Eq)]
+#[derive(Clone, Copy)]
 pub struct TypeId {
     pub index: usize,
+}
+
+impl TypeId {
+    /// Whether both are one type (6.4.1).
+    pub fn same(self, other: TypeId) -> bool
+        ensures { result ≡ is_same self other }
+    {
+        self.index == other.index
+    }
 }
 
 /// The first and the last value of an ordinal type.
@@ -40,14 +49,3 @@ pub struct OrdinalRange {
 
 /// The largest number of type integer, and the value of maxint (6.4.2.2).
 pub const MAXINT: i32 = 2_147_483_647;
-
-/// What a required type is made of, by its number in each table that `TypeTable::required` makes.
-pub fn required_form(id: TypeId) -> Option<TypeForm>
-    ensures { result ≡ slice_get required_forms id.index }
-{
-    match id.index {
-        0 => Some(TypeForm::Integer),
-        1 => Some(TypeForm::Boolean),
-        _ => None,
-    }
-}

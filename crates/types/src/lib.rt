@@ -4,5 +4,5 @@
 mod form;
 mod table;
 
-pub use form::{MAXINT, OrdinalRange, TypeForm, TypeId, required_form};
+pub use form::{MAXINT, OrdinalRange, TypeForm, TypeId};
 pub use table::TypeTable;

@@ -1,25 +1,35 @@
-ghost use Rattle.std.specs.Prelude.{◌≡◌, ◌<◌, ◌↔◌, IsTrue, IfOk, vec_len};
-ghost use Rattle.types.specs.Types.{form_at, range_at, cells_at, is_compatible, required_forms};
+ghost use Rattle.std.specs.Prelude.{◌≡◌, List, IfOk};
+ghost use Rattle.types.specs.Types.{form_at, required_forms};
+ghost use Rattle.types.specs.declared.form.TypeForm.{TypeForm};
 
 use crate::form::{OrdinalRange, TypeForm, TypeId};
 use std::alloc::{AllocError, Global};
+use std::marker::Model;
 
-/// The types of a program.
+/// The types of a program, by number.
 #[derive(Drop)]
 pub struct TypeTable {
-    pub forms: Vec<TypeForm>,
+    forms: Vec<TypeForm>,
+}
+
+impl Model for TypeTable {
+    ghost Value = { List TypeForm };
+
+    ghost view = { λ table. table.forms.items };
 }
 
 impl TypeTable {
-    /// The type integer in each table that `required` makes.
+    ghost use Rattle.types.specs.Types.{is_compatible, is_assignable, range_of, cells_of};
+
+    /// The type integer in each table.
     pub const INTEGER: TypeId = TypeId { index: 0 };
 
-    /// The type Boolean in such a table.
+    /// The type Boolean in each table.
     pub const BOOLEAN: TypeId = TypeId { index: 1 };
 
     /// The table of the required types.
     pub fn required(alloc: Global) -> Result<TypeTable, AllocError>
-        ensures { IfOk result (λ table. table.forms.items ≡ required_forms) }
+        ensures { IfOk result (λ table. table ≡ required_forms) }
     {
         let mut forms = Vec::new(alloc);
         forms.push(TypeForm::Integer)?;
@@ -27,43 +37,40 @@ impl TypeTable {
         Ok(TypeTable { forms })
     }
 
-    /// Whether two denoters denote the same type.
-    pub fn same(&self, first: TypeId, second: TypeId) -> bool
-        requires first { first.index < vec_len self.now.forms }
-        requires second { second.index < vec_len self.now.forms }
-        ensures { IsTrue result ↔ (first ≡ second) }
+    /// What a type is made of.
+    pub fn form(&self, id: TypeId) -> Option<TypeForm>
+        ensures { result ≡ form_at self.now id }
     {
-        first == second
+        self.forms.get(id.index).copied()
     }
 
     /// Whether two types are compatible (6.4.5).
     pub fn compatible(&self, first: TypeId, second: TypeId) -> bool
-        requires first { first.index < vec_len self.now.forms }
-        requires second { second.index < vec_len self.now.forms }
-        ensures { result ≡ is_compatible (form_at self.now first) (form_at self.now second) }
+        ensures { result ≡ is_compatible self.now first second }
     {
-        match (self.forms[first.index], self.forms[second.index]) {
-            (TypeForm::Integer, TypeForm::Integer) => true,
-            (TypeForm::Boolean, TypeForm::Boolean) => true,
-            _ => false,
-        }
+        first.same(second)
+    }
+
+    /// Whether a value of one type may be assigned to another, if it lies in its range (6.4.6).
+    pub fn assignable(&self, target: TypeId, value: TypeId) -> bool
+        ensures { result ≡ is_assignable self.now target value }
+    {
+        self.compatible(target, value)
     }
 
     /// The values of an ordinal type (6.4.2).
     pub fn range(&self, id: TypeId) -> Option<OrdinalRange>
-        requires { id.index < vec_len self.now.forms }
-        ensures { result ≡ range_at (form_at self.now id) }
+        ensures { result ≡ range_of self.now id }
     {
-        Some(self.forms[id.index].range())
+        Some(self.form(id)?.range())
     }
 
     /// How many cells a variable of the type takes.
     pub fn cells(&self, id: TypeId) -> u32
-        requires { id.index < vec_len self.now.forms }
-        ensures { result ≡ cells_at (form_at self.now id) }
+        ensures { result ≡ cells_of self.now id }
     {
-        match self.forms[id.index] {
-            TypeForm::Integer | TypeForm::Boolean => 1,
+        match self.form(id) {
+            None | Some(TypeForm::Integer | TypeForm::Boolean) => 1,
         }
     }
 }

@@ -1,6 +1,7 @@
-use Rattle.std.proofs.Common.{rules, ◌≡◌, ◌<◌, true, false, map, vec_len, slice_set, refl, ◌-◌, sym, ap, subst, ◌∙◌, Result, Ok, Err, OnErr}
+use Rattle.std.proofs.Common.{rules, ◌≡◌, ◌<◌, ◌-◌, true, false, inl, inr, map, reverse, vec_len, slice_set, refl, sym, ap, subst, ◌∙◌, Result, Ok, Err, OnErr}
 use Rattle.std.specs.HashMap.{get, get_by}
-use Rattle.scopes.specs.Growth.{is_defined, region_of, Defines, DefinesAlready}
+use Rattle.scopes.specs.Scopes.{region_of, is_defined, define}
+use Rattle.scopes.specs.declared.fault.ScopeFault.TheVariants as fault
 use Rattle.scopes.proofs.Inserts.{is_key, key_eq, defines_last, defined_in_last, written_again}
 use Rattle.scopes.proofs.regions.Scopes.declare.Goals as goal
 
@@ -12,9 +13,9 @@ returns-clause-defined c =
     let new : is_defined (get key_eq region c.args.name) ≡ false =
     ap (λ name. is_defined (get_by (is_key name) region)) (sym c.deref.ensures.value) ∙ sym c.is_defined.ensures ∙ c.if-is_defined.false in
     let some : 0 < vec_len blocks = c.last_mut.ensures.variant.0 (search rules) in
-    subst (λ old. Defines c.args.name.items c.args.denotation old (map region_of (slice_set blocks.items (vec_len blocks - 1) c.insert.new.self))) c.self.view_is
-    (defines_last blocks.items (vec_len blocks) region c.insert.new.self c.args.name c.args.denotation
-    blocks.ok.0 some c.in-Some.ensures.value c.in_ok-insert.ensures.entries new)
+    subst (λ old. define c.args.name.items c.args.denotation old ≡ Ok (reverse (map region_of (slice_set blocks.items (vec_len blocks - 1) c.insert.new.self)))) c.self.view_is
+    (defines_last blocks.items (vec_len blocks) region blocks.ok.0 some c.in-Some.ensures.value c.args.name c.args.denotation
+    c.insert.new.self c.in_ok-insert.ensures.entries new)
 
 -- the innermost region has it already
 pub returns-then-is_defined-clause-refused : goal.returns-then-is_defined-clause-refused
@@ -24,19 +25,8 @@ returns-then-is_defined-clause-refused c =
     let there : is_defined (get key_eq region c.args.name) ≡ true =
     ap (λ name. is_defined (get_by (is_key name) region)) (sym c.deref.ensures.value) ∙ sym c.is_defined.ensures ∙ c.if-is_defined.true in
     let some : 0 < vec_len blocks = c.last_mut.ensures.variant.0 (search rules) in
-    subst (DefinesAlready c.args.name.items) c.self.view_is (defined_in_last blocks.items (vec_len blocks) region c.args.name blocks.ok.0 some c.in-Some.ensures.value there)
-
--- nothing is defined, and nothing changes
-pub returns-then-is_defined-clause-defined : goal.returns-then-is_defined-clause-defined
-returns-then-is_defined-clause-defined c = tt
-
-pub returns-then-is_defined-clause-unchanged : goal.returns-then-is_defined-clause-unchanged
-returns-then-is_defined-clause-unchanged c =
-    let blocks = c.self.inside.blocks in
-    let region = c.in-Some.region.now in
-    let some : 0 < vec_len blocks = c.last_mut.ensures.variant.0 (search rules) in
-    subst (λ old. map region_of (slice_set blocks.items (vec_len blocks - 1) region) ≡ old) c.self.view_is
-    (written_again blocks.items (vec_len blocks) region region blocks.ok.0 some c.in-Some.ensures.value refl)
+    inr (subst (λ old. define c.args.name.items c.args.denotation old ≡ Err fault.DeclaredTwice) c.self.view_is
+    (defined_in_last blocks.items (vec_len blocks) region blocks.ok.0 some c.in-Some.ensures.value c.args.name c.args.denotation there))
 
 on_err : {A E P : Type 0} (answer : Result A E) → P → OnErr answer P
 on_err (Ok a) p = tt
@@ -47,5 +37,6 @@ pub returns-in_err-insert-clause-unchanged : goal.returns-in_err-insert-clause-u
 returns-in_err-insert-clause-unchanged c =
     let blocks = c.self.inside.blocks in
     let some : 0 < vec_len blocks = c.last_mut.ensures.variant.0 (search rules) in
-    on_err c.from_residual.result (subst (λ old. map region_of (slice_set blocks.items (vec_len blocks - 1) c.insert.new.self) ≡ old) c.self.view_is
-    (written_again blocks.items (vec_len blocks) c.in-Some.region.now c.insert.new.self blocks.ok.0 some c.in-Some.ensures.value c.in_err-insert.ensures.err))
+    on_err c.from_residual.result (subst (λ old. reverse (map region_of (slice_set blocks.items (vec_len blocks - 1) c.insert.new.self)) ≡ old) c.self.view_is
+    (written_again blocks.items (vec_len blocks) c.in-Some.region.now blocks.ok.0 some c.in-Some.ensures.value c.args.name c.args.denotation
+    c.insert.new.self c.in_err-insert.ensures.err))

@@ -1,7 +1,7 @@
-use Rattle.std.proofs.Common.{◌≡◌, drop}
-use Rattle.scopes.specs.Scopes.{found, found_within}
+use Rattle.std.proofs.Common.{◌≡◌, map, reverse, take}
+use Rattle.scopes.specs.Scopes.{found, region_of}
 use Rattle.scopes.proofs.regions.Scopes.find.Given as goal
 
--- the regions that are left decide over what is found
+-- what the regions so far say
 abbrev pub invariant-loop-region : goal.invariant-loop-region
-invariant-loop-region l = found_within l.found (drop l.region-index l.self) l.name ≡ found l.self l.name
+invariant-loop-region l = l.found ≡ found (reverse (map region_of (take l.region-index l.region-items))) l.name
