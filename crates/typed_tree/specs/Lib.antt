@@ -1,5 +1,5 @@
 pub mod Sites
 pub mod Ids
 pub mod Entries
+pub mod Look
 pub mod WellFormed
-pub mod Faults

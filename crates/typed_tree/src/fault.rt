@@ -31,9 +31,12 @@ pub enum TypeFault {
     /// K8, at a write or writeln without the program parameter output, and at another program parameter.
     #[error("{0}: input or output is no program parameter")]
     NotProgramParameter(Place),
-    /// K10, over 1,000,000 sites or variables, or over 4,000,000 statements and expressions.
+    /// K10, over 1,000,000 sites, or over 4,000,000 statements and expressions.
     #[error("{0}: too many sites, statements or expressions")]
     TooMany(Place),
+    /// Y2, at the variable with which those of a block take over 65,536 cells.
+    #[error("{0}: the variables of a block take too many cells")]
+    TooManyCells(Place),
 }
 
 impl From<AllocError> for TypeFault {

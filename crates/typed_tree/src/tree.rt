@@ -58,16 +58,19 @@ pub enum Stmt {
     Empty {
         number: u32,
     },
-    /// The target is accessed, then comes the value, then its test (subrange).
+    /// The target is accessed, then comes the value, then its test (subrange), with the place of `:=`.
     Assign {
         number: u32,
+        becomes: Place,
         target: Access,
         fits: RangeTest,
         value: Expr,
     },
-    /// A write or writeln: each parameter is written before the next is evaluated; a writeln ends the line behind them.
+    /// A write or writeln, with the place of its name: each parameter is written before the next is evaluated; a writeln
+    /// ends the line behind them.
     Write {
         number: u32,
+        name: Place,
         parameters: Vec<WriteParameter>,
         ends_line: bool,
     },

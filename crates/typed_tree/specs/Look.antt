@@ -1,0 +1,143 @@
+-- How a typed tree looks: its forms in the order of the text, each told by what is decided of it: its number in the
+-- order of entry, the variable, the operation, its sites and places. What encloses others tells where it ends, so two
+-- trees that look alike are alike. It says nothing of which tree a program has.
+use Rattle.std.specs.Prelude.{ℕ, ℤ, ◌++◌, ◌&&◌, Bool, true, List, [], ◌∷◌, Option, Some, None, flat_map, nat_lt}
+use Rattle.place.specs.declared.Place.{Place}
+use Rattle.typed_tree.specs.declared.tree.Tree.{Tree}
+use Rattle.typed_tree.specs.declared.tree.Block.{Block}
+use Rattle.typed_tree.specs.declared.tree.Monadic.{Monadic}
+use Rattle.typed_tree.specs.declared.tree.Dyadic.{Dyadic}
+use Rattle.typed_tree.specs.declared.tree.RangeTest.{RangeTest}
+use Rattle.typed_tree.specs.declared.tree.Representation.{Representation}
+use Rattle.typed_tree.specs.declared.tree.Width.{Width as TotalWidth}
+use Rattle.typed_tree.specs.declared.tree.WriteParameter.{WriteParameter}
+use Rattle.typed_tree.specs.declared.tree.Expr.{Expr}
+use Rattle.typed_tree.specs.declared.tree.Link.{Link}
+use Rattle.typed_tree.specs.declared.tree.Expr.TheOpen.{Expr-F, Link-F}
+use Rattle.typed_tree.specs.declared.tree.Expr.TheOpen.Expr-F.{Constant as ConstantOf, Variable as VariableOf, Monadic as MonadicOf, Chain as ChainOf}
+use Rattle.typed_tree.specs.declared.tree.Expr.TheFolds.{fold-Expr, fold-Link}
+use Rattle.typed_tree.specs.declared.tree.Stmt.{Stmt}
+use Rattle.typed_tree.specs.declared.tree.Stmt.TheOpen.{Stmt-F}
+use Rattle.typed_tree.specs.declared.tree.Stmt.TheOpen.Stmt-F.{Empty as EmptyOf, Assign as AssignOf, Write as WriteOf, Compound as CompoundOf}
+use Rattle.typed_tree.specs.declared.tree.Stmt.TheFolds.{fold-Stmt}
+use Rattle.typed_tree.specs.Entries.{joined}
+use Rattle.typed_tree.specs.WellFormed.{is_whole, monadic_is_well_formed, dyadic_is_well_formed, is_well_formed_test}
+
+-- a form, or where one ends; numbers are those of entries, roots those of variables
+pub data Mark : Type 0 where
+  -- its number and its value
+  Constant : ℕ → ℤ → Mark
+  -- its number, its root, and the site of its test
+  Variable : ℕ → ℕ → ℕ → Mark
+  -- an operation on the operand behind it
+  Operation : ℕ → Monadic → Mark
+  -- a chain of operators begins
+  Begins : Mark
+  -- an operator between operands
+  Operator : ℕ → Dyadic → Mark
+  -- a chain, a write or a compound statement ends
+  Ends : Mark
+  Empty : ℕ → Mark
+  -- an assignment, with the place of `:=`
+  Assign : ℕ → Place → Mark
+  -- the variable left of `:=`: its number and its root
+  Target : ℕ → ℕ → Mark
+  -- the test of the value before it
+  Fits : RangeTest → Mark
+  -- a write, with the place of its name; or a writeln, which ends the line
+  Write : ℕ → Place → Bool → Mark
+  -- how the value before it is written
+  Written : Representation → Mark
+  -- the site of the width before it
+  Width : ℕ → Mark
+  Compound : ℕ → Mark
+  -- a block ends, at its last `end`
+  BlockEnds : Place → Mark
+
+abbrev pub Look : Type 0
+Look = List Mark
+
+abbrev pub link_look : Link-F Look Look → Look
+link_look link = Operator link.number link.operation ∷ link.operand
+
+abbrev pub expression_look : Expr-F Look Look → Look
+expression_look (ConstantOf number value) = Constant number value ∷ []
+expression_look (VariableOf access defined) = Variable access.number access.root defined ∷ []
+expression_look (MonadicOf number operation operand) = Operation number operation ∷ operand.value
+expression_look (ChainOf first rest) = Begins ∷ (first.value ++ (joined rest.items ++ (Ends ∷ [])))
+
+-- how an expression looks
+abbrev pub look_expr : Expr → Look
+look_expr = fold-Expr Look Look expression_look link_look
+
+-- how an operator and its right operand look
+abbrev pub look_link : Link → Look
+look_link = fold-Link Look Look expression_look link_look
+
+abbrev pub look_width : Option TotalWidth → Look
+look_width None = []
+look_width (Some width) = look_expr width.value ++ (Width width.site ∷ [])
+
+-- how a value that is written looks, with its width
+abbrev pub look_parameter : WriteParameter → Look
+look_parameter parameter =
+    look_expr parameter.value ++ (Written parameter.representation ∷ look_width parameter.width)
+
+abbrev pub statement_look : Stmt-F Look → Look
+statement_look (EmptyOf number) = Empty number ∷ []
+statement_look (AssignOf number becomes target fits value) =
+    Assign number becomes ∷ Target target.number target.root ∷ (look_expr value ++ (Fits fits ∷ []))
+statement_look (WriteOf number name parameters ends_line) =
+    Write number name ends_line ∷ (flat_map look_parameter parameters.items ++ (Ends ∷ []))
+statement_look (CompoundOf number statements) = Compound number ∷ (joined statements.items ++ (Ends ∷ []))
+
+-- how a statement looks
+abbrev pub look_stmt : Stmt → Look
+look_stmt = fold-Stmt Look statement_look
+
+abbrev pub look_block : Block → Look
+look_block block = look_stmt block.body ++ (BlockEnds block.end ∷ [])
+
+-- how a tree looks
+abbrev pub tree_look : Tree → Look
+tree_look tree = flat_map look_block tree.blocks.items
+
+-- the number of an entry
+abbrev pub mark_entries : Mark → List ℕ
+mark_entries (Constant number value) = number ∷ []
+mark_entries (Variable number root defined) = number ∷ []
+mark_entries (Operation number operation) = number ∷ []
+mark_entries Begins = []
+mark_entries (Operator number operation) = number ∷ []
+mark_entries Ends = []
+mark_entries (Empty number) = number ∷ []
+mark_entries (Assign number becomes) = number ∷ []
+mark_entries (Target number root) = number ∷ []
+mark_entries (Fits fits) = []
+mark_entries (Write number name ends_line) = number ∷ []
+mark_entries (Written representation) = []
+mark_entries (Width site) = []
+mark_entries (Compound number) = number ∷ []
+mark_entries (BlockEnds end) = []
+
+-- the numbers of the entries of what looks so
+abbrev pub entries_of_look : Look → List ℕ
+entries_of_look = flat_map mark_entries
+
+-- with so many variables and so many sites, a form alone is well formed
+abbrev pub is_formed_mark : ℕ → ℕ → Mark → Bool
+is_formed_mark variables sites (Constant number value) = is_whole value
+is_formed_mark variables sites (Variable number root defined) = nat_lt root variables && nat_lt defined sites
+is_formed_mark variables sites (Operation number operation) = monadic_is_well_formed variables sites operation
+is_formed_mark variables sites Begins = true
+is_formed_mark variables sites (Operator number operation) = dyadic_is_well_formed variables sites operation
+is_formed_mark variables sites Ends = true
+is_formed_mark variables sites (Empty number) = true
+is_formed_mark variables sites (Assign number becomes) = true
+is_formed_mark variables sites (Target number root) = nat_lt root variables
+is_formed_mark variables sites (Fits fits) = is_well_formed_test variables sites fits
+is_formed_mark variables sites (Write number name ends_line) = true
+is_formed_mark variables sites (Written representation) = true
+is_formed_mark variables sites (Width site) = nat_lt site sites
+is_formed_mark variables sites (Compound number) = true
+is_formed_mark variables sites (BlockEnds end) = true
