@@ -1,0 +1,263 @@
+-- The typing of expressions (ISO 7185:1990, 6.7): of each form the first rule that it breaks, or its type, how its typed
+-- form looks, and its sites. What asks for a site of its own at an expression's first token (a width) hands its kind in,
+-- as the leading kind: that site stands behind the token's own, and before all others.
+-- It says nothing of what a program does.
+use Rattle.std.specs.Prelude.{ℕ, ◌&&◌, Bool, true, false, List, [], ◌∷◌, Option, Some, None, Result, Ok, Err, pos, if◌then◌else◌, nat_le, map}
+use Rattle.place.specs.declared.Place.{Place}
+use Rattle.syntax_tree.specs.declared.Name.{Name}
+use Rattle.syntax_tree.specs.declared.Sign.{Sign}
+use Rattle.syntax_tree.specs.declared.Sign.TheVariants as sign
+use Rattle.syntax_tree.specs.declared.Operator.{Operator}
+use Rattle.syntax_tree.specs.declared.Operator.TheVariants as op
+use Rattle.syntax_tree.specs.declared.Expr.{Expr}
+use Rattle.syntax_tree.specs.declared.Link.{Link}
+use Rattle.syntax_tree.specs.declared.Actual.{Actual}
+use Rattle.syntax_tree.specs.declared.Expr.TheOpen.{Expr-F, Link-F, Actual-F}
+use Rattle.syntax_tree.specs.declared.Expr.TheOpen.Expr-F.{Number as NumberOf, Name as NameOf, Call as CallOf, Parenthesized as ParenthesizedOf, Not as NotOf, Signed as SignedOf, Chain as ChainOf}
+use Rattle.syntax_tree.specs.declared.Expr.TheFolds.{fold-Expr, fold-Link, fold-Actual}
+use Rattle.types.specs.declared.form.TypeForm.{TypeForm}
+use Rattle.types.specs.declared.form.TypeId.{TypeId}
+use Rattle.types.specs.Types.{integer, boolean, is_same, is_compatible}
+use Rattle.scopes.specs.declared.denotation.Denotation.{Denotation}
+use Rattle.scopes.specs.declared.denotation.Denotation.TheVariants as denotes
+use Rattle.scopes.specs.declared.denotation.RequiredFunction.{RequiredFunction}
+use Rattle.scopes.specs.declared.denotation.RequiredFunction.TheVariants as function
+use Rattle.typed_tree.specs.declared.fault.TypeFault.TheVariants as fault
+use Rattle.typed_tree.specs.declared.site.SiteKind.{SiteKind}
+use Rattle.typed_tree.specs.declared.site.SiteKind.TheVariants as kind
+use Rattle.typed_tree.specs.declared.tree.Monadic.{Monadic}
+use Rattle.typed_tree.specs.declared.tree.Monadic.TheVariants as monadic
+use Rattle.typed_tree.specs.declared.tree.Dyadic.{Dyadic}
+use Rattle.typed_tree.specs.declared.tree.Dyadic.TheVariants as dyadic
+use Rattle.typed_tree.specs.declared.tree.Relation.TheVariants as relation
+use Rattle.typed_tree.specs.Look.{Constant, Variable, Operation, Begins, Operator as OperatorMark, Ends}
+use Rattle.typing.specs.Passing.{Passed, Checked, Passing, and_then, after, pure, fail, given, mark, ◌>>=◌, ◌>>◌, ◌>>?◌}
+use Rattle.typing.specs.Steps.{pass, enter, enter_as, site, find}
+
+-- the type of an expression, and the id of its leading site
+pub record Typed : Type 0 where
+  pub type_id : TypeId
+  pub site : Option ℕ
+
+abbrev pub typed : TypeId → Option ℕ → Typed
+typed type_id site = record { type_id = type_id; site = site }
+
+-- an expression as it is typed: its first token, and by the leading kind what it is
+pub record Written : Type 0 where
+  pub first : Place
+  pub typing : Option SiteKind → Passing Typed
+
+-- an actual: its value, and its width if there is one
+pub record WrittenActual : Type 0 where
+  pub value : Written
+  pub width : Option Written
+
+-- an operator and its right operand: from the type to its left to that of the result
+abbrev pub WrittenLink : Type 0
+WrittenLink = TypeId → Passing TypeId
+
+-- the leading site at an expression's first token, if there is one
+unfoldable pub behind : Option SiteKind → Place → Passing (Option ℕ)
+behind None place = pure None
+behind (Some kind) place = site kind place >>= (λ id. pure (Some id))
+
+-- an answer where types fit, and else K1 at the place
+abbrev pub fits : {A : Type 0} → Bool → Place → A → Checked A
+fits true place answer = Ok answer
+fits false place answer = Err (fault.Mismatch place)
+
+abbrev pub or_mismatch : {A : Type 0} → Place → Option A → Checked A
+or_mismatch place (Some answer) = Ok answer
+or_mismatch place None = Err (fault.Mismatch place)
+
+-- a number, which is at most maxint
+unfoldable pub number : ℕ → Place → Option SiteKind → Passing Typed
+number value place lead = do
+  pass place
+  id ← behind lead place
+  t ← given (fits (nat_le value 2147483647) place (typed integer id))
+  enter_as (λ n. Constant n (pos value))
+  pure t
+
+-- a name as an expression: a constant or a variable
+unfoldable pub denoted : Denotation → Place → Option SiteKind → Passing Typed
+denoted (denotes.Constant value type_id) place lead = do
+  id ← behind lead place
+  enter_as (λ n. Constant n value)
+  pure (typed type_id id)
+denoted (denotes.Variable root type_id) place lead = do
+  defined ← site kind.UndefinedVariable place
+  id ← behind lead place
+  enter_as (λ n. Variable n root defined)
+  pure (typed type_id id)
+denoted (denotes.Procedure procedure) place lead = fail (fault.WrongParameters place)
+denoted (denotes.Function function) place lead = fail (fault.WrongParameters place)
+denoted (denotes.TypeName type_id) place lead = fail (fault.Mismatch place)
+denoted denotes.Output place lead = fail (fault.Mismatch place)
+
+unfoldable pub named : Name → Option SiteKind → Passing Typed
+named name lead = find name >>= (λ d. denoted d name.place lead)
+
+-- an expression in parentheses
+unfoldable pub parenthesized : Place → Written → Option SiteKind → Passing Typed
+parenthesized place inner lead = do
+  pass place
+  id ← behind lead place
+  inner.typing None >>? (λ types t. Ok (typed t.type_id id))
+
+-- `not` and its operand
+unfoldable pub negation : Place → Written → Option SiteKind → Passing Typed
+negation place operand lead = do
+  pass place
+  id ← behind lead place
+  enter_as (λ n. Operation n monadic.Not)
+  operand.typing None >>? (λ types t. fits (is_same t.type_id boolean) place (typed boolean id))
+
+abbrev pub sign_operation : Sign → Monadic
+sign_operation sign.Plus = monadic.Plus
+sign_operation sign.Minus = monadic.Minus
+
+-- a sign and the term that it covers
+unfoldable pub signed : Sign → Place → Written → Option SiteKind → Passing Typed
+signed sign place operand lead = do
+  pass place
+  id ← behind lead place
+  enter_as (λ n. Operation n (sign_operation sign))
+  operand.typing None >>? (λ types t. fits (is_same t.type_id integer) place (typed integer id))
+
+-- a type, if both operands are of it
+abbrev pub both_of : TypeId → TypeId → TypeId → Option TypeId
+both_of type_id left right = if is_same left type_id && is_same right type_id then Some type_id else None
+
+-- relations hold between values of compatible types
+abbrev pub compared : List TypeForm → TypeId → TypeId → Option TypeId
+compared types left right = if is_compatible types left right then Some boolean else None
+
+-- the type of an operator's result, if its operands fit it (6.7.2)
+abbrev pub result_type : List TypeForm → Operator → TypeId → TypeId → Option TypeId
+result_type types op.Plus left right = both_of integer left right
+result_type types op.Minus left right = both_of integer left right
+result_type types op.Or left right = both_of boolean left right
+result_type types op.Times left right = both_of integer left right
+result_type types op.Div left right = both_of integer left right
+result_type types op.Mod left right = both_of integer left right
+result_type types op.And left right = both_of boolean left right
+result_type types op.Equal left right = compared types left right
+result_type types op.NotEqual left right = compared types left right
+result_type types op.Less left right = compared types left right
+result_type types op.Greater left right = compared types left right
+result_type types op.LessOrEqual left right = compared types left right
+result_type types op.GreaterOrEqual left right = compared types left right
+
+-- an operation with a site at its operator
+unfoldable pub tested : (ℕ → Dyadic) → SiteKind → Place → Passing Dyadic
+tested operation kind place = site kind place >>= (λ id. pure (operation id))
+
+-- the operation of an operator, with its site
+unfoldable pub operation : Operator → Place → Passing Dyadic
+operation op.Plus place = tested dyadic.Plus kind.Overflow place
+operation op.Minus place = tested dyadic.Minus kind.Overflow place
+operation op.Or place = pure dyadic.Or
+operation op.Times place = tested dyadic.Times kind.Overflow place
+operation op.Div place = tested dyadic.Div kind.DivisionByZero place
+operation op.Mod place = tested dyadic.Mod kind.ModByZeroOrLess place
+operation op.And place = pure dyadic.And
+operation op.Equal place = pure (dyadic.Relation relation.Equal)
+operation op.NotEqual place = pure (dyadic.Relation relation.NotEqual)
+operation op.Less place = pure (dyadic.Relation relation.Less)
+operation op.Greater place = pure (dyadic.Relation relation.Greater)
+operation op.LessOrEqual place = pure (dyadic.Relation relation.LessOrEqual)
+operation op.GreaterOrEqual place = pure (dyadic.Relation relation.GreaterOrEqual)
+
+-- an operator and its right operand; its site stands before those of the operand
+unfoldable pub link : Operator → Place → Written → WrittenLink
+link operator place operand left = do
+  tests ← operation operator place
+  enter_as (λ n. OperatorMark n tests)
+  operand.typing None >>? (λ types t. or_mismatch place (result_type types operator left t.type_id))
+
+-- operators of one precedence, from left to right
+abbrev pub links : TypeId → List WrittenLink → Passing TypeId
+links left [] = pure left
+links left (l ∷ ls) = l left >>= (λ type_id. links type_id ls)
+
+-- a chain of operators behind a first operand
+unfoldable pub chain : Written → List WrittenLink → Option SiteKind → Passing Typed
+chain first rest lead = do
+  mark Begins
+  f ← first.typing lead
+  type_id ← links f.type_id rest
+  mark Ends
+  pure (typed type_id f.site)
+
+-- the function that a name denotes
+abbrev pub as_function : Place → Denotation → Checked RequiredFunction
+as_function place (denotes.Function function) = Ok function
+as_function place (denotes.Procedure procedure) = Err (fault.WrongParameters place)
+as_function place (denotes.Constant value type_id) = Err (fault.Mismatch place)
+as_function place (denotes.Variable root type_id) = Err (fault.Mismatch place)
+as_function place (denotes.TypeName type_id) = Err (fault.Mismatch place)
+as_function place denotes.Output = Err (fault.Mismatch place)
+
+-- the type of a required function's result
+abbrev pub function_type : RequiredFunction → TypeId
+function_type function.Abs = integer
+function_type function.Sqr = integer
+function_type function.Odd = boolean
+
+-- the operation of a function; the square has a site at the function's name
+unfoldable pub function_operation : RequiredFunction → Place → Passing Monadic
+function_operation function.Abs place = pure monadic.Abs
+function_operation function.Sqr place = site kind.Overflow place >>= (λ id. pure (monadic.Sqr id))
+function_operation function.Odd place = pure monadic.Odd
+
+abbrev pub without_width : Place → Written → Option Written → Checked Written
+without_width place value None = Ok value
+without_width place value (Some width) = Err (fault.WrongParameters place)
+
+-- the one actual of a function, which has no width
+abbrev pub only : Place → List WrittenActual → Checked Written
+only place [] = Err (fault.WrongParameters place)
+only place (actual ∷ []) = without_width place actual.value actual.width
+only place (actual ∷ another ∷ others) = Err (fault.WrongParameters place)
+
+-- the call of a function, whose argument is an integer
+unfoldable pub call : Name → List WrittenActual → Option SiteKind → Passing Typed
+call name actuals lead = do
+  d ← find name
+  f ← given (as_function name.place d)
+  tests ← function_operation f name.place
+  id ← behind lead name.place
+  enter_as (λ n. Operation n tests)
+  actual ← given (only name.place actuals)
+  actual.typing None >>? (λ types t. fits (is_same t.type_id integer) actual.first (typed (function_type f) id))
+
+abbrev pub written : Place → (Option SiteKind → Passing Typed) → Written
+written first typing = record { first = first; typing = typing }
+
+abbrev pub actual_step : Actual-F Written WrittenActual WrittenLink → WrittenActual
+actual_step actual = record { value = actual.value; width = actual.width }
+
+abbrev pub link_step : Link-F Written WrittenActual WrittenLink → WrittenLink
+link_step l = link l.operator l.place l.operand
+
+abbrev pub expression_step : Expr-F Written WrittenActual WrittenLink → Written
+expression_step (NumberOf value place) = written place (number value place)
+expression_step (NameOf name) = written name.place (named name)
+expression_step (CallOf name actuals) = written name.place (call name actuals.items)
+expression_step (ParenthesizedOf place inner) = written place (parenthesized place inner.value)
+expression_step (NotOf place operand) = written place (negation place operand.value)
+expression_step (SignedOf sign place term) = written place (signed sign place term.value)
+expression_step (ChainOf first rest) = written first.value.first (chain first.value rest.items)
+
+-- an expression
+abbrev pub expression : Expr → Written
+expression = fold-Expr Written WrittenActual WrittenLink expression_step actual_step link_step
+
+-- an operator and its right operand
+abbrev pub written_link : Link → WrittenLink
+written_link = fold-Link Written WrittenActual WrittenLink expression_step actual_step link_step
+
+-- an actual
+abbrev pub written_actual : Actual → WrittenActual
+written_actual = fold-Actual Written WrittenActual WrittenLink expression_step actual_step link_step

@@ -1,0 +1,8 @@
+pub mod Names
+pub mod Passing
+pub mod Steps
+pub mod Expressions
+pub mod Statements
+pub mod Typing
+pub mod Contracts
+pub mod Sound

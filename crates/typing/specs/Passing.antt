@@ -1,0 +1,87 @@
+-- Typing as a computation: it passes the forms of a program in the order of the text, and either meets the first broken
+-- rule, or answers what a form is, how its typed form looks, and what is then known of the program.
+-- It says nothing of what the rules are.
+use Rattle.std.specs.Prelude.{ℕ, ◌++◌, Bool, List, [], ◌∷◌, Result, Ok, Err}
+use Rattle.place.specs.declared.Place.{Place}
+use Rattle.types.specs.declared.form.TypeForm.{TypeForm}
+use Rattle.scopes.specs.Scopes.{Region}
+use Rattle.typed_tree.specs.declared.fault.TypeFault.{TypeFault}
+use Rattle.typed_tree.specs.declared.tree.Variable.{Variable}
+use Rattle.typed_tree.specs.Ids.{Stands}
+use Rattle.typed_tree.specs.Look.{Mark, Look}
+
+-- what is known at a place of a program
+pub record Passed : Type 0 where
+  -- the regions round the place, the innermost first
+  pub regions : List Region
+  -- the types, by number
+  pub types : List TypeForm
+  -- the variables that are declared, by root number
+  pub variables : List Variable
+  -- the cells that those of the block take
+  pub cells : ℕ
+  -- output is a program parameter
+  pub has_output : Bool
+  -- the sites, by id
+  pub sites : List Stands
+  -- how many statements and expressions were entered
+  pub entries : ℕ
+  -- the latest token that the syntax tree tells
+  pub latest : Place
+
+-- an answer, or the first broken rule
+abbrev pub Checked : Type 0 → Type 0
+Checked A = Result A TypeFault
+
+abbrev pub and_then : {A B : Type 0} → Checked A → (A → Checked B) → Checked B
+and_then (Ok a) f = f a
+and_then (Err fault) f = Err fault
+
+-- what a form is, how it looks, and what is known behind it
+pub record After (A : Type 0) : Type 0 where
+  pub answer : A
+  pub look : Look
+  pub passed : Passed
+
+abbrev pub after : {A : Type 0} → A → Look → Passed → After A
+after answer look passed = record { answer = answer; look = look; passed = passed }
+
+-- from what is known before a form
+abbrev pub Passing : Type 0 → Type 0
+Passing A = Passed → Checked (After A)
+
+-- what comes behind forms that look so
+abbrev pub behind_marks : {A : Type 0} → Look → Checked (After A) → Checked (After A)
+behind_marks look (Ok a) = Ok (after a.answer (look ++ a.look) a.passed)
+behind_marks look (Err fault) = Err fault
+
+infixl 10 ◌>>=◌
+abbrev pub ◌>>=◌ : {A B : Type 0} → Passing A → (A → Passing B) → Passing B
+p >>= f = λ s. and_then (p s) (λ a. behind_marks a.look (f a.answer a.passed))
+
+infixl 10 ◌>>◌
+abbrev pub ◌>>◌ : {A B : Type 0} → Passing A → Passing B → Passing B
+p >> q = p >>= (λ _. q)
+
+-- a form, and then a test of what it is, which passes nothing
+infixl 10 ◌>>?◌
+abbrev pub ◌>>?◌ : {A B : Type 0} → Passing A → (List TypeForm → A → Checked B) → Passing B
+p >>? test = λ s. and_then (p s) (λ a. and_then (test a.passed.types a.answer) (λ b. Ok (after b a.look a.passed)))
+
+abbrev pub pure : {A : Type 0} → A → Passing A
+pure a = λ s. Ok (after a [] s)
+
+abbrev pub fail : {A : Type 0} → TypeFault → Passing A
+fail fault = λ s. Err fault
+
+-- a test that needs nothing of what is known
+abbrev pub given : {A : Type 0} → Checked A → Passing A
+given checked = λ s. and_then checked (λ a. Ok (after a [] s))
+
+abbrev pub mark : Mark → Passing (Unit {0})
+mark one = λ s. Ok (after tt (one ∷ []) s)
+
+-- one after another
+abbrev pub each : {A : Type 0} → (A → Passing (Unit {0})) → List A → Passing (Unit {0})
+each step [] = pure tt
+each step (x ∷ xs) = step x >> each step xs

@@ -1,0 +1,29 @@
+-- What a typed tree has of what is known behind its program, and whether it is the program's typed tree.
+-- It says nothing of what typing answers.
+use Rattle.std.specs.Prelude.{◌≡◌, List, [], ◌∷◌, Ok, map, length}
+use Rattle.std.specs.List.{range_with_len}
+use Rattle.syntax_tree.specs.declared.Program.{Program}
+use Rattle.typed_tree.specs.declared.site.Site.{Site}
+use Rattle.typed_tree.specs.declared.tree.Tree.{Tree}
+use Rattle.typed_tree.specs.Ids.{Stands, AreInOrder}
+use Rattle.typed_tree.specs.Look.{tree_look}
+use Rattle.typing.specs.Passing.{Passed, after}
+use Rattle.typing.specs.Typing.{typing}
+
+-- where a site's error stands
+abbrev pub stands : Site → Stands
+stands site = (site.kind, site.place)
+
+-- a tree has the variables, the sites and the types that are known
+pub record IsLeft (passed : Passed) (tree : Tree) : Type 0 where
+  pub variables : tree.variables.items ≡ passed.variables
+  pub sites : map stands tree.sites.items ≡ passed.sites
+  pub ids : AreInOrder tree.sites.items
+  pub types : tree.types ≡ passed.types
+  pub points : tree.points.items ≡ []
+
+-- a program breaks no rule of names and types, and this is its typed tree
+pub record IsTyped (program : Program) (tree : Tree) : Type 0 where
+  pub left : Passed
+  pub typed : typing program ≡ Ok (after tt (tree_look tree) left)
+  pub is_left : IsLeft left tree

@@ -1,0 +1,166 @@
+-- The typing of statements (ISO 7185:1990, 6.8, 6.9): of each form the first rule that it breaks, or how its typed form
+-- looks, and its sites. It says nothing of what a program does.
+use Rattle.std.specs.Prelude.{ℕ, Bool, true, false, not, List, [], ◌∷◌, Option, Some, None, Result, Ok, Err, if◌then◌else◌, map}
+use Rattle.place.specs.declared.Place.{Place}
+use Rattle.syntax_tree.specs.declared.Name.{Name}
+use Rattle.syntax_tree.specs.declared.Expr.{Expr}
+use Rattle.syntax_tree.specs.declared.Actual.{Actual}
+use Rattle.syntax_tree.specs.declared.Expr.TheOpen.{Expr-F, Actual-F}
+use Rattle.syntax_tree.specs.declared.Expr.TheOpen.Expr-F.{Number as NumberOf, Name as NameOf, Call as FunctionOf, Parenthesized as ParenthesizedOf, Not as NotOf, Signed as SignedOf, Chain as ChainOf}
+use Rattle.syntax_tree.specs.declared.Expr.TheViews.{out-Expr, out-Actual}
+use Rattle.syntax_tree.specs.declared.Link.{Link}
+use Rattle.syntax_tree.specs.declared.Stmt.{Stmt}
+use Rattle.syntax_tree.specs.declared.Stmt.TheOpen.{Stmt-F}
+use Rattle.syntax_tree.specs.declared.Stmt.TheOpen.Stmt-F.{Empty as EmptyOf, Assign as AssignOf, Call as CallOf, Compound as CompoundOf}
+use Rattle.syntax_tree.specs.declared.Stmt.TheFolds.{fold-Stmt}
+use Rattle.types.specs.declared.form.TypeForm.{TypeForm}
+use Rattle.types.specs.declared.form.TypeForm.TheVariants as form
+use Rattle.types.specs.declared.form.TypeId.{TypeId}
+use Rattle.types.specs.declared.form.OrdinalRange.{OrdinalRange}
+use Rattle.types.specs.Types.{integer, is_same, is_assignable, form_at, range_of}
+use Rattle.scopes.specs.declared.denotation.Denotation.{Denotation}
+use Rattle.scopes.specs.declared.denotation.Denotation.TheVariants as denotes
+use Rattle.scopes.specs.declared.denotation.RequiredProcedure.{RequiredProcedure}
+use Rattle.scopes.specs.declared.denotation.RequiredProcedure.TheVariants as procedure
+use Rattle.typed_tree.specs.declared.fault.TypeFault.TheVariants as fault
+use Rattle.typed_tree.specs.declared.site.SiteKind.TheVariants as kind
+use Rattle.typed_tree.specs.declared.tree.Representation.{Representation}
+use Rattle.typed_tree.specs.declared.tree.Representation.TheVariants as representation
+use Rattle.typed_tree.specs.Look.{Assign, Target, Fits, Write, Written as WrittenMark, Width, Empty, Compound, Ends}
+use Rattle.typing.specs.Passing.{Passed, Checked, Passing, and_then, after, pure, given, mark, each, ◌>>=◌, ◌>>◌, ◌>>?◌}
+use Rattle.typing.specs.Steps.{enter_as, site, find, wants_output}
+use Rattle.typing.specs.Expressions.{Typed, Written, WrittenActual, fits, or_mismatch, expression, written_actual}
+
+-- the variable that a name denotes: its root and its type
+abbrev pub as_variable : Place → Denotation → Checked (ℕ × TypeId)
+as_variable place (denotes.Variable root type_id) = Ok (root, type_id)
+as_variable place (denotes.Constant value type_id) = Err (fault.NotVariable place)
+as_variable place (denotes.TypeName type_id) = Err (fault.NotVariable place)
+as_variable place (denotes.Procedure procedure) = Err (fault.NotVariable place)
+as_variable place (denotes.Function function) = Err (fault.NotVariable place)
+as_variable place denotes.Output = Err (fault.NotVariable place)
+
+-- the values of a target's type, if a value of the other type may be assigned to it (6.4.6)
+abbrev pub fitting : List TypeForm → TypeId → TypeId → Option OrdinalRange
+fitting types target value = if is_assignable types target value then range_of types target else None
+
+-- the variable is accessed first, then comes the value, then its test (6.8.2.2)
+unfoldable pub assignment : Name → Place → Written → Passing (Unit {0})
+assignment name becomes value = do
+  enter_as (λ n. Assign n becomes)
+  d ← find name
+  target ← given (as_variable name.place d)
+  enter_as (λ n. Target n target.0)
+  id ← site kind.Subrange becomes
+  range ← value.typing None >>? (λ types t. or_mismatch becomes (fitting types target.1 t.type_id))
+  mark (Fits (record { site = id; range = range }))
+
+-- the procedure that a name denotes
+abbrev pub as_procedure : Place → Denotation → Checked RequiredProcedure
+as_procedure place (denotes.Procedure procedure) = Ok procedure
+as_procedure place (denotes.Function function) = Err (fault.WrongParameters place)
+as_procedure place (denotes.Constant value type_id) = Err (fault.Mismatch place)
+as_procedure place (denotes.Variable root type_id) = Err (fault.Mismatch place)
+as_procedure place (denotes.TypeName type_id) = Err (fault.Mismatch place)
+as_procedure place denotes.Output = Err (fault.Mismatch place)
+
+abbrev pub ends_line : RequiredProcedure → Bool
+ends_line procedure.Write = false
+ends_line procedure.Writeln = true
+
+abbrev pub is_output : Denotation → Bool
+is_output denotes.Output = true
+is_output (denotes.TypeName type_id) = false
+is_output (denotes.Constant value type_id) = false
+is_output (denotes.Variable root type_id) = false
+is_output (denotes.Procedure procedure) = false
+is_output (denotes.Function function) = false
+
+-- whether a value is the name of the file output
+abbrev pub names_file : Expr-F Expr Actual Link → Passing Bool
+names_file (NameOf name) = find name >>= (λ d. pure (is_output d))
+names_file (NumberOf value place) = pure false
+names_file (FunctionOf name actuals) = pure false
+names_file (ParenthesizedOf place inner) = pure false
+names_file (NotOf place operand) = pure false
+names_file (SignedOf sign place term) = pure false
+names_file (ChainOf first rest) = pure false
+
+abbrev pub unless_wide : Expr → Option Expr → Passing Bool
+unless_wide value None = names_file (out-Expr value)
+unless_wide value (Some width) = pure false
+
+-- whether the first parameter of a write is the file; a width makes it a value
+unfoldable pub is_file : Actual → Passing Bool
+is_file actual = unless_wide (out-Actual actual).value (out-Actual actual).width
+
+-- the values that are written: the actuals without the file
+unfoldable pub written_values : List Actual → Passing (List Actual)
+written_values [] = pure []
+written_values (first ∷ rest) = is_file first >>= (λ file. pure (if file then rest else first ∷ rest))
+
+-- a write has a value; a writeln needs none
+abbrev pub has_values : Place → RequiredProcedure → List Actual → Checked (Unit {0})
+has_values place procedure.Write [] = Err (fault.WrongParameters place)
+has_values place procedure.Writeln [] = Ok tt
+has_values place procedure (value ∷ values) = Ok tt
+
+abbrev pub form_representation : Option TypeForm → Option Representation
+form_representation None = None
+form_representation (Some form.Integer) = Some representation.Integer
+form_representation (Some form.Boolean) = Some representation.Boolean
+
+-- how a value of a type is written (6.9.3)
+abbrev pub representation_of : List TypeForm → TypeId → Option Representation
+representation_of types id = form_representation (form_at types id)
+
+-- a width is an integer; its site is the leading one
+abbrev pub measured : Place → Typed → Checked ℕ
+measured place t = and_then (fits (is_same t.type_id integer) place t.site) (or_mismatch place)
+
+unfoldable pub width : Option Written → Passing (Unit {0})
+width None = pure tt
+width (Some w) = do
+  id ← w.typing (Some kind.Width) >>? (λ types t. measured w.first t)
+  mark (Width id)
+
+-- a value that is written, and then its width
+unfoldable pub parameter : WrittenActual → Passing (Unit {0})
+parameter p = do
+  form ← p.value.typing None >>? (λ types t. or_mismatch p.value.first (representation_of types t.type_id))
+  mark (WrittenMark form)
+  width p.width
+
+-- a write or writeln
+unfoldable pub write : Name → List Actual → RequiredProcedure → Passing (Unit {0})
+write name actuals procedure = do
+  wants_output name.place
+  enter_as (λ n. Write n name.place (ends_line procedure))
+  values ← written_values actuals
+  given (has_values name.place procedure values)
+  each parameter (map written_actual values)
+  mark Ends
+
+-- the call of a procedure
+unfoldable pub procedure_call : Name → List Actual → Passing (Unit {0})
+procedure_call name actuals = do
+  d ← find name
+  p ← given (as_procedure name.place d)
+  write name actuals p
+
+-- statements between begin and end
+unfoldable pub compound : List (Passing (Unit {0})) → Passing (Unit {0})
+compound statements = do
+  enter_as Compound
+  each (λ s. s) statements
+  mark Ends
+
+abbrev pub statement_step : Stmt-F (Passing (Unit {0})) → Passing (Unit {0})
+statement_step EmptyOf = enter_as Empty
+statement_step (AssignOf name becomes value) = assignment name becomes (expression value)
+statement_step (CallOf name actuals) = procedure_call name actuals.items
+statement_step (CompoundOf statements) = compound statements.items
+
+-- a statement
+abbrev pub statement : Stmt → Passing (Unit {0})
+statement = fold-Stmt (Passing (Unit {0})) statement_step

@@ -1,0 +1,115 @@
+-- The steps of typing: a token that is passed, a form that is entered, a site, a name that is found, a region, a
+-- definition, a variable. It says nothing of the forms that take them.
+use Rattle.std.specs.Prelude.{ℕ, ◌+◌, ◌++◌, Bool, true, false, List, [], ◌∷◌, Result, Ok, Err, if◌then◌else◌, nat_le, nat_lt, length}
+use Rattle.place.specs.declared.Place.{Place}
+use Rattle.syntax_tree.specs.declared.Name.{Name}
+use Rattle.types.specs.declared.form.TypeId.{TypeId}
+use Rattle.types.specs.Types.{cells_of, required_forms}
+use Rattle.scopes.specs.Scopes.{found, opened, define}
+use Rattle.scopes.specs.declared.denotation.Denotation.{Denotation}
+use Rattle.scopes.specs.declared.fault.ScopeFault.{ScopeFault}
+use Rattle.scopes.specs.declared.fault.ScopeFault.TheVariants as scope
+use Rattle.typed_tree.specs.declared.fault.TypeFault.{TypeFault}
+use Rattle.typed_tree.specs.declared.fault.TypeFault.TheVariants as fault
+use Rattle.typed_tree.specs.declared.site.SiteKind.{SiteKind}
+use Rattle.typed_tree.specs.Look.{Mark}
+use Rattle.typing.specs.Names.{folded, required_region}
+use Rattle.typing.specs.Passing.{Passed, Checked, Passing, after, and_then, mark, ◌>>=◌}
+
+-- the most sites of a program
+abbrev pub most_sites : ℕ
+most_sites = 1000000
+
+-- the most statements and expressions of a program
+abbrev pub most_entries : ℕ
+most_entries = 4000000
+
+-- the most cells that the variables of a block take
+abbrev pub most_cells : ℕ
+most_cells = 65536
+
+-- what is known before a program, which begins here
+abbrev pub begins : Place → Passed
+begins start = record {
+    regions = [];
+    types = required_forms;
+    variables = [];
+    cells = 0;
+    has_output = false;
+    sites = [];
+    entries = 0;
+    latest = start;
+  }
+
+-- a token is passed
+unfoldable pub pass : Place → Passing (Unit {0})
+pass place = λ s. Ok (after tt [] (record s { latest = place }))
+
+-- a statement or an expression is entered, by the number that it gets; one too many is told at the latest token
+unfoldable pub enter : Passing ℕ
+enter = λ s.
+    if nat_le most_entries s.entries then Err (fault.TooMany s.latest)
+    else Ok (after s.entries [] (record s { entries = s.entries + 1 }))
+
+-- a form that looks so is entered
+unfoldable pub enter_as : (ℕ → Mark) → Passing (Unit {0})
+enter_as marked = enter >>= (λ number. mark (marked number))
+
+-- a site, by its id
+unfoldable pub site : SiteKind → Place → Passing ℕ
+site kind place = λ s.
+    if nat_le most_sites (length s.sites) then Err (fault.TooMany place)
+    else Ok (after (length s.sites) [] (record s { sites = s.sites ++ (kind, place) ∷ []; latest = place }))
+
+-- a fault of the scopes, at its place
+abbrev pub placed : ScopeFault → Place → TypeFault
+placed scope.Memory place = fault.Memory
+placed scope.DeclaredTwice place = fault.DeclaredTwice place
+placed scope.UsedBeforeDeclared place = fault.UsedBeforeDeclared place
+placed scope.NotDeclared place = fault.NotDeclared place
+
+-- what the scopes answer, at a place
+abbrev pub told : {A : Type 0} → Place → Result A ScopeFault → Checked A
+told place (Ok a) = Ok a
+told place (Err f) = Err (placed f place)
+
+-- what a name denotes
+unfoldable pub find : Name → Passing Denotation
+find name = λ s.
+    and_then (told name.place (found s.regions (folded name.text.now)))
+    (λ denotation. Ok (after denotation [] (record s { latest = name.place })))
+
+-- the region of a block that defines these names, in small letters
+unfoldable pub open_block : List (List ℕ) → Passing (Unit {0})
+open_block names = λ s. Ok (after tt [] (record s { regions = opened names ∷ s.regions }))
+
+-- the region of the required identifiers
+unfoldable pub open_required : Passing (Unit {0})
+open_required = λ s. Ok (after tt [] (record s { regions = required_region ∷ s.regions }))
+
+-- the definition of a name
+unfoldable pub declare : Name → Denotation → Passing (Unit {0})
+declare name denotation = λ s.
+    and_then (told name.place (define (folded name.text.now) denotation s.regions))
+    (λ regions. Ok (after tt [] (record s { regions = regions })))
+
+-- output is a program parameter
+unfoldable pub give_output : Passing (Unit {0})
+give_output = λ s. Ok (after tt [] (record s { has_output = true }))
+
+-- a write or writeln needs output
+unfoldable pub wants_output : Place → Passing (Unit {0})
+wants_output place = λ s. if s.has_output then Ok (after tt [] s) else Err (fault.NotProgramParameter place)
+
+-- the root number of the next variable
+unfoldable pub next_root : Passing ℕ
+next_root = λ s. Ok (after (length s.variables) [] s)
+
+-- the cells of one variable more; where the block has no room for them it is told at the variable's name
+unfoldable pub reserve : Place → TypeId → Passing (Unit {0})
+reserve place type_id = λ s.
+    if nat_lt most_cells (s.cells + cells_of s.types type_id) then Err (fault.TooManyCells place)
+    else Ok (after tt [] (record s {
+      variables = s.variables ++ record { block = 0; type_id = type_id } ∷ [];
+      cells = s.cells + cells_of s.types type_id;
+    }))

@@ -1,0 +1,77 @@
+-- The typing of a program (ISO 7185:1990, 6.2, 6.4.1, 6.5.1, 6.10): its declarations in the order of the text, and then
+-- its statements. It answers the first broken rule, with its place, or how the program's typed tree looks and what the
+-- program has: its variables and its sites. It says nothing of what a program does.
+use Rattle.std.specs.Prelude.{ℕ, Bool, true, false, List, [], ◌∷◌, Result, Ok, Err, if◌then◌else◌, map, nat_eq, codes}
+use Rattle.std.specs.Cmp.Lexicographic.{pointwise}
+use Rattle.place.specs.declared.Place.{Place}
+use Rattle.syntax_tree.specs.declared.Program.{Program}
+use Rattle.syntax_tree.specs.declared.Block.{Block}
+use Rattle.syntax_tree.specs.declared.Name.{Name}
+use Rattle.syntax_tree.specs.declared.TypeDenoter.{TypeDenoter}
+use Rattle.syntax_tree.specs.declared.TypeDenoter.TheVariants as denoter
+use Rattle.syntax_tree.specs.declared.VariableGroup.{VariableGroup}
+use Rattle.types.specs.declared.form.TypeId.{TypeId}
+use Rattle.scopes.specs.Scopes.{found}
+use Rattle.scopes.specs.declared.denotation.Denotation.{Denotation}
+use Rattle.scopes.specs.declared.denotation.Denotation.TheVariants as denotes
+use Rattle.scopes.specs.declared.fault.ScopeFault.{ScopeFault}
+use Rattle.scopes.specs.declared.fault.ScopeFault.TheVariants as scope
+use Rattle.typed_tree.specs.declared.fault.TypeFault.TheVariants as fault
+use Rattle.typed_tree.specs.Look.{BlockEnds}
+use Rattle.typing.specs.Names.{folded, all_folded, is_among, defined_names}
+use Rattle.typing.specs.Passing.{Passed, Checked, After, Passing, and_then, after, pure, fail, mark, each, ◌>>=◌, ◌>>◌}
+use Rattle.typing.specs.Steps.{begins, placed, open_required, open_block, declare, give_output, next_root, reserve}
+use Rattle.typing.specs.Statements.{statement, compound}
+
+-- a program parameter: no other than output may be one
+unfoldable pub parameter_of_program : Name → Passing (Unit {0})
+parameter_of_program name =
+    if pointwise nat_eq (folded name.text.now) (codes "output") then declare name denotes.Output >> give_output
+    else fail (fault.NotProgramParameter name.place)
+
+-- the type that a name denotes, where variables of these names get it; one of them is no type, wherever it stands
+abbrev pub named_type : List Name → Name → Result Denotation ScopeFault → Checked TypeId
+named_type names name (Ok (denotes.TypeName type_id)) = Ok type_id
+named_type names name (Ok (denotes.Constant value type_id)) = Err (fault.Mismatch name.place)
+named_type names name (Ok (denotes.Variable root type_id)) = Err (fault.Mismatch name.place)
+named_type names name (Ok (denotes.Procedure procedure)) = Err (fault.Mismatch name.place)
+named_type names name (Ok (denotes.Function function)) = Err (fault.Mismatch name.place)
+named_type names name (Ok denotes.Output) = Err (fault.Mismatch name.place)
+named_type names name (Err scope.UsedBeforeDeclared) =
+    Err (if is_among names name then fault.Mismatch name.place else fault.UsedBeforeDeclared name.place)
+named_type names name (Err scope.NotDeclared) = Err (fault.NotDeclared name.place)
+named_type names name (Err scope.DeclaredTwice) = Err (fault.DeclaredTwice name.place)
+named_type names name (Err scope.Memory) = Err fault.Memory
+
+-- the type that a denoter denotes
+unfoldable pub denoted_type : List Name → TypeDenoter → Passing TypeId
+denoted_type names (denoter.Name name) = λ s.
+    and_then (named_type names name (found s.regions (folded name.text.now)))
+    (λ type_id. Ok (after type_id [] (record s { latest = name.place })))
+
+-- a variable: its definition, and then its cells
+unfoldable pub variable : TypeId → Name → Passing (Unit {0})
+variable type_id name = do
+  root ← next_root
+  declare name (denotes.Variable root type_id)
+  reserve name.place type_id
+
+-- variables that are declared together; their type is looked up first
+unfoldable pub group : VariableGroup → Passing (Unit {0})
+group g = denoted_type g.names.items g.denoter >>= (λ type_id. each (variable type_id) g.names.items)
+
+-- what stands before the statements
+unfoldable pub declarations : Program → Passing (Unit {0})
+declarations program = do
+  open_required
+  open_block (all_folded (defined_names program))
+  each parameter_of_program program.parameters.items
+  each group program.block.variables.items
+
+-- the statements of a block, and its last `end`
+unfoldable pub statement_part : Block → Passing (Unit {0})
+statement_part block = compound (map statement block.statements.items) >> mark (BlockEnds block.end)
+
+-- a program
+unfoldable pub typing : Program → Checked (After (Unit {0}))
+typing program = (declarations program >> statement_part program.block) (begins program.name.place)

@@ -1,0 +1,3 @@
+//! Typing as a computation: the rules of names and types (ISO 7185:1990, 6.2.2 and 6.4 to 6.10), and the steps that
+//! pass a program by them.
+#![tactic(auto)]
