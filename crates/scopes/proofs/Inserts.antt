@@ -10,7 +10,7 @@ use Rattle.indexmap.specs.IndexMap.{insert_entry}
 use Rattle.scopes.specs.declared.denotation.Denotation.{Denotation}
 use Rattle.scopes.specs.declared.fault.ScopeFault.{ScopeFault}
 use Rattle.scopes.specs.declared.fault.ScopeFault.TheVariants as fault
-use Rattle.scopes.specs.Scopes.{Region, said, decided, found, put, opened, is_defined, define, region_of}
+use Rattle.scopes.specs.Scopes.{Region, said, decided, found, put, opened, opened_with, is_defined, define, region_of}
 
 -- a table of what a region says
 abbrev pub Table : Type 0 → Type 0
@@ -93,6 +93,21 @@ module _ {S : Type 0} where
       ∙ sym (fold-append (λ region name. put region name None) [] (map (λ k. k.items) (take i keys)) ((get_or keys i item).items ∷ []))
       ∙ ap opened (sym (map-append (λ k. k.items) (take i keys) (get_or keys i item ∷ [])))
       ∙ ap (λ ks. opened (map (λ k. k.items) ks)) (sym (take_more keys i item within))
+
+  -- a region of some definitions, and one definition more
+  pub defines_more : {D : Type 0} (f : D → List ℕ × Denotation) (ds : List D) (i : ℕ) (d : D) (key : Vec ℕ Global) (before after : Table S)
+      → i < length ds → key.items ≡ (f (get_or ds i d)).0
+      → after.entries ≡ insert_entry key_eq before.entries key (Some (f (get_or ds i d)).1)
+      → region_of before ≡ opened_with (map f (take i ds))
+      → region_of after ≡ opened_with (map f (take (i + 1) ds))
+  defines_more f ds i d key before after within is entries was =
+      let next = f (get_or ds i d) in
+      ap (map entry_of) entries ∙ put_is_insert key (Some next.1) before.entries
+      ∙ ap (λ n. put (region_of before) n (Some next.1)) is
+      ∙ ap (λ r. put r next.0 (Some next.1)) was
+      ∙ sym (fold-append (λ region e. put region e.0 (Some e.1)) [] (map f (take i ds)) (next ∷ []))
+      ∙ ap opened_with (sym (map-append f (take i ds) (get_or ds i d ∷ [])))
+      ∙ ap (λ es. opened_with (map f es)) (sym (take_more ds i d within))
 
   module _ (tables : List (Table S)) (n : ℕ) (before : Table S) (len : n ≡ length tables) (some : 0 < n)
       (is : before ≡ slice_index_or tables (n - 1) before) (key : Vec ℕ Global) (d : Denotation) where

@@ -39,6 +39,10 @@ put (entry ∷ entries) name says =
 abbrev pub opened : List (List ℕ) → Region
 opened = fold (λ region name. put region name None) []
 
+-- a region whose names are all defined
+abbrev pub opened_with : List (List ℕ × Denotation) → Region
+opened_with = fold (λ region definition. put region definition.0 (Some definition.1)) []
+
 -- a definition of the name was passed
 abbrev pub is_defined : Option (Option Denotation) → Bool
 is_defined None = false

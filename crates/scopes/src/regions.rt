@@ -1,13 +1,13 @@
-ghost use Rattle.std.specs.Prelude.{◌≡◌, ◌⊎◌, ◌∷◌, List, [], Ok, Err, OnOk, OnErr, IfErr, MatchResult, drop, map, nat_eq, reverse};
+ghost use Rattle.std.specs.Prelude.{◌≡◌, ◌⊎◌, ◌∷◌, List, [], Ok, Err, OnOk, OnErr, IfOk, IfErr, MatchResult, drop, map, nat_eq, reverse};
 ghost use Rattle.std.specs.Cmp.Lexicographic.{pointwise};
 ghost use Rattle.std.specs.HashMap.{get_by};
-ghost use Rattle.scopes.specs.Scopes.{Region, decided, is_defined, opened, region_of};
+ghost use Rattle.scopes.specs.Scopes.{Region, decided, is_defined, opened, opened_with, region_of};
 ghost use Rattle.scopes.specs.declared.fault.ScopeFault.TheVariants.{Memory};
 
 use crate::denotation::Denotation;
 use crate::fault::ScopeFault;
 use indexmap::IndexMap;
-use std::alloc::Global;
+use std::alloc::{AllocError, Global};
 use std::marker::Model;
 
 // A region's names, each with what it denotes once its definition was passed.
@@ -44,6 +44,21 @@ impl Scopes {
         ensures unchanged { OnErr result (self.new ≡ self.old) }
     {
         let region = region(alloc, names)?;
+        self.blocks.push(region)?;
+        Ok(())
+    }
+
+    /// Begins a region whose names are all defined. Without memory none begins.
+    pub fn open_defined(
+        &mut self,
+        alloc: Global,
+        definitions: &[(&[u8], Denotation)],
+    ) -> Result<(), ScopeFault>
+        ensures opened { OnOk result (self.new ≡ opened_with (map (λ d. (d.0.now, d.1)) definitions.now) ∷ self.old) }
+        ensures refused { IfErr result (λ fault. fault ≡ Memory) }
+        ensures unchanged { OnErr result (self.new ≡ self.old) }
+    {
+        let region = defined_region(alloc, definitions)?;
         self.blocks.push(region)?;
         Ok(())
     }
@@ -94,6 +109,27 @@ fn region(alloc: Global, names: &[Vec<u8>]) -> Result<Region, ScopeFault>
         region.insert(name.clone()?, None)?;
     }
     Ok(region)
+}
+
+// A region whose names are all defined.
+fn defined_region(
+    alloc: Global,
+    definitions: &[(&[u8], Denotation)],
+) -> Result<Region, ScopeFault>
+    ensures { MatchResult result (λ region. region_of region ≡ opened_with (map (λ d. (d.0.now, d.1)) definitions.now)) (λ fault. fault ≡ Memory) }
+{
+    let mut region = IndexMap::new(alloc);
+    for definition in definitions {
+        region.insert(key(alloc, definition.0)?, Some(definition.1))?;
+    }
+    Ok(region)
+}
+
+// A name as the key of a region.
+fn key(alloc: Global, name: &[u8]) -> Result<Vec<u8>, AllocError>
+    ensures { IfOk result (λ key. key.items ≡ name.now) }
+{
+    name.iter().copied().collect(alloc)
 }
 
 // Whether the definition of a name was passed in a region.

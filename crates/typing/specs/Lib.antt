@@ -4,5 +4,5 @@ pub mod Steps
 pub mod Expressions
 pub mod Statements
 pub mod Typing
-pub mod Contracts
+pub mod Outcomes
 pub mod Sound

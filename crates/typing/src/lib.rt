@@ -1,3 +1,13 @@
 //! Typing as a computation: the rules of names and types (ISO 7185:1990, 6.2.2 and 6.4 to 6.10), and the steps that
 //! pass a program by them.
 #![tactic(auto)]
+
+mod names;
+mod operations;
+pub mod rules;
+mod steps;
+mod typer;
+mod variables;
+
+pub use names::folded;
+pub use typer::{MOST_CELLS, MOST_ENTRIES, MOST_SITES, Typer};

@@ -1,0 +1,60 @@
+ghost use Rattle.std.specs.Prelude.{◌≡◌, IfOk};
+ghost use Rattle.typing.specs.Names.{folded, is_among};
+
+use scopes::{Denotation, RequiredFunction, RequiredProcedure};
+use std::alloc::{AllocError, Global};
+use syntax_tree::Name;
+use types::{MAXINT, TypeTable};
+
+/// A name in small letters: small and capital letters are alike (6.1.3).
+pub fn folded(alloc: Global, name: &[u8]) -> Result<Vec<u8>, AllocError>
+    ensures { IfOk result (λ key. key.items ≡ folded name.now) }
+{
+    name.iter()
+        .map(|letter| letter.to_ascii_lowercase())
+        .collect(alloc)
+}
+
+// Whether a name is among others.
+pub(crate) fn is_among(names: &[Name], name: &Name) -> bool
+    ensures { result ≡ is_among names.now name.now }
+{
+    names
+        .iter()
+        .any(|other| other.text.eq_ignore_ascii_case(name.text))
+}
+
+/// The required identifiers (6.2.2.10).
+pub const REQUIRED: [(&[u8], Denotation); 10] = [
+    (b"integer", Denotation::TypeName(TypeTable::INTEGER)),
+    (b"boolean", Denotation::TypeName(TypeTable::BOOLEAN)),
+    (
+        b"maxint",
+        Denotation::Constant {
+            value: MAXINT,
+            type_id: TypeTable::INTEGER,
+        },
+    ),
+    (
+        b"false",
+        Denotation::Constant {
+            value: 0,
+            type_id: TypeTable::BOOLEAN,
+        },
+    ),
+    (
+        b"true",
+        Denotation::Constant {
+            value: 1,
+            type_id: TypeTable::BOOLEAN,
+        },
+    ),
+    (b"abs", Denotation::Function(RequiredFunction::Abs)),
+    (b"sqr", Denotation::Function(RequiredFunction::Sqr)),
+    (b"odd", Denotation::Function(RequiredFunction::Odd)),
+    (b"write", Denotation::Procedure(RequiredProcedure::Write)),
+    (
+        b"writeln",
+        Denotation::Procedure(RequiredProcedure::Writeln),
+    ),
+];

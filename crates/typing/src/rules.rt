@@ -1,0 +1,139 @@
+//! The rules of types, of operators and of calls, which need nothing else of a program.
+ghost use Rattle.std.specs.Prelude.{◌≡◌, nat_eq};
+ghost use Rattle.typing.specs.Steps.{told};
+ghost use Rattle.typing.specs.Expressions.{sign_operation, both_of, result_type, function_type, as_function};
+ghost use Rattle.typing.specs.Statements.{as_variable, as_procedure, fitting, ends_line, is_output, representation_of};
+
+use place::Place;
+use scopes::{Denotation, RequiredFunction, RequiredProcedure, ScopeFault};
+use syntax_tree::{Operator, Sign};
+use typed_tree::fault::TypeFault;
+use typed_tree::tree::{Monadic, Representation};
+use types::{OrdinalRange, TypeForm, TypeId, TypeTable};
+
+// What the scopes answer, at a place.
+pub(crate) fn placed<T>(answer: Result<T, ScopeFault>, place: Place) -> Result<T, TypeFault>
+    ensures { result ≡ told place answer }
+{
+    match answer {
+        Ok(answer) => Ok(answer),
+        Err(ScopeFault::Memory) => Err(TypeFault::Memory),
+        Err(ScopeFault::DeclaredTwice) => Err(TypeFault::DeclaredTwice(place)),
+        Err(ScopeFault::UsedBeforeDeclared) => Err(TypeFault::UsedBeforeDeclared(place)),
+        Err(ScopeFault::NotDeclared) => Err(TypeFault::NotDeclared(place)),
+    }
+}
+
+/// The operation of a sign (6.7.2.2).
+pub fn sign_operation(sign: Sign) -> Monadic
+    ensures { result ≡ sign_operation sign }
+{
+    match sign {
+        Sign::Plus => Monadic::Plus,
+        Sign::Minus => Monadic::Minus,
+    }
+}
+
+// A type, if both operands are of it.
+fn both_of(wanted: TypeId, left: TypeId, right: TypeId) -> Option<TypeId>
+    ensures { result ≡ both_of wanted left right }
+{
+    (left.same(wanted) && right.same(wanted)).then_some(wanted)
+}
+
+/// The type of an operator's result, if its operands fit it (6.7.2).
+pub fn result_type(
+    types: &TypeTable,
+    operator: Operator,
+    left: TypeId,
+    right: TypeId,
+) -> Option<TypeId>
+    ensures { result ≡ result_type types.now operator left right }
+{
+    match operator {
+        Operator::Plus | Operator::Minus | Operator::Times | Operator::Div | Operator::Mod => {
+            both_of(TypeTable::INTEGER, left, right)
+        }
+        Operator::And | Operator::Or => both_of(TypeTable::BOOLEAN, left, right),
+        _ => types.compatible(left, right).then_some(TypeTable::BOOLEAN),
+    }
+}
+
+/// The type of a required function's result (6.6.6.2, 6.6.6.5).
+pub fn function_type(function: RequiredFunction) -> TypeId
+    ensures { result ≡ function_type function }
+{
+    match function {
+        RequiredFunction::Abs | RequiredFunction::Sqr => TypeTable::INTEGER,
+        RequiredFunction::Odd => TypeTable::BOOLEAN,
+    }
+}
+
+/// The function that a name at a place denotes: K3 where it is a procedure, K1 where it is no routine.
+pub fn as_function(place: Place, denotation: Denotation) -> Result<RequiredFunction, TypeFault>
+    ensures { result ≡ as_function place denotation }
+{
+    match denotation {
+        Denotation::Function(function) => Ok(function),
+        Denotation::Procedure(_) => Err(TypeFault::WrongParameters(place)),
+        _ => Err(TypeFault::Mismatch(place)),
+    }
+}
+
+/// The procedure that a name at a place denotes: K3 where it is a function, K1 where it is no routine.
+pub fn as_procedure(place: Place, denotation: Denotation) -> Result<RequiredProcedure, TypeFault>
+    ensures { result ≡ as_procedure place denotation }
+{
+    match denotation {
+        Denotation::Procedure(procedure) => Ok(procedure),
+        Denotation::Function(_) => Err(TypeFault::WrongParameters(place)),
+        _ => Err(TypeFault::Mismatch(place)),
+    }
+}
+
+/// The variable that a name at a place denotes, by its root and its type: K2 where it is none.
+pub fn as_variable(place: Place, denotation: Denotation) -> Result<(u32, TypeId), TypeFault>
+    ensures { result ≡ as_variable place denotation }
+{
+    match denotation {
+        Denotation::Variable { root, type_id } => Ok((root, type_id)),
+        _ => Err(TypeFault::NotVariable(place)),
+    }
+}
+
+/// Whether a name denotes the file output.
+pub fn is_output(denotation: Denotation) -> bool
+    ensures { result ≡ is_output denotation }
+{
+    matches!(denotation, Denotation::Output)
+}
+
+/// Whether a call ends the line.
+pub fn ends_line(procedure: RequiredProcedure) -> bool
+    ensures { result ≡ ends_line procedure }
+{
+    match procedure {
+        RequiredProcedure::Write => false,
+        RequiredProcedure::Writeln => true,
+    }
+}
+
+/// The values of a target's type, if a value of the other type may be assigned to it (6.4.6).
+pub fn fitting(types: &TypeTable, target: TypeId, value: TypeId) -> Option<OrdinalRange>
+    ensures { result ≡ fitting types.now target value }
+{
+    if !types.assignable(target, value) {
+        return None;
+    }
+    types.range(target)
+}
+
+/// How a value of a type is written (6.9.3).
+pub fn representation(types: &TypeTable, id: TypeId) -> Option<Representation>
+    ensures { result ≡ representation_of types.now id }
+{
+    match types.form(id)? {
+        TypeForm::Integer => Some(Representation::Integer),
+        TypeForm::Boolean => Some(Representation::Boolean),
+    }
+}

@@ -1,0 +1,113 @@
+ghost use Rattle.std.specs.Prelude.{◌≡◌, [], Ok, IfErr, map};
+ghost use Rattle.scopes.specs.Scopes.{Knows};
+ghost use Rattle.typing.specs.Names.{folded};
+ghost use Rattle.typing.specs.Passing.{after};
+
+use crate::names::{REQUIRED, folded};
+use crate::rules::placed;
+use crate::typer::{MOST_ENTRIES, MOST_SITES, Typer};
+use place::Place;
+use scopes::Denotation;
+use syntax_tree::Name;
+use typed_tree::fault::TypeFault;
+use typed_tree::site::{Site, SiteKind};
+
+impl Typer {
+    ghost use Rattle.typing.specs.Outcomes.{Takes, Tells};
+    ghost use Rattle.typing.specs.Steps as spec;
+
+    /// A token that the syntax tree tells was passed.
+    #[tactic(auto, unfolding(crate::specs::Steps::pass))]
+    pub fn pass(&mut self, place: Place)
+        ensures { spec.pass place self.old ≡ Ok (after tt [] self.new) }
+    {
+        self.latest = place;
+    }
+
+    /// The number of the statement or expression that is entered.
+    #[tactic(auto, unfolding(crate::specs::Steps::enter))]
+    pub fn enter(&mut self) -> Result<u32, TypeFault>
+        ensures { Tells (spec.enter self.old) result self.new }
+    {
+        if self.entries >= MOST_ENTRIES {
+            return Err(TypeFault::TooMany(self.latest));
+        }
+        let number = self.entries;
+        self.entries += 1;
+        Ok(number)
+    }
+
+    /// The id of a new site. Sites come in the order of their tokens.
+    #[tactic(auto, using(crate::proofs::Rows::site_added, crate::proofs::Rows::sites_counted), unfolding(crate::specs::Steps::site))]
+    pub fn site(&mut self, kind: SiteKind, place: Place) -> Result<u32, TypeFault>
+        ensures { Takes (spec.site kind place self.old) result self.new }
+    {
+        if self.sites.len() >= MOST_SITES {
+            return Err(TypeFault::TooMany(place));
+        }
+        let id = self.sites.len() as u32;
+        self.sites.push(Site { id, kind, place })?;
+        self.latest = place;
+        Ok(id)
+    }
+
+    /// What a name denotes.
+    #[tactic(auto, unfolding(crate::specs::Steps::find))]
+    pub fn find(&mut self, name: &Name) -> Result<Denotation, TypeFault>
+        ensures { Takes (spec.find name.now self.old) result self.new }
+    {
+        let key = folded(self.alloc, name.text)?;
+        let denotation = placed(self.scopes.find(key.as_slice()), name.place)?;
+        self.latest = name.place;
+        Ok(denotation)
+    }
+
+    /// Begins the region of the required identifiers, which stands round the program (6.2.2.10).
+    #[tactic(auto, unfolding(crate::specs::Steps::open_required, crate::specs::Names::required_region))]
+    pub fn open_required(&mut self) -> Result<(), TypeFault>
+        ensures { Takes (spec.open_required self.old) result self.new }
+    {
+        self.scopes
+            .open_defined(self.alloc, &REQUIRED)
+            .map_err(|_| TypeFault::Memory)
+    }
+
+    /// Begins the region of a block that defines these names, which are in small letters.
+    #[tactic(auto, unfolding(crate::specs::Steps::open_block))]
+    pub fn open_block(&mut self, names: &[Vec<u8>]) -> Result<(), TypeFault>
+        ensures { Takes (spec.open_block (map (λ name. name.items) names.now) self.old) result self.new }
+    {
+        self.scopes
+            .open(self.alloc, names)
+            .map_err(|_| TypeFault::Memory)
+    }
+
+    /// Passes the definition of a name of the innermost block.
+    #[tactic(auto, unfolding(crate::specs::Steps::declare))]
+    pub fn declare(&mut self, name: &Name, denotation: Denotation) -> Result<(), TypeFault>
+        requires known { Knows self.old.regions (folded name.now.text.now) }
+        ensures { Takes (spec.declare name.now denotation self.old) result self.new }
+    {
+        let key = folded(self.alloc, name.text)?;
+        placed(self.scopes.declare(key, denotation), name.place)
+    }
+
+    /// Output is a program parameter.
+    #[tactic(auto, unfolding(crate::specs::Steps::give_output))]
+    pub fn give_output(&mut self)
+        ensures { spec.give_output self.old ≡ Ok (after tt [] self.new) }
+    {
+        self.has_output = true;
+    }
+
+    /// A write or writeln needs output; K8 at its name where there is none.
+    #[tactic(auto, unfolding(crate::specs::Steps::wants_output))]
+    pub fn wants_output(&self, place: Place) -> Result<(), TypeFault>
+        ensures { Tells (spec.wants_output place self.now) result self.now }
+    {
+        if !self.has_output {
+            return Err(TypeFault::NotProgramParameter(place));
+        }
+        Ok(())
+    }
+}

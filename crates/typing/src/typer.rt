@@ -1,0 +1,100 @@
+ghost use Rattle.std.specs.Prelude.{◌≡◌, ◌≤◌, MatchResult, map, vec_len};
+ghost use Rattle.typed_tree.specs.Ids.{AreInOrder};
+ghost use Rattle.typed_tree.specs.declared.fault.TypeFault.TheVariants.{Memory};
+ghost use Rattle.typing.specs.Passing.{Passed};
+ghost use Rattle.typing.specs.Sound.{stands};
+ghost use Rattle.typing.specs.declared.typer.TheConstants.{MOST_SITES, MOST_ENTRIES, MOST_CELLS};
+
+use place::Place;
+use scopes::Scopes;
+use std::alloc::Global;
+use std::marker::Model;
+use typed_tree::fault::TypeFault;
+use typed_tree::site::Site;
+use typed_tree::tree::{Block, Tree, Variable};
+use types::TypeTable;
+
+/// The most sites, and the most points, of a program.
+pub const MOST_SITES: usize = 1_000_000;
+
+/// The most statements and expressions of a program.
+pub const MOST_ENTRIES: u32 = 4_000_000;
+
+/// The most cells that the variables of a block take.
+pub const MOST_CELLS: u32 = 65_536;
+
+/// What is known at a place of a program while it is typed.
+#[derive(Drop)]
+pub struct Typer {
+    pub alloc: Global,
+    pub(crate) scopes: Scopes,
+    pub(crate) types: TypeTable,
+    // By root number.
+    pub(crate) variables: Vec<Variable>,
+    // The cells that those of the block take: at least one each.
+    pub(crate) cells: u32,
+    pub(crate) has_output: bool,
+    // By id.
+    pub(crate) sites: Vec<Site>,
+    // How many statements and expressions were entered.
+    pub(crate) entries: u32,
+    // The place of the latest token that the syntax tree tells.
+    pub(crate) latest: Place,
+    ghost in_order: { AreInOrder sites.items },
+    ghost few_sites: { vec_len sites ≤ MOST_SITES },
+    ghost few_entries: { entries ≤ MOST_ENTRIES },
+    ghost room: { vec_len variables ≤ cells },
+    ghost few_cells: { cells ≤ MOST_CELLS },
+}
+
+impl Model for Typer {
+    ghost Value = { Passed };
+
+    ghost view = { λ t. record {
+        regions = t.scopes;
+        types = t.types;
+        variables = t.variables.items;
+        cells = t.cells;
+        has_output = t.has_output;
+        sites = map stands t.sites.items;
+        entries = t.entries;
+        latest = t.latest;
+    } };
+}
+
+impl Typer {
+    ghost use Rattle.typing.specs.Steps.{begins};
+    ghost use Rattle.typing.specs.Sound.{IsLeft};
+
+    /// What is known before a program, whose first token that the tree tells stands at `start`.
+    pub fn new(alloc: Global, start: Place) -> Result<Typer, TypeFault>
+        ensures { MatchResult result (λ typer. typer ≡ begins start) (λ fault. fault ≡ Memory) }
+    {
+        Ok(Typer {
+            alloc,
+            scopes: Scopes::new(alloc),
+            types: TypeTable::required(alloc)?,
+            variables: Vec::new(alloc),
+            cells: 0,
+            has_output: false,
+            sites: Vec::new(alloc),
+            entries: 0,
+            latest: start,
+        })
+    }
+
+    /// The typed tree of the program that was passed, by its blocks.
+    pub fn tree(self, blocks: Vec<Block>) -> Tree
+        ensures blocks { result.blocks ≡ blocks }
+        ensures left { IsLeft self result }
+    {
+        let points = Vec::new(self.alloc);
+        Tree {
+            blocks,
+            variables: self.variables,
+            sites: self.sites,
+            points,
+            types: self.types,
+        }
+    }
+}
