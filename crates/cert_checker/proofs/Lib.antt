@@ -1,7 +1,7 @@
 pub mod Steps
 pub mod Held
 pub mod Among
-pub mod Counting
+pub mod Entered
 pub mod Ranged
 pub mod Known
 pub mod Sound

@@ -162,12 +162,12 @@ assignment-sound env apart target fits value =
 
 statement-parts : (env : Environment) → Apart env → (y : Stmt-F (ProvedStmt env)) → SoundStatement env (meaning.effect_step (map-Stmt Stmt Execution effect_of (map-Stmt (ProvedStmt env) Stmt (λ s. s.0) y))) (walk.statement_step (map-Stmt Stmt (Walking (Unit {0})) statement_walk (map-Stmt (ProvedStmt env) Stmt (λ s. s.0) y)))
 statement-parts env apart (Empty number) = sound-enter env number
-statement-parts env apart (Assign number target fits value) =
+statement-parts env apart (Assign number becomes target fits value) =
     sound-then env Any_value Any_value (effect.enter number env)
     (λ entered. effect.◌>>=◌ (effect.enter target.number env) (λ again. effect.◌>>=◌ (value_of value env) (λ v. effect.◌>>=◌ (effect.require (is_in fits.range v) fits.site) (λ tested. effect.store (place_of env target.root) v))))
     (walk.enter number) (λ entered. walk.assignment target fits value)
     (sound-enter env number) (λ b a tie. assignment-sound env apart target fits value)
-statement-parts env apart (Write number parameters ends_line) =
+statement-parts env apart (Write number name parameters ends_line) =
     let written = meaning.all_of (map parameter_of parameters.items) in
     let walked = walk.all_of (map parameter_walk parameters.items) in
     sound-then env Any_value Any_value (effect.enter number env) (λ entered. effect.◌>>=◌ (written env) (λ done. meaning.line_ended ends_line)) (walk.enter number) (λ entered. walked)

@@ -1,5 +1,6 @@
 use Rattle.std.proofs.Common.{rules, arith, ◌≡◌, ◌≤◌, Bool, Option, Some, ℕ, ℤ, ◌+◌, List, [], ◌∷◌, ◌++◌, length, map, refl, sym, ap, ◌∙◌, subst, append_assoc, append-nil, ◌<◌, get_or, drop, drop-cons, add-one, suc, length-append}
 use Rattle.std.proofs.lemmas.List.{drop_all}
+use Rattle.place.specs.declared.Place.{Place as SourcePlace}
 use Rattle.typed_tree.specs.declared.tree.Access.{Access}
 use Rattle.typed_tree.specs.declared.tree.RangeTest.{RangeTest}
 use Rattle.typed_tree.specs.declared.tree.Width.{Width}
@@ -42,11 +43,11 @@ value-Chain first rest = search (rules, the_lemmas)
 pub statement-Empty : (number : ℕ) → statement_walk (stmt.Empty number) ≡ enter number
 statement-Empty number = search (rules, stmt_lemmas)
 
-pub statement-Assign : (number : ℕ) (target : Access) (fits : RangeTest) (value : Expr) → statement_walk (stmt.Assign number target fits value) ≡ (enter number >>= λ _. assignment target fits value)
-statement-Assign number target fits value = search (rules, stmt_lemmas)
+pub statement-Assign : (number : ℕ) (becomes : SourcePlace) (target : Access) (fits : RangeTest) (value : Expr) → statement_walk (stmt.Assign number becomes target fits value) ≡ (enter number >>= λ _. assignment target fits value)
+statement-Assign number becomes target fits value = search (rules, stmt_lemmas)
 
-pub statement-Write : (number : ℕ) (parameters : Vec WriteParameter Global) (ends_line : Bool) → statement_walk (stmt.Write number parameters ends_line) ≡ (enter number >>= λ _. all_of (map parameter_walk parameters.items))
-statement-Write number parameters ends_line = search (rules, stmt_lemmas)
+pub statement-Write : (number : ℕ) (name : SourcePlace) (parameters : Vec WriteParameter Global) (ends_line : Bool) → statement_walk (stmt.Write number name parameters ends_line) ≡ (enter number >>= λ _. all_of (map parameter_walk parameters.items))
+statement-Write number name parameters ends_line = search (rules, stmt_lemmas)
 
 pub statement-Compound : (number : ℕ) (statements : Vec Stmt Global) → statement_walk (stmt.Compound number statements) ≡ (enter number >>= λ _. all_of (map statement_walk statements.items))
 statement-Compound number statements = search (rules, stmt_lemmas)
@@ -154,14 +155,14 @@ turn-end items i range old past = subst (λ ls. Walks (in_turn (map link_walk ls
 pub all-end : {X : Type 0} (walk : X → Walking (Unit {0})) (items : List X) (i : ℕ) (old : Walk) → length items ≤ i → Walks (all_of (map walk (drop i items))) old old tt
 all-end {X} walk items i old past = subst (λ (ls : List X). Walks (all_of (map walk ls)) old old tt) (sym (drop-past items i past)) (walks-give tt old)
 
-pub assign-done : (statement : Stmt) (number : ℕ) (target : Access) (fits : RangeTest) (value : Expr) (old mid new : Walk) → statement ≡ stmt.Assign number target fits value → Walks (enter number) old mid tt → Walks (assignment target fits value) mid new tt → Walks (statement_walk statement) old new tt
-assign-done statement number target fits value old mid new is entered assigned =
-    along (statement_walk statement) (enter number >>= λ _. assignment target fits value) old new tt (ap statement_walk is ∙ statement-Assign number target fits value)
+pub assign-done : (statement : Stmt) (number : ℕ) (becomes : SourcePlace) (target : Access) (fits : RangeTest) (value : Expr) (old mid new : Walk) → statement ≡ stmt.Assign number becomes target fits value → Walks (enter number) old mid tt → Walks (assignment target fits value) mid new tt → Walks (statement_walk statement) old new tt
+assign-done statement number becomes target fits value old mid new is entered assigned =
+    along (statement_walk statement) (enter number >>= λ _. assignment target fits value) old new tt (ap statement_walk is ∙ statement-Assign number becomes target fits value)
     (walks-then (enter number) (λ _. assignment target fits value) old mid new tt tt entered assigned)
 
-pub write-done : (statement : Stmt) (number : ℕ) (parameters : Vec WriteParameter Global) (ends_line : Bool) (items : List WriteParameter) (old mid new : Walk) → statement ≡ stmt.Write number parameters ends_line → items ≡ parameters.items → Walks (enter number) old mid tt → Walks (all_of (map parameter_walk items)) mid new tt → Walks (statement_walk statement) old new tt
-write-done statement number parameters ends_line items old mid new is items_are entered written =
-    along (statement_walk statement) (enter number >>= λ _. all_of (map parameter_walk parameters.items)) old new tt (ap statement_walk is ∙ statement-Write number parameters ends_line)
+pub write-done : (statement : Stmt) (number : ℕ) (name : SourcePlace) (parameters : Vec WriteParameter Global) (ends_line : Bool) (items : List WriteParameter) (old mid new : Walk) → statement ≡ stmt.Write number name parameters ends_line → items ≡ parameters.items → Walks (enter number) old mid tt → Walks (all_of (map parameter_walk items)) mid new tt → Walks (statement_walk statement) old new tt
+write-done statement number name parameters ends_line items old mid new is items_are entered written =
+    along (statement_walk statement) (enter number >>= λ _. all_of (map parameter_walk parameters.items)) old new tt (ap statement_walk is ∙ statement-Write number name parameters ends_line)
     (walks-then (enter number) (λ _. all_of (map parameter_walk parameters.items)) old mid new tt tt entered
     (subst (λ vs. Walks (all_of (map parameter_walk vs)) mid new tt) items_are written))
 

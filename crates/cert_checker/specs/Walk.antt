@@ -225,10 +225,10 @@ assignment target fits value = do
 -- one layer of a statement
 abbrev pub statement_step : Stmt-F (Walking (Unit {0})) → Walking (Unit {0})
 statement_step (Empty number) = enter number
-statement_step (Assign number target fits value) = do
+statement_step (Assign number becomes target fits value) = do
   _ ← enter number
   assignment target fits value
-statement_step (Write number parameters ends_line) = do
+statement_step (Write number name parameters ends_line) = do
   _ ← enter number
   all_of (map parameter_walk parameters.items)
 statement_step (Compound number statements) = do

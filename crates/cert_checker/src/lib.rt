@@ -1,8 +1,8 @@
 //! The checker: which sites of a program may err, told from a certificate in one walk over the typed tree.
 #![tactic(auto)]
 
-ghost use Rattle.std.specs.Prelude.{◌≡◌, IfOk};
-ghost use Rattle.cert_checker.specs.Entries.{entries};
+ghost use Rattle.std.specs.Prelude.{◌≡◌, IfOk, length};
+ghost use Rattle.typed_tree.specs.Entries.{entries_of};
 ghost use Rattle.cert_checker.specs.Promise.{Valid, ClosedNeverErr, StatesHold};
 
 pub mod fault;
@@ -40,7 +40,7 @@ pub fn check(alloc: Global, tree: &Tree, certificate: &Certificate) -> Result<Ve
     ensures valid { IfOk result (λ verdict. Valid tree.now certificate.now verdict.open_sites.items) }
     ensures closed_never_err { IfOk result (λ verdict. ClosedNeverErr tree.now verdict.open_sites.items) }
     ensures states_hold { IfOk result (λ _. StatesHold tree.now) }
-    ensures visits { IfOk result (λ verdict. verdict.visits ≡ entries tree.now) }
+    ensures visits { IfOk result (λ verdict. verdict.visits ≡ length (entries_of tree.now)) }
 {
     let Version::One = certificate.version;
     let (open_ids, visits) = Walk::over(alloc, tree)?.finish();

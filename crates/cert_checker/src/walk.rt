@@ -1,6 +1,6 @@
-ghost use Rattle.std.specs.Prelude.{◌≡◌, ℕ, [], map, IfOk};
+ghost use Rattle.std.specs.Prelude.{◌≡◌, ℕ, [], map, length, IfOk};
 ghost use Rattle.cert_checker.specs.Walk.{enter, variable_walk, tested, within, positive, divisor, operated, combined, value_walk, link_walk, width_walk, parameter_walk, all_of, limits_of, assignment, statement_walk, block_walk, program_walk};
-ghost use Rattle.cert_checker.specs.Entries.{entries};
+ghost use Rattle.typed_tree.specs.Entries.{entries_of};
 ghost use Rattle.cert_checker.specs.View.{Walks};
 
 use crate::fault::CheckFault;
@@ -30,7 +30,7 @@ impl Walk {
     pub(crate) fn over(alloc: Global, tree: &Tree) -> Result<Walk, CheckFault>
         ensures sites { IfOk result (λ walk. walk.open_ids.items ≡ (program_walk tree.now).open_ids) }
         ensures unbroken { IfOk result (λ _. (program_walk tree.now).broken ≡ []) }
-        ensures entries { IfOk result (λ walk. walk.visits ≡ entries tree.now) }
+        ensures entries { IfOk result (λ walk. walk.visits ≡ length (entries_of tree.now)) }
     {
         let mut walk = Walk {
             state: State::Dead,

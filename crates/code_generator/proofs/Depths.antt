@@ -165,15 +165,15 @@ rolled_stmt x =
 
 stmt_layer : (y : Stmt-F ((s : Stmt) × StmtWithin s)) → StmtWithin (roll-Stmt (map-Stmt ((s : Stmt) × StmtWithin s) Stmt (λ s. s.0) y))
 stmt_layer (Empty number) = rolled_stmt (Empty number) (record { code_is = omega arith; need_is = omega arith })
-stmt_layer (Assign number target fits value) =
+stmt_layer (Assign number becomes target fits value) =
     let v = expr_within value in
     let a = v.code_is in let b = v.need_is in
-    rolled_stmt (Assign number target fits value) (record { code_is = omega (arith, length-append {A = Instr}); need_is = omega arith })
-stmt_layer (Write number parameters ends_line) =
+    rolled_stmt (Assign number becomes target fits value) (record { code_is = omega (arith, length-append {A = Instr}); need_is = omega arith })
+stmt_layer (Write number name parameters ends_line) =
     let none : Within 0 [] 8 = record { code_is = omega arith; need_is = omega arith } in
     let w = parameters_within parameters.items 0 [] 8 (omega arith) none in
     let a = w.code_is in let b = w.need_is in
-    rolled_stmt (Write number parameters ends_line) (record { code_is = omega (arith, length-append (flat_map parameter_code parameters.items) (line_end_code ends_line)); need_is = b })
+    rolled_stmt (Write number name parameters ends_line) (record { code_is = omega (arith, length-append (flat_map parameter_code parameters.items) (line_end_code ends_line)); need_is = b })
 stmt_layer (Compound number statements) =
     let none : Within 0 [] 8 = record { code_is = omega arith; need_is = omega arith } in
     rolled_stmt (map-Stmt ((s : Stmt) × StmtWithin s) Stmt (λ s. s.0) (Compound number statements)) (row_within stmt_depth stmt_code stmt_need statements.items 0 [] 8 none)

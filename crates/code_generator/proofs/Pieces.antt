@@ -7,6 +7,7 @@ use Rattle.std.proofs.lemmas.List.{take_all, take_more, flat_map_more, map_push,
 use Rattle.std.specs.Global.{Vec, Box}
 use Rattle.pcode_assembler.specs.declared.instr.Instr.{Instr}
 use Rattle.pcode_assembler.specs.declared.instr.Instr.TheVariants as instr
+use Rattle.place.specs.declared.Place.{Place as SourcePlace}
 use Rattle.typed_tree.specs.declared.tree.Access.{Access}
 use Rattle.typed_tree.specs.declared.tree.RangeTest.{RangeTest}
 use Rattle.typed_tree.specs.declared.tree.WriteParameter.{WriteParameter}
@@ -44,31 +45,31 @@ stmt_code-Compound number statements =
 pub stmt_code-Empty : (number : ℕ) → stmt_code (Empty number) ≡ []
 stmt_code-Empty number = ap stmt_code (sym (rolls-Empty number)) ∙ fold-roll-Stmt (List Instr) stmt_step (Empty-layer number)
 
-pub stmt_code-Assign : (number : ℕ) (target : Access) (fits : RangeTest) (value : Expr) → stmt_code (Assign number target fits value) ≡ assign_code target.root fits value
-stmt_code-Assign number target fits value =
-    ap stmt_code (sym (rolls-Assign number target fits value)) ∙ fold-roll-Stmt (List Instr) stmt_step (Assign-layer number target fits value)
+pub stmt_code-Assign : (number : ℕ) (becomes : SourcePlace) (target : Access) (fits : RangeTest) (value : Expr) → stmt_code (Assign number becomes target fits value) ≡ assign_code target.root fits value
+stmt_code-Assign number becomes target fits value =
+    ap stmt_code (sym (rolls-Assign number becomes target fits value)) ∙ fold-roll-Stmt (List Instr) stmt_step (Assign-layer number becomes target fits value)
 
-pub stmt_code-Write : (number : ℕ) (parameters : Vec WriteParameter) (ends_line : Bool) → stmt_code (Write number parameters ends_line) ≡ write_code parameters.items ends_line
-stmt_code-Write number parameters ends_line =
-    ap stmt_code (sym (rolls-Write number parameters ends_line)) ∙ fold-roll-Stmt (List Instr) stmt_step (Write-layer number parameters ends_line)
+pub stmt_code-Write : (number : ℕ) (name : SourcePlace) (parameters : Vec WriteParameter) (ends_line : Bool) → stmt_code (Write number name parameters ends_line) ≡ write_code parameters.items ends_line
+stmt_code-Write number name parameters ends_line =
+    ap stmt_code (sym (rolls-Write number name parameters ends_line)) ∙ fold-roll-Stmt (List Instr) stmt_step (Write-layer number name parameters ends_line)
 
 -- how many instructions an assignment has, and a write
-pub length-Assign : (number : ℕ) (target : Access) (fits : RangeTest) (value : Expr) → length (stmt_code (Assign number target fits value)) ≡ length (expr_code value) + 2
-length-Assign number target fits value =
-    ap length (stmt_code-Assign number target fits value) ∙ length-append (expr_code value) (instr.CheckRange fits.site fits.range.first fits.range.last ∷ instr.Store 0 (variable_offset target.root) ∷ [])
+pub length-Assign : (number : ℕ) (becomes : SourcePlace) (target : Access) (fits : RangeTest) (value : Expr) → length (stmt_code (Assign number becomes target fits value)) ≡ length (expr_code value) + 2
+length-Assign number becomes target fits value =
+    ap length (stmt_code-Assign number becomes target fits value) ∙ length-append (expr_code value) (instr.CheckRange fits.site fits.range.first fits.range.last ∷ instr.Store 0 (variable_offset target.root) ∷ [])
 
-pub length-Write : (number : ℕ) (parameters : Vec WriteParameter) (ends_line : Bool) → length (stmt_code (Write number parameters ends_line)) ≡ length (flat_map parameter_code parameters.items) + length (line_end_code ends_line)
-length-Write number parameters ends_line =
-    ap length (stmt_code-Write number parameters ends_line) ∙ length-append (flat_map parameter_code parameters.items) (line_end_code ends_line)
+pub length-Write : (number : ℕ) (name : SourcePlace) (parameters : Vec WriteParameter) (ends_line : Bool) → length (stmt_code (Write number name parameters ends_line)) ≡ length (flat_map parameter_code parameters.items) + length (line_end_code ends_line)
+length-Write number name parameters ends_line =
+    ap length (stmt_code-Write number name parameters ends_line) ∙ length-append (flat_map parameter_code parameters.items) (line_end_code ends_line)
 
 -- how many cells an assignment needs, a write, and a compound statement
-pub stmt_depth-Assign : (number : ℕ) (target : Access) (fits : RangeTest) (value : Expr) → stmt_depth (Assign number target fits value) ≡ expr_depth value
-stmt_depth-Assign number target fits value =
-    ap stmt_depth (sym (rolls-Assign number target fits value)) ∙ fold-roll-Stmt ℕ stmt_depth_step (Assign-layer number target fits value)
+pub stmt_depth-Assign : (number : ℕ) (becomes : SourcePlace) (target : Access) (fits : RangeTest) (value : Expr) → stmt_depth (Assign number becomes target fits value) ≡ expr_depth value
+stmt_depth-Assign number becomes target fits value =
+    ap stmt_depth (sym (rolls-Assign number becomes target fits value)) ∙ fold-roll-Stmt ℕ stmt_depth_step (Assign-layer number becomes target fits value)
 
-pub stmt_depth-Write : (number : ℕ) (parameters : Vec WriteParameter) (ends_line : Bool) → stmt_depth (Write number parameters ends_line) ≡ greatest (map parameter_depth parameters.items)
-stmt_depth-Write number parameters ends_line =
-    ap stmt_depth (sym (rolls-Write number parameters ends_line)) ∙ fold-roll-Stmt ℕ stmt_depth_step (Write-layer number parameters ends_line)
+pub stmt_depth-Write : (number : ℕ) (name : SourcePlace) (parameters : Vec WriteParameter) (ends_line : Bool) → stmt_depth (Write number name parameters ends_line) ≡ greatest (map parameter_depth parameters.items)
+stmt_depth-Write number name parameters ends_line =
+    ap stmt_depth (sym (rolls-Write number name parameters ends_line)) ∙ fold-roll-Stmt ℕ stmt_depth_step (Write-layer number name parameters ends_line)
 
 pub stmt_depth-Compound : (number : ℕ) (statements : Vec Stmt) → stmt_depth (Compound number statements) ≡ greatest (map stmt_depth statements.items)
 stmt_depth-Compound number statements =

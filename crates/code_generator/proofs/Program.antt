@@ -1,7 +1,8 @@
 -- The code of a well formed tree follows its program.
-use Rattle.std.proofs.Common.{◌≡◌, ℕ, ◌+◌, ◌<◌, ◌≤◌, ◌⊎◌, List, [], ◌∷◌, ◌++◌, length, Option, Some, None, refl, sym, ap, ◌∙◌, subst, inl, inr, ⊎_elim, arith, length-append, true}
+use Rattle.std.proofs.Common.{◌≡◌, ℕ, ◌+◌, ◌<◌, ◌≤◌, ◌⊎◌, List, [], ◌∷◌, ◌++◌, length, Option, Some, None, refl, sym, ap, ◌∙◌, subst, inl, inr, ⊎_elim, arith, length-append, Bool, true}
 use Rattle.std.specs.Prelude.{slice_get, if◌then◌else◌}
-use Rattle.std.proofs.lemmas.Bool.{cases_lt, lt-ltb, le-ltb, le-leb, lt-leb}
+use Rattle.std.specs.List.{list_all}
+use Rattle.std.proofs.lemmas.Bool.{and_parts, cases_lt, lt-ltb, le-ltb, le-leb, lt-leb}
 use Rattle.pcode_assembler.specs.declared.code.Code.{Code}
 use Rattle.pcode_assembler.specs.declared.code.Site.{Site as Plain}
 use Rattle.pcode_assembler.specs.declared.instr.Instr.{Instr}
@@ -25,7 +26,7 @@ use Rattle.code_generator.specs.Code.{operand, stmt_code, stmt_depth, body_code,
 use Rattle.code_generator.specs.Follows.{BeginsWith, StopsAs, DoesAll, DoesAsMuch, IsExplained, Follows}
 use Rattle.code_generator.specs.Need.{body_need, program_need}
 use Rattle.code_generator.specs.Tables.{site_table}
-use Rattle.typed_tree.specs.WellFormed.{is_well_formed_body, IsWellFormed}
+use Rattle.typed_tree.specs.WellFormed.{is_well_formed_block, IsWellFormed}
 use Rattle.code_generator.proofs.Reach.{HasAt, has_front, has_back, has_all, Comes, IsOver, comes_by, comes_nowhere, stops_on, stops_by, longer, one_end, grows_to}
 use Rattle.stack_machine.proofs.Growing.{begins_itself}
 use Rattle.code_generator.proofs.Depths.{Within, stmt_within}
@@ -51,6 +52,17 @@ body_within (Some block) = stmt_within block.body
 body_code_is : (variables : ℕ) (o : Option Block) → body_code variables o ≡ instr.Enter variables (operand (body_depth o)) ∷ body_instructions o
 body_code_is variables None = refl
 body_code_is variables (Some block) = refl
+
+-- the body of a block that may be there is well formed
+abbrev is_well_formed_body : ℕ → ℕ → Option Block → Bool
+is_well_formed_body variables sites None = true
+is_well_formed_body variables sites (Some block) = is_well_formed_block variables sites block
+
+-- that of the first block is, where those of all are
+first_is_well_formed : (variables sites : ℕ) (blocks : List Block) → list_all (is_well_formed_block variables sites) blocks ≡ true → is_well_formed_body variables sites (slice_get blocks 0) ≡ true
+first_is_well_formed variables sites [] good = refl
+first_is_well_formed variables sites (block ∷ blocks) good =
+    (and_parts (is_well_formed_block variables sites block) (list_all (is_well_formed_block variables sites) blocks) good).0
 
 -- the environment of the program's block has its variables
 shown_in : (tree : Tree) → ShowsProgram (length tree.variables.items) (program_environment tree)
@@ -168,7 +180,7 @@ module _ (tree : Tree) (well : IsWellFormed tree) (short : length (program_code 
   whole = instr.Enter count depth ∷ (body ++ instr.Stop ∷ [])
 
   few : count ≤ 4294967291
-  few = well.few_variables
+  few = let bounded = well.few_variables in omega arith
 
   shallow : depth ≤ 4294967295
   shallow =
@@ -222,7 +234,7 @@ module _ (tree : Tree) (well : IsWellFormed tree) (short : length (program_code 
 
     done : (turns : ℕ) → 4 + count + depth ≤ cells → (j : ℕ) × DoesAll tree (meaning tree input turns) (steps sites whole j start)
     done turns h =
-        finishes inside (1 + length body) (meant.run tree input turns) (has_back whole 1 body (instr.Stop ∷ []) has_body).0 (enters h) (body_runs first 1 (meant.first_state input turns) (has_front whole 1 body (instr.Stop ∷ []) has_body) well.body (program_begins count) (omega arith))
+        finishes inside (1 + length body) (meant.run tree input turns) (has_back whole 1 body (instr.Stop ∷ []) has_body).0 (enters h) (body_runs first 1 (meant.first_state input turns) (has_front whole 1 body (instr.Stop ∷ []) has_body) (first_is_well_formed count (length tree.sites.items) tree.blocks.items well.blocks) (program_begins count) (omega arith))
 
     needed : cells < 4 + count + depth → cells < program_need tree
     needed h = let w = (body_within first).need_is in omega arith

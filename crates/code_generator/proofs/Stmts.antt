@@ -7,6 +7,7 @@ use Rattle.std.proofs.lemmas.List.{length-set}
 use Rattle.pcode_assembler.specs.declared.code.Site.{Site as Plain}
 use Rattle.pcode_assembler.specs.declared.instr.Instr.{Instr}
 use Rattle.pcode_assembler.specs.declared.instr.Instr.TheVariants as instr
+use Rattle.place.specs.declared.Place.{Place as SourcePlace}
 use Rattle.typed_tree.specs.declared.tree.Tree.{Tree}
 use Rattle.typed_tree.specs.declared.tree.Access.{Access}
 use Rattle.typed_tree.specs.declared.tree.RangeTest.{RangeTest}
@@ -121,8 +122,8 @@ module _ (tree : Tree) (code : List Instr) (variables limit size : ℕ) (input :
       subst (λ t. Executes (on (cells ++ Number n ∷ []) place s.output) (place + 2) (effect.and_then (require t fits.site s) (λ _. effect.store (place_of env root) (value.Number n)))) (sym (same_range fits.range n fit)) (stored_by root fits place cells n s _ refl has has' h within fit alike full)
 
   -- an assignment
-  assign_runs : (number : ℕ) (target : Access) (fits : RangeTest) (v : Expr) → ExecutesAs (stmt_step (Assign number target fits v)) (expr_depth v) (stmt_is_well_formed variables (length tree.sites.items) (Assign number target fits v)) (effect_step (Assign number target fits v))
-  assign_runs number target fits v place cells s has good alike full room =
+  assign_runs : (number : ℕ) (becomes : SourcePlace) (target : Access) (fits : RangeTest) (v : Expr) → ExecutesAs (stmt_step (Assign number becomes target fits v)) (expr_depth v) (stmt_is_well_formed variables (length tree.sites.items) (Assign number becomes target fits v)) (effect_step (Assign number becomes target fits v))
+  assign_runs number becomes target fits v place cells s has good alike full room =
       let s1 : effect.State = record s { visited = s.visited ++ record { number = number; environment = env; store = s.store } ∷ [] } in
       let s2 : effect.State = record s1 { visited = s1.visited ++ record { number = target.number; environment = env; store = s.store } ∷ [] } in
       let c = expr_code v in
@@ -256,9 +257,9 @@ module _ (tree : Tree) (code : List Instr) (variables limit size : ℕ) (input :
 
   stmt_layer : (y : Stmt-F ((s : Stmt) × StmtRuns s)) → StmtRuns (roll-Stmt (map-Stmt ((s : Stmt) × StmtRuns s) Stmt (λ s. s.0) y))
   stmt_layer (Empty number) = rolled_stmt (Empty number) (empty_runs number)
-  stmt_layer (Assign number target fits v) = rolled_stmt (Assign number target fits v) (assign_runs number target fits v)
-  stmt_layer (Write number parameters ends_line) =
-      rolled_stmt (Write number parameters ends_line) (write_runs number parameters.items ends_line)
+  stmt_layer (Assign number becomes target fits v) = rolled_stmt (Assign number becomes target fits v) (assign_runs number becomes target fits v)
+  stmt_layer (Write number name parameters ends_line) =
+      rolled_stmt (Write number name parameters ends_line) (write_runs number parameters.items ends_line)
   stmt_layer (Compound number statements) =
       rolled_stmt (map-Stmt ((s : Stmt) × StmtRuns s) Stmt (λ s. s.0) (Compound number statements)) (compound_runs number statements.items)
 

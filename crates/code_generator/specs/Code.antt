@@ -135,8 +135,8 @@ write_code parameters ends_line = flat_map parameter_code parameters ++ line_end
 
 abbrev pub stmt_step : Stmt-F (List Instr) → List Instr
 stmt_step (Empty number) = []
-stmt_step (Assign number target fits value) = assign_code target.root fits value
-stmt_step (Write number parameters ends_line) = write_code parameters.items ends_line
+stmt_step (Assign number becomes target fits value) = assign_code target.root fits value
+stmt_step (Write number name parameters ends_line) = write_code parameters.items ends_line
 stmt_step (Compound number statements) = joined statements.items
 
 -- the code of a statement
@@ -171,8 +171,8 @@ parameter_depth parameter = max (expr_depth parameter.value) (width_depth parame
 
 abbrev pub stmt_depth_step : Stmt-F ℕ → ℕ
 stmt_depth_step (Empty number) = 0
-stmt_depth_step (Assign number target fits value) = expr_depth value
-stmt_depth_step (Write number parameters ends_line) = greatest (map parameter_depth parameters.items)
+stmt_depth_step (Assign number becomes target fits value) = expr_depth value
+stmt_depth_step (Write number name parameters ends_line) = greatest (map parameter_depth parameters.items)
 stmt_depth_step (Compound number statements) = greatest statements.items
 
 -- how many cells the evaluation of a statement needs at once

@@ -43,8 +43,8 @@ parameter_need parameter = expr_need parameter.value + width_need parameter.widt
 -- a statement, which has no value, and what is in it; the target of an assignment is an expression
 abbrev pub stmt_need_step : Stmt-F ℕ → ℕ
 stmt_need_step (Empty number) = 8
-stmt_need_step (Assign number target fits value) = 8 + one_value + expr_need value
-stmt_need_step (Write number parameters ends_line) = 8 + sum_by parameter_need parameters.items
+stmt_need_step (Assign number becomes target fits value) = 8 + one_value + expr_need value
+stmt_need_step (Write number name parameters ends_line) = 8 + sum_by parameter_need parameters.items
 stmt_need_step (Compound number statements) = 8 + sum statements.items
 
 abbrev pub stmt_need : Stmt → ℕ

@@ -1,45 +1,39 @@
+ghost use Rattle.std.specs.Prelude.{OnOk};
+ghost use Rattle.scopes.specs.Scopes.{Knows};
+
 use scopes::{Denotation, ScopeFault, Scopes};
 use std::alloc::Global;
 use std::process::Abort;
 use std::test::Fail;
 use types::TypeTable;
 
-/// What is done to the regions.
-#[derive(Clone, Copy)]
-enum Step {
-    /// A region opens that knows these names.
-    Open(&'static [&'static str]),
-    /// A variable of this name and root is defined.
-    Declare(&'static str, u32),
-    Find(&'static str),
-    Close,
+/// Opens a region that lists two names.
+fn opened(alloc: Global, scopes: &mut Scopes, first: &str, second: &str) -> Result<(), ScopeFault>
+    ensures { OnOk result (Knows scopes.new first.now) }
+{
+    let first = Vec::from_slice(alloc, first.as_bytes())?;
+    let second = Vec::from_slice(alloc, second.as_bytes())?;
+    let names = vec![in alloc; first, second]?;
+    scopes.open(alloc, &names)
 }
 
-/// What a step gives: the root that a name denotes, where it asks for a name.
-type Given = Result<Option<u32>, ScopeFault>;
+/// Defines a name of the innermost region as a variable of this root.
+fn declared(alloc: Global, scopes: &mut Scopes, name: &str, root: u32) -> Result<(), ScopeFault>
+    requires { Knows scopes.old name.now }
+    ensures { Knows scopes.new name.now }
+{
+    let variable = Denotation::Variable {
+        root,
+        type_id: TypeTable::INTEGER,
+    };
+    scopes.declare(Vec::from_slice(alloc, name.as_bytes())?, variable)
+}
 
-/// Steps, and in a word what they give.
-static STEPS: [(Step, &str); 12] = [
-    (Step::Find("a"), "not declared"),
-    (Step::Open(&["a", "b"]), "done"),
-    (Step::Declare("a", 0), "done"),
-    (Step::Open(&["a"]), "done"),
-    (Step::Find("a"), "used before"),
-    (Step::Declare("a", 1), "done"),
-    (Step::Find("a"), "root 1"),
-    (Step::Find("b"), "used before"),
-    (Step::Find("c"), "not declared"),
-    (Step::Declare("a", 2), "declared twice"),
-    (Step::Close, "done"),
-    (Step::Find("a"), "root 0"),
-];
-
-fn word_of(given: Given) -> &'static str {
-    match given {
-        Ok(None) => "done",
-        Ok(Some(0)) => "root 0",
-        Ok(Some(1)) => "root 1",
-        Ok(Some(_)) => "another root",
+fn found(scopes: &Scopes, name: &str) -> &'static str {
+    match scopes.find(name.as_bytes()) {
+        Ok(Denotation::Variable { root: 0, .. }) => "root 0",
+        Ok(Denotation::Variable { root: 1, .. }) => "root 1",
+        Ok(_) => "another",
         Err(ScopeFault::Memory) => "no memory",
         Err(ScopeFault::DeclaredTwice) => "declared twice",
         Err(ScopeFault::UsedBeforeDeclared) => "used before",
@@ -47,52 +41,32 @@ fn word_of(given: Given) -> &'static str {
     }
 }
 
-fn opened(alloc: Global, scopes: &mut Scopes, names: &[&str]) -> Given {
-    let mut known = Vec::new(alloc);
-    for name in names {
-        known.push(Vec::from_slice(alloc, name.as_bytes())?)?;
-    }
-    scopes.open(alloc, &known)?;
-    Ok(None)
+/// Whether a region within another one decides of its names alone, before and behind their definitions.
+fn inner_decides(alloc: Global, scopes: &mut Scopes) -> Result<bool, ScopeFault> {
+    opened(alloc, scopes, "a", "c")?;
+    let before = found(scopes, "a") == "used before";
+    declared(alloc, scopes, "a", 1)?;
+    let twice = matches!(
+        declared(alloc, scopes, "a", 2),
+        Err(ScopeFault::DeclaredTwice)
+    );
+    Ok(before && twice && found(scopes, "a") == "root 1" && found(scopes, "b") == "used before")
 }
 
-fn declared(alloc: Global, scopes: &mut Scopes, name: &str, root: u32) -> Given {
-    let variable = Denotation::Variable {
-        root,
-        type_id: TypeTable::INTEGER,
-    };
-    scopes.declare(Vec::from_slice(alloc, name.as_bytes())?, variable)?;
-    Ok(None)
-}
-
-fn found(scopes: &Scopes, name: &str) -> Given {
-    match scopes.find(name.as_bytes())? {
-        Denotation::Variable { root, .. } => Ok(Some(root)),
-        _ => Ok(None),
-    }
-}
-
-fn given(alloc: Global, scopes: &mut Scopes, step: Step) -> Given {
-    match step {
-        Step::Open(names) => opened(alloc, scopes, names),
-        Step::Declare(name, root) => declared(alloc, scopes, name, root),
-        Step::Find(name) => found(scopes, name),
-        Step::Close => {
-            scopes.close();
-            Ok(None)
-        }
-    }
+/// Whether names mean what the regions say, from before the first to behind the second.
+fn regions_decide(alloc: Global) -> Result<bool, ScopeFault> {
+    let mut scopes = Scopes::new(alloc);
+    let without = found(&scopes, "a") == "not declared";
+    opened(alloc, &mut scopes, "a", "b")?;
+    declared(alloc, &mut scopes, "a", 0)?;
+    let inner = inner_decides(alloc, &mut scopes)?;
+    let unknown = found(&scopes, "d") == "not declared";
+    scopes.close();
+    Ok(without && inner && unknown && found(&scopes, "a") == "root 0")
 }
 
 #[test]
 fn the_innermost_region_decides(rt: HostRuntime) -> Result<(), Fail> {
-    let alloc = rt.alloc();
-    let mut scopes = Scopes::new(alloc);
-    for (step, wanted) in &STEPS {
-        let word = word_of(given(alloc, &mut scopes, *step));
-        if word != *wanted {
-            return Err(Fail::new(word));
-        }
-    }
+    assert!(rt; matches!(regions_decide(rt.alloc()), Ok(true)));
     Ok(())
 }

@@ -141,13 +141,13 @@ blind_all_of (statement ∷ statements) env = blind_bind (effect_of statement.0 
 
 effect-parts : (y : Stmt-F BlindStmt) (env : Environment) → Blind (effect_step (map-Stmt Stmt Execution effect_of (map-Stmt BlindStmt Stmt (λ e. e.0) y)) env)
 effect-parts (Empty number) env = λ n s. refl
-effect-parts (Assign number target fits value) env =
+effect-parts (Assign number becomes target fits value) env =
     let kept : Value → Action (Unit {0}) = λ v. require (is_in fits.range v) fits.site >>= λ _. store (place_of env target.root) v in
     blind_bind (enter number env) (λ _. enter target.number env >>= λ _. value_of value env >>= kept) (λ n s. refl) (λ _.
     blind_bind (enter target.number env) (λ _. value_of value env >>= kept) (λ n s. refl) (λ _.
     blind_bind (value_of value env) kept (blind_value value env) (λ v.
     blind_bind (require (is_in fits.range v) fits.site) (λ _. store (place_of env target.root) v) (blind_require (is_in fits.range v) fits.site) (λ _ n s. refl))))
-effect-parts (Write number parameters ends_line) env =
+effect-parts (Write number name parameters ends_line) env =
     blind_bind (enter number env) (λ _. all_of (map parameter_of parameters.items) env >>= λ _. line_ended ends_line) (λ n s. refl) (λ _.
     blind_bind (all_of (map parameter_of parameters.items) env) (λ _. line_ended ends_line) (blind_parameters parameters.items env) (λ _. blind_line_ended ends_line))
 effect-parts (Compound number statements) env =

@@ -1,5 +1,6 @@
 -- Each form of an expression and of a statement, as the work that an interpreter has to do for it.
 use Rattle.std.proofs.Common.{◌≡◌, ℕ, List, [], ◌∷◌, ◌++◌, Bool, Option, Some, Bor, Box, Vec, Global, map, sym, ◌∙◌, ap, refl}
+use Rattle.place.specs.declared.Place.{Place as SourcePlace}
 use Rattle.typed_tree.specs.declared.tree.Access.{Access}
 use Rattle.typed_tree.specs.declared.tree.Monadic.{Monadic}
 use Rattle.typed_tree.specs.declared.tree.RangeTest.{RangeTest}
@@ -38,11 +39,11 @@ combination-Link link env left = ap (λ (f : Combination). f env left) (fold_out
 effect-Empty : (n : ℕ) (env : Environment) → effect_of (stmt.Empty n) env ≡ enter n env
 effect-Empty n env = ap (λ (e : Stmt). effect_of e env) (sym (stmt.rolls-Empty n)) ∙ ap (λ (f : Execution). f env) (fold-roll-Stmt Execution effect_step (Empty-F n))
 
-effect-Assign : (n : ℕ) (target : Access) (fits : RangeTest) (value : Expr) (env : Environment) → effect_of (stmt.Assign n target fits value) env ≡ (enter n env >>= λ _. enter target.number env >>= λ _. value_of value env >>= λ v. require (is_in fits.range v) fits.site >>= λ _. store (place_of env target.root) v)
-effect-Assign n target fits value env = ap (λ (e : Stmt). effect_of e env) (sym (stmt.rolls-Assign n target fits value)) ∙ ap (λ (f : Execution). f env) (fold-roll-Stmt Execution effect_step (Assign-F n target fits value))
+effect-Assign : (n : ℕ) (becomes : SourcePlace) (target : Access) (fits : RangeTest) (value : Expr) (env : Environment) → effect_of (stmt.Assign n becomes target fits value) env ≡ (enter n env >>= λ _. enter target.number env >>= λ _. value_of value env >>= λ v. require (is_in fits.range v) fits.site >>= λ _. store (place_of env target.root) v)
+effect-Assign n becomes target fits value env = ap (λ (e : Stmt). effect_of e env) (sym (stmt.rolls-Assign n becomes target fits value)) ∙ ap (λ (f : Execution). f env) (fold-roll-Stmt Execution effect_step (Assign-F n becomes target fits value))
 
-effect-Write : (n : ℕ) (parameters : Vec WriteParameter Global) (ends_line : Bool) (env : Environment) → effect_of (stmt.Write n parameters ends_line) env ≡ (enter n env >>= λ _. all_of (map parameter_of parameters.items) env >>= λ _. line_ended ends_line)
-effect-Write n parameters ends_line env = ap (λ (e : Stmt). effect_of e env) (sym (stmt.rolls-Write n parameters ends_line)) ∙ ap (λ (f : Execution). f env) (fold-roll-Stmt Execution effect_step (Write-F n parameters ends_line))
+effect-Write : (n : ℕ) (name : SourcePlace) (parameters : Vec WriteParameter Global) (ends_line : Bool) (env : Environment) → effect_of (stmt.Write n name parameters ends_line) env ≡ (enter n env >>= λ _. all_of (map parameter_of parameters.items) env >>= λ _. line_ended ends_line)
+effect-Write n name parameters ends_line env = ap (λ (e : Stmt). effect_of e env) (sym (stmt.rolls-Write n name parameters ends_line)) ∙ ap (λ (f : Execution). f env) (fold-roll-Stmt Execution effect_step (Write-F n name parameters ends_line))
 
 effect-Compound : (n : ℕ) (statements : Vec Stmt Global) (env : Environment) → effect_of (stmt.Compound n statements) env ≡ (enter n env >>= λ _. all_of (map effect_of statements.items) env)
 effect-Compound n statements env = ap (λ (e : Stmt). effect_of e env) (sym (stmt.rolls-Compound n statements)) ∙ ap (λ (f : Execution). f env) (fold-roll-Stmt Execution effect_step (Compound-F n statements))
@@ -100,21 +101,21 @@ pub does-Empty : (n : ℕ) (given : Stmt) → given ≡ stmt.Empty n → (env : 
 does-Empty n given is env works operands s =
     ap (λ (e : Stmt). executed env e works operands s) is ∙ ap (λ (a : Action (Unit {0})). and_then (a s) (λ _. pending_of env works operands)) (effect-Empty n env)
 
-pub does-Assign : (n : ℕ) (target : Access) (fits : RangeTest) (value : Expr) (given : Stmt) → given ≡ stmt.Assign n target fits value → (env : Environment) (works : List Work) (operands : List Value) (s : State) → executed env given works operands s ≡ evaluated env value (work.Store target.root fits ∷ works) operands (entered target.number env (entered n env s))
-does-Assign n target fits value given is env works operands s =
+pub does-Assign : (n : ℕ) (becomes : SourcePlace) (target : Access) (fits : RangeTest) (value : Expr) (given : Stmt) → given ≡ stmt.Assign n becomes target fits value → (env : Environment) (works : List Work) (operands : List Value) (s : State) → executed env given works operands s ≡ evaluated env value (work.Store target.root fits ∷ works) operands (entered target.number env (entered n env s))
+does-Assign n becomes target fits value given is env works operands s =
     let then_rest : Unit {0} → Action (Unit {0}) = λ _. pending_of env works operands in
     let there = entered target.number env (entered n env s) in
     ap (λ (e : Stmt). executed env e works operands s) is
-    ∙ ap (λ (a : Action (Unit {0})). and_then (a s) then_rest) (effect-Assign n target fits value env)
+    ∙ ap (λ (a : Action (Unit {0})). and_then (a s) then_rest) (effect-Assign n becomes target fits value env)
     ∙ and_then-and_then (value_of value env there) (λ v. require (is_in fits.range v) fits.site >>= λ _. store (place_of env target.root) v) then_rest
     ∙ and_then-same (value_of value env there) _ _ (λ v t. and_then-and_then (require (is_in fits.range v) fits.site t) (λ _. store (place_of env target.root) v) then_rest)
 
-pub does-Write : (n : ℕ) (parameters : Vec WriteParameter Global) (ends_line : Bool) (given : Stmt) → given ≡ stmt.Write n parameters ends_line → (all : Bor (List WriteParameter)) → all.now ≡ parameters.items → (env : Environment) (works : List Work) (operands : List Value) (s : State) → executed env given works operands s ≡ resumed env (work.Parameters all ends_line) (pending_of env works) operands (entered n env s)
-does-Write n parameters ends_line given is all same env works operands s =
+pub does-Write : (n : ℕ) (name : SourcePlace) (parameters : Vec WriteParameter Global) (ends_line : Bool) (given : Stmt) → given ≡ stmt.Write n name parameters ends_line → (all : Bor (List WriteParameter)) → all.now ≡ parameters.items → (env : Environment) (works : List Work) (operands : List Value) (s : State) → executed env given works operands s ≡ resumed env (work.Parameters all ends_line) (pending_of env works) operands (entered n env s)
+does-Write n name parameters ends_line given is all same env works operands s =
     let then_rest : Unit {0} → Action (Unit {0}) = λ _. pending_of env works operands in
     let written : List WriteParameter → Reply (Unit {0}) = λ l. all_of (map parameter_of l) env (entered n env s) in
     ap (λ (e : Stmt). executed env e works operands s) is
-    ∙ ap (λ (a : Action (Unit {0})). and_then (a s) then_rest) (effect-Write n parameters ends_line env)
+    ∙ ap (λ (a : Action (Unit {0})). and_then (a s) then_rest) (effect-Write n name parameters ends_line env)
     ∙ and_then-and_then (written parameters.items) (λ _. line_ended ends_line) then_rest
     ∙ ap (λ (l : List WriteParameter). and_then (written l) (λ _. line_ended ends_line >>= then_rest)) (sym same)
 

@@ -159,13 +159,13 @@ line_ended ends_line = if ends_line then write (10 ∷ []) else give tt
 -- one layer of a statement
 abbrev pub effect_step : Stmt-F Execution → Execution
 effect_step (Empty number) env = enter number env
-effect_step (Assign number target fits value) env = do
+effect_step (Assign number becomes target fits value) env = do
   _ ← enter number env
   _ ← enter target.number env
   v ← value_of value env
   _ ← require (is_in fits.range v) fits.site
   store (place_of env target.root) v
-effect_step (Write number parameters ends_line) env = do
+effect_step (Write number name parameters ends_line) env = do
   _ ← enter number env
   _ ← all_of (map parameter_of parameters.items) env
   line_ended ends_line

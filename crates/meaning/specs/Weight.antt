@@ -43,8 +43,8 @@ weight_of_parameter parameter = 2 + weight_of_expression parameter.value + weigh
 
 abbrev pub statement_weight : Stmt-F ℕ → ℕ
 statement_weight (Empty n) = 1
-statement_weight (Assign n target fits value) = 2 + weight_of_expression value
-statement_weight (Write n parameters ends_line) = row_weight 1 (map weight_of_parameter parameters.items)
+statement_weight (Assign n becomes target fits value) = 2 + weight_of_expression value
+statement_weight (Write n name parameters ends_line) = row_weight 1 (map weight_of_parameter parameters.items)
 statement_weight (Compound n statements) = row_weight 1 statements.items
 
 abbrev pub weight_of_statement : Stmt → ℕ

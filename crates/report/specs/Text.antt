@@ -71,6 +71,7 @@ typing_refusal (typing.NotVariable place) = at place 75 2
 typing_refusal (typing.WrongParameters place) = at place 75 3
 typing_refusal (typing.NotProgramParameter place) = at place 75 8
 typing_refusal (typing.TooMany place) = at place 75 10
+typing_refusal (typing.TooManyCells place) = at place 89 2
 
 abbrev pub certificate_refusal : ReadFault → Refusal
 certificate_refusal read.Memory = Memory

@@ -1,12 +1,12 @@
 -- What the whole compiler gives: the answers of its layers, one over the other, and a run of the code without the
 -- checks of the sites that aren't open. It does not say that a run ends, nor what a writer that fails does not take.
-use Rattle.std.specs.Prelude.{◌≡◌, ℕ, List, Option}
+use Rattle.std.specs.Prelude.{◌≡◌, ℕ, List, Option, length}
 use Rattle.typed_tree.specs.declared.tree.Tree.{Tree}
 use Rattle.typed_tree.specs.declared.site.Site.{Site}
+use Rattle.typed_tree.specs.Entries.{entries_of}
 use Rattle.certificate.specs.declared.Certificate.{Certificate}
 use Rattle.certificate.specs.Text.{spelling}
 use Rattle.cert_checker.specs.declared.Verdict.{Verdict}
-use Rattle.cert_checker.specs.Entries.{entries}
 use Rattle.cert_checker.specs.Promise.{Valid}
 use Rattle.pcode_assembler.specs.declared.code.Code.{Code}
 use Rattle.check_remover.specs.Strip.{strip}
@@ -34,7 +34,7 @@ pub record RunsStripped (source text : List ℕ) (verdict : Verdict) (stop : Sto
   pub code : Code
   pub spelled : text ≡ spelling certificate
   pub valid : Valid tree certificate verdict.open_sites.items
-  pub entered : verdict.visits ≡ entries tree
+  pub entered : verdict.visits ≡ length (entries_of tree)
   pub stripped : IsStripped tree verdict.open_sites.items code
   pub headline : Headline tree verdict.open_sites.items code
   -- for every input, since no instruction asks for any yet

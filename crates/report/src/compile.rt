@@ -1,6 +1,5 @@
-ghost use Rattle.std.specs.Prelude.{◌≡◌, ◌≤◌, ◌<◌, ◌+◌, ◌-◌, ◌^◌, ℕ, List, IfOk, IfErr, MatchResult, OnErr};
+ghost use Rattle.std.specs.Prelude.{◌≡◌, ◌≤◌, ◌<◌, ◌+◌, ◌-◌, ◌^◌, ℕ, List, length, IfOk, IfErr, MatchResult, OnErr};
 ghost use Rattle.certificate.specs.Text.{spelling};
-ghost use Rattle.cert_checker.specs.Entries.{entries};
 ghost use Rattle.cert_checker.specs.Promise.{Valid, StatesHold};
 ghost use Rattle.code_generator.specs.Code.{program_code};
 ghost use Rattle.code_generator.specs.Follows.{Follows};
@@ -9,6 +8,7 @@ ghost use Rattle.report.specs.Headline.{Headline, IsTypedTreeOf};
 ghost use Rattle.report.specs.Refusals.{IsRefusal, text_of};
 ghost use Rattle.report.specs.Typed.{IsSoundTreeOf};
 ghost use Rattle.stack_machine.specs.Failures.{write_failures_of};
+ghost use Rattle.typed_tree.specs.Entries.{entries_of};
 ghost use Rattle.report.specs.Whole.{IsStripped, RunsStripped};
 
 use crate::fault::Fault;
@@ -57,7 +57,7 @@ pub fn compile(alloc: Global, source: &[u8], certificate: Option<&[u8]>) -> Resu
     // The list of open sites is the checker's, and it counted as many entries as the program has statements and
     // expressions.
     ensures checked { IfOk result (λ c. Valid c.tree c.certificate c.verdict.open_sites.items) }
-    ensures visits { IfOk result (λ c. c.verdict.visits ≡ entries c.tree) }
+    ensures visits { IfOk result (λ c. c.verdict.visits ≡ length (entries_of c.tree)) }
 
     // The headline: for every input and every number of turns the program's meaning commits no error at another
     // site, and the stripped code writes what that meaning writes and stops as it stops.

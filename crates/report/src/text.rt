@@ -163,6 +163,7 @@ fn typing_refusal(fault: TypeFault) -> Refusal
         TypeFault::WrongParameters(place) => at(place, b'K', 3),
         TypeFault::NotProgramParameter(place) => at(place, b'K', 8),
         TypeFault::TooMany(place) => at(place, b'K', 10),
+        TypeFault::TooManyCells(place) => at(place, b'Y', 2),
     }
 }
 

@@ -6,12 +6,12 @@ use Rattle.code_generator.proofs.depth.+needed_by.Goals as goal
 
 pub returns-in-Assign : goal.returns-in-Assign
 returns-in-Assign t c =
-    let whole = ap stmt_depth c.in-Assign.is ∙ stmt_depth-Assign c.in-Assign.number c.in-Assign.target c.in-Assign.fits c.in-Assign.value in
+    let whole = ap stmt_depth c.in-Assign.is ∙ stmt_depth-Assign c.in-Assign.number c.in-Assign.becomes c.in-Assign.target c.in-Assign.fits c.in-Assign.value in
     c.needed_by_expr.ensures ∙ ap operand (sym whole)
 
 pub returns-in-Write : goal.returns-in-Write
 returns-in-Write t c =
-    let whole = ap stmt_depth c.in-Write.is ∙ stmt_depth-Write c.in-Write.number c.in-Write.parameters c.in-Write.ends_line in
+    let whole = ap stmt_depth c.in-Write.is ∙ stmt_depth-Write c.in-Write.number c.in-Write.name c.in-Write.parameters c.in-Write.ends_line in
     c.needed_by_parameters.ensures ∙ ap (λ ps. operand (greatest (map parameter_depth ps))) c.as_slice.ensures.value ∙ ap operand (sym whole)
 
 pub loop-statement-preserved : goal.loop-statement-preserved

@@ -27,7 +27,7 @@ returns-in-Assign t c =
     let fits = c.in-Assign.fits in
     let value = c.in-Assign.value in
     IfOk-equal c.emit_assign.result c.emit_assign.new.code.items (before ++ assign_code target.root fits value) (before ++ stmt_code c.args.stmt.now) c.emit_assign.ensures
-    (ap (λ p. before ++ p) (sym (ap stmt_code c.in-Assign.is ∙ stmt_code-Assign c.in-Assign.number target fits value)))
+    (ap (λ p. before ++ p) (sym (ap stmt_code c.in-Assign.is ∙ stmt_code-Assign c.in-Assign.number c.in-Assign.becomes target fits value)))
 
 pub returns-in-Write : goal.returns-in-Write
 returns-in-Write t c =
@@ -35,7 +35,7 @@ returns-in-Write t c =
     let parameters = c.in-Write.parameters in
     let ends_line = c.in-Write.ends_line in
     IfOk-equal c.emit_write.result c.emit_write.new.code.items (before ++ write_code c.as_slice.result.now ends_line) (before ++ stmt_code c.args.stmt.now) c.emit_write.ensures
-    (ap (λ ps. before ++ write_code ps ends_line) c.as_slice.ensures.value ∙ ap (λ p. before ++ p) (sym (ap stmt_code c.in-Write.is ∙ stmt_code-Write c.in-Write.number parameters ends_line)))
+    (ap (λ ps. before ++ write_code ps ends_line) c.as_slice.ensures.value ∙ ap (λ p. before ++ p) (sym (ap stmt_code c.in-Write.is ∙ stmt_code-Write c.in-Write.number c.in-Write.name parameters ends_line)))
 
 pub loop-statement-init : goal.loop-statement-init
 loop-statement-init t c = sym (append-nil c.args.code.now.items)

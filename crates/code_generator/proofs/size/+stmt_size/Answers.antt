@@ -17,11 +17,11 @@ loop-statement-preserved t c =
 
 pub returns-in-Assign : goal.returns-in-Assign
 returns-in-Assign t c =
-    let whole = ap (λ s. length (stmt_code s)) c.in-Assign.is ∙ length-Assign c.in-Assign.number c.in-Assign.target c.in-Assign.fits c.in-Assign.value in
+    let whole = ap (λ s. length (stmt_code s)) c.in-Assign.is ∙ length-Assign c.in-Assign.number c.in-Assign.becomes c.in-Assign.target c.in-Assign.fits c.in-Assign.value in
     grind (arith, whole, c.expr_size.ensures, c.saturating_add.ensures)
 
 pub returns-in-Write : goal.returns-in-Write
 returns-in-Write t c =
-    let whole = ap (λ s. length (stmt_code s)) c.in-Write.is ∙ length-Write c.in-Write.number c.in-Write.parameters c.in-Write.ends_line in
+    let whole = ap (λ s. length (stmt_code s)) c.in-Write.is ∙ length-Write c.in-Write.number c.in-Write.name c.in-Write.parameters c.in-Write.ends_line in
     let values = c.parameters_size.ensures ∙ ap (λ ps. operand (length (flat_map parameter_code ps))) c.as_slice.ensures.value in
     grind (arith, whole, values, c.line_end_size.ensures, c.saturating_add-in-Write.ensures)

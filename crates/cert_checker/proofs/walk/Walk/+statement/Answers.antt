@@ -13,14 +13,14 @@ pub returns-in-Assign : goal.returns-in-Assign
 returns-in-Assign t c =
     let target = c.in-Assign.target in
     IfOk-weaker c.assignment.result (λ _. Walks (assignment target c.in-Assign.fits c.in-Assign.value) c.enter.new.self c.assignment.new.self tt) _
-    (λ _ assigned. assign-done c.args.statement.now c.in-Assign.number target c.in-Assign.fits c.in-Assign.value c.args.self.now c.enter.new.self c.assignment.new.self
+    (λ _ assigned. assign-done c.args.statement.now c.in-Assign.number c.in-Assign.becomes target c.in-Assign.fits c.in-Assign.value c.args.self.now c.enter.new.self c.assignment.new.self
     c.in-Assign.is (c.in_ok-enter.ensures c.in-Assign.number) assigned)
     c.assignment.ensures
 
 pub returns-in-Write : goal.returns-in-Write
 returns-in-Write t c =
     IfOk-weaker c.parameters.result (λ _. Walks (all_of (map parameter_walk c.deref.result.now)) c.enter.new.self c.parameters.new.self tt) _
-    (λ _ written. write-done c.args.statement.now c.in-Write.number c.in-Write.parameters c.in-Write.ends_line c.deref.result.now c.args.self.now c.enter.new.self c.parameters.new.self
+    (λ _ written. write-done c.args.statement.now c.in-Write.number c.in-Write.name c.in-Write.parameters c.in-Write.ends_line c.deref.result.now c.args.self.now c.enter.new.self c.parameters.new.self
     c.in-Write.is c.deref.ensures.value (c.in_ok-enter.ensures c.in-Write.number) written)
     c.parameters.ensures
 

@@ -1,7 +1,7 @@
 use Rattle.std.proofs.Common.{arith, ◌∙◌, ◌++◌, ap, subst, length}
 use Rattle.cert_checker.specs.Walk.{block_walk, program_walk}
 use Rattle.cert_checker.specs.View.{Walks}
-use Rattle.cert_checker.proofs.Counting.{program-counted}
+use Rattle.cert_checker.proofs.Entered.{program-counted}
 use Rattle.cert_checker.proofs.Steps.{all-same, all-step, all-end}
 use Rattle.cert_checker.proofs.walk.Walk.over.Goals as goal
 

@@ -1,0 +1,72 @@
+-- How the forms of a typed tree look, as code builds them; and that the look of a tree tells its entries, and whether its
+-- blocks are well formed.
+use Rattle.std.proofs.Common.{◌≡◌, ℕ, ℤ, Bool, [], ◌∷◌, ◌++◌, sym, ap, ◌∙◌}
+use Rattle.std.proofs.Common.{Box, Vec}
+use Rattle.std.specs.Prelude.{flat_map}
+use Rattle.std.specs.declared.alloc.Global.{Global}
+use Rattle.std.proofs.lemmas.List.Folds.{flat_map-map}
+use Rattle.place.specs.declared.Place.{Place}
+use Rattle.typed_tree.specs.declared.tree.Access.{Access}
+use Rattle.typed_tree.specs.declared.tree.Monadic.{Monadic as Operation-of}
+use Rattle.typed_tree.specs.declared.tree.RangeTest.{RangeTest}
+use Rattle.typed_tree.specs.declared.tree.WriteParameter.{WriteParameter}
+use Rattle.typed_tree.specs.declared.tree.Expr.{Expr}
+use Rattle.typed_tree.specs.declared.tree.Link.{Link}
+use Rattle.typed_tree.specs.declared.tree.Expr.TheVariants as tree
+use Rattle.typed_tree.specs.declared.tree.Expr.TheOpen as layer
+use Rattle.typed_tree.specs.declared.tree.Expr.TheViews.{roll-Link, out-Link}
+use Rattle.typed_tree.specs.declared.tree.Expr.TheFolds.{fold-roll-Expr, fold-roll-Link, fold_out-Link}
+use Rattle.typed_tree.specs.declared.tree.Stmt.{Stmt}
+use Rattle.typed_tree.specs.declared.tree.Stmt.TheVariants as stmt
+use Rattle.typed_tree.specs.declared.tree.Stmt.TheOpen as stmt_layer
+use Rattle.typed_tree.specs.declared.tree.Stmt.TheFolds.{fold-roll-Stmt}
+use Rattle.typed_tree.specs.Look.{Look, link_look, expression_look, look_expr, look_link, look_parameter, statement_look, look_stmt, Constant, Variable, Operation, Begins, Operator, Ends, Empty, Assign, Target, Fits, Write, Compound}
+pub use Rattle.typed_tree.proofs.Measured.{entries_are, formed_are}
+
+-- ---- expressions
+
+pub look_constant : (number : ℕ) (value : ℤ) → look_expr (tree.Constant number value) ≡ Constant number value ∷ []
+look_constant number value =
+    ap look_expr (sym (tree.rolls-Constant number value)) ∙ fold-roll-Expr Look Look expression_look link_look (layer.Constant number value)
+
+pub look_variable : (access : Access) (defined : ℕ) → look_expr (tree.Variable access defined) ≡ Variable access.number access.root defined ∷ []
+look_variable access defined =
+    ap look_expr (sym (tree.rolls-Variable access defined)) ∙ fold-roll-Expr Look Look expression_look link_look (layer.Variable access defined)
+
+pub look_monadic : (number : ℕ) (operation : Operation-of) (operand : Box Expr Global) → look_expr (tree.Monadic number operation operand) ≡ Operation number operation ∷ look_expr operand.value
+look_monadic number operation operand =
+    ap look_expr (sym (tree.rolls-Monadic number operation operand))
+    ∙ fold-roll-Expr Look Look expression_look link_look (layer.Monadic number operation operand)
+
+pub look_chain : (first : Box Expr Global) (rest : Vec Link Global) → look_expr (tree.Chain first rest) ≡ Begins ∷ (look_expr first.value ++ (flat_map look_link rest.items ++ (Ends ∷ [])))
+look_chain first rest =
+    ap look_expr (sym (tree.rolls-Chain first rest)) ∙ fold-roll-Expr Look Look expression_look link_look (layer.Chain first rest)
+    ∙ ap (λ links. Begins ∷ (look_expr first.value ++ (links ++ (Ends ∷ [])))) (flat_map-map (λ (row : Look). row) look_link rest.items)
+
+-- an operator and its right operand, as they are made
+pub look_linked : (link : layer.Link-F Expr Link) → look_link (roll-Link link) ≡ Operator link.number link.operation ∷ look_expr link.operand
+look_linked link = fold-roll-Link Look Look expression_look link_look link
+
+-- the same, as they are read
+pub look_link_out : (link : Link) → look_link link ≡ Operator (out-Link link).number (out-Link link).operation ∷ look_expr (out-Link link).operand
+look_link_out link = fold_out-Link Look Look expression_look link_look link
+
+-- ---- statements
+
+pub look_empty : (number : ℕ) → look_stmt (stmt.Empty number) ≡ Empty number ∷ []
+look_empty number = ap look_stmt (sym (stmt.rolls-Empty number)) ∙ fold-roll-Stmt Look statement_look (stmt_layer.Empty number)
+
+pub look_assign : (number : ℕ) (becomes : Place) (target : Access) (fits : RangeTest) (value : Expr)
+    → look_stmt (stmt.Assign number becomes target fits value) ≡ Assign number becomes ∷ Target target.number target.root ∷ (look_expr value ++ (Fits fits ∷ []))
+look_assign number becomes target fits value =
+    ap look_stmt (sym (stmt.rolls-Assign number becomes target fits value)) ∙ fold-roll-Stmt Look statement_look (stmt_layer.Assign number becomes target fits value)
+
+pub look_write : (number : ℕ) (name : Place) (parameters : Vec WriteParameter Global) (ends_line : Bool)
+    → look_stmt (stmt.Write number name parameters ends_line) ≡ Write number name ends_line ∷ (flat_map look_parameter parameters.items ++ (Ends ∷ []))
+look_write number name parameters ends_line =
+    ap look_stmt (sym (stmt.rolls-Write number name parameters ends_line)) ∙ fold-roll-Stmt Look statement_look (stmt_layer.Write number name parameters ends_line)
+
+pub look_compound : (number : ℕ) (statements : Vec Stmt Global) → look_stmt (stmt.Compound number statements) ≡ Compound number ∷ (flat_map look_stmt statements.items ++ (Ends ∷ []))
+look_compound number statements =
+    ap look_stmt (sym (stmt.rolls-Compound number statements)) ∙ fold-roll-Stmt Look statement_look (stmt_layer.Compound number statements)
+    ∙ ap (λ rows. Compound number ∷ (rows ++ (Ends ∷ []))) (flat_map-map (λ (row : Look). row) look_stmt statements.items)

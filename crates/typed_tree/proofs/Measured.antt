@@ -1,0 +1,225 @@
+-- What the look of a tree tells of it: the numbers of its entries, and whether its blocks are well formed.
+use Rattle.std.proofs.Common.{◌≡◌, ℕ, Bool, true, false, ◌&&◌, nat_lt, List, [], ◌∷◌, ◌++◌, map, Option, Some, None, refl, sym, ap, ap₂, ◌∙◌, append-nil}
+use Rattle.std.proofs.Math.Bool.{and-true}
+use Rattle.std.specs.Prelude.{flat_map}
+use Rattle.std.specs.List.{list_all}
+use Rattle.std.proofs.lemmas.List.Concat.{flat_map-append}
+use Rattle.std.proofs.lemmas.List.Folds.{list_all-append, list_all-map}
+use Rattle.typed_tree.specs.declared.tree.Tree.{Tree}
+use Rattle.typed_tree.specs.declared.tree.Block.{Block}
+use Rattle.typed_tree.specs.declared.tree.Width.{Width as TotalWidth}
+use Rattle.typed_tree.specs.declared.tree.WriteParameter.{WriteParameter}
+use Rattle.typed_tree.specs.declared.tree.Expr.{Expr}
+use Rattle.typed_tree.specs.declared.tree.Link.{Link}
+use Rattle.typed_tree.specs.declared.tree.Expr.TheOpen.{Expr-F, Link-F}
+use Rattle.typed_tree.specs.declared.tree.Expr.TheOpen.Expr-F.{Constant, Variable, Monadic as MonadicOf, Chain}
+use Rattle.typed_tree.specs.declared.tree.Expr.TheFolds.{fold-Expr, fold-Link, map-Expr, map-Link, fold-roll-Expr, fold-roll-Link, ind-Expr}
+use Rattle.typed_tree.specs.declared.tree.Stmt.{Stmt}
+use Rattle.typed_tree.specs.declared.tree.Stmt.TheOpen.{Stmt-F}
+use Rattle.typed_tree.specs.declared.tree.Stmt.TheOpen.Stmt-F.{Empty, Assign, Write, Compound}
+use Rattle.typed_tree.specs.declared.tree.Stmt.TheFolds.{fold-Stmt, map-Stmt, fold-roll-Stmt, ind-Stmt}
+use Rattle.typed_tree.specs.Entries.{joined, expression_entries, link_entries, entries_of_expression, entries_of_width, entries_of_parameter, statement_entries, entries_of_statement, entries_of}
+use Rattle.typed_tree.specs.WellFormed.{all_hold, is_whole, monadic_is_well_formed, dyadic_is_well_formed, link_is_well_formed, expr_is_well_formed, is_well_formed_expr, is_well_formed_link, is_well_formed_width, is_well_formed_parameter, is_well_formed_test, stmt_is_well_formed, is_well_formed_stmt, is_well_formed_block}
+use Rattle.typed_tree.specs.Look.{Mark, Look, link_look, expression_look, look_expr, look_link, look_width, look_parameter, statement_look, look_stmt, look_block, tree_look, mark_entries, entries_of_look, is_formed_mark, Ends, Fits as FitsMark, Written as WrittenMark, Width as WidthMark, BlockEnds}
+
+-- ---- a measure of looks that is a fold over trees
+
+-- what is told of pieces by a measure and by a fold
+abbrev Told : {X A : Type 0} → (X → A) → (X → A) → Type 0
+Told {X} f g = (x : X) × (f x ≡ g x)
+
+module _ {A : Type 0} (measure : Look → A) (step : Expr-F A A → A) (link_step : Link-F A A → A) where
+  abbrev of_expr : Expr → A
+  of_expr = fold-Expr A A step link_step
+
+  abbrev of_link : Link → A
+  of_link = fold-Link A A step link_step
+
+  abbrev ToldExpr : Type 0
+  ToldExpr = Told (λ e. measure (look_expr e)) of_expr
+
+  abbrev ToldLink : Type 0
+  ToldLink = Told (λ l. measure (look_link l)) of_link
+
+  abbrev opened : Expr-F ToldExpr ToldLink → Expr-F Expr Link
+  opened = map-Expr ToldExpr ToldLink Expr Link (λ e. e.0) (λ l. l.0)
+
+  abbrev link_opened : Link-F ToldExpr ToldLink → Link-F Expr Link
+  link_opened = map-Link ToldExpr ToldLink Expr Link (λ e. e.0) (λ l. l.0)
+
+  -- each layer is measured as the fold has it
+  abbrev Layers : Type 0
+  Layers = (y : Expr-F ToldExpr ToldLink) → measure (expression_look (map-Expr Expr Link Look Look look_expr look_link (opened y))) ≡ step (map-Expr Expr Link A A of_expr of_link (opened y))
+
+  abbrev LinkLayers : Type 0
+  LinkLayers = (y : Link-F ToldExpr ToldLink) → measure (link_look (map-Link Expr Link Look Look look_expr look_link (link_opened y))) ≡ link_step (map-Link Expr Link A A of_expr of_link (link_opened y))
+
+  measured_expr : Layers → LinkLayers → (e : Expr) → measure (look_expr e) ≡ of_expr e
+  measured_expr layers links =
+      ind-Expr (λ e. measure (look_expr e) ≡ of_expr e) (λ l. measure (look_link l) ≡ of_link l)
+      (λ x y is.
+      ap measure (fold-roll-Expr Look Look expression_look link_look x) ∙ ap (λ z. measure (expression_look (map-Expr Expr Link Look Look look_expr look_link z))) (sym is)
+      ∙ layers y
+      ∙ ap (λ z. step (map-Expr Expr Link A A of_expr of_link z)) is
+      ∙ sym (fold-roll-Expr A A step link_step x))
+      (λ x y is.
+      ap measure (fold-roll-Link Look Look expression_look link_look x) ∙ ap (λ z. measure (link_look (map-Link Expr Link Look Look look_expr look_link z))) (sym is)
+      ∙ links y
+      ∙ ap (λ z. link_step (map-Link Expr Link A A of_expr of_link z)) is
+      ∙ sym (fold-roll-Link A A step link_step x))
+
+module _ {A : Type 0} (measure : Look → A) (step : Stmt-F A → A) where
+  abbrev of_stmt : Stmt → A
+  of_stmt = fold-Stmt A step
+
+  abbrev ToldStmt : Type 0
+  ToldStmt = Told (λ s. measure (look_stmt s)) of_stmt
+
+  abbrev stmt_opened : Stmt-F ToldStmt → Stmt-F Stmt
+  stmt_opened = map-Stmt ToldStmt Stmt (λ s. s.0)
+
+  measured_stmt : ((y : Stmt-F ToldStmt) → measure (statement_look (map-Stmt Stmt Look look_stmt (stmt_opened y))) ≡ step (map-Stmt Stmt A of_stmt (stmt_opened y))) → (s : Stmt) → measure (look_stmt s) ≡ of_stmt s
+  measured_stmt layers =
+      ind-Stmt (λ s. measure (look_stmt s) ≡ of_stmt s)
+      (λ x y is.
+      ap measure (fold-roll-Stmt Look statement_look x) ∙ ap (λ z. measure (statement_look (map-Stmt Stmt Look look_stmt z))) (sym is)
+      ∙ layers y
+      ∙ ap (λ z. step (map-Stmt Stmt A of_stmt z)) is
+      ∙ sym (fold-roll-Stmt A step x))
+
+-- ---- entries
+
+-- the end of a form enters nothing
+entries_ended : (look : Look) (end : Mark) → mark_entries end ≡ [] → entries_of_look (look ++ (end ∷ [])) ≡ entries_of_look look
+entries_ended look end silent =
+    flat_map-append mark_entries look (end ∷ []) ∙ ap (λ entries. entries_of_look look ++ (entries ++ [])) silent ∙ append-nil (entries_of_look look)
+
+entries_joined : {X : Type 0} (look : X → Look) (entries : X → List ℕ) (xs : List (Told (λ x. entries_of_look (look x)) entries)) → entries_of_look (joined (map look (map (λ x. x.0) xs))) ≡ joined (map entries (map (λ x. x.0) xs))
+entries_joined look entries [] = refl
+entries_joined look entries (x ∷ xs) =
+    flat_map-append mark_entries (look x.0) (joined (map look (map (λ x. x.0) xs))) ∙ ap₂ (λ a b. a ++ b) x.1 (entries_joined look entries xs)
+
+entries_mapped : {X : Type 0} (look : X → Look) (entries : X → List ℕ) → ((x : X) → entries_of_look (look x) ≡ entries x) → (xs : List X) → entries_of_look (flat_map look xs) ≡ flat_map entries xs
+entries_mapped look entries each [] = refl
+entries_mapped look entries each (x ∷ xs) =
+    flat_map-append mark_entries (look x) (flat_map look xs) ∙ ap₂ (λ a b. a ++ b) (each x) (entries_mapped look entries each xs)
+
+entries_layer : Layers entries_of_look expression_entries link_entries
+entries_layer (Constant number value) = refl
+entries_layer (Variable access defined) = refl
+entries_layer (MonadicOf number operation operand) = ap (λ entries. number ∷ entries) operand.value.1
+entries_layer (Chain first rest) =
+    let links = joined (map look_link (map (λ l. l.0) rest.items)) in
+    flat_map-append mark_entries (look_expr first.value.0) (links ++ (Ends ∷ []))
+    ∙ ap₂ (λ a b. a ++ b) first.value.1 (entries_ended links Ends refl ∙ entries_joined look_link (of_link entries_of_look expression_entries link_entries) rest.items)
+
+entries_link : LinkLayers entries_of_look expression_entries link_entries
+entries_link y = ap (λ entries. y.number ∷ entries) y.operand.1
+
+entries_expr : (e : Expr) → entries_of_look (look_expr e) ≡ entries_of_expression e
+entries_expr = measured_expr entries_of_look expression_entries link_entries entries_layer entries_link
+
+entries_width : (width : Option TotalWidth) → entries_of_look (look_width width) ≡ entries_of_width width
+entries_width None = refl
+entries_width (Some width) = entries_ended (look_expr width.value) (WidthMark width.site) refl ∙ entries_expr width.value
+
+entries_parameter : (parameter : WriteParameter) → entries_of_look (look_parameter parameter) ≡ entries_of_parameter parameter
+entries_parameter parameter =
+    flat_map-append mark_entries (look_expr parameter.value) (WrittenMark parameter.representation ∷ look_width parameter.width)
+    ∙ ap₂ (λ a b. a ++ b) (entries_expr parameter.value) (entries_width parameter.width)
+
+entries_stmt_layer : (y : Stmt-F (ToldStmt entries_of_look statement_entries)) → entries_of_look (statement_look (map-Stmt Stmt Look look_stmt (stmt_opened entries_of_look statement_entries y))) ≡ statement_entries (map-Stmt Stmt (List ℕ) entries_of_statement (stmt_opened entries_of_look statement_entries y))
+entries_stmt_layer (Empty number) = refl
+entries_stmt_layer (Assign number becomes target fits value) =
+    ap (λ entries. number ∷ target.number ∷ entries) (entries_ended (look_expr value) (FitsMark fits) refl ∙ entries_expr value)
+entries_stmt_layer (Write number name parameters ends_line) =
+    ap (λ entries. number ∷ entries) (entries_ended (flat_map look_parameter parameters.items) Ends refl ∙ entries_mapped look_parameter entries_of_parameter entries_parameter parameters.items)
+entries_stmt_layer (Compound number statements) =
+    let rows = joined (map look_stmt (map (λ s. s.0) statements.items)) in
+    ap (λ entries. number ∷ entries) (entries_ended rows Ends refl ∙ entries_joined look_stmt entries_of_statement statements.items)
+
+entries_stmt : (s : Stmt) → entries_of_look (look_stmt s) ≡ entries_of_statement s
+entries_stmt = measured_stmt entries_of_look statement_entries entries_stmt_layer
+
+entries_block : (block : Block) → entries_of_look (look_block block) ≡ entries_of_statement block.body
+entries_block block = entries_ended (look_stmt block.body) (BlockEnds block.end) refl ∙ entries_stmt block.body
+
+-- the look of a tree tells the numbers of its entries
+pub entries_are : (tree : Tree) → entries_of_look (tree_look tree) ≡ entries_of tree
+entries_are tree = entries_mapped look_block (λ block. entries_of_statement block.body) entries_block tree.blocks.items
+
+-- ---- well formed trees
+
+and_turned : (a b : Bool) → (a && (b && true)) ≡ (b && a)
+and_turned true true = refl
+and_turned true false = refl
+and_turned false true = refl
+and_turned false false = refl
+
+module _ (variables sites : ℕ) where
+  abbrev is_formed : Look → Bool
+  is_formed = list_all (is_formed_mark variables sites)
+
+  formed_cut : (look more : Look) → is_formed (look ++ more) ≡ (is_formed look && is_formed more)
+  formed_cut look more = list_all-append (is_formed_mark variables sites) look more
+
+  -- the end of a form that is always well formed
+  formed_ended : (look : Look) (end : Mark) → is_formed_mark variables sites end ≡ true → is_formed (look ++ (end ∷ [])) ≡ is_formed look
+  formed_ended look end fine = formed_cut look (end ∷ []) ∙ ap (λ b. is_formed look && (b && true)) fine ∙ and-true (is_formed look)
+
+  formed_joined : {X : Type 0} (look : X → Look) (test : X → Bool) (xs : List (Told (λ x. is_formed (look x)) test)) → is_formed (joined (map look (map (λ x. x.0) xs))) ≡ all_hold (map test (map (λ x. x.0) xs))
+  formed_joined look test [] = refl
+  formed_joined look test (x ∷ xs) = formed_cut (look x.0) (joined (map look (map (λ x. x.0) xs))) ∙ ap₂ (λ a b. a && b) x.1 (formed_joined look test xs)
+
+  formed_mapped : {X : Type 0} (look : X → Look) (test : X → Bool) → ((x : X) → is_formed (look x) ≡ test x) → (xs : List X) → is_formed (flat_map look xs) ≡ list_all test xs
+  formed_mapped look test each [] = refl
+  formed_mapped look test each (x ∷ xs) = formed_cut (look x) (flat_map look xs) ∙ ap₂ (λ a b. a && b) (each x) (formed_mapped look test each xs)
+
+  formed_layer : Layers is_formed (expr_is_well_formed variables sites) (link_is_well_formed variables sites)
+  formed_layer (Constant number value) = and-true (is_whole value)
+  formed_layer (Variable access defined) = and-true (nat_lt access.root variables && nat_lt defined sites)
+  formed_layer (MonadicOf number operation operand) = ap (λ b. monadic_is_well_formed variables sites operation && b) operand.value.1
+  formed_layer (Chain first rest) =
+      let links = joined (map look_link (map (λ l. l.0) rest.items)) in
+      formed_cut (look_expr first.value.0) (links ++ (Ends ∷ []))
+      ∙ ap₂ (λ a b. a && b) first.value.1 (formed_ended links Ends refl ∙ formed_joined look_link (is_well_formed_link variables sites) rest.items)
+
+  formed_link : LinkLayers is_formed (expr_is_well_formed variables sites) (link_is_well_formed variables sites)
+  formed_link y = ap (λ b. dyadic_is_well_formed variables sites y.operation && b) y.operand.1
+
+  formed_expr : (e : Expr) → is_formed (look_expr e) ≡ is_well_formed_expr variables sites e
+  formed_expr = measured_expr is_formed (expr_is_well_formed variables sites) (link_is_well_formed variables sites) formed_layer formed_link
+
+  formed_width : (width : Option TotalWidth) → is_formed (look_width width) ≡ is_well_formed_width variables sites width
+  formed_width None = refl
+  formed_width (Some width) =
+      formed_cut (look_expr width.value) (WidthMark width.site ∷ []) ∙ ap (λ b. b && (nat_lt width.site sites && true)) (formed_expr width.value)
+      ∙ and_turned (is_well_formed_expr variables sites width.value) (nat_lt width.site sites)
+
+  formed_parameter : (parameter : WriteParameter) → is_formed (look_parameter parameter) ≡ is_well_formed_parameter variables sites parameter
+  formed_parameter parameter =
+      formed_cut (look_expr parameter.value) (WrittenMark parameter.representation ∷ look_width parameter.width)
+      ∙ ap₂ (λ a b. a && b) (formed_expr parameter.value) (formed_width parameter.width)
+
+  abbrev opened_stmt : Stmt-F (ToldStmt is_formed (stmt_is_well_formed variables sites)) → Stmt-F Stmt
+  opened_stmt = stmt_opened is_formed (stmt_is_well_formed variables sites)
+
+  formed_stmt_layer : (y : Stmt-F (ToldStmt is_formed (stmt_is_well_formed variables sites))) → is_formed (statement_look (map-Stmt Stmt Look look_stmt (opened_stmt y))) ≡ stmt_is_well_formed variables sites (map-Stmt Stmt Bool (is_well_formed_stmt variables sites) (opened_stmt y))
+  formed_stmt_layer (Empty number) = refl
+  formed_stmt_layer (Assign number becomes target fits value) =
+      ap (λ b. nat_lt target.root variables && b) (formed_cut (look_expr value) (FitsMark fits ∷ []) ∙ ap (λ b. b && (is_well_formed_test variables sites fits && true)) (formed_expr value) ∙ and_turned (is_well_formed_expr variables sites value) (is_well_formed_test variables sites fits))
+  formed_stmt_layer (Write number name parameters ends_line) =
+      formed_ended (flat_map look_parameter parameters.items) Ends refl ∙ formed_mapped look_parameter (is_well_formed_parameter variables sites) formed_parameter parameters.items
+      ∙ sym (list_all-map (λ b. b) (is_well_formed_parameter variables sites) parameters.items)
+  formed_stmt_layer (Compound number statements) =
+      formed_ended (joined (map look_stmt (map (λ s. s.0) statements.items))) Ends refl ∙ formed_joined look_stmt (is_well_formed_stmt variables sites) statements.items
+
+  formed_stmt : (s : Stmt) → is_formed (look_stmt s) ≡ is_well_formed_stmt variables sites s
+  formed_stmt = measured_stmt is_formed (stmt_is_well_formed variables sites) formed_stmt_layer
+
+  formed_block : (block : Block) → is_formed (look_block block) ≡ is_well_formed_block variables sites block
+  formed_block block = formed_ended (look_stmt block.body) (BlockEnds block.end) refl ∙ formed_stmt block.body
+
+-- the look of a tree tells whether its blocks are well formed
+pub formed_are : (variables sites : ℕ) (tree : Tree) → list_all (is_formed_mark variables sites) (tree_look tree) ≡ list_all (is_well_formed_block variables sites) tree.blocks.items
+formed_are variables sites tree = formed_mapped variables sites look_block (is_well_formed_block variables sites) (formed_block variables sites) tree.blocks.items
