@@ -1,0 +1,81 @@
+-- The folds of typing over syntax trees, form by form.
+use Rattle.std.proofs.Common.{◌≡◌, ℕ, List, map, Option, None, Some, option_map, refl, Box, Vec, sym, ap, ◌∙◌}
+use Rattle.std.specs.declared.alloc.Global.{Global}
+use Rattle.place.specs.declared.Place.{Place}
+use Rattle.syntax_tree.specs.declared.Name.{Name}
+use Rattle.syntax_tree.specs.declared.Sign.{Sign}
+use Rattle.syntax_tree.specs.declared.Expr.{Expr}
+use Rattle.syntax_tree.specs.declared.Link.{Link}
+use Rattle.syntax_tree.specs.declared.Actual.{Actual}
+use Rattle.syntax_tree.specs.declared.Expr.TheVariants as syntax
+use Rattle.syntax_tree.specs.declared.Expr.TheOpen as layer
+use Rattle.syntax_tree.specs.declared.Expr.TheViews.{roll-Expr, out-Link, out-Actual}
+use Rattle.syntax_tree.specs.declared.Expr.TheFolds.{map-Expr, map-Actual, fold-roll-Expr, fold_out-Link, fold_out-Actual}
+use Rattle.syntax_tree.specs.declared.Stmt.{Stmt}
+use Rattle.syntax_tree.specs.declared.Stmt.TheVariants as stmt
+use Rattle.syntax_tree.specs.declared.Stmt.TheOpen as stmt_layer
+use Rattle.syntax_tree.specs.declared.Stmt.TheFolds.{fold-roll-Stmt}
+use Rattle.typing.specs.Passing.{Passing}
+use Rattle.typing.specs.Expressions.{Written, WrittenActual, WrittenLink, written, expression_step, actual_step, link_step, expression, written_link, written_actual, number, named, call, parenthesized, negation, signed, chain, link}
+use Rattle.typing.specs.Statements.{statement, statement_step, assignment, procedure_call, compound}
+use Rattle.typing.specs.Steps.{enter_as}
+use Rattle.typed_tree.specs.Look as Look
+
+-- ---- expressions
+
+rolled : (w : Expr) (d : layer.Expr-F Expr Actual Link) → roll-Expr d ≡ w
+    → expression w ≡ expression_step (map-Expr Expr Actual Link Written WrittenActual WrittenLink expression written_actual written_link d)
+rolled w d is = ap expression (sym is) ∙ fold-roll-Expr Written WrittenActual WrittenLink expression_step actual_step link_step d
+
+pub typing_number : (value : ℕ) (place : Place) → expression (syntax.Number value place) ≡ written place (number value place)
+typing_number value place = rolled (syntax.Number value place) (layer.Number value place) (syntax.rolls-Number value place)
+
+pub typing_name : (name : Name) → expression (syntax.Name name) ≡ written name.place (named name)
+typing_name name = rolled (syntax.Name name) (layer.Name name) (syntax.rolls-Name name)
+
+pub typing_call : (name : Name) (actuals : Vec Actual Global) → expression (syntax.Call name actuals) ≡ written name.place (call name (map written_actual actuals.items))
+typing_call name actuals = rolled (syntax.Call name actuals) (layer.Call name actuals) (syntax.rolls-Call name actuals)
+
+pub typing_parenthesized : (place : Place) (inner : Box Expr Global) → expression (syntax.Parenthesized place inner) ≡ written place (parenthesized place (expression inner.value))
+typing_parenthesized place inner = rolled (syntax.Parenthesized place inner) (layer.Parenthesized place inner) (syntax.rolls-Parenthesized place inner)
+
+pub typing_not : (place : Place) (operand : Box Expr Global) → expression (syntax.Not place operand) ≡ written place (negation place (expression operand.value))
+typing_not place operand = rolled (syntax.Not place operand) (layer.Not place operand) (syntax.rolls-Not place operand)
+
+pub typing_signed : (sign : Sign) (place : Place) (term : Box Expr Global) → expression (syntax.Signed sign place term) ≡ written place (signed sign place (expression term.value))
+typing_signed sign place term = rolled (syntax.Signed sign place term) (layer.Signed sign place term) (syntax.rolls-Signed sign place term)
+
+pub typing_chain : (first : Box Expr Global) (rest : Vec Link Global)
+    → expression (syntax.Chain first rest) ≡ written (expression first.value).first (chain (expression first.value) (map written_link rest.items))
+typing_chain first rest = rolled (syntax.Chain first rest) (layer.Chain first rest) (syntax.rolls-Chain first rest)
+
+-- an operator and its right operand, as they are read
+pub typing_link : (l : Link) → written_link l ≡ link (out-Link l).operator (out-Link l).place (expression (out-Link l).operand)
+typing_link l = fold_out-Link Written WrittenActual WrittenLink expression_step actual_step link_step l
+
+-- an actual, as it is read
+pub typing_actual : (a : Actual) → written_actual a ≡ record { value = expression (out-Actual a).value; width = option_map expression (out-Actual a).width }
+typing_actual a = fold_out-Actual Written WrittenActual WrittenLink expression_step actual_step link_step a ∙ mapped (out-Actual a).value (out-Actual a).width
+  where
+    mapped : (value : Expr) (width : Option Expr)
+        → actual_step (map-Actual Expr Actual Link Written WrittenActual WrittenLink expression written_actual written_link (record { value = value; width = width }))
+        ≡ record { value = expression value; width = option_map expression width }
+    mapped value None = refl
+    mapped value (Some width) = refl
+
+-- ---- statements
+
+pub typing_empty : statement stmt.Empty ≡ enter_as Look.Empty
+typing_empty = ap statement (sym stmt.rolls-Empty) ∙ fold-roll-Stmt (Passing (Unit {0})) statement_step stmt_layer.Empty
+
+pub typing_assign : (name : Name) (becomes : Place) (value : Expr) → statement (stmt.Assign name becomes value) ≡ assignment name becomes (expression value)
+typing_assign name becomes value =
+    ap statement (sym (stmt.rolls-Assign name becomes value)) ∙ fold-roll-Stmt (Passing (Unit {0})) statement_step (stmt_layer.Assign name becomes value)
+
+pub typing_procedure_call : (name : Name) (actuals : Vec Actual Global) → statement (stmt.Call name actuals) ≡ procedure_call name actuals.items
+typing_procedure_call name actuals =
+    ap statement (sym (stmt.rolls-Call name actuals)) ∙ fold-roll-Stmt (Passing (Unit {0})) statement_step (stmt_layer.Call name actuals)
+
+pub typing_compound : (statements : Vec Stmt Global) → statement (stmt.Compound statements) ≡ compound (map statement statements.items)
+typing_compound statements =
+    ap statement (sym (stmt.rolls-Compound statements)) ∙ fold-roll-Stmt (Passing (Unit {0})) statement_step (stmt_layer.Compound statements)
