@@ -1,4 +1,1 @@
-pub mod Typing
-pub mod Formed
-pub mod Resolved
-pub mod Refusing
+pub mod Made

@@ -1,10 +1,6 @@
-//! The typed tree of a program, or a rule of names and types that the program breaks
-//! (ISO 7185:1990, 6.2.2 and 6.4 to 6.9).
+//! Makes the typed tree of a program, or tells the first rule of names and types that it breaks (ISO 7185:1990, 6.2.2
+//! and 6.4 to 6.10).
 #![tactic(auto)]
 
 mod expressions;
-mod program;
-mod resolver;
-mod statements;
-
-pub use program::resolve;
+mod typed;
