@@ -76,8 +76,10 @@ turns-entered (link ∷ links) left state =
     and_then first.linked rest.linked _ _ (link.1 left state) (turns-entered links first.value first.after)
 
 value-parts : (y : Expr-F EnteredExpr EnteredLink)
-    → Enters (value_step (map-Expr Expr Link (Walking Interval) Combination value_walk link_walk (map-Expr EnteredExpr EnteredLink Expr Link (λ e. e.0) (λ l. l.0) y)))
-    (expression_entries (map-Expr Expr Link (List ℕ) (List ℕ) entries_of_expression entries_of_link (map-Expr EnteredExpr EnteredLink Expr Link (λ e. e.0) (λ l. l.0) y)))
+    → Enters (value_step
+    (map-Expr Expr Link (Walking Interval) Combination value_walk link_walk (map-Expr EnteredExpr EnteredLink Expr Link (λ e. e.0) (λ l. l.0) y)))
+    (expression_entries
+    (map-Expr Expr Link (List ℕ) (List ℕ) entries_of_expression entries_of_link (map-Expr EnteredExpr EnteredLink Expr Link (λ e. e.0) (λ l. l.0) y)))
 value-parts (Constant number value) state = refl
 value-parts (Variable access defined) state = refl
 value-parts (MonadicOf number operation operand) state =
@@ -90,8 +92,10 @@ value-parts (Chain first rest) state =
     and_then begun.linked after.linked _ _ (first.value.1 state) (turns-entered rest.items begun.value begun.after)
 
 link-parts : (y : Link-F EnteredExpr EnteredLink)
-    → EntersFrom (link_step (map-Link Expr Link (Walking Interval) Combination value_walk link_walk (map-Link EnteredExpr EnteredLink Expr Link (λ e. e.0) (λ l. l.0) y)))
-    (link_entries (map-Link Expr Link (List ℕ) (List ℕ) entries_of_expression entries_of_link (map-Link EnteredExpr EnteredLink Expr Link (λ e. e.0) (λ l. l.0) y)))
+    → EntersFrom
+    (link_step (map-Link Expr Link (Walking Interval) Combination value_walk link_walk (map-Link EnteredExpr EnteredLink Expr Link (λ e. e.0) (λ l. l.0) y)))
+    (link_entries
+    (map-Link Expr Link (List ℕ) (List ℕ) entries_of_expression entries_of_link (map-Link EnteredExpr EnteredLink Expr Link (λ e. e.0) (λ l. l.0) y)))
 link-parts y left state =
     let begun = value_walk y.operand.0 state in
     let after = combined y.operation left begun.value begun.after in
@@ -101,12 +105,16 @@ link-parts y left state =
 pub value-entered : (e : Expr) → Enters (value_walk e) (entries_of_expression e)
 value-entered = ind-Expr (λ e. Enters (value_walk e) (entries_of_expression e)) (λ l. EntersFrom (link_walk l) (entries_of_link l))
     (λ x y is state.
-    ap (λ (walk : Walking Interval). numbers_of (walk state).linked) (fold-roll-Expr (Walking Interval) Combination value_step link_step x ∙ ap (λ z. value_step (map-Expr Expr Link (Walking Interval) Combination value_walk link_walk z)) (sym is))
+    ap (λ (walk : Walking Interval). numbers_of (walk state).linked)
+    (fold-roll-Expr (Walking Interval) Combination value_step link_step x
+    ∙ ap (λ z. value_step (map-Expr Expr Link (Walking Interval) Combination value_walk link_walk z)) (sym is))
     ∙ value-parts y state
     ∙ ap (λ z. expression_entries (map-Expr Expr Link (List ℕ) (List ℕ) entries_of_expression entries_of_link z)) is
     ∙ sym (fold-roll-Expr (List ℕ) (List ℕ) expression_entries link_entries x))
     (λ x y is left state.
-    ap (λ (walk : Combination). numbers_of (walk left state).linked) (fold-roll-Link (Walking Interval) Combination value_step link_step x ∙ ap (λ z. link_step (map-Link Expr Link (Walking Interval) Combination value_walk link_walk z)) (sym is))
+    ap (λ (walk : Combination). numbers_of (walk left state).linked)
+    (fold-roll-Link (Walking Interval) Combination value_step link_step x
+    ∙ ap (λ z. link_step (map-Link Expr Link (Walking Interval) Combination value_walk link_walk z)) (sym is))
     ∙ link-parts y left state
     ∙ ap (λ z. link_entries (map-Link Expr Link (List ℕ) (List ℕ) entries_of_expression entries_of_link z)) is
     ∙ sym (fold-roll-Link (List ℕ) (List ℕ) expression_entries link_entries x))
@@ -122,7 +130,8 @@ parameter-entered parameter state =
     and_then first.linked width.linked _ _ (value-entered parameter.value state) (width-entered parameter.width first.after)
 
 -- walks one after another enter what each enters
-all-entered : {X : Type 0} (walk : X → Walking (Unit {0})) (numbers : X → List ℕ) → ((x : X) → Enters (walk x) (numbers x)) → (xs : List X) → Enters (all_of (map walk xs)) (flat_map numbers xs)
+all-entered : {X : Type 0} (walk : X → Walking (Unit {0})) (numbers : X → List ℕ) → ((x : X) → Enters (walk x) (numbers x)) → (xs : List X)
+    → Enters (all_of (map walk xs)) (flat_map numbers xs)
 all-entered walk numbers each [] state = refl
 all-entered walk numbers each (x ∷ xs) state =
     let first = walk x state in
@@ -132,7 +141,8 @@ all-entered walk numbers each (x ∷ xs) state =
 abbrev EnteredStmt : Type 0
 EnteredStmt = (s : Stmt) × Enters (statement_walk s) (entries_of_statement s)
 
-statements-entered : (statements : List EnteredStmt) → Enters (all_of (map statement_walk (map (λ s. s.0) statements))) (joined (map entries_of_statement (map (λ s. s.0) statements)))
+statements-entered : (statements : List EnteredStmt)
+    → Enters (all_of (map statement_walk (map (λ s. s.0) statements))) (joined (map entries_of_statement (map (λ s. s.0) statements)))
 statements-entered [] state = refl
 statements-entered (statement ∷ statements) state =
     let first = statement_walk statement.0 state in
@@ -152,7 +162,8 @@ statement-parts (Compound number statements) state = ap (λ numbers. number ∷ 
 statement-entered : (s : Stmt) → Enters (statement_walk s) (entries_of_statement s)
 statement-entered = ind-Stmt (λ s. Enters (statement_walk s) (entries_of_statement s))
     (λ x y is state.
-    ap (λ (walk : Walking (Unit {0})). numbers_of (walk state).linked) (fold-roll-Stmt (Walking (Unit {0})) statement_step x ∙ ap (λ z. statement_step (map-Stmt Stmt (Walking (Unit {0})) statement_walk z)) (sym is))
+    ap (λ (walk : Walking (Unit {0})). numbers_of (walk state).linked)
+    (fold-roll-Stmt (Walking (Unit {0})) statement_step x ∙ ap (λ z. statement_step (map-Stmt Stmt (Walking (Unit {0})) statement_walk z)) (sym is))
     ∙ statement-parts y state
     ∙ ap (λ z. statement_entries (map-Stmt Stmt (List ℕ) entries_of_statement z)) is
     ∙ sym (fold-roll-Stmt (List ℕ) statement_entries x))

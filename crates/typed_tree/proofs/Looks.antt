@@ -7,7 +7,7 @@ use Rattle.std.specs.declared.alloc.Global.{Global}
 use Rattle.std.proofs.lemmas.List.Folds.{flat_map-map}
 use Rattle.place.specs.declared.Place.{Place}
 use Rattle.typed_tree.specs.declared.tree.Access.{Access}
-use Rattle.typed_tree.specs.declared.tree.Monadic.{Monadic as Operation-of}
+use Rattle.typed_tree.specs.declared.tree.Monadic.{Monadic as MonadicOperation}
 use Rattle.typed_tree.specs.declared.tree.RangeTest.{RangeTest}
 use Rattle.typed_tree.specs.declared.tree.WriteParameter.{WriteParameter}
 use Rattle.typed_tree.specs.declared.tree.Expr.{Expr}
@@ -33,12 +33,14 @@ pub look_variable : (access : Access) (defined : ℕ) → look_expr (tree.Variab
 look_variable access defined =
     ap look_expr (sym (tree.rolls-Variable access defined)) ∙ fold-roll-Expr Look Look expression_look link_look (layer.Variable access defined)
 
-pub look_monadic : (number : ℕ) (operation : Operation-of) (operand : Box Expr Global) → look_expr (tree.Monadic number operation operand) ≡ Operation number operation ∷ look_expr operand.value
+pub look_monadic : (number : ℕ) (operation : MonadicOperation) (operand : Box Expr Global)
+    → look_expr (tree.Monadic number operation operand) ≡ Operation number operation ∷ look_expr operand.value
 look_monadic number operation operand =
     ap look_expr (sym (tree.rolls-Monadic number operation operand))
     ∙ fold-roll-Expr Look Look expression_look link_look (layer.Monadic number operation operand)
 
-pub look_chain : (first : Box Expr Global) (rest : Vec Link Global) → look_expr (tree.Chain first rest) ≡ Begins ∷ (look_expr first.value ++ (flat_map look_link rest.items ++ (Ends ∷ [])))
+pub look_chain : (first : Box Expr Global) (rest : Vec Link Global)
+    → look_expr (tree.Chain first rest) ≡ Begins ∷ (look_expr first.value ++ (flat_map look_link rest.items ++ (Ends ∷ [])))
 look_chain first rest =
     ap look_expr (sym (tree.rolls-Chain first rest)) ∙ fold-roll-Expr Look Look expression_look link_look (layer.Chain first rest)
     ∙ ap (λ links. Begins ∷ (look_expr first.value ++ (links ++ (Ends ∷ [])))) (flat_map-map (λ (row : Look). row) look_link rest.items)
@@ -57,16 +59,20 @@ pub look_empty : (number : ℕ) → look_stmt (stmt.Empty number) ≡ Empty numb
 look_empty number = ap look_stmt (sym (stmt.rolls-Empty number)) ∙ fold-roll-Stmt Look statement_look (stmt_layer.Empty number)
 
 pub look_assign : (number : ℕ) (becomes : Place) (target : Access) (fits : RangeTest) (value : Expr)
-    → look_stmt (stmt.Assign number becomes target fits value) ≡ Assign number becomes ∷ Target target.number target.root ∷ (look_expr value ++ (Fits fits ∷ []))
+    → look_stmt (stmt.Assign number becomes target fits value)
+    ≡ Assign number becomes ∷ Target target.number target.root ∷ (look_expr value ++ (Fits fits ∷ []))
 look_assign number becomes target fits value =
-    ap look_stmt (sym (stmt.rolls-Assign number becomes target fits value)) ∙ fold-roll-Stmt Look statement_look (stmt_layer.Assign number becomes target fits value)
+    ap look_stmt (sym (stmt.rolls-Assign number becomes target fits value))
+    ∙ fold-roll-Stmt Look statement_look (stmt_layer.Assign number becomes target fits value)
 
 pub look_write : (number : ℕ) (name : Place) (parameters : Vec WriteParameter Global) (ends_line : Bool)
     → look_stmt (stmt.Write number name parameters ends_line) ≡ Write number name ends_line ∷ (flat_map look_parameter parameters.items ++ (Ends ∷ []))
 look_write number name parameters ends_line =
-    ap look_stmt (sym (stmt.rolls-Write number name parameters ends_line)) ∙ fold-roll-Stmt Look statement_look (stmt_layer.Write number name parameters ends_line)
+    ap look_stmt (sym (stmt.rolls-Write number name parameters ends_line))
+    ∙ fold-roll-Stmt Look statement_look (stmt_layer.Write number name parameters ends_line)
 
-pub look_compound : (number : ℕ) (statements : Vec Stmt Global) → look_stmt (stmt.Compound number statements) ≡ Compound number ∷ (flat_map look_stmt statements.items ++ (Ends ∷ []))
+pub look_compound : (number : ℕ) (statements : Vec Stmt Global)
+    → look_stmt (stmt.Compound number statements) ≡ Compound number ∷ (flat_map look_stmt statements.items ++ (Ends ∷ []))
 look_compound number statements =
     ap look_stmt (sym (stmt.rolls-Compound number statements)) ∙ fold-roll-Stmt Look statement_look (stmt_layer.Compound number statements)
     ∙ ap (λ rows. Compound number ∷ (rows ++ (Ends ∷ []))) (flat_map-map (λ (row : Look). row) look_stmt statements.items)

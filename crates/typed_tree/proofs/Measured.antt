@@ -49,21 +49,26 @@ module _ {A : Type 0} (measure : Look → A) (step : Expr-F A A → A) (link_ste
 
   -- each layer is measured as the fold has it
   abbrev Layers : Type 0
-  Layers = (y : Expr-F ToldExpr ToldLink) → measure (expression_look (map-Expr Expr Link Look Look look_expr look_link (opened y))) ≡ step (map-Expr Expr Link A A of_expr of_link (opened y))
+  Layers = (y : Expr-F ToldExpr ToldLink)
+      → measure (expression_look (map-Expr Expr Link Look Look look_expr look_link (opened y))) ≡ step (map-Expr Expr Link A A of_expr of_link (opened y))
 
   abbrev LinkLayers : Type 0
-  LinkLayers = (y : Link-F ToldExpr ToldLink) → measure (link_look (map-Link Expr Link Look Look look_expr look_link (link_opened y))) ≡ link_step (map-Link Expr Link A A of_expr of_link (link_opened y))
+  LinkLayers = (y : Link-F ToldExpr ToldLink)
+      → measure (link_look (map-Link Expr Link Look Look look_expr look_link (link_opened y)))
+      ≡ link_step (map-Link Expr Link A A of_expr of_link (link_opened y))
 
   measured_expr : Layers → LinkLayers → (e : Expr) → measure (look_expr e) ≡ of_expr e
   measured_expr layers links =
       ind-Expr (λ e. measure (look_expr e) ≡ of_expr e) (λ l. measure (look_link l) ≡ of_link l)
       (λ x y is.
-      ap measure (fold-roll-Expr Look Look expression_look link_look x) ∙ ap (λ z. measure (expression_look (map-Expr Expr Link Look Look look_expr look_link z))) (sym is)
+      ap measure (fold-roll-Expr Look Look expression_look link_look x)
+      ∙ ap (λ z. measure (expression_look (map-Expr Expr Link Look Look look_expr look_link z))) (sym is)
       ∙ layers y
       ∙ ap (λ z. step (map-Expr Expr Link A A of_expr of_link z)) is
       ∙ sym (fold-roll-Expr A A step link_step x))
       (λ x y is.
-      ap measure (fold-roll-Link Look Look expression_look link_look x) ∙ ap (λ z. measure (link_look (map-Link Expr Link Look Look look_expr look_link z))) (sym is)
+      ap measure (fold-roll-Link Look Look expression_look link_look x)
+      ∙ ap (λ z. measure (link_look (map-Link Expr Link Look Look look_expr look_link z))) (sym is)
       ∙ links y
       ∙ ap (λ z. link_step (map-Link Expr Link A A of_expr of_link z)) is
       ∙ sym (fold-roll-Link A A step link_step x))
@@ -78,7 +83,9 @@ module _ {A : Type 0} (measure : Look → A) (step : Stmt-F A → A) where
   abbrev stmt_opened : Stmt-F ToldStmt → Stmt-F Stmt
   stmt_opened = map-Stmt ToldStmt Stmt (λ s. s.0)
 
-  measured_stmt : ((y : Stmt-F ToldStmt) → measure (statement_look (map-Stmt Stmt Look look_stmt (stmt_opened y))) ≡ step (map-Stmt Stmt A of_stmt (stmt_opened y))) → (s : Stmt) → measure (look_stmt s) ≡ of_stmt s
+  measured_stmt :
+      ((y : Stmt-F ToldStmt) → measure (statement_look (map-Stmt Stmt Look look_stmt (stmt_opened y))) ≡ step (map-Stmt Stmt A of_stmt (stmt_opened y)))
+      → (s : Stmt) → measure (look_stmt s) ≡ of_stmt s
   measured_stmt layers =
       ind-Stmt (λ s. measure (look_stmt s) ≡ of_stmt s)
       (λ x y is.
@@ -94,12 +101,14 @@ entries_ended : (look : Look) (end : Mark) → mark_entries end ≡ [] → entri
 entries_ended look end silent =
     flat_map-append mark_entries look (end ∷ []) ∙ ap (λ entries. entries_of_look look ++ (entries ++ [])) silent ∙ append-nil (entries_of_look look)
 
-entries_joined : {X : Type 0} (look : X → Look) (entries : X → List ℕ) (xs : List (Told (λ x. entries_of_look (look x)) entries)) → entries_of_look (joined (map look (map (λ x. x.0) xs))) ≡ joined (map entries (map (λ x. x.0) xs))
+entries_joined : {X : Type 0} (look : X → Look) (entries : X → List ℕ) (xs : List (Told (λ x. entries_of_look (look x)) entries))
+    → entries_of_look (joined (map look (map (λ x. x.0) xs))) ≡ joined (map entries (map (λ x. x.0) xs))
 entries_joined look entries [] = refl
 entries_joined look entries (x ∷ xs) =
     flat_map-append mark_entries (look x.0) (joined (map look (map (λ x. x.0) xs))) ∙ ap₂ (λ a b. a ++ b) x.1 (entries_joined look entries xs)
 
-entries_mapped : {X : Type 0} (look : X → Look) (entries : X → List ℕ) → ((x : X) → entries_of_look (look x) ≡ entries x) → (xs : List X) → entries_of_look (flat_map look xs) ≡ flat_map entries xs
+entries_mapped : {X : Type 0} (look : X → Look) (entries : X → List ℕ) → ((x : X) → entries_of_look (look x) ≡ entries x) → (xs : List X)
+    → entries_of_look (flat_map look xs) ≡ flat_map entries xs
 entries_mapped look entries each [] = refl
 entries_mapped look entries each (x ∷ xs) =
     flat_map-append mark_entries (look x) (flat_map look xs) ∙ ap₂ (λ a b. a ++ b) (each x) (entries_mapped look entries each xs)
@@ -111,7 +120,8 @@ entries_layer (MonadicOf number operation operand) = ap (λ entries. number ∷ 
 entries_layer (Chain first rest) =
     let links = joined (map look_link (map (λ l. l.0) rest.items)) in
     flat_map-append mark_entries (look_expr first.value.0) (links ++ (Ends ∷ []))
-    ∙ ap₂ (λ a b. a ++ b) first.value.1 (entries_ended links Ends refl ∙ entries_joined look_link (of_link entries_of_look expression_entries link_entries) rest.items)
+    ∙ ap₂ (λ a b. a ++ b) first.value.1
+    (entries_ended links Ends refl ∙ entries_joined look_link (of_link entries_of_look expression_entries link_entries) rest.items)
 
 entries_link : LinkLayers entries_of_look expression_entries link_entries
 entries_link y = ap (λ entries. y.number ∷ entries) y.operand.1
@@ -128,12 +138,16 @@ entries_parameter parameter =
     flat_map-append mark_entries (look_expr parameter.value) (WrittenMark parameter.representation ∷ look_width parameter.width)
     ∙ ap₂ (λ a b. a ++ b) (entries_expr parameter.value) (entries_width parameter.width)
 
-entries_stmt_layer : (y : Stmt-F (ToldStmt entries_of_look statement_entries)) → entries_of_look (statement_look (map-Stmt Stmt Look look_stmt (stmt_opened entries_of_look statement_entries y))) ≡ statement_entries (map-Stmt Stmt (List ℕ) entries_of_statement (stmt_opened entries_of_look statement_entries y))
+entries_stmt_layer : (y : Stmt-F (ToldStmt entries_of_look statement_entries))
+    → entries_of_look (statement_look (map-Stmt Stmt Look look_stmt (stmt_opened entries_of_look statement_entries y)))
+    ≡ statement_entries (map-Stmt Stmt (List ℕ) entries_of_statement (stmt_opened entries_of_look statement_entries y))
 entries_stmt_layer (Empty number) = refl
 entries_stmt_layer (Assign number becomes target fits value) =
     ap (λ entries. number ∷ target.number ∷ entries) (entries_ended (look_expr value) (FitsMark fits) refl ∙ entries_expr value)
 entries_stmt_layer (Write number name parameters ends_line) =
-    ap (λ entries. number ∷ entries) (entries_ended (flat_map look_parameter parameters.items) Ends refl ∙ entries_mapped look_parameter entries_of_parameter entries_parameter parameters.items)
+    ap (λ entries. number ∷ entries)
+    (entries_ended (flat_map look_parameter parameters.items) Ends refl
+    ∙ entries_mapped look_parameter entries_of_parameter entries_parameter parameters.items)
 entries_stmt_layer (Compound number statements) =
     let rows = joined (map look_stmt (map (λ s. s.0) statements.items)) in
     ap (λ entries. number ∷ entries) (entries_ended rows Ends refl ∙ entries_joined look_stmt entries_of_statement statements.items)
@@ -167,11 +181,13 @@ module _ (variables sites : ℕ) where
   formed_ended : (look : Look) (end : Mark) → is_formed_mark variables sites end ≡ true → is_formed (look ++ (end ∷ [])) ≡ is_formed look
   formed_ended look end fine = formed_cut look (end ∷ []) ∙ ap (λ b. is_formed look && (b && true)) fine ∙ and-true (is_formed look)
 
-  formed_joined : {X : Type 0} (look : X → Look) (test : X → Bool) (xs : List (Told (λ x. is_formed (look x)) test)) → is_formed (joined (map look (map (λ x. x.0) xs))) ≡ all_hold (map test (map (λ x. x.0) xs))
+  formed_joined : {X : Type 0} (look : X → Look) (test : X → Bool) (xs : List (Told (λ x. is_formed (look x)) test))
+      → is_formed (joined (map look (map (λ x. x.0) xs))) ≡ all_hold (map test (map (λ x. x.0) xs))
   formed_joined look test [] = refl
   formed_joined look test (x ∷ xs) = formed_cut (look x.0) (joined (map look (map (λ x. x.0) xs))) ∙ ap₂ (λ a b. a && b) x.1 (formed_joined look test xs)
 
-  formed_mapped : {X : Type 0} (look : X → Look) (test : X → Bool) → ((x : X) → is_formed (look x) ≡ test x) → (xs : List X) → is_formed (flat_map look xs) ≡ list_all test xs
+  formed_mapped : {X : Type 0} (look : X → Look) (test : X → Bool) → ((x : X) → is_formed (look x) ≡ test x) → (xs : List X)
+      → is_formed (flat_map look xs) ≡ list_all test xs
   formed_mapped look test each [] = refl
   formed_mapped look test each (x ∷ xs) = formed_cut (look x) (flat_map look xs) ∙ ap₂ (λ a b. a && b) (each x) (formed_mapped look test each xs)
 
@@ -204,15 +220,21 @@ module _ (variables sites : ℕ) where
   abbrev opened_stmt : Stmt-F (ToldStmt is_formed (stmt_is_well_formed variables sites)) → Stmt-F Stmt
   opened_stmt = stmt_opened is_formed (stmt_is_well_formed variables sites)
 
-  formed_stmt_layer : (y : Stmt-F (ToldStmt is_formed (stmt_is_well_formed variables sites))) → is_formed (statement_look (map-Stmt Stmt Look look_stmt (opened_stmt y))) ≡ stmt_is_well_formed variables sites (map-Stmt Stmt Bool (is_well_formed_stmt variables sites) (opened_stmt y))
+  formed_stmt_layer : (y : Stmt-F (ToldStmt is_formed (stmt_is_well_formed variables sites)))
+      → is_formed (statement_look (map-Stmt Stmt Look look_stmt (opened_stmt y)))
+      ≡ stmt_is_well_formed variables sites (map-Stmt Stmt Bool (is_well_formed_stmt variables sites) (opened_stmt y))
   formed_stmt_layer (Empty number) = refl
   formed_stmt_layer (Assign number becomes target fits value) =
-      ap (λ b. nat_lt target.root variables && b) (formed_cut (look_expr value) (FitsMark fits ∷ []) ∙ ap (λ b. b && (is_well_formed_test variables sites fits && true)) (formed_expr value) ∙ and_turned (is_well_formed_expr variables sites value) (is_well_formed_test variables sites fits))
+      ap (λ b. nat_lt target.root variables && b)
+      (formed_cut (look_expr value) (FitsMark fits ∷ []) ∙ ap (λ b. b && (is_well_formed_test variables sites fits && true)) (formed_expr value)
+      ∙ and_turned (is_well_formed_expr variables sites value) (is_well_formed_test variables sites fits))
   formed_stmt_layer (Write number name parameters ends_line) =
-      formed_ended (flat_map look_parameter parameters.items) Ends refl ∙ formed_mapped look_parameter (is_well_formed_parameter variables sites) formed_parameter parameters.items
+      formed_ended (flat_map look_parameter parameters.items) Ends refl
+      ∙ formed_mapped look_parameter (is_well_formed_parameter variables sites) formed_parameter parameters.items
       ∙ sym (list_all-map (λ b. b) (is_well_formed_parameter variables sites) parameters.items)
   formed_stmt_layer (Compound number statements) =
-      formed_ended (joined (map look_stmt (map (λ s. s.0) statements.items))) Ends refl ∙ formed_joined look_stmt (is_well_formed_stmt variables sites) statements.items
+      formed_ended (joined (map look_stmt (map (λ s. s.0) statements.items))) Ends refl
+      ∙ formed_joined look_stmt (is_well_formed_stmt variables sites) statements.items
 
   formed_stmt : (s : Stmt) → is_formed (look_stmt s) ≡ is_well_formed_stmt variables sites s
   formed_stmt = measured_stmt is_formed (stmt_is_well_formed variables sites) formed_stmt_layer
@@ -221,5 +243,7 @@ module _ (variables sites : ℕ) where
   formed_block block = formed_ended (look_stmt block.body) (BlockEnds block.end) refl ∙ formed_stmt block.body
 
 -- the look of a tree tells whether its blocks are well formed
-pub formed_are : (variables sites : ℕ) (tree : Tree) → list_all (is_formed_mark variables sites) (tree_look tree) ≡ list_all (is_well_formed_block variables sites) tree.blocks.items
-formed_are variables sites tree = formed_mapped variables sites look_block (is_well_formed_block variables sites) (formed_block variables sites) tree.blocks.items
+pub formed_are : (variables sites : ℕ) (tree : Tree)
+    → list_all (is_formed_mark variables sites) (tree_look tree) ≡ list_all (is_well_formed_block variables sites) tree.blocks.items
+formed_are variables sites tree =
+    formed_mapped variables sites look_block (is_well_formed_block variables sites) (formed_block variables sites) tree.blocks.items
