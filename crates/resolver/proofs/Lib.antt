@@ -1,1 +1,3 @@
 mod Chains
+mod Files
+mod MadeRows

@@ -1,6 +1,8 @@
 -- How the resolver's answers are what typing says: what is made of a form has the type and the leading site that typing
 -- answers, and looks so. It says nothing of what typing answers.
-use Rattle.std.specs.Prelude.{◌≡◌, ℕ, List, [], ◌∷◌, ◌++◌, flat_map, Result}
+use Rattle.std.specs.Prelude.{◌≡◌, ℕ, List, [], ◌∷◌, ◌++◌, flat_map, Result, Option, Some, Vec}
+use Rattle.std.specs.Borrow.{Bor}
+use Rattle.std.specs.declared.alloc.Global.{Global}
 use Rattle.syntax_tree.specs.declared.Actual.{Actual}
 use Rattle.syntax_tree.specs.declared.Expr.{Expr as SyntaxExpr}
 use Rattle.syntax_tree.specs.declared.Expr.TheViews.{out-Actual}
@@ -8,8 +10,9 @@ use Rattle.typed_tree.specs.declared.fault.TypeFault.{TypeFault}
 use Rattle.typed_tree.specs.declared.tree.Stmt.{Stmt}
 use Rattle.typed_tree.specs.declared.tree.Link.{Link}
 use Rattle.typed_tree.specs.declared.tree.WriteParameter.{WriteParameter}
+use Rattle.typed_tree.specs.declared.tree.Width.{Width}
 use Rattle.types.specs.declared.form.TypeId.{TypeId}
-use Rattle.typed_tree.specs.Look.{Look, Begins, Ends, look_expr, look_link, look_stmt, look_parameter}
+use Rattle.typed_tree.specs.Look.{Look, Begins, Ends, look_expr, look_link, look_stmt, look_parameter, look_width}
 use Rattle.typing.specs.Passing.{Passed, Checked, After}
 use Rattle.typing.specs.Expressions.{Typed, typed}
 use Rattle.typing.specs.Outcomes.{Makes}
@@ -43,3 +46,27 @@ IsOnly actuals value = (actual : Actual) × (actuals ≡ actual ∷ []) × ((out
 -- a statement
 abbrev pub MakesStmt : Checked (After (Unit {0})) → Result Stmt TypeFault → Passed → Type 0
 MakesStmt = Makes (λ s. tt) look_stmt
+
+-- statements, one after another
+abbrev pub MakesStmts : Checked (After (Unit {0})) → Result (Vec Stmt Global) TypeFault → Passed → Type 0
+MakesStmts = Makes (λ made. tt) (λ made. flat_map look_stmt made.items)
+
+-- the values that are written
+abbrev pub MakesValues : Checked (After (List Actual)) → Result (Bor (List Actual)) TypeFault → Passed → Type 0
+MakesValues = Makes (λ values. values.now) (λ values. [])
+
+-- a value that is written, with its width
+abbrev pub MakesParameter : Checked (After (Unit {0})) → Result WriteParameter TypeFault → Passed → Type 0
+MakesParameter = Makes (λ made. tt) look_parameter
+
+-- values that are written, one after another
+abbrev pub MakesParameters : Checked (After (Unit {0})) → Result (Vec WriteParameter Global) TypeFault → Passed → Type 0
+MakesParameters = Makes (λ made. tt) (λ made. flat_map look_parameter made.items)
+
+-- the width of a value, if there is one
+abbrev pub MakesWidth : Checked (After (Unit {0})) → Result (Option Width) TypeFault → Passed → Type 0
+MakesWidth = Makes (λ made. tt) look_width
+
+-- a width
+abbrev pub MakesOwnWidth : Checked (After (Unit {0})) → Result Width TypeFault → Passed → Type 0
+MakesOwnWidth = Makes (λ made. tt) (λ made. look_width (Some made))

@@ -3,4 +3,5 @@
 #![tactic(auto)]
 
 mod expressions;
+mod statements;
 mod typed;

@@ -1,0 +1,12 @@
+use Rattle.std.proofs.Common.{map}
+use Rattle.std.specs.Prelude.{flat_map}
+use Rattle.typed_tree.specs.Look.{look_parameter}
+use Rattle.typing.specs.Expressions.{written_actual}
+use Rattle.typing.specs.Statements.{parameter}
+use Rattle.typing.proofs.Rows.{IsLeftFrom}
+use Rattle.resolver.proofs.statements.parameters.Given as goal
+
+-- the values so far are made, and those behind them are left
+abbrev pub invariant-loop-value : goal.invariant-loop-value
+invariant-loop-value l =
+    IsLeftFrom parameter (map written_actual l.values) l.initial.typer l.value-index (flat_map look_parameter l.parameters.items) l.typer

@@ -1,0 +1,230 @@
+ghost use Rattle.std.specs.Prelude.{◌≡◌, Some, map, option_map};
+ghost use Rattle.typing.specs.Passing.{each};
+ghost use Rattle.typing.specs.Expressions.{expression, written_actual};
+ghost use Rattle.typing.specs.Statements as spec;
+ghost use Rattle.typing.specs.Outcomes.{Takes};
+ghost use Rattle.resolver.specs.Made.{MakesStmt, MakesStmts, MakesParameter, MakesParameters, MakesWidth, MakesOwnWidth, MakesValues};
+
+use crate::expressions::{expression, first_place};
+use place::Place;
+use scopes::RequiredProcedure;
+use syntax_tree as syntax;
+use typed_tree::fault::TypeFault;
+use typed_tree::site::SiteKind;
+use typed_tree::tree::{Access, RangeTest, Stmt, Width, WriteParameter};
+use types::TypeTable;
+use typing::Typer;
+use typing::rules::{as_procedure, as_variable, ends_line, is_output};
+
+/// A statement.
+#[cycle(statements)]
+#[tactic(auto, using(typing::proofs::Written::typing_empty, typing::proofs::Written::typing_assign, typing::proofs::Written::typing_procedure_call, typing::proofs::Written::typing_compound, typed_tree::proofs::Looks::look_empty), unfolding(typing::specs::Steps::enter_as))]
+pub(crate) fn statement(typer: &mut Typer, written: &syntax::Stmt) -> Result<Stmt, TypeFault>
+    ensures { MakesStmt (spec.statement written.now typer.old) result typer.new }
+{
+    match written {
+        syntax::Stmt::Empty => Ok(Stmt::Empty {
+            number: typer.enter()?,
+        }),
+        syntax::Stmt::Assign {
+            name,
+            becomes,
+            value,
+        } => assignment(typer, name, *becomes, value),
+        syntax::Stmt::Call { name, actuals } => procedure_call(typer, name, actuals),
+        syntax::Stmt::Compound { statements } => compound(typer, statements),
+    }
+}
+
+/// Statements between `begin` and `end`.
+#[cycle(statements)]
+#[tactic(auto, using(typed_tree::proofs::Looks::look_compound), unfolding(typing::specs::Statements::compound, typing::specs::Steps::enter_as))]
+pub(crate) fn compound(typer: &mut Typer, written: &[syntax::Stmt]) -> Result<Stmt, TypeFault>
+    ensures { MakesStmt (spec.compound (map spec.statement written.now) typer.old) result typer.new }
+{
+    let number = typer.enter()?;
+    let statements = statements(typer, written)?;
+    Ok(Stmt::Compound { number, statements })
+}
+
+// Statements, one after another.
+#[cycle(statements)]
+fn statements(typer: &mut Typer, written: &[syntax::Stmt]) -> Result<Vec<Stmt>, TypeFault>
+    ensures { MakesStmts (each (λ s. s) (map spec.statement written.now) typer.old) result typer.new }
+{
+    let mut statements = Vec::new(typer.alloc);
+    for next in written {
+        statements.push(statement(typer, next)?)?;
+    }
+    Ok(statements)
+}
+
+// The variable is accessed first, then comes the value, then its test (6.8.2.2).
+#[tactic(auto, using(typed_tree::proofs::Looks::look_assign), unfolding(typing::specs::Statements::assignment, typing::specs::Steps::enter_as))]
+fn assignment(
+    typer: &mut Typer,
+    name: &syntax::Name,
+    becomes: Place,
+    value: &syntax::Expr,
+) -> Result<Stmt, TypeFault>
+    ensures { MakesStmt (spec.assignment name.now becomes (expression value.now) typer.old) result typer.new }
+{
+    let number = typer.enter()?;
+    let denotation = typer.find(name)?;
+    let (root, type_id) = as_variable(name.place, denotation)?;
+    let target = Access {
+        number: typer.enter()?,
+        root,
+    };
+    let site = typer.site(SiteKind::Subrange, becomes)?;
+    let value = expression(typer, value, None)?;
+    let range = typer
+        .fitting(type_id, value.type_id)
+        .ok_or(TypeFault::Mismatch(becomes))?;
+    Ok(Stmt::Assign {
+        number,
+        becomes,
+        target,
+        fits: RangeTest { site, range },
+        value: value.expression,
+    })
+}
+
+// The call of a procedure.
+#[tactic(auto, unfolding(typing::specs::Statements::procedure_call))]
+fn procedure_call(
+    typer: &mut Typer,
+    name: &syntax::Name,
+    actuals: &[syntax::Actual],
+) -> Result<Stmt, TypeFault>
+    ensures { MakesStmt (spec.procedure_call name.now actuals.now typer.old) result typer.new }
+{
+    let denotation = typer.find(name)?;
+    let procedure = as_procedure(name.place, denotation)?;
+    write(typer, name, actuals, procedure)
+}
+
+// A write or writeln.
+#[tactic(auto, using(typed_tree::proofs::Looks::look_write), unfolding(typing::specs::Statements::write, typing::specs::Steps::enter_as))]
+fn write(
+    typer: &mut Typer,
+    name: &syntax::Name,
+    actuals: &[syntax::Actual],
+    procedure: RequiredProcedure,
+) -> Result<Stmt, TypeFault>
+    ensures { MakesStmt (spec.write name.now actuals.now procedure typer.old) result typer.new }
+{
+    typer.wants_output(name.place)?;
+    let number = typer.enter()?;
+    let values = written_values(typer, actuals)?;
+    has_values(name.place, procedure, values)?;
+    Ok(Stmt::Write {
+        number,
+        name: name.place,
+        parameters: parameters(typer, values)?,
+        ends_line: ends_line(procedure),
+    })
+}
+
+// A write has a value; a writeln needs none.
+fn has_values(
+    place: Place,
+    procedure: RequiredProcedure,
+    values: &[syntax::Actual],
+) -> Result<(), TypeFault>
+    ensures { result ≡ spec.has_values place procedure values.now }
+{
+    if values.is_empty() && !ends_line(procedure) {
+        return Err(TypeFault::WrongParameters(place));
+    }
+    Ok(())
+}
+
+// The values that are written: the actuals without the file.
+#[tactic(auto, unfolding(typing::specs::Statements::written_values))]
+fn written_values<'e, 'a>(
+    typer: &mut Typer,
+    actuals: &'e [syntax::Actual<'a>],
+) -> Result<&'e [syntax::Actual<'a>], TypeFault>
+    ensures { MakesValues (spec.written_values actuals.now typer.old) result typer.new }
+{
+    let Some((first, rest)) = actuals.split_first() else {
+        return Ok(actuals);
+    };
+    if is_file(typer, first)? {
+        return Ok(rest);
+    }
+    Ok(actuals)
+}
+
+// Whether the first parameter of a write is the file; a width makes it a value.
+#[tactic(auto, using(crate::proofs::Files::no_name), unfolding(typing::specs::Statements::is_file))]
+fn is_file(typer: &mut Typer, actual: &syntax::Actual) -> Result<bool, TypeFault>
+    ensures { Takes (spec.is_file actual.now typer.old) result typer.new }
+{
+    if actual.width.is_some() {
+        return Ok(false);
+    }
+    match &actual.value {
+        syntax::Expr::Name(name) => Ok(is_output(typer.find(name)?)),
+        _ => Ok(false),
+    }
+}
+
+// Values that are written, one after another.
+fn parameters(
+    typer: &mut Typer,
+    values: &[syntax::Actual],
+) -> Result<Vec<WriteParameter>, TypeFault>
+    ensures { MakesParameters (each spec.parameter (map written_actual values.now) typer.old) result typer.new }
+{
+    let mut parameters = Vec::new(typer.alloc);
+    for value in values {
+        parameters.push(parameter(typer, value)?)?;
+    }
+    Ok(parameters)
+}
+
+// A value that is written, and then its width.
+#[tactic(auto, using(typing::proofs::Written::typing_actual), unfolding(typing::specs::Statements::parameter))]
+fn parameter(typer: &mut Typer, written: &syntax::Actual) -> Result<WriteParameter, TypeFault>
+    ensures { MakesParameter (spec.parameter (written_actual written.now) typer.old) result typer.new }
+{
+    let value = expression(typer, &written.value, None)?;
+    let representation = typer
+        .representation(value.type_id)
+        .ok_or(TypeFault::Mismatch(first_place(&written.value)))?;
+    Ok(WriteParameter {
+        value: value.expression,
+        representation,
+        width: width(typer, &written.width)?,
+    })
+}
+
+// The width of a value, if there is one.
+#[tactic(auto, unfolding(typing::specs::Statements::width))]
+fn width(typer: &mut Typer, written: &Option<syntax::Expr>) -> Result<Option<Width>, TypeFault>
+    ensures { MakesWidth (spec.width (option_map expression written.now) typer.old) result typer.new }
+{
+    match written {
+        None => Ok(None),
+        Some(written) => Ok(Some(total_width(typer, written)?)),
+    }
+}
+
+// A width, which is an integer. Its site is the leading one.
+#[tactic(auto, unfolding(typing::specs::Statements::width))]
+fn total_width(typer: &mut Typer, written: &syntax::Expr) -> Result<Width, TypeFault>
+    ensures { MakesOwnWidth (spec.width (Some (expression written.now)) typer.old) result typer.new }
+{
+    let place = first_place(written);
+    let value = expression(typer, written, Some(SiteKind::Width))?;
+    if !value.type_id.same(TypeTable::INTEGER) {
+        return Err(TypeFault::Mismatch(place));
+    }
+    let site = value.site.ok_or(TypeFault::Mismatch(place))?;
+    Ok(Width {
+        value: value.expression,
+        site,
+    })
+}
