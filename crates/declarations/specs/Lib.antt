@@ -1,3 +1,1 @@
-pub mod Names
-pub mod Declaring
-pub mod Regions
+pub mod Known
