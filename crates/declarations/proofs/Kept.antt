@@ -1,5 +1,5 @@
 -- A name that is known stays known while declarations are passed.
-use Rattle.std.proofs.Common.{◌≡◌, ℕ, ◌+◌, ◌<◌, Bool, true, false, if◌then◌else◌, List, [], ◌∷◌, ◌++◌, length, slice_index_or, Result, Ok, Err, IfOk, codes, nat_eq, nat_lt}
+use Rattle.std.proofs.Common.{◌≡◌, ℕ, ◌+◌, Bool, true, false, if◌then◌else◌, List, [], ◌∷◌, ◌++◌, slice_index_or, Result, Ok, Err, IfOk, codes, nat_eq, nat_lt}
 use Rattle.std.specs.Cmp.Lexicographic.{pointwise}
 use Rattle.std.proofs.lemmas.Result.{IfOk-at_ok}
 use Rattle.place.specs.declared.Place.{Place}
@@ -14,11 +14,10 @@ use Rattle.scopes.specs.declared.denotation.Denotation.{Denotation}
 use Rattle.scopes.specs.declared.denotation.Denotation.TheVariants as denotes
 use Rattle.scopes.specs.declared.fault.ScopeFault.{ScopeFault}
 use Rattle.scopes.proofs.Known.{define_keeps}
-use Rattle.typed_tree.specs.declared.fault.TypeFault.{TypeFault}
 use Rattle.typed_tree.specs.declared.fault.TypeFault.TheVariants as fault
 use Rattle.typed_tree.specs.Look.{Look}
 use Rattle.typing.specs.Names.{folded}
-use Rattle.typing.specs.Passing.{Passed, Checked, After, Passing, after, and_then, behind_marks, pure, each, ◌>>=◌, ◌>>◌}
+use Rattle.typing.specs.Passing.{Passed, Checked, After, Passing, after, and_then, behind_marks, each, ◌>>=◌, ◌>>◌}
 use Rattle.typing.specs.Steps.{most_cells, told, declare, give_output, next_root, reserve}
 use Rattle.typing.specs.Typing.{named_type, denoted_type, parameter_of_program, variable, group}
 use Rattle.declarations.specs.Known.{AreKnown, AreKnownGroups}
@@ -31,12 +30,13 @@ Leaves name outcome = IfOk outcome (λ a. Knows a.passed.regions name)
 abbrev pub Keeps : {A : Type 0} → Passing A → Type 0
 Keeps step = (old : Passed) (name : List ℕ) → Knows old.regions name → Leaves name (step old)
 
-behind_leaves : {A : Type 0} (look : Look) (name : List ℕ) (outcome : Checked (After A)) → Leaves name outcome → Leaves name (behind_marks look outcome)
+behind_leaves : {A : Type 0} (look : Look) (name : List ℕ) (outcome : Checked (After A))
+    → Leaves name outcome → Leaves name (behind_marks look outcome)
 behind_leaves look name (Ok a) known = known
 behind_leaves look name (Err why) known = tt
 
-behind_leaves_too : {A B : Type 0} (name : List ℕ) (outcome : Checked (After A)) (second : A → Passing B) → ((a : A) → Keeps (second a)) → Leaves name outcome
-    → Leaves name (and_then outcome (λ a. behind_marks a.look (second a.answer a.passed)))
+behind_leaves_too : {A B : Type 0} (name : List ℕ) (outcome : Checked (After A)) (second : A → Passing B)
+    → ((a : A) → Keeps (second a)) → Leaves name outcome → Leaves name (and_then outcome (λ a. behind_marks a.look (second a.answer a.passed)))
 behind_leaves_too name (Ok a) second keeps known = behind_leaves a.look name (second a.answer a.passed) (keeps a.answer a.passed name known)
 behind_leaves_too name (Err why) second keeps known = tt
 
@@ -98,7 +98,8 @@ group_keeps g =
     (denoted_type_keeps g.names.items g.denoter) (λ type_id. each_keeps (variable type_id) g.names.items (variable_keeps type_id))
 
 -- behind a step that passes
-module _ {A : Type 0} (step : Passing A) (keeps : Keeps step) (answer : A) (look : Look) (old new : Passed) (passes : step old ≡ Ok (after answer look new)) where
+module _ {A : Type 0} (step : Passing A) (keeps : Keeps step) (answer : A) (look : Look) (old new : Passed)
+    (passes : step old ≡ Ok (after answer look new)) where
   pub still_known : (name : List ℕ) → Knows old.regions name → Knows new.regions name
   still_known name known = IfOk-at_ok (λ a. Knows a.passed.regions name) passes (keeps old name known)
 

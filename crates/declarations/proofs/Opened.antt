@@ -1,5 +1,5 @@
 -- The region of a block knows from its beginning the names that the block defines.
-use Rattle.std.proofs.Common.{◌≡◌, ◌∙◌, ℕ, List, [], ◌∷◌, ◌++◌, Result, Ok, Err, Vec, flat_map, map, sym, ap, subst, append_assoc}
+use Rattle.std.proofs.Common.{◌≡◌, ◌∙◌, ℕ, List, [], ◌∷◌, ◌++◌, Ok, Err, Vec, flat_map, sym, ap, subst, append_assoc}
 use Rattle.std.specs.declared.alloc.Global.{Global}
 use Rattle.std.proofs.lemmas.List.{map-append}
 use Rattle.std.proofs.lemmas.List.Elements.{All-cons, All-nil}
@@ -11,6 +11,7 @@ use Rattle.scopes.proofs.Known.{opened_knows}
 use Rattle.typing.specs.Names.{folded, all_folded, defined_names}
 use Rattle.typing.specs.Passing.{Passed, Checked, After, after}
 use Rattle.typing.specs.Steps.{open_block}
+use Rattle.declarations.specs.Declared.{texts}
 use Rattle.declarations.specs.Known.{AreKnown, AreKnownGroups}
 
 -- the regions that an outcome leaves
@@ -33,7 +34,8 @@ module _ (outer : List Region) where
   names_of groups = flat_map (λ group. group.names.items) groups
 
   -- the names of groups behind others
-  groups_behind : (before : List (List ℕ)) (groups : List VariableGroup) → AreKnownGroups groups (opened (before ++ all_folded (names_of groups)) ∷ outer)
+  groups_behind : (before : List (List ℕ)) (groups : List VariableGroup)
+      → AreKnownGroups groups (opened (before ++ all_folded (names_of groups)) ∷ outer)
   groups_behind before [] = All-nil (λ group. AreKnown group.names.items (opened (before ++ []) ∷ outer))
   groups_behind before (group ∷ groups) =
       let names = group.names.items in
@@ -60,7 +62,7 @@ module _ (outer : List Region) where
 
 -- once the region of a block is open
 module _ (program : Program) (keys : List (Vec ℕ Global)) (old new : Passed)
-    (opens : open_block (map (λ key. key.items) keys) old ≡ Ok (after tt [] new)) (names : map (λ key. key.items) keys ≡ all_folded (defined_names program)) where
+    (opens : open_block (texts keys) old ≡ Ok (after tt [] new)) (names : texts keys ≡ all_folded (defined_names program)) where
   regions_behind : opened (all_folded (defined_names program)) ∷ old.regions ≡ new.regions
   unfolding open_block regions_of
   regions_behind = ap (λ l. opened l ∷ old.regions) (sym names) ∙ ap regions_of opens

@@ -1,4 +1,4 @@
--- The names whose definitions are to come (ISO 7185:1990, 6.2.2): the region of their block lists them from its beginning.
+-- The names whose definitions are to come (ISO 7185:1990, 6.2.2): the region of their block lists them from the start.
 -- It says nothing of what they denote.
 use Rattle.std.specs.Prelude.{List, All}
 use Rattle.syntax_tree.specs.declared.Name.{Name}

@@ -12,19 +12,19 @@ use typed_tree::fault::TypeFault;
 use typing::{Typer, folded};
 
 /// Passes the program parameters, in the order of the text.
-pub(crate) fn parameters(typer: &mut Typer, names: &[Name]) -> Result<(), TypeFault>
+pub(crate) fn declare_parameters(typer: &mut Typer, names: &[Name]) -> Result<(), TypeFault>
     requires known { AreKnown names.now typer.old.regions }
     ensures { Takes (each spec.parameter_of_program names.now typer.old) result typer.new }
 {
     for name in names {
-        parameter(typer, name)?;
+        declare_parameter(typer, name)?;
     }
     Ok(())
 }
 
 // A program parameter: output alone may be one (K8), and once (S1).
 #[tactic(auto, unfolding(typing::specs::Typing::parameter_of_program))]
-fn parameter(typer: &mut Typer, name: &Name) -> Result<(), TypeFault>
+fn declare_parameter(typer: &mut Typer, name: &Name) -> Result<(), TypeFault>
     requires known { Knows typer.old.regions (folded name.now.text.now) }
     ensures { Takes (spec.parameter_of_program name.now typer.old) result typer.new }
 {

@@ -10,7 +10,7 @@ use types::TypeId;
 use typing::Typer;
 
 /// Passes the variables, group by group in the order of the text.
-pub(crate) fn groups(typer: &mut Typer, groups: &[VariableGroup]) -> Result<(), TypeFault>
+pub(crate) fn declare_groups(typer: &mut Typer, groups: &[VariableGroup]) -> Result<(), TypeFault>
     requires known { AreKnownGroups groups.now typer.old.regions }
     ensures { Takes (each spec.group groups.now typer.old) result typer.new }
 {
@@ -27,11 +27,11 @@ fn declare_group(typer: &mut Typer, group: &VariableGroup) -> Result<(), TypeFau
     ensures { Takes (spec.group group.now typer.old) result typer.new }
 {
     let type_id = typer.denoted_type(&group.names, &group.denoter)?;
-    variables(typer, type_id, &group.names)
+    declare_variables(typer, type_id, &group.names)
 }
 
 // Variables of a type.
-fn variables(typer: &mut Typer, type_id: TypeId, names: &[Name]) -> Result<(), TypeFault>
+fn declare_variables(typer: &mut Typer, type_id: TypeId, names: &[Name]) -> Result<(), TypeFault>
     requires known { AreKnown names.now typer.old.regions }
     ensures { Takes (each (spec.variable type_id) names.now typer.old) result typer.new }
 {

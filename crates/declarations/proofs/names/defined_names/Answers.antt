@@ -1,6 +1,7 @@
-use Rattle.std.proofs.Common.{◌++◌, ℕ, ◌<◌, length, map, take, get_or, sym, ap, ◌∙◌, append-nil, arith}
+use Rattle.std.proofs.Common.{◌++◌, ◌<◌, length, take, get_or, sym, ap, ◌∙◌, append-nil, arith}
 use Rattle.std.proofs.lemmas.List.{take_all}
 use Rattle.typing.specs.Names.{all_folded}
+use Rattle.declarations.specs.Declared.{texts}
 use Rattle.declarations.proofs.Folds.{names_of, one_group_more}
 use Rattle.declarations.proofs.names.defined_names.Goals as goal
 
@@ -8,7 +9,7 @@ use Rattle.declarations.proofs.names.defined_names.Goals as goal
 pub loop-group-init : goal.loop-group-init
 loop-group-init c =
     c.in_ok-fold_names.ensures
-    ∙ ap (λ l. map (λ key. key.items) l ++ all_folded c.deref.result.now) c.new-keys.ensures.items
+    ∙ ap (λ l. texts l ++ all_folded c.deref.result.now) c.new-keys.ensures.items
     ∙ ap all_folded (c.deref.ensures.value ∙ sym (append-nil c.args.program.now.parameters.items))
 
 -- the names of one group more are taken
@@ -21,7 +22,8 @@ loop-group-preserved c =
     c.in_ok-fold_names-2.ensures
     ∙ ap (λ l. l ++ all_folded c.deref-in-loop-group.result.now) c.loop-group.invariant
     ∙ ap (λ l. all_folded (c.args.program.now.parameters.items ++ names_of (take i groups)) ++ all_folded l) c.deref-in-loop-group.ensures.value
-    ∙ one_group_more groups i group c.args.program.now.parameters.items within (c.group-item.is ∙ ap (λ l. get_or l i group) c.deref-group-items.ensures.value)
+    ∙ one_group_more groups i group c.args.program.now.parameters.items within
+    (c.group-item.is ∙ ap (λ l. get_or l i group) c.deref-group-items.ensures.value)
 
 -- the names of all groups are taken
 pub returns : goal.returns

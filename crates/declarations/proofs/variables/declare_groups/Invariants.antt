@@ -2,7 +2,7 @@ use Rattle.std.proofs.Common.{[]}
 use Rattle.typing.specs.Typing.{group}
 use Rattle.typing.proofs.Rows.{IsLeftFrom}
 use Rattle.declarations.specs.Known.{AreKnownGroups}
-use Rattle.declarations.proofs.variables.groups.Given as goal
+use Rattle.declarations.proofs.variables.declare_groups.Given as goal
 
 -- what is left, and that its names are known
 abbrev pub invariant-loop-group : goal.invariant-loop-group

@@ -2,7 +2,7 @@ use Rattle.std.proofs.Common.{[]}
 use Rattle.typing.specs.Typing.{group}
 use Rattle.typing.proofs.Rows.{each_next}
 use Rattle.declarations.proofs.Kept.{group_keeps, groups_stay}
-use Rattle.declarations.proofs.variables.groups.Goals as goal
+use Rattle.declarations.proofs.variables.declare_groups.Goals as goal
 
 -- one group more is passed
 pub loop-group-preserved : goal.loop-group-preserved

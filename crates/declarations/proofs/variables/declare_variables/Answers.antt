@@ -3,7 +3,7 @@ use Rattle.std.proofs.lemmas.List.{get_or_default}
 use Rattle.typing.specs.Typing.{variable}
 use Rattle.typing.proofs.Rows.{each_next}
 use Rattle.declarations.proofs.Kept.{variable_keeps, names_stay}
-use Rattle.declarations.proofs.variables.variables.Goals as goal
+use Rattle.declarations.proofs.variables.declare_variables.Goals as goal
 
 -- one variable more is passed
 pub loop-name-preserved : goal.loop-name-preserved
