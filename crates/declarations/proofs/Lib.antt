@@ -1,3 +1,3 @@
-mod Regions
-mod Definitions
-mod Refused
+mod Kept
+mod Opened
+mod Folds

@@ -1,3 +1,2 @@
-pub mod Names
-pub mod Declaring
-pub mod Regions
+pub mod Declared
+pub mod Known

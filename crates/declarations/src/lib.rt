@@ -1,9 +1,10 @@
-//! What the names of a program denote: those that its block defines, and the required ones round it
-//! (ISO 7185:1990, 6.2.2, 6.4.1, 6.5.1, 6.10).
+//! The declarations of a program (ISO 7185:1990, 6.2.2, 6.4.1, 6.5.1, 6.10): its parameters and its variables, in the
+//! order of the text, with the required identifiers round them.
 #![tactic(auto)]
 
-mod declarations;
+mod names;
+mod parameters;
 mod program;
+mod variables;
 
-pub use declarations::find;
-pub use program::{Declarations, declare_program};
+pub use program::declare_program;

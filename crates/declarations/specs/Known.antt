@@ -1,0 +1,15 @@
+-- The names whose definitions are to come (ISO 7185:1990, 6.2.2): the region of their block lists them from the start.
+-- It says nothing of what they denote.
+use Rattle.std.specs.Prelude.{List, All}
+use Rattle.syntax_tree.specs.declared.Name.{Name}
+use Rattle.syntax_tree.specs.declared.VariableGroup.{VariableGroup}
+use Rattle.scopes.specs.Scopes.{Region, Knows}
+use Rattle.typing.specs.Names.{folded}
+
+-- the innermost region lists each of these names
+abbrev pub AreKnown : List Name → List Region → Type 0
+AreKnown names regions = All (λ name. Knows regions (folded name.text.now)) names
+
+-- the innermost region lists each name of these groups
+abbrev pub AreKnownGroups : List VariableGroup → List Region → Type 0
+AreKnownGroups groups regions = All (λ group. AreKnown group.names.items regions) groups

@@ -1,0 +1,42 @@
+ghost use Rattle.std.specs.Prelude.{◌≡◌};
+ghost use Rattle.typing.specs.Outcomes.{Takes};
+ghost use Rattle.typing.specs.Passing.{each};
+ghost use Rattle.typing.specs.Typing as spec;
+ghost use Rattle.declarations.specs.Known.{AreKnown, AreKnownGroups};
+
+use syntax_tree::{Name, VariableGroup};
+use typed_tree::fault::TypeFault;
+use types::TypeId;
+use typing::Typer;
+
+/// Passes the variables, group by group in the order of the text.
+pub(crate) fn declare_groups(typer: &mut Typer, groups: &[VariableGroup]) -> Result<(), TypeFault>
+    requires known { AreKnownGroups groups.now typer.old.regions }
+    ensures { Takes (each spec.group groups.now typer.old) result typer.new }
+{
+    for group in groups {
+        declare_group(typer, group)?;
+    }
+    Ok(())
+}
+
+// Variables that are declared together. Their type is looked up first.
+#[tactic(auto, unfolding(typing::specs::Typing::group))]
+fn declare_group(typer: &mut Typer, group: &VariableGroup) -> Result<(), TypeFault>
+    requires known { AreKnown group.now.names.items typer.old.regions }
+    ensures { Takes (spec.group group.now typer.old) result typer.new }
+{
+    let type_id = typer.denoted_type(&group.names, &group.denoter)?;
+    declare_variables(typer, type_id, &group.names)
+}
+
+// Variables of a type.
+fn declare_variables(typer: &mut Typer, type_id: TypeId, names: &[Name]) -> Result<(), TypeFault>
+    requires known { AreKnown names.now typer.old.regions }
+    ensures { Takes (each (spec.variable type_id) names.now typer.old) result typer.new }
+{
+    for name in names {
+        typer.variable(type_id, name)?;
+    }
+    Ok(())
+}
