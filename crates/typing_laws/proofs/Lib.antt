@@ -1,0 +1,5 @@
+pub mod Sound
+pub mod Covers
+pub mod Grown
+pub mod Steps
+pub mod Expressions
