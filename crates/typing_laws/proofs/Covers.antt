@@ -1,5 +1,5 @@
 -- The sites of a form stand at its places, in their order, and those at one place by kind.
-use Rattle.std.proofs.Common.{◌≡◌, ℕ, ◌<◌, List, [], ◌∷◌, ◌++◌, map, append_assoc, refl, sym, ap, subst, ◌∙◌, arith}
+use Rattle.std.proofs.Common.{◌≡◌, ℕ, ◌<◌, List, [], ◌∷◌, ◌++◌, map, append_assoc, append-nil, refl, sym, ap, subst, ◌∙◌, arith}
 use Rattle.std.proofs.lemmas.List.{map-append}
 use Rattle.place.specs.declared.Place.{Place}
 use Rattle.typed_tree.specs.declared.site.SiteKind.{SiteKind}
@@ -35,6 +35,10 @@ covers_both (place ∷ first) second a b c more = (
   c.3,
   covers_both first second c.1 b c.4 more,
 )
+
+-- more places, which have no sites
+pub covers_more : (places more : List Place) (sites : List Stands) → Covers places sites → Covers (places ++ more) sites
+covers_more places more sites is = subst (Covers (places ++ more)) (append-nil sites) (covers_both places more sites [] is (covers_none more))
 
 -- sites of these kinds at a place, and then those of other places
 abbrev pub Leads : Place → List SiteKind → List Place → List Stands → Type 0

@@ -39,11 +39,11 @@ abbrev pub IsLed : Option SiteKind → Type 0
 IsLed None = Unit {0}
 IsLed (Some kind) = 11 < number_of kind
 
-led_alone : (lead : Option SiteKind) → AreAscending (led lead)
+pub led_alone : (lead : Option SiteKind) → AreAscending (led lead)
 led_alone None = tt
 led_alone (Some kind) = tt
 
-led_behind : (own : SiteKind) (lead : Option SiteKind) → number_of own ≤ 11 → IsLed lead → AreAscending (own ∷ led lead)
+pub led_behind : (own : SiteKind) (lead : Option SiteKind) → number_of own ≤ 11 → IsLed lead → AreAscending (own ∷ led lead)
 led_behind own None low is = tt
 led_behind own (Some kind) low is = (omega (arith, low, is), tt)
 
@@ -54,23 +54,27 @@ known_later (Some id) now then_ more known = omega (arith, more, known)
 pub lt_true : (a b : ℕ) → a < b → nat_lt a b ≡ true
 lt_true a b h = grind (arith, nat_tests)
 
+-- a typed expression has a leading site that is known
+abbrev pub Types : Typed → ℕ → Type 0
+Types t now = IsKnown t.site now
+
 -- ---- the laws
 
 module _ (variables : ℕ) where
   -- an expression, with any leading site
   pub record LawfulWritten (places : List Place) (w : Written) : Type 0 where
-    pub types : (least : ℕ) (lead : Option SiteKind) → IsLed lead → Does variables least (Covers places) (w.typing lead) (λ t now. IsKnown t.site now)
+    pub types : (least : ℕ) (lead : Option SiteKind) → IsLed lead → Does variables least (Covers places) (w.typing lead) Types
 
   pub record LawfulLink (places : List Place) (l : WrittenLink) : Type 0 where
     pub types : (least : ℕ) (left : TypeId) → Does variables least (Covers places) (l left) Anything
 
   -- ---- constants and variables
 
-  fits_is : {A : Type 0} (test : Bool) (place : Place) (answer other : A) → fits test place answer ≡ Ok other → (test ≡ true) × (answer ≡ other)
+  pub fits_is : {A : Type 0} (test : Bool) (place : Place) (answer other : A) → fits test place answer ≡ Ok other → (test ≡ true) × (answer ≡ other)
   fits_is true place answer other is = (refl, cc)
   fits_is false place answer other is = absurd cc
 
-  led_covers : (place : Place) (places : List Place) (kinds : List SiteKind) → AreAscending kinds → {least : ℕ} {A : Type 0} {p : Passing A} {K : A → ℕ → Type 0} → Does variables least (Leads place kinds places) p K
+  pub led_covers : (place : Place) (places : List Place) (kinds : List SiteKind) → AreAscending kinds → {least : ℕ} {A : Type 0} {p : Passing A} {K : A → ℕ → Type 0} → Does variables least (Leads place kinds places) p K
       → Does variables least (Covers (place ∷ places)) p K
   led_covers place places kinds ascending d = with (omega arith) (λ sites. leads_covers place kinds places sites ascending) (λ x n known. known) d
 
@@ -78,7 +82,7 @@ module _ (variables : ℕ) where
   unfolding number
   number_does value place = record { types = λ least lead is. led_covers place [] (led lead) (led_alone lead) (by least lead) }
     where
-      by : (least : ℕ) (lead : Option SiteKind) → Does variables least (Leads place (led lead) []) (number value place lead) (λ t now. IsKnown t.site now)
+      by : (least : ℕ) (lead : Option SiteKind) → Does variables least (Leads place (led lead) []) (number value place lead) Types
       by least lead =
           quietly (pass_does place) λ _ _ _ _.
           joins (leads_first place (led lead) []) (behind_does lead place) λ id now _ known.
@@ -86,9 +90,6 @@ module _ (variables : ℕ) where
           let fit = fits_is (nat_le value 2147483647) place (typed integer id) t is in
           quietly (enter_does (λ n. Constant n (pos value)) (λ n. refl) (λ n m h. fit.0)) λ _ then_ later _.
           pure_does t (λ n h. subst (λ (z : Typed). IsKnown z.site n) fit.1 (known_later id now n (omega arith) known))
-
-  abbrev pub Types : Typed → ℕ → Type 0
-  Types t now = IsKnown t.site now
 
   denoted_does : (denotation : Denotation) (place : Place) {least : ℕ} (lead : Option SiteKind) → IsLed lead → IsSound variables denotation → Does variables least (Covers (place ∷ [])) (denoted denotation place lead) Types
   unfolding denoted
@@ -132,7 +133,7 @@ module _ (variables : ℕ) where
           answer id now n b type_id known more is = let same : typed type_id id ≡ b = cc in subst (λ (z : Typed). IsKnown z.site n) same (known_later id now n more known)
 
   -- an answer where types fit
-  fits_known : (test : Bool) (place : Place) (type_id : TypeId) (id : Option ℕ) (b : Typed) (now n : ℕ) → fits test place (typed type_id id) ≡ Ok b → IsKnown id now → now ≤ n → IsKnown b.site n
+  pub fits_known : (test : Bool) (place : Place) (type_id : TypeId) (id : Option ℕ) (b : Typed) (now n : ℕ) → fits test place (typed type_id id) ≡ Ok b → IsKnown id now → now ≤ n → IsKnown b.site n
   fits_known test place type_id id b now n is known more = subst (λ (z : Typed). IsKnown z.site n) (fits_is test place (typed type_id id) b is).1 (known_later id now n more known)
 
   pub negation_does : (place : Place) (places : List Place) (operand : Written) → LawfulWritten places operand → LawfulWritten (place ∷ places) (record { first = place; typing = negation place operand })

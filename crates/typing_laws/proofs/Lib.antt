@@ -3,3 +3,5 @@ pub mod Covers
 pub mod Grown
 pub mod Steps
 pub mod Expressions
+pub mod Operators
+pub mod EveryExpression
