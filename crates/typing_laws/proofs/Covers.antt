@@ -40,6 +40,12 @@ covers_both (place ∷ first) second a b c more = (
 pub covers_more : (places more : List Place) (sites : List Stands) → Covers places sites → Covers (places ++ more) sites
 covers_more places more sites is = subst (Covers (places ++ more)) (append-nil sites) (covers_both places more sites [] is (covers_none more))
 
+pub covers_behind : (before places : List Place) (sites : List Stands) → Covers places sites → Covers (before ++ places) sites
+covers_behind before places sites is = covers_both before places [] sites (covers_none before) is
+
+pub covers_skip : (place : Place) (places : List Place) (sites : List Stands) → Covers places sites → Covers (place ∷ places) sites
+covers_skip place places sites is = ([], sites, refl, tt, is)
+
 -- sites of these kinds at a place, and then those of other places
 abbrev pub Leads : Place → List SiteKind → List Place → List Stands → Type 0
 Leads place kinds places sites = (later : List Stands) × (sites ≡ at_place place kinds ++ later) × Covers places later

@@ -5,3 +5,4 @@ pub mod Steps
 pub mod Expressions
 pub mod Operators
 pub mod EveryExpression
+pub mod Statements

@@ -14,7 +14,7 @@ use Rattle.typed_tree.specs.declared.site.SiteKind.{SiteKind}
 use Rattle.typed_tree.specs.Ids.{Stands}
 use Rattle.typed_tree.specs.Look.{Mark, Look, mark_entries, is_formed_mark}
 use Rattle.typing.specs.Passing.{Passed, Checked, After, Passing, and_then, after, pure, fail, given, mark, behind_marks, ◌>>=◌, ◌>>◌, ◌>>?◌}
-use Rattle.typing.specs.Steps.{most_sites, most_entries, pass, enter, enter_as, site, find, told}
+use Rattle.typing.specs.Steps.{most_sites, most_entries, pass, enter, enter_as, site, find, told, wants_output}
 use Rattle.typing.specs.Expressions.{behind}
 use Rattle.typing.specs.Names.{folded}
 use Rattle.typing_laws.proofs.Sound.{IsSound, found_sound}
@@ -159,6 +159,13 @@ find_does {variables} name = record { does = λ s a is fine h.
     by : (r : Result Denotation ScopeFault) (d : Denotation) → told name.place r ≡ Ok d → r ≡ Ok d
     by (Ok d) e is = let same : d ≡ e = cc in ap Ok same
     by (Err why) e is = absurd cc
+
+pub wants_output_does : {variables least : ℕ} (place : Place) → Does variables least Nothing (wants_output place) Anything
+unfolding wants_output
+wants_output_does {variables} place = record { does = λ s a is fine h.
+    let x = split_if s.has_output (fault.NotProgramParameter place) (after tt [] s) a is in
+    subst (λ (z : After (Unit {0})). Grown variables Nothing z.look s z.passed × Unit {0}) x.1 (grown_silent variables s s refl refl refl refl refl fine, tt)
+  }
 
 -- ---- marks
 
