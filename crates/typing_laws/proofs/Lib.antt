@@ -6,3 +6,6 @@ pub mod Expressions
 pub mod Operators
 pub mod EveryExpression
 pub mod Statements
+pub mod Ordered
+pub mod Declarations
+pub mod Programs

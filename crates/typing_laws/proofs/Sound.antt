@@ -1,10 +1,12 @@
 -- Sound regions: what a name denotes there is a whole number, or a variable of the program.
-use Rattle.std.proofs.Common.{◌≡◌, ℕ, ◌<◌, Bool, true, false, cond, nat_eq, List, [], ◌∷◌, Option, Some, None, Ok, refl, subst}
+use Rattle.std.proofs.Common.{◌≡◌, ℕ, ◌<◌, ◌≤◌, Bool, true, false, cond, nat_eq, List, [], ◌∷◌, Option, Some, None, Result, Ok, Err, if◌then◌else◌, fold, refl, subst, arith}
 use Rattle.std.specs.Cmp.Lexicographic.{pointwise}
-use Rattle.scopes.specs.Scopes.{Region, said, decided, found}
+use Rattle.scopes.specs.Scopes.{Region, said, decided, found, put, opened, is_defined, define}
+use Rattle.scopes.specs.declared.fault.ScopeFault.TheVariants.{DeclaredTwice}
 use Rattle.scopes.specs.declared.denotation.Denotation.{Denotation}
 use Rattle.scopes.specs.declared.denotation.Denotation.TheVariants as denotes
 use Rattle.typed_tree.specs.WellFormed.{is_whole}
+use Rattle.typing.specs.Names.{required_region}
 
 -- with so many variables
 abbrev pub IsSound : ℕ → Denotation → Type 0
@@ -46,3 +48,59 @@ module _ (variables : ℕ) where
       by None h more there = more there
       by (Some None) h more there = absurd cc
       by (Some (Some d)) h more there = let same : d ≡ denotation = cc in subst (IsSound variables) same (said_sound region name (Some d) sound.0 h)
+
+-- ---- definitions
+
+module _ (variables : ℕ) where
+  put_sound : (region : Region) (name : List ℕ) (says : Option Denotation) → IsSoundRegion variables region → Says variables says → IsSoundRegion variables (put region name says)
+  put_sound [] name says sound one = (one, tt)
+  put_sound (entry ∷ entries) name says sound one = by (pointwise nat_eq name entry.0) (put_sound entries name says sound.1 one)
+    where
+      by : (here : Bool) → IsSoundRegion variables (put entries name says) → IsSoundRegion variables (if here then (entry.0, says) ∷ entries else entry ∷ put entries name says)
+      by true more = (one, sound.1)
+      by false more = (sound.0, more)
+
+  -- names that are not defined yet
+  pub opened_sound : (names : List (List ℕ)) → IsSoundRegion variables (opened names)
+  opened_sound names = from names [] tt
+    where
+      from : (names : List (List ℕ)) (region : Region) → IsSoundRegion variables region → IsSoundRegion variables (fold (λ (region : Region) (name : List ℕ). put region name None) region names)
+      from [] region sound = sound
+      from (name ∷ names) region sound = from names (put region name None) (put_sound region name None sound tt)
+
+  pub required_sound : IsSoundRegion variables required_region
+  unfolding required_region
+  required_sound = (tt, (tt, (refl, (refl, (refl, (tt, (tt, (tt, (tt, (tt, tt))))))))))
+
+  pub define_sound : (name : List ℕ) (denotation : Denotation) (regions new : List Region) → IsSound variables denotation → AreSound variables regions → define name denotation regions ≡ Ok new → AreSound variables new
+  define_sound name denotation [] new one sound is = absurd cc
+  define_sound name denotation (region ∷ outer) new one sound is = by (is_defined (said region name)) is
+    where
+      by : (test : Bool) → (if test then Err DeclaredTwice else Ok (put region name (Some denotation) ∷ outer)) ≡ Ok new → AreSound variables new
+      by true h = absurd cc
+      by false h =
+          let same : put region name (Some denotation) ∷ outer ≡ new = cc in
+          subst (AreSound variables) same (put_sound region name (Some denotation) sound.0 one, sound.1)
+
+-- ---- more variables
+
+module _ (variables more : ℕ) (fewer : variables ≤ more) where
+  sound_more : (denotation : Denotation) → IsSound variables denotation → IsSound more denotation
+  sound_more (denotes.Constant value type_id) sound = sound
+  sound_more (denotes.Variable root type_id) sound = omega (arith, fewer, sound)
+  sound_more (denotes.Procedure procedure) sound = tt
+  sound_more (denotes.Function function) sound = tt
+  sound_more (denotes.TypeName type_id) sound = tt
+  sound_more denotes.Output sound = tt
+
+  says_more : (says : Option Denotation) → Says variables says → Says more says
+  says_more None sound = tt
+  says_more (Some denotation) sound = sound_more denotation sound
+
+  region_more : (region : Region) → IsSoundRegion variables region → IsSoundRegion more region
+  region_more [] sound = tt
+  region_more (entry ∷ entries) sound = (says_more entry.1 sound.0, region_more entries sound.1)
+
+  pub regions_more : (regions : List Region) → AreSound variables regions → AreSound more regions
+  regions_more [] sound = tt
+  regions_more (region ∷ outer) sound = (region_more region sound.0, regions_more outer sound.1)
