@@ -1,5 +1,5 @@
 -- The sites of a form stand at its places, in their order, and those at one place by kind.
-use Rattle.std.proofs.Common.{◌≡◌, ℕ, ◌<◌, List, [], ◌∷◌, ◌++◌, map, append_assoc, append-nil, refl, sym, ap, subst, ◌∙◌, arith}
+use Rattle.std.proofs.Common.{◌≡◌, ◌<◌, List, [], ◌∷◌, ◌++◌, map, append_assoc, append-nil, refl, sym, ap, subst, ◌∙◌}
 use Rattle.std.proofs.lemmas.List.{map-append}
 use Rattle.place.specs.declared.Place.{Place}
 use Rattle.typed_tree.specs.declared.site.SiteKind.{SiteKind}
@@ -50,16 +50,19 @@ covers_skip place places sites is = ([], sites, refl, tt, is)
 abbrev pub Leads : Place → List SiteKind → List Place → List Stands → Type 0
 Leads place kinds places sites = (later : List Stands) × (sites ≡ at_place place kinds ++ later) × Covers places later
 
-pub leads_first : (place : Place) (kinds : List SiteKind) (places : List Place) (a b : List Stands) → a ≡ at_place place kinds → Covers places b → Leads place kinds places (a ++ b)
+pub leads_first : (place : Place) (kinds : List SiteKind) (places : List Place) (a b : List Stands) → a ≡ at_place place kinds → Covers places b
+    → Leads place kinds places (a ++ b)
 leads_first place kinds places a b is more = (b, ap (λ l. l ++ b) is, more)
 
-pub leads_more : (place : Place) (kinds others : List SiteKind) (places : List Place) (a b : List Stands) → a ≡ at_place place kinds → Leads place others places b → Leads place (kinds ++ others) places (a ++ b)
+pub leads_more : (place : Place) (kinds others : List SiteKind) (places : List Place) (a b : List Stands) → a ≡ at_place place kinds
+    → Leads place others places b → Leads place (kinds ++ others) places (a ++ b)
 leads_more place kinds others places a b is more = (
   more.0,
   ap (λ l. l ++ b) is ∙ ap (λ l. at_place place kinds ++ l) more.1 ∙ sym (append_assoc (at_place place kinds) (at_place place others) more.0)
-  ∙ ap (λ l. l ++ more.0) (sym (map-append (λ (kind : SiteKind). (kind, place)) kinds others)),
+      ∙ ap (λ l. l ++ more.0) (sym (map-append (λ (kind : SiteKind). (kind, place)) kinds others)),
   more.2,
 )
 
-pub leads_covers : (place : Place) (kinds : List SiteKind) (places : List Place) (sites : List Stands) → AreAscending kinds → Leads place kinds places sites → Covers (place ∷ places) sites
+pub leads_covers : (place : Place) (kinds : List SiteKind) (places : List Place) (sites : List Stands) → AreAscending kinds → Leads place kinds places sites
+    → Covers (place ∷ places) sites
 leads_covers place kinds places sites ascending more = (kinds, more.0, more.1, ascending, more.2)

@@ -1,5 +1,6 @@
 -- What declarations do: they add no site and no entry, each name denotes what is sound, and each variable takes a cell.
-use Rattle.std.proofs.Common.{◌≡◌, ℕ, ◌+◌, ◌<◌, ◌≤◌, Bool, true, false, nat_eq, nat_lt, if◌then◌else◌, List, [], ◌∷◌, ◌++◌, map, length, Option, Some, None, Result, Ok, Err, codes, length-append, refl, sym, ap, subst, ◌∙◌, arith}
+use Rattle.std.proofs.Common.{◌≡◌, ℕ, ◌+◌, ◌≤◌, Bool, true, false, nat_eq, nat_lt, if◌then◌else◌, List, [], ◌∷◌, ◌++◌, length, Option, Some, None, Result, Ok}
+use Rattle.std.proofs.Common.{Err, codes, length-append, refl, sym, ap, subst, ◌∙◌, arith}
 use Rattle.std.proofs.lemmas.Bool.Decides.{nat_tests}
 use Rattle.std.specs.Cmp.Lexicographic.{pointwise}
 use Rattle.place.specs.declared.Place.{Place}
@@ -18,9 +19,8 @@ use Rattle.scopes.specs.declared.denotation.Denotation.TheVariants as denotes
 use Rattle.scopes.specs.declared.fault.ScopeFault.{ScopeFault}
 use Rattle.typed_tree.specs.declared.fault.TypeFault.TheVariants as fault
 use Rattle.typed_tree.specs.declared.tree.Variable.{Variable}
-use Rattle.typed_tree.specs.Look.{Look}
 use Rattle.typing.specs.Names.{folded, all_folded, defined_names, required_region}
-use Rattle.typing.specs.Passing.{Passed, Checked, After, Passing, and_then, after, behind_marks, pure, fail, each, ◌>>=◌, ◌>>◌}
+use Rattle.typing.specs.Passing.{Passed, Checked, After, Passing, after, behind_marks, pure, fail, each, ◌>>=◌, ◌>>◌}
 use Rattle.typing.specs.Steps.{most_cells, told, open_required, open_block, declare, give_output, next_root, reserve}
 use Rattle.typing.specs.Typing.{parameter_of_program, named_type, denoted_type, variable, group, declarations}
 use Rattle.typing_laws.proofs.Sound.{IsSound, AreSound, opened_sound, required_sound, define_sound, regions_more}
@@ -46,21 +46,25 @@ pub record Keeps (From : Passed → Type 0) {A : Type 0} (p : Passing A) (To : A
 abbrev pub Readied : {A : Type 0} → A → Passed → Type 0
 Readied answer s = IsReady s
 
-pub keeps_then : {A B : Type 0} {From : Passed → Type 0} {p : Passing A} {f : A → Passing B} {Between : A → Passed → Type 0} {To : B → Passed → Type 0} → Keeps From p Between → ((x : A) → Keeps (Between x) (f x) To) → Keeps From (p >>= f) To
-keeps_then {A} {B} {From} {p} {f} {Between} {To} first rest = record { keeps = λ s b is from.
-    let x = split (p s) (λ a. behind_marks a.look (f a.answer a.passed)) b is in
-    let y = split_behind x.0.look (f x.0.answer x.0.passed) b x.2 in
-    let one = first.keeps s x.0 x.1 from in
-    let two = (rest x.0.answer).keeps x.0.passed y.0 y.1 one.1 in
-    subst (λ (z : After B). (z.look ≡ []) × To z.answer z.passed) y.2 (ap (λ l. l ++ y.0.look) one.0 ∙ two.0, two.1)
-  }
+pub keeps_then : {A B : Type 0} {From : Passed → Type 0} {p : Passing A} {f : A → Passing B} {Between : A → Passed → Type 0} {To : B → Passed → Type 0}
+    → Keeps From p Between → ((x : A) → Keeps (Between x) (f x) To) → Keeps From (p >>= f) To
+keeps_then {A} {B} {From} {p} {f} {Between} {To} first rest = record {
+  keeps = λ s b is from.
+      let x = split (p s) (λ a. behind_marks a.look (f a.answer a.passed)) b is in
+      let y = split_behind x.0.look (f x.0.answer x.0.passed) b x.2 in
+      let one = first.keeps s x.0 x.1 from in
+      let two = (rest x.0.answer).keeps x.0.passed y.0 y.1 one.1 in
+      subst (λ (z : After B). (z.look ≡ []) × To z.answer z.passed) y.2 (ap (λ l. l ++ y.0.look) one.0 ∙ two.0, two.1);
+}
 
 -- a step that always answers
-always : {A : Type 0} {From : Passed → Type 0} {To : A → Passed → Type 0} (p : Passing A) (x : A) (next : Passed → Passed) → ((s : Passed) → p s ≡ Ok (after x [] (next s))) → ((s : Passed) → From s → To x (next s)) → Keeps From p To
-always {A} {From} {To} p x next goes keeps = record { keeps = λ s a is from.
-    let same : after x [] (next s) ≡ a = let both : ◌≡◌ {A = Checked (After A)} (Ok (after x [] (next s))) (Ok a) = sym (goes s) ∙ is in cc in
-    subst (λ (z : After A). (z.look ≡ []) × To z.answer z.passed) same (refl, keeps s from)
-  }
+always : {A : Type 0} {From : Passed → Type 0} {To : A → Passed → Type 0} (p : Passing A) (x : A) (next : Passed → Passed)
+    → ((s : Passed) → p s ≡ Ok (after x [] (next s))) → ((s : Passed) → From s → To x (next s)) → Keeps From p To
+always {A} {From} {To} p x next goes keeps = record {
+  keeps = λ s a is from.
+      let same : after x [] (next s) ≡ a = let both : ◌≡◌ {A = Checked (After A)} (Ok (after x [] (next s))) (Ok a) = sym (goes s) ∙ is in cc in
+      subst (λ (z : After A). (z.look ≡ []) × To z.answer z.passed) same (refl, keeps s from);
+}
 
 each_keeps : {A : Type 0} {step : A → Passing (Unit {0})} → ((x : A) → Keeps IsReady (step x) Readied) → (xs : List A) → Keeps IsReady (each step xs) Readied
 each_keeps law [] = always (pure tt) tt (λ s. s) (λ s. refl) (λ s ready. ready)
@@ -83,18 +87,20 @@ told_is place (Ok a) x is = let same : a ≡ x = cc in ap Ok same
 told_is place (Err why) x is = absurd cc
 
 -- a definition, where more variables may be denoted
-declare_keeps : (name : Name) (denotation : Denotation) (bound : Passed → ℕ) → ((s : Passed) (regions : List Region) → bound (record s { regions = regions }) ≡ bound s)
+declare_keeps : (name : Name) (denotation : Denotation) (bound : Passed → ℕ)
+    → ((s : Passed) (regions : List Region) → bound (record s { regions = regions }) ≡ bound s)
     → Keeps (λ s. Ready (bound s) s × IsSound (bound s) denotation) (declare name denotation) (λ _ s. Ready (bound s) s)
 unfolding declare
-declare_keeps name denotation bound same_bound = record { keeps = λ s a is from.
-    let r = from.0 in
-    let text = folded name.text.now in
-    let x = split (told name.place (define text denotation s.regions)) (λ regions. Ok (after tt [] (record s { regions = regions }))) a is in
-    let same : after tt [] (record s { regions = x.0 }) ≡ a = cc in
-    let sound = define_sound (bound s) text denotation s.regions x.0 from.1 r.sound (told_is name.place (define text denotation s.regions) x.0 x.1) in
-    subst (λ (z : After (Unit {0})). (z.look ≡ []) × Ready (bound z.passed) z.passed) same
-    (refl, subst (λ n. Ready n (record s { regions = x.0 })) (sym (same_bound s x.0)) (record { sound = sound; types = r.types; sites = r.sites; entries = r.entries; declared = r.declared; room = r.room }))
-  }
+declare_keeps name denotation bound same_bound = record {
+  keeps = λ s a is from.
+      let r = from.0 in
+      let text = folded name.text.now in
+      let x = split (told name.place (define text denotation s.regions)) (λ regions. Ok (after tt [] (record s { regions = regions }))) a is in
+      let same : after tt [] (record s { regions = x.0 }) ≡ a = cc in
+      let sound = define_sound (bound s) text denotation s.regions x.0 from.1 r.sound (told_is name.place (define text denotation s.regions) x.0 x.1) in
+      subst (λ (z : After (Unit {0})). (z.look ≡ []) × Ready (bound z.passed) z.passed) same
+      (refl, subst (λ n. Ready n (record s { regions = x.0 })) (sym (same_bound s x.0)) (record { sound = sound; types = r.types; sites = r.sites; entries = r.entries; declared = r.declared; room = r.room }));
+}
 
 -- ---- the parameter and the variables
 
@@ -129,51 +135,55 @@ IsNext s = Ready (length s.variables + 1) s
 
 reserve_keeps : (place : Place) (type_id : TypeId) → Keeps IsNext (reserve place type_id) Readied
 unfolding reserve
-reserve_keeps place type_id = record { keeps = λ s a is r.
-    let one : Variable = record { block = 0; type_id = type_id } in
-    let taken = s.cells + cells_of s.types type_id in
-    let new : Passed = record s { variables = s.variables ++ one ∷ []; cells = taken } in
-    let x = split_unless (nat_lt most_cells taken) (fault.TooManyCells place) (after tt [] new) a is in
-    let counted : length (s.variables ++ one ∷ []) ≡ length s.variables + 1 = length-append s.variables (one ∷ []) in
-    let cell : cells_of s.types type_id ≡ 1 = one_cell (form_at s.types type_id) in
-    let ready : Ready (length new.variables) new = record {
-      sound = subst (λ n. AreSound n s.regions) (sym counted) r.sound;
-      types = r.types;
-      sites = r.sites;
-      entries = r.entries;
-      declared = omega (arith, counted, cell, r.declared);
-      room = at_most most_cells taken x.0;
-    } in
-    subst (λ (z : After (Unit {0})). (z.look ≡ []) × IsReady z.passed) x.1 (refl, ready)
-  }
+reserve_keeps place type_id = record {
+  keeps = λ s a is r.
+      let one : Variable = record { block = 0; type_id = type_id } in
+      let taken = s.cells + cells_of s.types type_id in
+      let new : Passed = record s { variables = s.variables ++ one ∷ []; cells = taken } in
+      let x = split_unless (nat_lt most_cells taken) (fault.TooManyCells place) (after tt [] new) a is in
+      let counted : length (s.variables ++ one ∷ []) ≡ length s.variables + 1 = length-append s.variables (one ∷ []) in
+      let cell : cells_of s.types type_id ≡ 1 = one_cell (form_at s.types type_id) in
+      let ready : Ready (length new.variables) new = record {
+        sound = subst (λ n. AreSound n s.regions) (sym counted) r.sound;
+        types = r.types;
+        sites = r.sites;
+        entries = r.entries;
+        declared = omega (arith, counted, cell, r.declared);
+        room = at_most most_cells taken x.0;
+      } in
+      subst (λ (z : After (Unit {0})). (z.look ≡ []) × IsReady z.passed) x.1 (refl, ready);
+}
 
 next_root_keeps : Keeps IsReady next_root (λ root s. IsReady s × (root ≡ length s.variables))
 unfolding next_root
-next_root_keeps = record { keeps = λ s a is r.
-    let same : after (length s.variables) [] s ≡ a = cc in
-    subst (λ (z : After ℕ). (z.look ≡ []) × (IsReady z.passed × (z.answer ≡ length z.passed.variables))) same (refl, (r, refl))
-  }
+next_root_keeps = record {
+  keeps = λ s a is r.
+      let same : after (length s.variables) [] s ≡ a = cc in
+      subst (λ (z : After ℕ). (z.look ≡ []) × (IsReady z.passed × (z.answer ≡ length z.passed.variables))) same (refl, (r, refl));
+}
 
 variable_keeps : (type_id : TypeId) (name : Name) → Keeps IsReady (variable type_id name) Readied
 unfolding variable
 variable_keeps type_id name = keeps_then next_root_keeps λ root. keeps_then (declared root) λ _. reserve_keeps name.place type_id
   where
     declared : (root : ℕ) → Keeps (λ s. IsReady s × (root ≡ length s.variables)) (declare name (denotes.Variable root type_id)) (λ _ s. IsNext s)
-    declared root = record { keeps = λ s a is from.
-        let r = from.0 in
-        let n = length s.variables in
-        let next : Ready (n + 1) s = record { sound = regions_more n (n + 1) (omega arith) s.regions r.sound; types = r.types; sites = r.sites; entries = r.entries; declared = r.declared; room = r.room } in
-        (declare_keeps name (denotes.Variable root type_id) (λ s. length s.variables + 1) (λ s regions. refl)).keeps s a is (next, omega (arith, from.1))
-      }
+    declared root = record {
+      keeps = λ s a is from.
+          let r = from.0 in
+          let n = length s.variables in
+          let next : Ready (n + 1) s = record { sound = regions_more n (n + 1) (omega arith) s.regions r.sound; types = r.types; sites = r.sites; entries = r.entries; declared = r.declared; room = r.room } in
+          (declare_keeps name (denotes.Variable root type_id) (λ s. length s.variables + 1) (λ s regions. refl)).keeps s a is (next, omega (arith, from.1));
+    }
 
 denoted_type_keeps : (names : List Name) (d : TypeDenoter) → Keeps IsReady (denoted_type names d) Readied
 unfolding denoted_type
-denoted_type_keeps names (denoter.Name name) = record { keeps = λ s a is r.
-    let x = split (named_type names name (found s.regions (folded name.text.now))) (λ type_id. Ok (after type_id [] (record s { latest = name.place }))) a is in
-    let same : after x.0 [] (record s { latest = name.place }) ≡ a = cc in
-    let ready : IsReady (record s { latest = name.place }) = record { sound = r.sound; types = r.types; sites = r.sites; entries = r.entries; declared = r.declared; room = r.room } in
-    subst (λ (z : After TypeId). (z.look ≡ []) × IsReady z.passed) same (refl, ready)
-  }
+denoted_type_keeps names (denoter.Name name) = record {
+  keeps = λ s a is r.
+      let x = split (named_type names name (found s.regions (folded name.text.now))) (λ type_id. Ok (after type_id [] (record s { latest = name.place }))) a is in
+      let same : after x.0 [] (record s { latest = name.place }) ≡ a = cc in
+      let ready : IsReady (record s { latest = name.place }) = record { sound = r.sound; types = r.types; sites = r.sites; entries = r.entries; declared = r.declared; room = r.room } in
+      subst (λ (z : After TypeId). (z.look ≡ []) × IsReady z.passed) same (refl, ready);
+}
 
 group_keeps : (g : VariableGroup) → Keeps IsReady (group g) Readied
 unfolding group

@@ -1,5 +1,5 @@
 -- The law of every expression, by induction over its form.
-use Rattle.std.proofs.Common.{◌≡◌, ℕ, List, [], ◌∷◌, ◌++◌, map, Option, Some, None, Ok, append-nil, refl, sym, ap, subst, ◌∙◌, arith}
+use Rattle.std.proofs.Common.{◌≡◌, ℕ, List, [], ◌∷◌, ◌++◌, map, Option, Some, None, Ok, refl, sym, subst, arith}
 use Rattle.place.specs.declared.Place.{Place}
 use Rattle.syntax_tree.specs.declared.Expr.{Expr}
 use Rattle.syntax_tree.specs.declared.Link.{Link}
@@ -7,9 +7,11 @@ use Rattle.syntax_tree.specs.declared.Actual.{Actual}
 use Rattle.syntax_tree.specs.declared.Expr.TheOpen as layer
 use Rattle.syntax_tree.specs.declared.Expr.TheViews.{roll-Expr, roll-Link, roll-Actual}
 use Rattle.syntax_tree.specs.declared.Expr.TheFolds.{map-Expr, map-Link, map-Actual, fold-roll-Expr, fold-roll-Link, fold-roll-Actual, ind-Expr, ind-Actual}
-use Rattle.syntax_tree.specs.Places.{Places, joined_places, width_places, expr_places, actual_places, link_places, expression_step as expression_row, actual_step as actual_row, link_step as link_row}
+use Rattle.syntax_tree.specs.Places.{Places, joined_places, width_places, expr_places, actual_places, link_places, expression_step as expression_row}
+use Rattle.syntax_tree.specs.Places.{actual_step as actual_row, link_step as link_row}
 use Rattle.types.specs.declared.form.TypeId.{TypeId}
-use Rattle.typing.specs.Expressions.{Written, WrittenActual, WrittenLink, expression, written_actual, written_link, expression_step, actual_step, link_step, links, only, without_width, written}
+use Rattle.typing.specs.Expressions.{Written, WrittenActual, WrittenLink, expression, written_actual, written_link, expression_step, actual_step, link_step}
+use Rattle.typing.specs.Expressions.{links, only, without_width}
 use Rattle.typing_laws.proofs.Covers.{Covers, covers_more}
 use Rattle.typing_laws.proofs.Steps.{Does, Anything, with}
 use Rattle.typing_laws.proofs.Expressions.{LawfulWritten, LawfulLink, Types, number_does, named_does, parenthesized_does, negation_does, signed_does}
@@ -56,6 +58,7 @@ module _ (variables : ℕ) where
   bare_link y = map-Link WithExpr WithActual WithLink Expr Actual Link (λ w. w.0) (λ w. w.0) (λ w. w.0) y
 
   from_layer : (d : layer.Expr-F Expr Actual Link)
+     
       → LawfulWritten variables (expression_row (map-Expr Expr Actual Link Places Places Places expr_places actual_places link_places d)) (expression_step (map-Expr Expr Actual Link Written WrittenActual WrittenLink expression written_actual written_link d))
       → LawfulExpr (roll-Expr d)
   from_layer d law =
@@ -64,12 +67,14 @@ module _ (variables : ℕ) where
       subst (λ p. LawfulWritten variables p (expression (roll-Expr d))) (sym places) (subst (LawfulWritten variables _) (sym forms) law)
 
   -- the one actual of a function
-  one_lawful : (place : Place) (places : List Place) (a : WrittenActual) (w : Written) → LawfulActual places a → without_width place a.value a.width ≡ Ok w → LawfulWritten variables (places ++ []) w
+  one_lawful : (place : Place) (places : List Place) (a : WrittenActual) (w : Written) → LawfulActual places a → without_width place a.value a.width ≡ Ok w
+      → LawfulWritten variables (places ++ []) w
   one_lawful place places a w law is =
       let same = by a.value a.width is in
-      record { types = λ least lead led.
-        with (omega arith) (λ sites has. covers_more places [] sites (subst (λ p. Covers p sites) (sym law.places_are) (covers_more law.of_value law.of_width sites has))) (λ x n known. known)
-        (subst (λ (z : Written). Does variables least (Covers law.of_value) (z.typing lead) Types) same (law.value.types least lead led))
+      record {
+        types = λ least lead led.
+            with (omega arith) (λ sites has. covers_more places [] sites (subst (λ p. Covers p sites) (sym law.places_are) (covers_more law.of_value law.of_width sites has))) (λ x n known. known)
+            (subst (λ (z : Written). Does variables least (Covers law.of_value) (z.typing lead) Types) same (law.value.types least lead led));
       }
     where
       by : (value : Written) (width : Option Written) → without_width place value width ≡ Ok w → value ≡ w
@@ -83,6 +88,7 @@ module _ (variables : ℕ) where
   only_lawful place (y ∷ []) w is = one_lawful place (actual_places y.0) (written_actual y.0) w y.1 is
 
   links_lawful : (ys : List WithLink) (now : ℕ) (type_id : TypeId)
+     
       → Does variables now (Covers (joined_places (map link_places (map (λ (y : WithLink). y.0) ys)))) (links type_id (map written_link (map (λ (y : WithLink). y.0) ys))) Anything
   links_lawful [] now type_id = links_none variables type_id
   links_lawful (y ∷ ys) now type_id =

@@ -1,36 +1,28 @@
 -- What expressions do, form by form: their sites stand at their places, and the leading site behind the first token's own.
-use Rattle.std.proofs.Common.{◌≡◌, ℕ, ◌<◌, ◌≤◌, Bool, true, false, nat_le, nat_lt, List, [], ◌∷◌, ◌++◌, Option, Some, None, Ok, Err, pos, append-nil, refl, sym, ap, subst, ◌∙◌, arith}
+use Rattle.std.proofs.Common.{◌≡◌, ℕ, ◌<◌, ◌≤◌, Bool, true, false, nat_le, nat_lt, List, [], ◌∷◌, Option, Some, None, Ok, pos, refl, subst, arith}
 use Rattle.std.proofs.lemmas.Bool.Decides.{nat_tests}
 use Rattle.place.specs.declared.Place.{Place}
 use Rattle.syntax_tree.specs.declared.Name.{Name}
 use Rattle.syntax_tree.specs.declared.Sign.{Sign}
 use Rattle.syntax_tree.specs.declared.Sign.TheVariants as sign
-use Rattle.syntax_tree.specs.declared.Operator.{Operator}
-use Rattle.syntax_tree.specs.declared.Operator.TheVariants as op
 use Rattle.types.specs.declared.form.TypeId.{TypeId}
 use Rattle.types.specs.Types.{integer, boolean, is_same}
 use Rattle.scopes.specs.declared.denotation.Denotation.{Denotation}
 use Rattle.scopes.specs.declared.denotation.Denotation.TheVariants as denotes
-use Rattle.scopes.specs.declared.denotation.RequiredFunction.{RequiredFunction}
-use Rattle.scopes.specs.declared.denotation.RequiredFunction.TheVariants as function
 use Rattle.typed_tree.specs.declared.fault.TypeFault.TheVariants as fault
 use Rattle.typed_tree.specs.declared.site.SiteKind.{SiteKind}
 use Rattle.typed_tree.specs.declared.site.SiteKind.TheVariants as kind
-use Rattle.typed_tree.specs.declared.tree.Monadic.{Monadic}
 use Rattle.typed_tree.specs.declared.tree.Monadic.TheVariants as monadic
-use Rattle.typed_tree.specs.declared.tree.Dyadic.{Dyadic}
-use Rattle.typed_tree.specs.declared.tree.Dyadic.TheVariants as dyadic
-use Rattle.typed_tree.specs.declared.tree.Relation.TheVariants as relation
 use Rattle.typed_tree.specs.Sites.{number_of}
-use Rattle.typed_tree.specs.WellFormed.{is_whole, monadic_is_well_formed, dyadic_is_well_formed}
-use Rattle.typed_tree.specs.Look.{Constant, Variable, Operation, Begins, Operator as OperatorMark, Ends}
-use Rattle.typing.specs.Passing.{Checked, Passing, pure, given, mark, ◌>>=◌, ◌>>◌, ◌>>?◌}
-use Rattle.typing.specs.Steps.{pass, enter_as, site, find}
-use Rattle.typing.specs.Expressions.{Typed, Written, WrittenLink, typed, behind, fits, or_mismatch, number, denoted, named, parenthesized, negation, signed, sign_operation, result_type, operation, link, as_function, function_type, function_operation, call, only}
+use Rattle.typed_tree.specs.WellFormed.{monadic_is_well_formed}
+use Rattle.typed_tree.specs.Look.{Constant, Variable, Operation}
+use Rattle.typing.specs.Passing.{Checked, Passing}
+use Rattle.typing.specs.Expressions.{Typed, Written, WrittenLink, typed, fits, number, denoted, named, parenthesized, negation, signed, sign_operation}
 use Rattle.typing_laws.proofs.Sound.{IsSound}
-use Rattle.typing_laws.proofs.Covers.{AreAscending, at_place, Covers, Leads, leads_first, leads_more, leads_covers}
+use Rattle.typing_laws.proofs.Covers.{AreAscending, Covers, Leads, leads_first, leads_more, leads_covers}
 use Rattle.typing_laws.proofs.Grown.{both_true}
-use Rattle.typing_laws.proofs.Steps.{Does, Anything, Nothing, joins, quietly, last, checks, with, pass_does, pure_does, given_does, fail_does, find_does, mark_does, enter_does, site_does, led, IsKnown, behind_does}
+use Rattle.typing_laws.proofs.Steps.{Does, Anything, joins, quietly, checks, with, pass_does, pure_does, given_does, fail_does, find_does, enter_does}
+use Rattle.typing_laws.proofs.Steps.{site_does, led, IsKnown, behind_does}
 
 -- ---- the leading site
 
@@ -74,7 +66,8 @@ module _ (variables : ℕ) where
   fits_is true place answer other is = (refl, cc)
   fits_is false place answer other is = absurd cc
 
-  pub led_covers : (place : Place) (places : List Place) (kinds : List SiteKind) → AreAscending kinds → {least : ℕ} {A : Type 0} {p : Passing A} {K : A → ℕ → Type 0} → Does variables least (Leads place kinds places) p K
+  pub led_covers : (place : Place) (places : List Place) (kinds : List SiteKind) → AreAscending kinds
+      → {least : ℕ} {A : Type 0} {p : Passing A} {K : A → ℕ → Type 0} → Does variables least (Leads place kinds places) p K
       → Does variables least (Covers (place ∷ places)) p K
   led_covers place places kinds ascending d = with (omega arith) (λ sites. leads_covers place kinds places sites ascending) (λ x n known. known) d
 
@@ -91,7 +84,8 @@ module _ (variables : ℕ) where
           quietly (enter_does (λ n. Constant n (pos value)) (λ n. refl) (λ n m h. fit.0)) λ _ then_ later _.
           pure_does t (λ n h. subst (λ (z : Typed). IsKnown z.site n) fit.1 (known_later id now n (omega arith) known))
 
-  denoted_does : (denotation : Denotation) (place : Place) {least : ℕ} (lead : Option SiteKind) → IsLed lead → IsSound variables denotation → Does variables least (Covers (place ∷ [])) (denoted denotation place lead) Types
+  denoted_does : (denotation : Denotation) (place : Place) {least : ℕ} (lead : Option SiteKind) → IsLed lead → IsSound variables denotation
+      → Does variables least (Covers (place ∷ [])) (denoted denotation place lead) Types
   unfolding denoted
   denoted_does (denotes.Constant value type_id) place lead is sound = led_covers place [] (led lead) (led_alone lead) by
     where
@@ -119,7 +113,8 @@ module _ (variables : ℕ) where
 
   -- ---- one operand
 
-  pub parenthesized_does : (place : Place) (places : List Place) (inner : Written) → LawfulWritten places inner → LawfulWritten (place ∷ places) (record { first = place; typing = parenthesized place inner })
+  pub parenthesized_does : (place : Place) (places : List Place) (inner : Written) → LawfulWritten places inner
+      → LawfulWritten (place ∷ places) (record { first = place; typing = parenthesized place inner })
   unfolding parenthesized
   parenthesized_does place places inner law = record { types = λ least lead is. led_covers place places (led lead) (led_alone lead) (by least lead) }
     where
@@ -129,14 +124,17 @@ module _ (variables : ℕ) where
           joins (leads_first place (led lead) places) (behind_does lead place) λ id now _ known.
           checks (law.types now None tt) λ types t b n more is _. answer id now n b t.type_id known more is
         where
-          answer : (id : Option ℕ) (now n : ℕ) (b : Typed) (type_id : TypeId) → IsKnown id now → now ≤ n → ◌≡◌ {A = Checked Typed} (Ok (typed type_id id)) (Ok b) → IsKnown b.site n
+          answer : (id : Option ℕ) (now n : ℕ) (b : Typed) (type_id : TypeId) → IsKnown id now → now ≤ n
+              → ◌≡◌ {A = Checked Typed} (Ok (typed type_id id)) (Ok b) → IsKnown b.site n
           answer id now n b type_id known more is = let same : typed type_id id ≡ b = cc in subst (λ (z : Typed). IsKnown z.site n) same (known_later id now n more known)
 
   -- an answer where types fit
-  pub fits_known : (test : Bool) (place : Place) (type_id : TypeId) (id : Option ℕ) (b : Typed) (now n : ℕ) → fits test place (typed type_id id) ≡ Ok b → IsKnown id now → now ≤ n → IsKnown b.site n
+  pub fits_known : (test : Bool) (place : Place) (type_id : TypeId) (id : Option ℕ) (b : Typed) (now n : ℕ) → fits test place (typed type_id id) ≡ Ok b
+      → IsKnown id now → now ≤ n → IsKnown b.site n
   fits_known test place type_id id b now n is known more = subst (λ (z : Typed). IsKnown z.site n) (fits_is test place (typed type_id id) b is).1 (known_later id now n more known)
 
-  pub negation_does : (place : Place) (places : List Place) (operand : Written) → LawfulWritten places operand → LawfulWritten (place ∷ places) (record { first = place; typing = negation place operand })
+  pub negation_does : (place : Place) (places : List Place) (operand : Written) → LawfulWritten places operand
+      → LawfulWritten (place ∷ places) (record { first = place; typing = negation place operand })
   unfolding negation
   negation_does place places operand law = record { types = λ least lead is. led_covers place places (led lead) (led_alone lead) (by least lead) }
     where
@@ -151,7 +149,8 @@ module _ (variables : ℕ) where
   signs_formed sign.Plus sites = refl
   signs_formed sign.Minus sites = refl
 
-  pub signed_does : (s : Sign) (place : Place) (places : List Place) (operand : Written) → LawfulWritten places operand → LawfulWritten (place ∷ places) (record { first = place; typing = signed s place operand })
+  pub signed_does : (s : Sign) (place : Place) (places : List Place) (operand : Written) → LawfulWritten places operand
+      → LawfulWritten (place ∷ places) (record { first = place; typing = signed s place operand })
   unfolding signed
   signed_does s place places operand law = record { types = λ least lead is. led_covers place places (led lead) (led_alone lead) (by least lead) }
     where

@@ -1,10 +1,10 @@
 -- What a form does to what is known: it adds sites and entries, and its marks are well formed. All else stays.
-use Rattle.std.proofs.Common.{◌≡◌, ℕ, zero, suc, ◌+◌, ◌≤◌, Bool, true, false, ◌&&◌, List, [], ◌∷◌, ◌++◌, length, append_assoc, length-append, refl, sym, ap, subst, ◌∙◌, arith}
-use Rattle.std.specs.List.{range_with_len, list_all, flat_map}
+use Rattle.std.proofs.Common.{◌≡◌, ℕ, zero, suc, ◌+◌, ◌≤◌, Bool, true, ◌&&◌, List, ◌∷◌, ◌++◌, length, append_assoc, length-append, sym, ap, subst, ◌∙◌, arith}
+use Rattle.std.specs.List.{range_with_len, list_all}
 use Rattle.std.proofs.lemmas.List.Folds.{list_all-append}
 use Rattle.std.proofs.lemmas.Grind.{flat_map-append}
 use Rattle.typed_tree.specs.Ids.{Stands}
-use Rattle.typed_tree.specs.Look.{Mark, Look, mark_entries, entries_of_look, is_formed_mark}
+use Rattle.typed_tree.specs.Look.{Look, mark_entries, entries_of_look, is_formed_mark}
 use Rattle.typing.specs.Passing.{Passed}
 use Rattle.typing.specs.Steps.{most_sites, most_entries}
 use Rattle.typing_laws.proofs.Sound.{AreSound}
@@ -42,7 +42,8 @@ range_joins a (suc m) n =
 pub both_true : (a b : Bool) → a ≡ true → b ≡ true → (a && b) ≡ true
 both_true a b x y = ap (λ c. c && b) x ∙ y
 
-pub fine_later : {variables : ℕ} {Has : List Stands → Type 0} {look : Look} {old new : Passed} → Grown variables Has look old new → Fine variables old → Fine variables new
+pub fine_later : {variables : ℕ} {Has : List Stands → Type 0} {look : Look} {old new : Passed} → Grown variables Has look old new → Fine variables old
+    → Fine variables new
 fine_later {variables} g f = record {
   sound = subst (AreSound variables) (sym g.regions) f.sound;
   few_sites = g.few_sites;
@@ -50,11 +51,13 @@ fine_later {variables} g f = record {
 }
 
 -- there are no fewer sites than before
-pub more_sites : {variables : ℕ} {Has : List Stands → Type 0} {look : Look} {old new : Passed} → Grown variables Has look old new → length old.sites ≤ length new.sites
+pub more_sites : {variables : ℕ} {Has : List Stands → Type 0} {look : Look} {old new : Passed} → Grown variables Has look old new
+    → length old.sites ≤ length new.sites
 more_sites {old = old} g = omega (arith, ap length g.sites, length-append old.sites g.added)
 
 -- one form, and then another
-pub grown_then : {variables : ℕ} {First Second Both : List Stands → Type 0} {look more : Look} {old now new : Passed} → ((a b : List Stands) → First a → Second b → Both (a ++ b))
+pub grown_then : {variables : ℕ} {First Second Both : List Stands → Type 0} {look more : Look} {old now new : Passed}
+    → ((a b : List Stands) → First a → Second b → Both (a ++ b))
     → Grown variables First look old now → Grown variables Second more now new → Grown variables Both (look ++ more) old new
 grown_then {variables} {First} {Second} {Both} {look} {more} {old} {now} {new} joined f g = record {
   regions = g.regions ∙ f.regions;

@@ -1,5 +1,5 @@
 -- Sites that stand at places in their order stand by place and then by kind.
-use Rattle.std.proofs.Common.{◌≡◌, ℕ, ◌<◌, Bool, true, ◌&&◌, ◌||◌, IsTrue, nat_eq, nat_lt, List, [], ◌∷◌, ◌++◌, refl, sym, ap, subst, ◌∙◌, arith}
+use Rattle.std.proofs.Common.{◌<◌, IsTrue, List, [], ◌∷◌, ◌++◌, sym, subst, arith}
 use Rattle.std.proofs.lemmas.Bool.Decides.{nat_tests}
 use Rattle.place.specs.declared.Place.{Place}
 use Rattle.place.specs.Place.{comes_before, ArePlacesInOrder}
@@ -43,7 +43,8 @@ first_behind place (next ∷ places) sites order covered =
 
 -- ---- sites by place
 
-group_by_place : (place : Place) (here : List SiteKind) (later : List Stands) → AreAscending here → FirstBehind place later → AreByPlace later → AreByPlace (at_place place here ++ later)
+group_by_place : (place : Place) (here : List SiteKind) (later : List Stands) → AreAscending here → FirstBehind place later → AreByPlace later
+    → AreByPlace (at_place place here ++ later)
 group_by_place place [] later ascending behind ordered = ordered
 group_by_place place (kind ∷ []) [] ascending behind ordered = tt
 group_by_place place (kind ∷ []) (one ∷ others) ascending behind ordered = (at_earlier (kind, place) one behind, ordered)

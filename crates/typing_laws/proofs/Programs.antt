@@ -1,16 +1,14 @@
 -- The law of typing: what each typed program has.
-use Rattle.std.proofs.Common.{◌≡◌, ℕ, ◌≤◌, true, List, [], ◌∷◌, ◌++◌, length, map, Ok, refl, sym, ap, subst, ◌∙◌, arith}
+use Rattle.std.proofs.Common.{◌≡◌, ℕ, List, [], ◌∷◌, ◌++◌, length, map, Ok, refl, sym, ap, subst, ◌∙◌, arith}
 use Rattle.std.specs.List.{range_with_len, list_all, flat_map}
-use Rattle.place.specs.declared.Place.{Place}
-use Rattle.place.specs.Place.{ArePlacesInOrder}
 use Rattle.syntax_tree.specs.declared.Program.{Program}
 use Rattle.syntax_tree.specs.declared.Block.{Block}
 use Rattle.syntax_tree.specs.Places.{name_places, group_places, stmt_places, program_places}
 use Rattle.typed_tree.specs.Ids.{Stands, AreByPlace}
 use Rattle.typed_tree.specs.Look.{BlockEnds, entries_of_look, is_formed_mark}
-use Rattle.typing.specs.Passing.{Passed, Checked, After, after, behind_marks, mark, ◌>>=◌, ◌>>◌}
-use Rattle.typing.specs.Steps.{most_sites, most_entries, most_cells, begins}
-use Rattle.typing.specs.Statements.{statement, compound}
+use Rattle.typing.specs.Passing.{Passed, After, after, behind_marks}
+use Rattle.typing.specs.Steps.{begins}
+use Rattle.typing.specs.Statements.{statement}
 use Rattle.typing.specs.Typing.{declarations, statement_part, typing}
 use Rattle.typing_laws.specs.Lawful.{Lawful}
 use Rattle.typing_laws.proofs.Covers.{Covers, covers_more, covers_behind, covers_skip}
@@ -18,7 +16,7 @@ use Rattle.typing_laws.proofs.Ordered.{covers_by_place}
 use Rattle.typing_laws.proofs.Grown.{Fine, Grown}
 use Rattle.typing_laws.proofs.Steps.{Does, Anything, split, split_behind, last, mark_does}
 use Rattle.typing_laws.proofs.Statements.{compound_does, statements_lawful}
-use Rattle.typing_laws.proofs.Declarations.{Ready, IsReady, declarations_keep}
+use Rattle.typing_laws.proofs.Declarations.{IsReady, declarations_keep}
 
 -- the statements of a block
 statement_part_does : (variables : ℕ) (block : Block) → Does variables 0 (Covers (flat_map stmt_places block.statements.items)) (statement_part block) Anything
@@ -28,7 +26,8 @@ statement_part_does variables block =
     mark_does (BlockEnds block.end) refl (λ n h. refl)
 
 -- the places of the statements are among those of the program
-program_covers : (program : Program) (sites : List Stands) → Covers (flat_map stmt_places program.block.statements.items) sites → Covers (program_places program) sites
+program_covers : (program : Program) (sites : List Stands) → Covers (flat_map stmt_places program.block.statements.items) sites
+    → Covers (program_places program) sites
 program_covers program sites has =
     let statements = flat_map stmt_places program.block.statements.items in
     let groups = flat_map group_places program.block.variables.items in
@@ -40,7 +39,8 @@ program_covers program sites has =
 fine_ready : (s : Passed) → IsReady s → Fine (length s.variables) s
 fine_ready s r = record { sound = r.sound; few_sites = omega (arith, ap length r.sites); few_entries = omega (arith, r.entries) }
 
-grown_lawful : (program : Program) (s : Passed) (a : After (Unit {0})) → IsReady s → Grown (length s.variables) (Covers (flat_map stmt_places program.block.statements.items)) a.look s a.passed → Lawful program a
+grown_lawful : (program : Program) (s : Passed) (a : After (Unit {0})) → IsReady s
+    → Grown (length s.variables) (Covers (flat_map stmt_places program.block.statements.items)) a.look s a.passed → Lawful program a
 grown_lawful program s a r g = record {
   numbered = g.numbered ∙ ap (λ n. range_with_len n (length (entries_of_look a.look))) r.entries;
   few_entries = omega (arith, g.entered, g.few_entries);

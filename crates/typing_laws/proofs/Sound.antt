@@ -1,5 +1,6 @@
 -- Sound regions: what a name denotes there is a whole number, or a variable of the program.
-use Rattle.std.proofs.Common.{◌≡◌, ℕ, ◌<◌, ◌≤◌, Bool, true, false, cond, nat_eq, List, [], ◌∷◌, Option, Some, None, Result, Ok, Err, if◌then◌else◌, fold, refl, subst, arith}
+use Rattle.std.proofs.Common.{◌≡◌, ℕ, ◌<◌, ◌≤◌, Bool, true, false, cond, nat_eq, List, [], ◌∷◌, Option, Some, None, Ok, Err, if◌then◌else◌, fold, refl, subst}
+use Rattle.std.proofs.Common.{arith}
 use Rattle.std.specs.Cmp.Lexicographic.{pointwise}
 use Rattle.scopes.specs.Scopes.{Region, said, decided, found, put, opened, is_defined, define}
 use Rattle.scopes.specs.declared.fault.ScopeFault.TheVariants.{DeclaredTwice}
@@ -32,19 +33,23 @@ AreSound variables (region ∷ outer) = IsSoundRegion variables region × AreSou
 -- ---- what is found
 
 module _ (variables : ℕ) where
-  said_sound : (region : Region) (name : List ℕ) (says : Option Denotation) → IsSoundRegion variables region → said region name ≡ Some says → Says variables says
+  said_sound : (region : Region) (name : List ℕ) (says : Option Denotation) → IsSoundRegion variables region → said region name ≡ Some says
+      → Says variables says
   said_sound [] name says sound is = absurd cc
   said_sound (entry ∷ entries) name says sound is = by (pointwise nat_eq name entry.0) (λ h. said_sound entries name says sound.1 h) is
     where
-      by : (here : Bool) → (said entries name ≡ Some says → Says variables says) → cond here (Some entry.1) (said entries name) ≡ Some says → Says variables says
+      by : (here : Bool) → (said entries name ≡ Some says → Says variables says) → cond here (Some entry.1) (said entries name) ≡ Some says
+          → Says variables says
       by true more h = let same : entry.1 ≡ says = cc in subst (Says variables) same sound.0
       by false more h = more h
 
-  pub found_sound : (regions : List Region) (name : List ℕ) (denotation : Denotation) → AreSound variables regions → found regions name ≡ Ok denotation → IsSound variables denotation
+  pub found_sound : (regions : List Region) (name : List ℕ) (denotation : Denotation) → AreSound variables regions → found regions name ≡ Ok denotation
+      → IsSound variables denotation
   found_sound [] name denotation sound is = absurd cc
   found_sound (region ∷ outer) name denotation sound is = by (said region name) refl (λ h. found_sound outer name denotation sound.1 h) is
     where
-      by : (says : Option (Option Denotation)) → said region name ≡ says → (found outer name ≡ Ok denotation → IsSound variables denotation) → decided says (found outer name) ≡ Ok denotation → IsSound variables denotation
+      by : (says : Option (Option Denotation)) → said region name ≡ says → (found outer name ≡ Ok denotation → IsSound variables denotation)
+          → decided says (found outer name) ≡ Ok denotation → IsSound variables denotation
       by None h more there = more there
       by (Some None) h more there = absurd cc
       by (Some (Some d)) h more there = let same : d ≡ denotation = cc in subst (IsSound variables) same (said_sound region name (Some d) sound.0 h)
@@ -52,11 +57,13 @@ module _ (variables : ℕ) where
 -- ---- definitions
 
 module _ (variables : ℕ) where
-  put_sound : (region : Region) (name : List ℕ) (says : Option Denotation) → IsSoundRegion variables region → Says variables says → IsSoundRegion variables (put region name says)
+  put_sound : (region : Region) (name : List ℕ) (says : Option Denotation) → IsSoundRegion variables region → Says variables says
+      → IsSoundRegion variables (put region name says)
   put_sound [] name says sound one = (one, tt)
   put_sound (entry ∷ entries) name says sound one = by (pointwise nat_eq name entry.0) (put_sound entries name says sound.1 one)
     where
-      by : (here : Bool) → IsSoundRegion variables (put entries name says) → IsSoundRegion variables (if here then (entry.0, says) ∷ entries else entry ∷ put entries name says)
+      by : (here : Bool) → IsSoundRegion variables (put entries name says)
+          → IsSoundRegion variables (if here then (entry.0, says) ∷ entries else entry ∷ put entries name says)
       by true more = (one, sound.1)
       by false more = (sound.0, more)
 
@@ -64,7 +71,8 @@ module _ (variables : ℕ) where
   pub opened_sound : (names : List (List ℕ)) → IsSoundRegion variables (opened names)
   opened_sound names = from names [] tt
     where
-      from : (names : List (List ℕ)) (region : Region) → IsSoundRegion variables region → IsSoundRegion variables (fold (λ (region : Region) (name : List ℕ). put region name None) region names)
+      from : (names : List (List ℕ)) (region : Region) → IsSoundRegion variables region
+          → IsSoundRegion variables (fold (λ (region : Region) (name : List ℕ). put region name None) region names)
       from [] region sound = sound
       from (name ∷ names) region sound = from names (put region name None) (put_sound region name None sound tt)
 
@@ -72,7 +80,8 @@ module _ (variables : ℕ) where
   unfolding required_region
   required_sound = (tt, (tt, (refl, (refl, (refl, (tt, (tt, (tt, (tt, (tt, tt))))))))))
 
-  pub define_sound : (name : List ℕ) (denotation : Denotation) (regions new : List Region) → IsSound variables denotation → AreSound variables regions → define name denotation regions ≡ Ok new → AreSound variables new
+  pub define_sound : (name : List ℕ) (denotation : Denotation) (regions new : List Region) → IsSound variables denotation → AreSound variables regions
+      → define name denotation regions ≡ Ok new → AreSound variables new
   define_sound name denotation [] new one sound is = absurd cc
   define_sound name denotation (region ∷ outer) new one sound is = by (is_defined (said region name)) is
     where

@@ -1,5 +1,5 @@
 -- What statements do, form by form, and the law of every statement, by induction over its form.
-use Rattle.std.proofs.Common.{◌≡◌, ℕ, ◌<◌, ◌≤◌, Bool, true, false, ◌&&◌, if◌then◌else◌, List, [], ◌∷◌, ◌++◌, map, Option, Some, None, Ok, Err, append-nil, refl, sym, ap, subst, ◌∙◌, arith}
+use Rattle.std.proofs.Common.{◌≡◌, ℕ, ◌<◌, Bool, true, false, ◌&&◌, if◌then◌else◌, List, [], ◌∷◌, map, Option, Some, None, Ok, Err, refl, sym, subst, arith}
 use Rattle.std.specs.List.{flat_map}
 use Rattle.place.specs.declared.Place.{Place}
 use Rattle.syntax_tree.specs.declared.Name.{Name}
@@ -25,20 +25,22 @@ use Rattle.typed_tree.specs.declared.site.SiteKind.TheVariants as kind
 use Rattle.typed_tree.specs.Ids.{Stands}
 use Rattle.typed_tree.specs.WellFormed.{is_whole}
 use Rattle.typed_tree.specs.Look.{Assign, Target, Fits, Write, Written as WrittenMark, Width, Empty, Compound, Ends}
-use Rattle.typing.specs.Passing.{Checked, Passing, and_then, pure, given, mark, each, ◌>>=◌, ◌>>◌, ◌>>?◌}
-use Rattle.typing.specs.Steps.{enter_as, site, find, wants_output}
+use Rattle.typing.specs.Passing.{Checked, Passing, and_then, each}
 use Rattle.typing.specs.Expressions.{Typed, Written, WrittenActual, fits, or_mismatch, expression, written_actual}
-use Rattle.typing.specs.Statements.{as_variable, fitting, assignment, as_procedure, ends_line, is_output, names_file, unless_wide, is_file, written_values, has_values, representation_of, measured, width, parameter, write, procedure_call, compound, statement_step, statement}
+use Rattle.typing.specs.Statements.{as_variable, fitting, assignment, as_procedure, ends_line, is_output, names_file, unless_wide, is_file, written_values}
+use Rattle.typing.specs.Statements.{has_values, measured, width, parameter, write, procedure_call, compound, statement_step, statement}
 use Rattle.typing_laws.proofs.Sound.{IsSound}
 use Rattle.typing_laws.proofs.Covers.{Covers, covers_both, covers_none, covers_behind, covers_skip, leads_first}
 use Rattle.typing_laws.proofs.Grown.{both_true}
-use Rattle.typing_laws.proofs.Steps.{Does, Anything, Nothing, joins, quietly, last, checks, with, pure_does, given_does, find_does, wants_output_does, mark_does, enter_does, site_does, IsKnown}
-use Rattle.typing_laws.proofs.Expressions.{lt_true, fits_is, LawfulWritten, led_covers}
+use Rattle.typing_laws.proofs.Steps.{Does, Anything, Nothing, joins, quietly, last, checks, with, pure_does, given_does, find_does, wants_output_does}
+use Rattle.typing_laws.proofs.Steps.{mark_does, enter_does, site_does, IsKnown}
+use Rattle.typing_laws.proofs.Expressions.{lt_true, LawfulWritten, led_covers}
 use Rattle.typing_laws.proofs.EveryExpression.{LawfulActual, IsLawfulWidth, expression_lawful, actual_lawful}
 
 -- ---- assignments
 
-variable_is : (variables : ℕ) (place : Place) (d : Denotation) (target : ℕ × TypeId) → as_variable place d ≡ Ok target → IsSound variables d → target.0 < variables
+variable_is : (variables : ℕ) (place : Place) (d : Denotation) (target : ℕ × TypeId) → as_variable place d ≡ Ok target → IsSound variables d
+    → target.0 < variables
 variable_is variables place (denotes.Variable root type_id) target is sound = let same : root ≡ target.0 = cc in subst (λ n. n < variables) same sound
 variable_is variables place (denotes.Constant value type_id) target is sound = absurd cc
 variable_is variables place (denotes.TypeName type_id) target is sound = absurd cc
@@ -54,7 +56,8 @@ form_whole place None range is = absurd cc
 form_whole place (Some form.Integer) range is = subst {A = Checked OrdinalRange} (λ r. elim r as (λ _. Type 0) [ Ok x ↦ IsWholeRange x | Err e ↦ Unit {0} ]) is refl
 form_whole place (Some form.Boolean) range is = subst {A = Checked OrdinalRange} (λ r. elim r as (λ _. Type 0) [ Ok x ↦ IsWholeRange x | Err e ↦ Unit {0} ]) is refl
 
-fitting_whole : (place : Place) (types : List TypeForm) (target value : TypeId) (range : OrdinalRange) → or_mismatch place (fitting types target value) ≡ Ok range → IsWholeRange range
+fitting_whole : (place : Place) (types : List TypeForm) (target value : TypeId) (range : OrdinalRange)
+    → or_mismatch place (fitting types target value) ≡ Ok range → IsWholeRange range
 fitting_whole place types target value range is = by (is_assignable types target value) is
   where
     by : (test : Bool) → or_mismatch place (if test then range_of types target else None) ≡ Ok range → IsWholeRange range
@@ -73,20 +76,22 @@ module _ (variables : ℕ) where
   pub record LawfulStatement (places : List Place) (p : Passing (Unit {0})) : Type 0 where
     pub passes : (least : ℕ) → Does variables least (Covers places) p Anything
 
-  assignment_does : (name : Name) (becomes : Place) (places : List Place) (value : Written) → LawfulWritten variables places value → LawfulStatement (name.place ∷ becomes ∷ places) (assignment name becomes value)
+  assignment_does : (name : Name) (becomes : Place) (places : List Place) (value : Written) → LawfulWritten variables places value
+      → LawfulStatement (name.place ∷ becomes ∷ places) (assignment name becomes value)
   unfolding assignment
-  assignment_does name becomes places value law = record { passes = λ least.
-      quietly (enter_does (λ n. Assign n becomes) (λ n. refl) (λ n m h. refl)) λ _ _ _ _.
-      quietly (find_does name) λ d _ _ sound.
-      quietly (given_does (as_variable name.place d)) λ target _ _ is.
-      let within = variable_is variables name.place d target is sound in
-      quietly (enter_does (λ n. Target n target.0) (λ n. refl) (λ n m h. lt_true target.0 variables within)) λ _ now _ _.
-      with {least = now} {now = now} (omega arith) (λ sites. covers_skip name.place (becomes ∷ places) sites) (λ x n h. h)
-      (led_covers variables becomes places (kind.Subrange ∷ []) tt
-      (joins (leads_first becomes (kind.Subrange ∷ []) places) (site_does kind.Subrange becomes) λ id there _ known.
-      last (checks {L = λ range n. IsWholeRange range} (law.types there None tt) λ types t range n more whole _. fitting_whole becomes types target.1 t.type_id range whole) λ range n more whole.
-      mark_does (Fits (record { site = id; range = range })) refl (λ m h. both_true _ _ (lt_true id m (omega (arith, known, more, h))) whole)))
-    }
+  assignment_does name becomes places value law = record {
+    passes = λ least.
+        quietly (enter_does (λ n. Assign n becomes) (λ n. refl) (λ n m h. refl)) λ _ _ _ _.
+        quietly (find_does name) λ d _ _ sound.
+        quietly (given_does (as_variable name.place d)) λ target _ _ is.
+        let within = variable_is variables name.place d target is sound in
+        quietly (enter_does (λ n. Target n target.0) (λ n. refl) (λ n m h. lt_true target.0 variables within)) λ _ now _ _.
+        with {least = now} {now = now} (omega arith) (λ sites. covers_skip name.place (becomes ∷ places) sites) (λ x n h. h)
+        (led_covers variables becomes places (kind.Subrange ∷ []) tt
+        (joins (leads_first becomes (kind.Subrange ∷ []) places) (site_does kind.Subrange becomes) λ id there _ known.
+        last (checks {L = λ range n. IsWholeRange range} (law.types there None tt) λ types t range n more whole _. fitting_whole becomes types target.1 t.type_id range whole) λ range n more whole.
+        mark_does (Fits (record { site = id; range = range })) refl (λ m h. both_true _ _ (lt_true id m (omega (arith, known, more, h))) whole)));
+  }
 
   -- ---- what is written
 
@@ -120,14 +125,16 @@ module _ (variables : ℕ) where
   written_values_do [] = pure_does [] (λ n h sites has. has)
   written_values_do (first ∷ rest) = quietly (is_file_does first) λ file _ _ _. pure_does (if file then rest else first ∷ rest) (λ n h. among file first rest)
 
-  width_does : (least : ℕ) (places : List Place) (w : Option Written) → IsLawfulWidth variables places w → Does variables least (Covers places) (width w) Anything
+  width_does : (least : ℕ) (places : List Place) (w : Option Written) → IsLawfulWidth variables places w
+      → Does variables least (Covers places) (width w) Anything
   unfolding width
   width_does least places None law = with {least = least} (omega arith) (λ sites none. subst (Covers places) (sym none) (covers_none places)) (λ x n h. h) (pure_does {K = Anything} tt (λ n h. tt))
   width_does least places (Some w) law =
       last (checks {L = λ id n. IsKnown (Some id) n} (law.types least (Some kind.Width) (omega arith)) λ types t id n more is known. subst (λ z. IsKnown z n) (measured_is w.first t id is) known) λ id n more known.
       mark_does (Width id) refl (λ m h. lt_true id m (omega (arith, known, h)))
 
-  parameter_does : (least : ℕ) (places : List Place) (a : WrittenActual) → LawfulActual variables places a → Does variables least (Covers places) (parameter a) Anything
+  parameter_does : (least : ℕ) (places : List Place) (a : WrittenActual) → LawfulActual variables places a
+      → Does variables least (Covers places) (parameter a) Anything
   unfolding parameter
   parameter_does least places a law =
       with {least = least} (omega arith) (λ sites. subst (λ p. Covers p sites) (sym law.places_are)) (λ x n h. h)
@@ -135,13 +142,15 @@ module _ (variables : ℕ) where
       quietly (mark_does (WrittenMark written) refl (λ n h. refl)) λ _ then_ _ _.
       width_does then_ law.of_width a.width law.width)
 
-  parameters_do : (least : ℕ) (values : List Actual) → Does variables least (Covers (flat_map actual_places values)) (each parameter (map written_actual values)) Anything
+  parameters_do : (least : ℕ) (values : List Actual)
+      → Does variables least (Covers (flat_map actual_places values)) (each parameter (map written_actual values)) Anything
   parameters_do least [] = pure_does tt (λ n h. tt)
   parameters_do least (value ∷ values) =
       joins (covers_both (actual_places value) (flat_map actual_places values)) (parameter_does least (actual_places value) (written_actual value) (actual_lawful variables value)) λ _ now _ _.
       parameters_do now values
 
-  write_does : (least : ℕ) (name : Name) (actuals : List Actual) (procedure : RequiredProcedure) → Does variables least (Covers (flat_map actual_places actuals)) (write name actuals procedure) Anything
+  write_does : (least : ℕ) (name : Name) (actuals : List Actual) (procedure : RequiredProcedure)
+      → Does variables least (Covers (flat_map actual_places actuals)) (write name actuals procedure) Anything
   unfolding write
   write_does least name actuals procedure =
       quietly (wants_output_does name.place) λ _ _ _ _.
@@ -154,22 +163,25 @@ module _ (variables : ℕ) where
 
   call_does : (name : Name) (actuals : List Actual) → LawfulStatement (name.place ∷ flat_map actual_places actuals) (procedure_call name actuals)
   unfolding procedure_call
-  call_does name actuals = record { passes = λ least.
-      with {least = least} (omega arith) (λ sites. covers_skip name.place (flat_map actual_places actuals) sites) (λ x n h. h)
-      (quietly (find_does name) λ d _ _ _.
-      quietly (given_does (as_procedure name.place d)) λ procedure now _ _.
-      write_does now name actuals procedure)
-    }
+  call_does name actuals = record {
+    passes = λ least.
+        with {least = least} (omega arith) (λ sites. covers_skip name.place (flat_map actual_places actuals) sites) (λ x n h. h)
+        (quietly (find_does name) λ d _ _ _.
+        quietly (given_does (as_procedure name.place d)) λ procedure now _ _.
+        write_does now name actuals procedure);
+  }
 
   -- ---- compound statements
 
-  pub compound_does : (places : List Place) (statements : List (Passing (Unit {0}))) → ((least : ℕ) → Does variables least (Covers places) (each (λ s. s) statements) Anything) → LawfulStatement places (compound statements)
+  pub compound_does : (places : List Place) (statements : List (Passing (Unit {0})))
+      → ((least : ℕ) → Does variables least (Covers places) (each (λ s. s) statements) Anything) → LawfulStatement places (compound statements)
   unfolding compound
-  compound_does places statements row = record { passes = λ least.
-      quietly (enter_does Compound (λ n. refl) (λ n m h. refl)) λ _ now _ _.
-      last (row now) λ _ m _ _.
-      mark_does Ends refl (λ n h. refl)
-    }
+  compound_does places statements row = record {
+    passes = λ least.
+        quietly (enter_does Compound (λ n. refl) (λ n m h. refl)) λ _ now _ _.
+        last (row now) λ _ m _ _.
+        mark_does Ends refl (λ n h. refl);
+  }
 
   -- ---- every statement
 
@@ -182,12 +194,15 @@ module _ (variables : ℕ) where
   abbrev bare : layer.Stmt-F WithStmt → layer.Stmt-F Stmt
   bare y = map-Stmt WithStmt Stmt (λ w. w.0) y
 
-  from_layer : (d : layer.Stmt-F Stmt) → LawfulStatement (statement_row (map-Stmt Stmt Places stmt_places d)) (statement_step (map-Stmt Stmt (Passing (Unit {0})) statement d)) → LawfulStmt (roll-Stmt d)
+  from_layer : (d : layer.Stmt-F Stmt)
+      → LawfulStatement (statement_row (map-Stmt Stmt Places stmt_places d)) (statement_step (map-Stmt Stmt (Passing (Unit {0})) statement d))
+      → LawfulStmt (roll-Stmt d)
   from_layer d law =
       subst (λ p. LawfulStatement p (statement (roll-Stmt d))) (sym (fold-roll-Stmt Places statement_row d))
       (subst (LawfulStatement _) (sym (fold-roll-Stmt (Passing (Unit {0})) statement_step d)) law)
 
   row_lawful : (ys : List WithStmt) (least : ℕ)
+     
       → Does variables least (Covers (joined_places (map stmt_places (map (λ (y : WithStmt). y.0) ys)))) (each (λ s. s) (map statement (map (λ (y : WithStmt). y.0) ys))) Anything
   row_lawful [] least = pure_does tt (λ n h. tt)
   row_lawful (y ∷ ys) least = joins (covers_both (stmt_places y.0) (joined_places (map stmt_places (map (λ (y : WithStmt). y.0) ys)))) (y.1.passes least) λ _ now _ _. row_lawful ys now
