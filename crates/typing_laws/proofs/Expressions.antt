@@ -21,7 +21,7 @@ use Rattle.typing.specs.Expressions.{Typed, Written, WrittenLink, typed, fits, n
 use Rattle.typing_laws.proofs.Sound.{IsSound}
 use Rattle.typing_laws.proofs.Covers.{AreAscending, Covers, Leads, leads_first, leads_more, leads_covers}
 use Rattle.typing_laws.proofs.Grown.{both_true}
-use Rattle.typing_laws.proofs.Steps.{Does, Anything, joins, quietly, checks, with, pass_does, pure_does, given_does, fail_does, find_does, enter_does}
+use Rattle.typing_laws.proofs.Steps.{Does, Anything, joins, quietly, checks, sited, pass_does, pure_does, given_does, fail_does, find_does, enter_does}
 use Rattle.typing_laws.proofs.Steps.{site_does, led, IsKnown, behind_does}
 
 -- ---- the leading site
@@ -39,9 +39,9 @@ pub led_behind : (own : SiteKind) (lead : Option SiteKind) → number_of own ≤
 led_behind own None low is = tt
 led_behind own (Some kind) low is = (omega (arith, low, is), tt)
 
-pub known_later : (id : Option ℕ) (now then_ : ℕ) → now ≤ then_ → IsKnown id now → IsKnown id then_
-known_later None now then_ more known = tt
-known_later (Some id) now then_ more known = omega (arith, more, known)
+pub known_later : (id : Option ℕ) (now next : ℕ) → now ≤ next → IsKnown id now → IsKnown id next
+known_later None now next more known = tt
+known_later (Some id) now next more known = omega (arith, more, known)
 
 pub lt_true : (a b : ℕ) → a < b → nat_lt a b ≡ true
 lt_true a b h = grind (arith, nat_tests)
@@ -69,7 +69,7 @@ module _ (variables : ℕ) where
   pub led_covers : (place : Place) (places : List Place) (kinds : List SiteKind) → AreAscending kinds
       → {least : ℕ} {A : Type 0} {p : Passing A} {K : A → ℕ → Type 0} → Does variables least (Leads place kinds places) p K
       → Does variables least (Covers (place ∷ places)) p K
-  led_covers place places kinds ascending d = with (omega arith) (λ sites. leads_covers place kinds places sites ascending) (λ x n known. known) d
+  led_covers place places kinds ascending d = sited (λ sites. leads_covers place kinds places sites ascending) d
 
   pub number_does : (value : ℕ) (place : Place) → LawfulWritten (place ∷ []) (record { first = place; typing = number value place })
   unfolding number
@@ -81,7 +81,7 @@ module _ (variables : ℕ) where
           joins (leads_first place (led lead) []) (behind_does lead place) λ id now _ known.
           quietly (given_does (fits (nat_le value 2147483647) place (typed integer id))) λ t _ more is.
           let fit = fits_is (nat_le value 2147483647) place (typed integer id) t is in
-          quietly (enter_does (λ n. Constant n (pos value)) (λ n. refl) (λ n m h. fit.0)) λ _ then_ later _.
+          quietly (enter_does (λ n. Constant n (pos value)) (λ n. refl) (λ n m h. fit.0)) λ _ next later _.
           pure_does t (λ n h. subst (λ (z : Typed). IsKnown z.site n) fit.1 (known_later id now n (omega arith) known))
 
   denoted_does : (denotation : Denotation) (place : Place) {least : ℕ} (lead : Option SiteKind) → IsLed lead → IsSound variables denotation
@@ -94,13 +94,15 @@ module _ (variables : ℕ) where
           joins (leads_first place (led lead) []) (behind_does lead place) λ id now _ known.
           quietly (enter_does (λ n. Constant n value) (λ n. refl) (λ n m h. sound)) λ _ _ more _.
           pure_does (typed type_id id) (λ n h. known_later id now n (omega arith) known)
-  denoted_does (denotes.Variable root type_id) place lead is sound = led_covers place [] (kind.UndefinedVariable ∷ led lead) (led_behind kind.UndefinedVariable lead (omega arith) is) by
+  denoted_does (denotes.Variable root type_id) place lead is sound =
+      led_covers place [] (kind.UndefinedVariable ∷ led lead) (led_behind kind.UndefinedVariable lead (omega arith) is) by
     where
       by : {least : ℕ} → Does variables least (Leads place (kind.UndefinedVariable ∷ led lead) []) (denoted (denotes.Variable root type_id) place lead) Types
       by =
           joins (leads_more place (kind.UndefinedVariable ∷ []) (led lead) []) (site_does kind.UndefinedVariable place) λ defined there _ test.
           joins (leads_first place (led lead) []) (behind_does lead place) λ id now later known.
-          quietly (enter_does (λ n. Variable n root defined) (λ n. refl) (λ n m h. both_true _ _ (lt_true root variables sound) (lt_true defined m (omega (arith, test, later, h))))) λ _ _ more _.
+          quietly (enter_does (λ n. Variable n root defined) (λ n. refl)
+          (λ n m h. both_true _ _ (lt_true root variables sound) (lt_true defined m (omega (arith, test, later, h))))) λ _ _ more _.
           pure_does (typed type_id id) (λ n h. known_later id now n (omega arith) known)
   denoted_does (denotes.Procedure procedure) place lead is sound = fail_does (fault.WrongParameters place)
   denoted_does (denotes.Function function) place lead is sound = fail_does (fault.WrongParameters place)
@@ -126,12 +128,14 @@ module _ (variables : ℕ) where
         where
           answer : (id : Option ℕ) (now n : ℕ) (b : Typed) (type_id : TypeId) → IsKnown id now → now ≤ n
               → ◌≡◌ {A = Checked Typed} (Ok (typed type_id id)) (Ok b) → IsKnown b.site n
-          answer id now n b type_id known more is = let same : typed type_id id ≡ b = cc in subst (λ (z : Typed). IsKnown z.site n) same (known_later id now n more known)
+          answer id now n b type_id known more is =
+              let same : typed type_id id ≡ b = cc in subst (λ (z : Typed). IsKnown z.site n) same (known_later id now n more known)
 
   -- an answer where types fit
   pub fits_known : (test : Bool) (place : Place) (type_id : TypeId) (id : Option ℕ) (b : Typed) (now n : ℕ) → fits test place (typed type_id id) ≡ Ok b
       → IsKnown id now → now ≤ n → IsKnown b.site n
-  fits_known test place type_id id b now n is known more = subst (λ (z : Typed). IsKnown z.site n) (fits_is test place (typed type_id id) b is).1 (known_later id now n more known)
+  fits_known test place type_id id b now n is known more =
+      subst (λ (z : Typed). IsKnown z.site n) (fits_is test place (typed type_id id) b is).1 (known_later id now n more known)
 
   pub negation_does : (place : Place) (places : List Place) (operand : Written) → LawfulWritten places operand
       → LawfulWritten (place ∷ places) (record { first = place; typing = negation place operand })
@@ -142,8 +146,8 @@ module _ (variables : ℕ) where
       by least lead =
           quietly (pass_does place) λ _ _ _ _.
           joins (leads_first place (led lead) places) (behind_does lead place) λ id now _ known.
-          quietly (enter_does (λ n. Operation n monadic.Not) (λ n. refl) (λ n m h. refl)) λ _ then_ later _.
-          checks (law.types then_ None tt) λ types t b n more is _. fits_known (is_same t.type_id boolean) place boolean id b now n is known (omega arith)
+          quietly (enter_does (λ n. Operation n monadic.Not) (λ n. refl) (λ n m h. refl)) λ _ next later _.
+          checks (law.types next None tt) λ types t b n more is _. fits_known (is_same t.type_id boolean) place boolean id b now n is known (omega arith)
 
   signs_formed : (s : Sign) (sites : ℕ) → monadic_is_well_formed variables sites (sign_operation s) ≡ true
   signs_formed sign.Plus sites = refl
@@ -158,5 +162,5 @@ module _ (variables : ℕ) where
       by least lead =
           quietly (pass_does place) λ _ _ _ _.
           joins (leads_first place (led lead) places) (behind_does lead place) λ id now _ known.
-          quietly (enter_does (λ n. Operation n (sign_operation s)) (λ n. refl) (λ n m h. signs_formed s m)) λ _ then_ later _.
-          checks (law.types then_ None tt) λ types t b n more is _. fits_known (is_same t.type_id integer) place integer id b now n is known (omega arith)
+          quietly (enter_does (λ n. Operation n (sign_operation s)) (λ n. refl) (λ n m h. signs_formed s m)) λ _ next later _.
+          checks (law.types next None tt) λ types t b n more is _. fits_known (is_same t.type_id integer) place integer id b now n is known (omega arith)

@@ -68,7 +68,7 @@ grown_then {variables} {First} {Second} {Both} {look} {more} {old} {now} {new} j
   covered = joined f.added g.added f.covered g.covered;
   few_sites = g.few_sites;
   numbered = parts ∙ ap (λ l. l ++ entries_of_look more) f.numbered
-      ∙ ap (λ l. range_with_len old.entries (length (entries_of_look look)) ++ l) (g.numbered ∙ ap (λ n. range_with_len n (length (entries_of_look more))) f.entered)
+      ∙ ap (λ l. range_with_len old.entries (length (entries_of_look look)) ++ l) next
       ∙ sym (range_joins old.entries (length (entries_of_look look)) (length (entries_of_look more)))
       ∙ ap (range_with_len old.entries) (sym counted);
   entered = omega (arith, f.entered, g.entered, counted);
@@ -78,6 +78,9 @@ grown_then {variables} {First} {Second} {Both} {look} {more} {old} {now} {new} j
       ∙ both_true _ _ (f.formed n (omega (arith, more_sites g, h))) (g.formed n h);
 }
   where
+    next : entries_of_look more ≡ range_with_len (old.entries + length (entries_of_look look)) (length (entries_of_look more))
+    next = g.numbered ∙ ap (λ n. range_with_len n (length (entries_of_look more))) f.entered
+
     parts : entries_of_look (look ++ more) ≡ entries_of_look look ++ entries_of_look more
     parts = flat_map-append mark_entries look more
 

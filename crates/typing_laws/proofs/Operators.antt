@@ -65,7 +65,9 @@ module _ (variables : ℕ) where
   tested_does : {least : ℕ} (made : ℕ → Dyadic) (kind : SiteKind) (place : Place) → ((id n : ℕ) → id < n → dyadic_is_well_formed variables n (made id) ≡ true)
       → Does variables least (λ added. added ≡ (kind, place) ∷ []) (tested made kind place) IsFormed
   unfolding tested
-  tested_does made kind place formed = last (site_does kind place) λ id now _ known. pure_does (made id) (λ m h n more. formed id n (omega (arith, known, h, more)))
+  tested_does made kind place formed =
+      last (site_does kind place) λ id now _ known.
+      pure_does (made id) (λ m h n more. formed id n (omega (arith, known, h, more)))
 
   operation_does : {least : ℕ} (o : Operator) (place : Place)
       → Does variables least (λ added. added ≡ at_place place (operator_kinds o)) (operation o place) IsFormed
@@ -87,13 +89,15 @@ module _ (variables : ℕ) where
   pub link_does : (o : Operator) (place : Place) (places : List Place) (operand : Written) → LawfulWritten variables places operand
       → LawfulLink variables (place ∷ places) (link o place operand)
   unfolding link
-  link_does o place places operand law = record { types = λ least left. led_covers variables place places (operator_kinds o) (operator_ascending o) (by least left) }
+  link_does o place places operand law = record {
+    types = λ least left. led_covers variables place places (operator_kinds o) (operator_ascending o) (by least left);
+  }
     where
       by : (least : ℕ) (left : TypeId) → Does variables least (Leads place (operator_kinds o) places) (link o place operand left) Anything
       by least left =
           joins (leads_first place (operator_kinds o) places) (operation_does o place) λ tests now _ formed.
-          quietly (enter_does (λ n. OperatorMark n tests) (λ n. refl) (λ n m h. formed m h)) λ _ then_ _ _.
-          checks (law.types then_ None tt) λ types t b n more is _. tt
+          quietly (enter_does (λ n. OperatorMark n tests) (λ n. refl) (λ n m h. formed m h)) λ _ next _ _.
+          checks (law.types next None tt) λ types t b n more is _. tt
 
   -- ---- chains
 
@@ -113,8 +117,8 @@ module _ (variables : ℕ) where
     types = λ least lead is.
         quietly (mark_does Begins refl (λ n h. refl)) λ _ now _ _.
         joins (covers_both places others) (law.types now lead is) λ f there _ known.
-        last (more there f.type_id) λ type_id then_ later _.
-        quietly (mark_does Ends refl (λ n h. refl)) λ _ m after_ _.
+        last (more there f.type_id) λ type_id next later _.
+        quietly (mark_does Ends refl (λ n h. refl)) λ _ m further _.
         pure_does (typed type_id f.site) (λ n h. known_later f.site there n (omega arith) known);
   }
 
@@ -137,7 +141,9 @@ module _ (variables : ℕ) where
       → Does variables least (λ added. added ≡ at_place place (function_kinds f)) (function_operation f place) IsFormedMonadic
   unfolding function_operation
   function_does function.Abs place = pure_does monadic.Abs (λ m h n more. refl)
-  function_does function.Sqr place = last (site_does kind.Overflow place) λ id now _ known. pure_does (monadic.Sqr id) (λ m h n more. lt_true id n (omega (arith, known, h, more)))
+  function_does function.Sqr place =
+      last (site_does kind.Overflow place) λ id now _ known.
+      pure_does (monadic.Sqr id) (λ m h n more. lt_true id n (omega (arith, known, h, more)))
   function_does function.Odd place = pure_does monadic.Odd (λ m h n more. refl)
 
   pub call_does : (name : Name) (actuals : List WrittenActual) (places : List Place)
@@ -153,5 +159,6 @@ module _ (variables : ℕ) where
         joins (leads_first name.place (led lead) places) (behind_does lead name.place) λ id now seen known.
         quietly (enter_does (λ n. Operation n tests) (λ n. refl) (λ n m h. formed m (omega (arith, seen, h)))) λ _ _ entered _.
         quietly (given_does (only name.place actuals)) λ actual m more right.
-        checks ((laws actual right).types m None tt) λ types t b n later fit _. fits_known variables (is_same t.type_id integer) actual.first (function_type f) id b now n fit known (omega arith));
+        checks ((laws actual right).types m None tt) λ types t b n later fit _.
+        fits_known variables (is_same t.type_id integer) actual.first (function_type f) id b now n fit known (omega arith));
   }

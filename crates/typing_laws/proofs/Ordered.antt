@@ -48,10 +48,12 @@ group_by_place : (place : Place) (here : List SiteKind) (later : List Stands) �
 group_by_place place [] later ascending behind ordered = ordered
 group_by_place place (kind ∷ []) [] ascending behind ordered = tt
 group_by_place place (kind ∷ []) (one ∷ others) ascending behind ordered = (at_earlier (kind, place) one behind, ordered)
-group_by_place place (kind ∷ next ∷ here) later ascending behind ordered = (at_same place kind next ascending.0, group_by_place place (next ∷ here) later ascending.1 behind ordered)
+group_by_place place (kind ∷ next ∷ here) later ascending behind ordered =
+    (at_same place kind next ascending.0, group_by_place place (next ∷ here) later ascending.1 behind ordered)
 
 pub covers_by_place : (places : List Place) (sites : List Stands) → ArePlacesInOrder places → Covers places sites → AreByPlace sites
 covers_by_place [] sites order none = subst AreByPlace (sym none) tt
 covers_by_place (place ∷ places) sites order covered =
     subst AreByPlace (sym covered.2)
-    (group_by_place place covered.0 covered.1 covered.3 (first_behind place places covered.1 order covered.4) (covers_by_place places covered.1 (order_tail place places order) covered.4))
+    (group_by_place place covered.0 covered.1 covered.3 (first_behind place places covered.1 order covered.4)
+    (covers_by_place places covered.1 (order_tail place places order) covered.4))

@@ -22,7 +22,8 @@ use Rattle.typing_laws.proofs.Declarations.{IsReady, declarations_keep}
 statement_part_does : (variables : ℕ) (block : Block) → Does variables 0 (Covers (flat_map stmt_places block.statements.items)) (statement_part block) Anything
 unfolding statement_part
 statement_part_does variables block =
-    last ((compound_does variables (flat_map stmt_places block.statements.items) (map statement block.statements.items) (statements_lawful variables block.statements.items)).passes 0) λ _ _ _ _.
+    let items = block.statements.items in
+    last ((compound_does variables (flat_map stmt_places items) (map statement items) (statements_lawful variables items)).passes 0) λ _ _ _ _.
     mark_does (BlockEnds block.end) refl (λ n h. refl)
 
 -- the places of the statements are among those of the program
@@ -33,7 +34,8 @@ program_covers program sites has =
     let groups = flat_map group_places program.block.variables.items in
     let ends = program.block.end ∷ [] in
     covers_skip program.name.place (name_places program.parameters.items ++ (groups ++ (statements ++ ends))) sites
-    (covers_behind (name_places program.parameters.items) (groups ++ (statements ++ ends)) sites (covers_behind groups (statements ++ ends) sites (covers_more statements ends sites has)))
+    (covers_behind (name_places program.parameters.items) (groups ++ (statements ++ ends)) sites
+    (covers_behind groups (statements ++ ends) sites (covers_more statements ends sites has)))
 
 -- behind the declarations
 fine_ready : (s : Passed) → IsReady s → Fine (length s.variables) s
@@ -48,7 +50,9 @@ grown_lawful program s a r g = record {
   few_variables = omega (arith, kept, r.declared, r.room);
   few_sites = g.few_sites;
   types = g.types ∙ r.types;
-  by_place = λ order. subst AreByPlace (sym (g.sites ∙ ap (λ l. l ++ g.added) r.sites)) (covers_by_place (program_places program) g.added order (program_covers program g.added g.covered));
+  by_place = λ order.
+      subst AreByPlace (sym (g.sites ∙ ap (λ l. l ++ g.added) r.sites))
+      (covers_by_place (program_places program) g.added order (program_covers program g.added g.covered));
 }
   where
     kept : length a.passed.variables ≡ length s.variables

@@ -32,7 +32,7 @@ use Rattle.typing.specs.Statements.{has_values, measured, width, parameter, writ
 use Rattle.typing_laws.proofs.Sound.{IsSound}
 use Rattle.typing_laws.proofs.Covers.{Covers, covers_both, covers_none, covers_behind, covers_skip, leads_first}
 use Rattle.typing_laws.proofs.Grown.{both_true}
-use Rattle.typing_laws.proofs.Steps.{Does, Anything, Nothing, joins, quietly, last, checks, with, pure_does, given_does, find_does, wants_output_does}
+use Rattle.typing_laws.proofs.Steps.{Does, Anything, Nothing, joins, quietly, last, checks, sited, pure_does, given_does, find_does, wants_output_does}
 use Rattle.typing_laws.proofs.Steps.{mark_does, enter_does, site_does, IsKnown}
 use Rattle.typing_laws.proofs.Expressions.{lt_true, LawfulWritten, led_covers}
 use Rattle.typing_laws.proofs.EveryExpression.{LawfulActual, IsLawfulWidth, expression_lawful, actual_lawful}
@@ -51,10 +51,15 @@ variable_is variables place denotes.Output target is sound = absurd cc
 abbrev IsWholeRange : OrdinalRange → Type 0
 IsWholeRange range = (is_whole range.first && is_whole range.last) ≡ true
 
+-- of what is answered, and nothing of a fault
+abbrev AnswersWhole : Checked OrdinalRange → Type 0
+AnswersWhole (Ok range) = IsWholeRange range
+AnswersWhole (Err why) = Unit {0}
+
 form_whole : (place : Place) (f : Option TypeForm) (range : OrdinalRange) → or_mismatch place (form_range f) ≡ Ok range → IsWholeRange range
 form_whole place None range is = absurd cc
-form_whole place (Some form.Integer) range is = subst {A = Checked OrdinalRange} (λ r. elim r as (λ _. Type 0) [ Ok x ↦ IsWholeRange x | Err e ↦ Unit {0} ]) is refl
-form_whole place (Some form.Boolean) range is = subst {A = Checked OrdinalRange} (λ r. elim r as (λ _. Type 0) [ Ok x ↦ IsWholeRange x | Err e ↦ Unit {0} ]) is refl
+form_whole place (Some form.Integer) range is = subst AnswersWhole is refl
+form_whole place (Some form.Boolean) range is = subst AnswersWhole is refl
 
 fitting_whole : (place : Place) (types : List TypeForm) (target value : TypeId) (range : OrdinalRange)
     → or_mismatch place (fitting types target value) ≡ Ok range → IsWholeRange range
@@ -86,10 +91,11 @@ module _ (variables : ℕ) where
         quietly (given_does (as_variable name.place d)) λ target _ _ is.
         let within = variable_is variables name.place d target is sound in
         quietly (enter_does (λ n. Target n target.0) (λ n. refl) (λ n m h. lt_true target.0 variables within)) λ _ now _ _.
-        with {least = now} {now = now} (omega arith) (λ sites. covers_skip name.place (becomes ∷ places) sites) (λ x n h. h)
+        sited (λ sites. covers_skip name.place (becomes ∷ places) sites)
         (led_covers variables becomes places (kind.Subrange ∷ []) tt
         (joins (leads_first becomes (kind.Subrange ∷ []) places) (site_does kind.Subrange becomes) λ id there _ known.
-        last (checks {L = λ range n. IsWholeRange range} (law.types there None tt) λ types t range n more whole _. fitting_whole becomes types target.1 t.type_id range whole) λ range n more whole.
+        last (checks {L = λ range n. IsWholeRange range} (law.types there None tt) λ types t range n more whole _.
+        fitting_whole becomes types target.1 t.type_id range whole) λ range n more whole.
         mark_does (Fits (record { site = id; range = range })) refl (λ m h. both_true _ _ (lt_true id m (omega (arith, known, more, h))) whole)));
   }
 
@@ -128,25 +134,29 @@ module _ (variables : ℕ) where
   width_does : (least : ℕ) (places : List Place) (w : Option Written) → IsLawfulWidth variables places w
       → Does variables least (Covers places) (width w) Anything
   unfolding width
-  width_does least places None law = with {least = least} (omega arith) (λ sites none. subst (Covers places) (sym none) (covers_none places)) (λ x n h. h) (pure_does {K = Anything} tt (λ n h. tt))
+  width_does least places None law =
+      sited (λ sites none. subst (Covers places) (sym none) (covers_none places))
+      (pure_does {K = Anything} tt (λ n h. tt))
   width_does least places (Some w) law =
-      last (checks {L = λ id n. IsKnown (Some id) n} (law.types least (Some kind.Width) (omega arith)) λ types t id n more is known. subst (λ z. IsKnown z n) (measured_is w.first t id is) known) λ id n more known.
+      last (checks {L = λ id n. IsKnown (Some id) n} (law.types least (Some kind.Width) (omega arith)) λ types t id n more is known.
+      subst (λ z. IsKnown z n) (measured_is w.first t id is) known) λ id n more known.
       mark_does (Width id) refl (λ m h. lt_true id m (omega (arith, known, h)))
 
   parameter_does : (least : ℕ) (places : List Place) (a : WrittenActual) → LawfulActual variables places a
       → Does variables least (Covers places) (parameter a) Anything
   unfolding parameter
   parameter_does least places a law =
-      with {least = least} (omega arith) (λ sites. subst (λ p. Covers p sites) (sym law.places_are)) (λ x n h. h)
+      sited (λ sites. subst (λ p. Covers p sites) (sym law.places_are))
       (joins (covers_both law.of_value law.of_width) (checks {L = Anything} (law.value.types least None tt) λ types t b n more is _. tt) λ written now _ _.
-      quietly (mark_does (WrittenMark written) refl (λ n h. refl)) λ _ then_ _ _.
-      width_does then_ law.of_width a.width law.width)
+      quietly (mark_does (WrittenMark written) refl (λ n h. refl)) λ _ next _ _.
+      width_does next law.of_width a.width law.width)
 
   parameters_do : (least : ℕ) (values : List Actual)
       → Does variables least (Covers (flat_map actual_places values)) (each parameter (map written_actual values)) Anything
   parameters_do least [] = pure_does tt (λ n h. tt)
   parameters_do least (value ∷ values) =
-      joins (covers_both (actual_places value) (flat_map actual_places values)) (parameter_does least (actual_places value) (written_actual value) (actual_lawful variables value)) λ _ now _ _.
+      joins (covers_both (actual_places value) (flat_map actual_places values))
+      (parameter_does least (actual_places value) (written_actual value) (actual_lawful variables value)) λ _ now _ _.
       parameters_do now values
 
   write_does : (least : ℕ) (name : Name) (actuals : List Actual) (procedure : RequiredProcedure)
@@ -156,7 +166,7 @@ module _ (variables : ℕ) where
       quietly (wants_output_does name.place) λ _ _ _ _.
       quietly (enter_does (λ n. Write n name.place (ends_line procedure)) (λ n. refl) (λ n m h. refl)) λ _ _ _ _.
       quietly (written_values_do actuals) λ values now _ among.
-      with {least = now} {now = now} (omega arith) among (λ x n h. h)
+      sited among
       (quietly (given_does (has_values name.place procedure values)) λ _ there _ _.
       last (parameters_do there values) λ _ m _ _.
       mark_does Ends refl (λ n h. refl))
@@ -165,7 +175,7 @@ module _ (variables : ℕ) where
   unfolding procedure_call
   call_does name actuals = record {
     passes = λ least.
-        with {least = least} (omega arith) (λ sites. covers_skip name.place (flat_map actual_places actuals) sites) (λ x n h. h)
+        sited (λ sites. covers_skip name.place (flat_map actual_places actuals) sites)
         (quietly (find_does name) λ d _ _ _.
         quietly (given_does (as_procedure name.place d)) λ procedure now _ _.
         write_does now name actuals procedure);
@@ -201,15 +211,21 @@ module _ (variables : ℕ) where
       subst (λ p. LawfulStatement p (statement (roll-Stmt d))) (sym (fold-roll-Stmt Places statement_row d))
       (subst (LawfulStatement _) (sym (fold-roll-Stmt (Passing (Unit {0})) statement_step d)) law)
 
+  abbrev bare_row : List WithStmt → List Stmt
+  bare_row ys = map (λ (y : WithStmt). y.0) ys
+
   row_lawful : (ys : List WithStmt) (least : ℕ)
-     
-      → Does variables least (Covers (joined_places (map stmt_places (map (λ (y : WithStmt). y.0) ys)))) (each (λ s. s) (map statement (map (λ (y : WithStmt). y.0) ys))) Anything
+      → Does variables least (Covers (joined_places (map stmt_places (bare_row ys)))) (each (λ s. s) (map statement (bare_row ys))) Anything
   row_lawful [] least = pure_does tt (λ n h. tt)
-  row_lawful (y ∷ ys) least = joins (covers_both (stmt_places y.0) (joined_places (map stmt_places (map (λ (y : WithStmt). y.0) ys)))) (y.1.passes least) λ _ now _ _. row_lawful ys now
+  row_lawful (y ∷ ys) least =
+      joins (covers_both (stmt_places y.0) (joined_places (map stmt_places (bare_row ys)))) (y.1.passes least) λ _ now _ _.
+      row_lawful ys now
 
   statement_layer : (y : layer.Stmt-F WithStmt) → LawfulStmt (roll-Stmt (bare y))
   statement_layer layer.Empty = from_layer layer.Empty (record { passes = λ least. enter_does Empty (λ n. refl) (λ n m h. refl) })
-  statement_layer (layer.Assign name becomes value) = from_layer (layer.Assign name becomes value) (assignment_does name becomes (expr_places value) (expression value) (expression_lawful variables value))
+  statement_layer (layer.Assign name becomes value) =
+      from_layer (layer.Assign name becomes value)
+      (assignment_does name becomes (expr_places value) (expression value) (expression_lawful variables value))
   statement_layer (layer.Call name actuals) = from_layer (layer.Call name actuals) (call_does name actuals.items)
   statement_layer (layer.Compound statements) = from_layer (bare (layer.Compound statements)) (compound_does _ _ (row_lawful statements.items))
 
@@ -219,4 +235,6 @@ module _ (variables : ℕ) where
 
   pub statements_lawful : (ws : List Stmt) (least : ℕ) → Does variables least (Covers (flat_map stmt_places ws)) (each (λ s. s) (map statement ws)) Anything
   statements_lawful [] least = pure_does tt (λ n h. tt)
-  statements_lawful (w ∷ ws) least = joins (covers_both (stmt_places w) (flat_map stmt_places ws)) ((statement_lawful w).passes least) λ _ now _ _. statements_lawful ws now
+  statements_lawful (w ∷ ws) least =
+      joins (covers_both (stmt_places w) (flat_map stmt_places ws)) ((statement_lawful w).passes least) λ _ now _ _.
+      statements_lawful ws now

@@ -22,10 +22,14 @@ use Rattle.typing_laws.proofs.Sound.{IsSound, found_sound}
 use Rattle.typing_laws.proofs.Covers.{at_place}
 use Rattle.typing_laws.proofs.Grown.{Fine, Grown, fine_later, more_sites, grown_then, both_true}
 
+-- a form has grown what is known, and its answer has this
+abbrev pub Leaves : {A : Type 0} → ℕ → (List Stands → Type 0) → Passed → (A → ℕ → Type 0) → After A → Type 0
+Leaves variables Has s Answers a = Grown variables Has a.look s a.passed × Answers a.answer (length a.passed.sites)
+
 -- from at least so many sites, its answer has this with as many sites as there are then
 pub record Does (variables least : ℕ) {A : Type 0} (Has : List Stands → Type 0) (p : Passing A) (Answers : A → ℕ → Type 0) : Type 0 where
   pub does : (s : Passed) (a : After A) → p s ≡ Ok a → Fine variables s → least ≤ length s.sites
-      → Grown variables Has a.look s a.passed × Answers a.answer (length a.passed.sites)
+      → Leaves variables Has s Answers a
 
 abbrev pub Anything : {A : Type 0} → A → ℕ → Type 0
 Anything answer sites = Unit {0}
@@ -58,7 +62,8 @@ below a b h = grind (arith, nat_tests)
 
 -- ---- one after another
 
-pub joins : {variables least : ℕ} {A B : Type 0} {First Second Both : List Stands → Type 0} {p : Passing A} {f : A → Passing B} {K : A → ℕ → Type 0} {L : B → ℕ → Type 0}
+pub joins : {variables least : ℕ} {A B : Type 0} {First Second Both : List Stands → Type 0} {p : Passing A} {f : A → Passing B} {K : A → ℕ → Type 0}
+    {L : B → ℕ → Type 0}
     → ((a b : List Stands) → First a → Second b → Both (a ++ b)) → Does variables least First p K
     → ((x : A) (now : ℕ) → least ≤ now → K x now → Does variables now Second (f x) L) → Does variables least Both (p >>= f) L
 joins {variables} {least} {A} {B} {First} {Second} {Both} {p} {f} {K} {L} joined first rest = record {
@@ -68,7 +73,7 @@ joins {variables} {least} {A} {B} {First} {Second} {Both} {p} {f} {K} {L} joined
       let one = first.does s x.0 x.1 fine h in
       let now : least ≤ length x.0.passed.sites = omega (arith, more_sites one.0, h) in
       let two = (rest x.0.answer (length x.0.passed.sites) now one.1).does x.0.passed y.0 y.1 (fine_later one.0 fine) (omega arith) in
-      subst (λ (z : After B). Grown variables Both z.look s z.passed × L z.answer (length z.passed.sites)) y.2 (grown_then joined one.0 two.0, two.1);
+      subst (Leaves variables Both s L) y.2 (grown_then joined one.0 two.0, two.1);
 }
 
 -- a step that adds no site, and then others
@@ -84,7 +89,8 @@ pub last : {variables least : ℕ} {A B : Type 0} {Has : List Stands → Type 0}
 last {Has = Has} first rest = joins (λ a b has none. subst Has (sym (append-nil a) ∙ ap (λ l. a ++ l) (sym none)) has) first rest
 
 -- a form, and then a test of what it is
-pub checks : {variables least : ℕ} {A B : Type 0} {Has : List Stands → Type 0} {p : Passing A} {test : List TypeForm → A → Checked B} {K : A → ℕ → Type 0} {L : B → ℕ → Type 0}
+pub checks : {variables least : ℕ} {A B : Type 0} {Has : List Stands → Type 0} {p : Passing A} {test : List TypeForm → A → Checked B}
+    {K : A → ℕ → Type 0} {L : B → ℕ → Type 0}
     → Does variables least Has p K
     → ((types : List TypeForm) (x : A) (b : B) (now : ℕ) → least ≤ now → test types x ≡ Ok b → K x now → L b now) → Does variables least Has (p >>? test) L
 checks {variables} {least} {A} {B} {Has} {p} {test} {K} {L} first fits = record {
@@ -93,22 +99,21 @@ checks {variables} {least} {A} {B} {Has} {p} {test} {K} {L} first fits = record 
       let y = split (test x.0.passed.types x.0.answer) (λ b. Ok (after b x.0.look x.0.passed)) b x.2 in
       let one = first.does s x.0 x.1 fine h in
       let same : after y.0 x.0.look x.0.passed ≡ b = cc in
-      subst (λ (z : After B). Grown variables Has z.look s z.passed × L z.answer (length z.passed.sites)) same
+      subst (Leaves variables Has s L) same
       (one.0, fits x.0.passed.types x.0.answer y.0 (length x.0.passed.sites) (omega (arith, more_sites one.0, h)) y.1 one.1);
 }
 
--- the same with more sites, with other sites and of another answer
-pub with : {variables least now : ℕ} {A : Type 0} {Has Had : List Stands → Type 0} {p : Passing A} {K L : A → ℕ → Type 0} → least ≤ now
-    → ((a : List Stands) → Has a → Had a) → ((x : A) (n : ℕ) → K x n → L x n)
-    → Does variables least Has p K → Does variables now Had p L
-with {variables} {least} {now} {A} {Has} {Had} {p} {K} {L} more has answers d = record {
+-- the same, with something else that holds of its sites
+pub sited : {variables least : ℕ} {A : Type 0} {Has Had : List Stands → Type 0} {p : Passing A} {K : A → ℕ → Type 0} → ((a : List Stands) → Has a → Had a)
+    → Does variables least Has p K → Does variables least Had p K
+sited {variables} {Has = Has} {Had = Had} has d = record {
   does = λ s a is fine h.
-      let k = d.does s a is fine (omega (arith, more, h)) in
-      (grown_with has k.0, answers a.answer (length a.passed.sites) k.1);
+      let k = d.does s a is fine h in
+      (otherwise k.0, k.1);
 }
   where
-    grown_with : {look : Look} {old new : Passed} → ((a : List Stands) → Has a → Had a) → Grown variables Has look old new → Grown variables Had look old new
-    grown_with has g = record {
+    otherwise : {look : Look} {old new : Passed} → Grown variables Has look old new → Grown variables Had look old new
+    otherwise g = record {
       regions = g.regions;
       types = g.types;
       variables_kept = g.variables_kept;
@@ -147,14 +152,14 @@ unfolding pass
 pass_does {variables} place = record {
   does = λ s a is fine h.
       let same : after tt [] (record s { latest = place }) ≡ a = cc in
-      subst (λ (z : After (Unit {0})). Grown variables Nothing z.look s z.passed × Unit {0}) same (grown_silent variables s (record s { latest = place }) refl refl refl refl refl fine, tt);
+      subst (Leaves variables Nothing s Anything) same (grown_silent variables s (record s { latest = place }) refl refl refl refl refl fine, tt);
 }
 
 pub pure_does : {variables least : ℕ} {A : Type 0} {K : A → ℕ → Type 0} (x : A) → ((now : ℕ) → least ≤ now → K x now) → Does variables least Nothing (pure x) K
 pure_does {variables} {least} {A} {K} x known = record {
   does = λ s a is fine h.
       let same : after x [] s ≡ a = cc in
-      subst (λ (z : After A). Grown variables Nothing z.look s z.passed × K z.answer (length z.passed.sites)) same (grown_silent variables s s refl refl refl refl refl fine, known (length s.sites) h);
+      subst (Leaves variables Nothing s K) same (grown_silent variables s s refl refl refl refl refl fine, known (length s.sites) h);
 }
 
 pub given_does : {variables least : ℕ} {A : Type 0} (checked : Checked A) → Does variables least Nothing (given checked) (λ x now. checked ≡ Ok x)
@@ -162,7 +167,7 @@ given_does {variables} {least} {A} checked = record {
   does = λ s a is fine h.
       let x = split checked (λ b. Ok (after b [] s)) a is in
       let same : after x.0 [] s ≡ a = cc in
-      subst (λ (z : After A). Grown variables Nothing z.look s z.passed × (checked ≡ Ok z.answer)) same (grown_silent variables s s refl refl refl refl refl fine, x.1);
+      subst (Leaves variables Nothing s (λ x now. checked ≡ Ok x)) same (grown_silent variables s s refl refl refl refl refl fine, x.1);
 }
 
 pub fail_does : {variables least : ℕ} {A : Type 0} {Has : List Stands → Type 0} {K : A → ℕ → Type 0} (why : TypeFault)
@@ -178,7 +183,8 @@ find_does {variables} name = record {
       let x = split (told name.place (found s.regions text)) (λ denotation. Ok (after denotation [] (record s { latest = name.place }))) a is in
       let same : after x.0 [] (record s { latest = name.place }) ≡ a = cc in
       let there = found_sound variables s.regions text x.0 fine.sound (by (found s.regions text) x.0 x.1) in
-      subst (λ (z : After Denotation). Grown variables Nothing z.look s z.passed × IsSound variables z.answer) same (grown_silent variables s (record s { latest = name.place }) refl refl refl refl refl fine, there);
+      subst (Leaves variables Nothing s (λ denotation now. IsSound variables denotation)) same
+      (grown_silent variables s (record s { latest = name.place }) refl refl refl refl refl fine, there);
 }
   where
     by : (r : Result Denotation ScopeFault) (d : Denotation) → told name.place r ≡ Ok d → r ≡ Ok d
@@ -190,7 +196,7 @@ unfolding wants_output
 wants_output_does {variables} place = record {
   does = λ s a is fine h.
       let x = split_if s.has_output (fault.NotProgramParameter place) (after tt [] s) a is in
-      subst (λ (z : After (Unit {0})). Grown variables Nothing z.look s z.passed × Unit {0}) x.1 (grown_silent variables s s refl refl refl refl refl fine, tt);
+      subst (Leaves variables Nothing s Anything) x.1 (grown_silent variables s s refl refl refl refl refl fine, tt);
 }
 
 -- ---- marks
@@ -215,7 +221,7 @@ mark_does {variables} {least} one none formed = record {
         few_entries = fine.few_entries;
         formed = λ n more. both_true _ true (formed n (omega (arith, more, h))) refl;
       } in
-      subst (λ (z : After (Unit {0})). Grown variables Nothing z.look s z.passed × Unit {0}) same (g, tt);
+      subst (Leaves variables Nothing s Anything) same (g, tt);
 }
 
 -- an entry, with the next number
@@ -244,13 +250,14 @@ enter_does {variables} {least} marked one formed = record {
         few_entries = omega (arith, below most_entries s.entries y.0);
         formed = λ n more. both_true _ true (formed number n (omega (arith, more, h))) refl;
       } in
-      subst (λ (z : After (Unit {0})). Grown variables Nothing z.look s z.passed × Unit {0}) same (g, tt);
+      subst (Leaves variables Nothing s Anything) same (g, tt);
 }
   where
     by : {new : Passed} {number : ℕ} (x : After ℕ) (a : After (Unit {0})) → after number [] new ≡ x
         → behind_marks x.look (mark (marked x.answer) x.passed) ≡ Ok a → after tt (marked number ∷ []) new ≡ a
     by {new} {number} x a is h =
-        let there : behind_marks [] (mark (marked number) new) ≡ Ok a = subst (λ (z : After ℕ). behind_marks z.look (mark (marked z.answer) z.passed) ≡ Ok a) (sym is) h in
+        let there : behind_marks [] (mark (marked number) new) ≡ Ok a =
+        subst (λ (z : After ℕ). behind_marks z.look (mark (marked z.answer) z.passed) ≡ Ok a) (sym is) h in
         cc
 
 -- ---- sites
@@ -276,7 +283,7 @@ site_does {variables} {least} kind place = record {
         few_entries = fine.few_entries;
         formed = λ n more. refl;
       } in
-      subst (λ (z : After ℕ). Grown variables (λ added. added ≡ (kind, place) ∷ []) z.look s z.passed × (z.answer < length z.passed.sites)) y.1 (g, omega (arith, counted));
+      subst (Leaves variables (λ added. added ≡ (kind, place) ∷ []) s (λ id now. id < now)) y.1 (g, omega (arith, counted));
 }
 
 -- the kinds of the leading site
