@@ -1,0 +1,160 @@
+-- The law of every expression, by induction over its form.
+use Rattle.std.proofs.Common.{◌≡◌, ℕ, List, [], ◌∷◌, ◌++◌, map, Option, Some, None, Ok, refl, sym, subst}
+use Rattle.place.specs.declared.Place.{Place}
+use Rattle.syntax_tree.specs.declared.Expr.{Expr}
+use Rattle.syntax_tree.specs.declared.Link.{Link}
+use Rattle.syntax_tree.specs.declared.Actual.{Actual}
+use Rattle.syntax_tree.specs.declared.Expr.TheOpen as layer
+use Rattle.syntax_tree.specs.declared.Expr.TheViews.{roll-Expr, roll-Link, roll-Actual}
+use Rattle.syntax_tree.specs.declared.Expr.TheFolds.{map-Expr, map-Link, map-Actual, fold-roll-Expr, fold-roll-Link, fold-roll-Actual, ind-Expr, ind-Actual}
+use Rattle.syntax_tree.specs.Places.{Places, joined_places, width_places, expr_places, actual_places, link_places, expression_step as expression_row}
+use Rattle.syntax_tree.specs.Places.{actual_step as actual_row, link_step as link_row}
+use Rattle.types.specs.declared.form.TypeId.{TypeId}
+use Rattle.typing.specs.Expressions.{Written, WrittenActual, WrittenLink, expression, written_actual, written_link, expression_step, actual_step, link_step}
+use Rattle.typing.specs.Expressions.{links, only, without_width}
+use Rattle.typing_laws.proofs.Covers.{Covers, covers_more}
+use Rattle.typing_laws.proofs.Steps.{Does, Anything, sited}
+use Rattle.typing_laws.proofs.Expressions.{LawfulWritten, LawfulLink, Types, number_does, named_does, parenthesized_does, negation_does, signed_does}
+use Rattle.typing_laws.proofs.Operators.{link_does, links_none, links_more, chain_does, call_does}
+
+module _ (variables : ℕ) where
+  abbrev pub IsLawfulWidth : List Place → Option Written → Type 0
+  IsLawfulWidth places None = Unit {0}
+  IsLawfulWidth places (Some width) = LawfulWritten variables places width
+
+  -- an actual: its value, and then its width
+  pub record LawfulActual (places : List Place) (a : WrittenActual) : Type 0 where
+    pub of_value : List Place
+    pub of_width : List Place
+    pub places_are : places ≡ of_value ++ of_width
+    pub value : LawfulWritten variables of_value a.value
+    pub width : IsLawfulWidth of_width a.width
+
+  abbrev pub LawfulExpr : Expr → Type 0
+  LawfulExpr w = LawfulWritten variables (expr_places w) (expression w)
+
+  abbrev pub LawfulActualOf : Actual → Type 0
+  LawfulActualOf w = LawfulActual (actual_places w) (written_actual w)
+
+  abbrev LawfulLinkOf : Link → Type 0
+  LawfulLinkOf w = LawfulLink variables (link_places w) (written_link w)
+
+  abbrev WithExpr : Type 0
+  WithExpr = (w : Expr) × LawfulExpr w
+
+  abbrev WithActual : Type 0
+  WithActual = (w : Actual) × LawfulActualOf w
+
+  abbrev WithLink : Type 0
+  WithLink = (w : Link) × LawfulLinkOf w
+
+  abbrev bare : layer.Expr-F WithExpr WithActual WithLink → layer.Expr-F Expr Actual Link
+  bare y = map-Expr WithExpr WithActual WithLink Expr Actual Link (λ w. w.0) (λ w. w.0) (λ w. w.0) y
+
+  abbrev bare_actual : layer.Actual-F WithExpr WithActual WithLink → layer.Actual-F Expr Actual Link
+  bare_actual y = map-Actual WithExpr WithActual WithLink Expr Actual Link (λ w. w.0) (λ w. w.0) (λ w. w.0) y
+
+  abbrev bare_link : layer.Link-F WithExpr WithActual WithLink → layer.Link-F Expr Actual Link
+  bare_link y = map-Link WithExpr WithActual WithLink Expr Actual Link (λ w. w.0) (λ w. w.0) (λ w. w.0) y
+
+  from_layer : (d : layer.Expr-F Expr Actual Link)
+      → LawfulWritten variables (expression_row (map-Expr Expr Actual Link Places Places Places expr_places actual_places link_places d))
+      (expression_step (map-Expr Expr Actual Link Written WrittenActual WrittenLink expression written_actual written_link d))
+      → LawfulExpr (roll-Expr d)
+  from_layer d law =
+      let places = fold-roll-Expr Places Places Places expression_row actual_row link_row d in
+      let forms = fold-roll-Expr Written WrittenActual WrittenLink expression_step actual_step link_step d in
+      subst (λ p. LawfulWritten variables p (expression (roll-Expr d))) (sym places) (subst (LawfulWritten variables _) (sym forms) law)
+
+  -- the one actual of a function
+  one_lawful : (place : Place) (places : List Place) (a : WrittenActual) (w : Written) → LawfulActual places a → without_width place a.value a.width ≡ Ok w
+      → LawfulWritten variables (places ++ []) w
+  one_lawful place places a w law is =
+      let same = by a.value a.width is in
+      record {
+        types = λ least lead led.
+            sited (λ sites has.
+            covers_more places [] sites (subst (λ p. Covers p sites) (sym law.places_are) (covers_more law.of_value law.of_width sites has)))
+            (subst (λ (z : Written). Does variables least (Covers law.of_value) (z.typing lead) Types) same (law.value.types least lead led));
+      }
+    where
+      by : (value : Written) (width : Option Written) → without_width place value width ≡ Ok w → value ≡ w
+      by value None h = cc
+      by value (Some width) h = absurd cc
+
+  only_lawful : (place : Place) (ys : List WithActual) (w : Written) → only place (map written_actual (map (λ (y : WithActual). y.0) ys)) ≡ Ok w
+      → LawfulWritten variables (joined_places (map actual_places (map (λ (y : WithActual). y.0) ys))) w
+  only_lawful place [] w is = absurd cc
+  only_lawful place (y ∷ z ∷ ys) w is = absurd cc
+  only_lawful place (y ∷ []) w is = one_lawful place (actual_places y.0) (written_actual y.0) w y.1 is
+
+  abbrev bare_links : List WithLink → List Link
+  bare_links ys = map (λ (y : WithLink). y.0) ys
+
+  links_lawful : (ys : List WithLink) (now : ℕ) (type_id : TypeId)
+      → Does variables now (Covers (joined_places (map link_places (bare_links ys)))) (links type_id (map written_link (bare_links ys))) Anything
+  links_lawful [] now type_id = links_none variables type_id
+  links_lawful (y ∷ ys) now type_id =
+      links_more variables type_id (written_link y.0) (map written_link (bare_links ys)) (link_places y.0) (joined_places (map link_places (bare_links ys))) y.1
+      (links_lawful ys)
+
+  expression_layer : (y : layer.Expr-F WithExpr WithActual WithLink) → LawfulExpr (roll-Expr (bare y))
+  expression_layer (layer.Number value place) = from_layer (layer.Number value place) (number_does variables value place)
+  expression_layer (layer.Name name) = from_layer (layer.Name name) (named_does variables name)
+  expression_layer (layer.Call name actuals) = from_layer (bare (layer.Call name actuals)) (call_does variables name _ _ (only_lawful name.place actuals.items))
+  expression_layer (layer.Parenthesized place inner) =
+      from_layer (bare (layer.Parenthesized place inner)) (parenthesized_does variables place _ _ inner.value.1)
+  expression_layer (layer.Not place operand) = from_layer (bare (layer.Not place operand)) (negation_does variables place _ _ operand.value.1)
+  expression_layer (layer.Signed s place term) = from_layer (bare (layer.Signed s place term)) (signed_does variables s place _ _ term.value.1)
+  expression_layer (layer.Chain first rest) = from_layer (bare (layer.Chain first rest)) (chain_does variables _ _ _ _ first.value.1 (links_lawful rest.items))
+
+  abbrev width_row : WithExpr → Option WithExpr → Option Places
+  width_row value width =
+      (map-Actual Expr Actual Link Places Places Places expr_places actual_places link_places (bare_actual (record { value = value; width = width }))).width
+
+  abbrev width_form : WithExpr → Option WithExpr → Option Written
+  width_form value width =
+      let d = bare_actual (record { value = value; width = width }) in
+      (map-Actual Expr Actual Link Written WrittenActual WrittenLink expression written_actual written_link d).width
+
+  width_lawful : (value : WithExpr) (width : Option WithExpr) → IsLawfulWidth (width_places (width_row value width)) (width_form value width)
+  width_lawful value None = tt
+  width_lawful value (Some w) = w.1
+
+  actual_layer : (y : layer.Actual-F WithExpr WithActual WithLink) → LawfulActualOf (roll-Actual (bare_actual y))
+  actual_layer y =
+      let d = bare_actual y in
+      let places = fold-roll-Actual Places Places Places expression_row actual_row link_row d in
+      let forms = fold-roll-Actual Written WrittenActual WrittenLink expression_step actual_step link_step d in
+      subst (λ p. LawfulActual p (written_actual (roll-Actual d))) (sym places)
+      (subst (LawfulActual _) (sym forms) (record {
+        of_value = expr_places y.value.0;
+        of_width = width_places (width_row y.value y.width);
+        places_are = refl;
+        value = y.value.1;
+        width = width_lawful y.value y.width;
+      }))
+
+  link_layer : (y : layer.Link-F WithExpr WithActual WithLink) → LawfulLinkOf (roll-Link (bare_link y))
+  link_layer y =
+      let d = bare_link y in
+      let places = fold-roll-Link Places Places Places expression_row actual_row link_row d in
+      let forms = fold-roll-Link Written WrittenActual WrittenLink expression_step actual_step link_step d in
+      subst (λ p. LawfulLink variables p (written_link (roll-Link d))) (sym places)
+      (subst (LawfulLink variables _) (sym forms) (link_does variables y.operator y.place _ _ y.operand.1))
+
+  -- every expression
+  pub expression_lawful : (w : Expr) → LawfulExpr w
+  expression_lawful =
+      ind-Expr LawfulExpr LawfulActualOf LawfulLinkOf
+      (λ x y is. subst (λ z. LawfulExpr (roll-Expr z)) is (expression_layer y))
+      (λ x y is. subst (λ z. LawfulActualOf (roll-Actual z)) is (actual_layer y))
+      (λ x y is. subst (λ z. LawfulLinkOf (roll-Link z)) is (link_layer y))
+
+  -- every actual
+  pub actual_lawful : (w : Actual) → LawfulActualOf w
+  actual_lawful =
+      ind-Actual LawfulExpr LawfulActualOf LawfulLinkOf
+      (λ x y is. subst (λ z. LawfulExpr (roll-Expr z)) is (expression_layer y))
+      (λ x y is. subst (λ z. LawfulActualOf (roll-Actual z)) is (actual_layer y))
+      (λ x y is. subst (λ z. LawfulLinkOf (roll-Link z)) is (link_layer y))

@@ -1,0 +1,88 @@
+-- What a form does to what is known: it adds sites and entries, and its marks are well formed. All else stays.
+use Rattle.std.proofs.Common.{◌≡◌, ℕ, zero, suc, ◌+◌, ◌≤◌, Bool, true, ◌&&◌, List, ◌∷◌, ◌++◌, length, append_assoc, length-append, sym, ap, subst, ◌∙◌, arith}
+use Rattle.std.specs.List.{range_with_len, list_all}
+use Rattle.std.proofs.lemmas.List.Folds.{list_all-append}
+use Rattle.std.proofs.lemmas.Grind.{flat_map-append}
+use Rattle.typed_tree.specs.Ids.{Stands}
+use Rattle.typed_tree.specs.Look.{Look, mark_entries, entries_of_look, is_formed_mark}
+use Rattle.typing.specs.Passing.{Passed}
+use Rattle.typing.specs.Steps.{most_sites, most_entries}
+use Rattle.typing_laws.proofs.Sound.{AreSound}
+
+-- what is known may be passed on
+pub record Fine (variables : ℕ) (s : Passed) : Type 0 where
+  pub sound : AreSound variables s.regions
+  pub few_sites : length s.sites ≤ most_sites
+  pub few_entries : s.entries ≤ most_entries
+
+-- a form that looks so, with sites of which something holds
+pub record Grown (variables : ℕ) (Has : List Stands → Type 0) (look : Look) (old new : Passed) : Type 0 where
+  pub regions : new.regions ≡ old.regions
+  pub types : new.types ≡ old.types
+  pub variables_kept : new.variables ≡ old.variables
+  pub added : List Stands
+  pub sites : new.sites ≡ old.sites ++ added
+  pub covered : Has added
+  pub few_sites : length new.sites ≤ most_sites
+  pub numbered : entries_of_look look ≡ range_with_len old.entries (length (entries_of_look look))
+  pub entered : new.entries ≡ old.entries + length (entries_of_look look)
+  pub few_entries : new.entries ≤ most_entries
+  pub formed : (n : ℕ) → length new.sites ≤ n → list_all (is_formed_mark variables n) look ≡ true
+
+pub range_joins : (a m n : ℕ) → range_with_len a (m + n) ≡ range_with_len a m ++ range_with_len (a + m) n
+range_joins a zero n =
+    let left : 0 + n ≡ n = omega arith in
+    let right : a ≡ a + 0 = omega arith in
+    ap (range_with_len a) left ∙ ap (λ b. range_with_len b n) right
+range_joins a (suc m) n =
+    let left : suc m + n ≡ suc (m + n) = omega arith in
+    let right : (a + 1) + m ≡ a + suc m = omega arith in
+    ap (range_with_len a) left ∙ ap (λ l. a ∷ l) (range_joins (a + 1) m n ∙ ap (λ b. range_with_len (a + 1) m ++ range_with_len b n) right)
+
+pub both_true : (a b : Bool) → a ≡ true → b ≡ true → (a && b) ≡ true
+both_true a b x y = ap (λ c. c && b) x ∙ y
+
+pub fine_later : {variables : ℕ} {Has : List Stands → Type 0} {look : Look} {old new : Passed} → Grown variables Has look old new → Fine variables old
+    → Fine variables new
+fine_later {variables} g f = record {
+  sound = subst (AreSound variables) (sym g.regions) f.sound;
+  few_sites = g.few_sites;
+  few_entries = g.few_entries;
+}
+
+-- there are no fewer sites than before
+pub more_sites : {variables : ℕ} {Has : List Stands → Type 0} {look : Look} {old new : Passed} → Grown variables Has look old new
+    → length old.sites ≤ length new.sites
+more_sites {old = old} g = omega (arith, ap length g.sites, length-append old.sites g.added)
+
+-- one form, and then another
+pub grown_then : {variables : ℕ} {First Second Both : List Stands → Type 0} {look more : Look} {old now new : Passed}
+    → ((a b : List Stands) → First a → Second b → Both (a ++ b))
+    → Grown variables First look old now → Grown variables Second more now new → Grown variables Both (look ++ more) old new
+grown_then {variables} {First} {Second} {Both} {look} {more} {old} {now} {new} joined f g = record {
+  regions = g.regions ∙ f.regions;
+  types = g.types ∙ f.types;
+  variables_kept = g.variables_kept ∙ f.variables_kept;
+  added = f.added ++ g.added;
+  sites = g.sites ∙ ap (λ l. l ++ g.added) f.sites ∙ append_assoc old.sites f.added g.added;
+  covered = joined f.added g.added f.covered g.covered;
+  few_sites = g.few_sites;
+  numbered = parts ∙ ap (λ l. l ++ entries_of_look more) f.numbered
+      ∙ ap (λ l. range_with_len old.entries (length (entries_of_look look)) ++ l) next
+      ∙ sym (range_joins old.entries (length (entries_of_look look)) (length (entries_of_look more)))
+      ∙ ap (range_with_len old.entries) (sym counted);
+  entered = omega (arith, f.entered, g.entered, counted);
+  few_entries = g.few_entries;
+  formed = λ n h.
+      list_all-append (is_formed_mark variables n) look more
+      ∙ both_true _ _ (f.formed n (omega (arith, more_sites g, h))) (g.formed n h);
+}
+  where
+    next : entries_of_look more ≡ range_with_len (old.entries + length (entries_of_look look)) (length (entries_of_look more))
+    next = g.numbered ∙ ap (λ n. range_with_len n (length (entries_of_look more))) f.entered
+
+    parts : entries_of_look (look ++ more) ≡ entries_of_look look ++ entries_of_look more
+    parts = flat_map-append mark_entries look more
+
+    counted : length (entries_of_look (look ++ more)) ≡ length (entries_of_look look) + length (entries_of_look more)
+    counted = ap length parts ∙ length-append (entries_of_look look) (entries_of_look more)

@@ -1,0 +1,11 @@
+pub mod Sound
+pub mod Covers
+pub mod Grown
+pub mod Steps
+pub mod Expressions
+pub mod Operators
+pub mod EveryExpression
+pub mod Statements
+pub mod Ordered
+pub mod Declarations
+pub mod Programs

@@ -1,0 +1,72 @@
+-- The law of typing: what each typed program has.
+use Rattle.std.proofs.Common.{◌≡◌, ℕ, List, [], ◌∷◌, ◌++◌, length, map, Ok, refl, sym, ap, subst, ◌∙◌, arith}
+use Rattle.std.specs.List.{range_with_len, list_all, flat_map}
+use Rattle.syntax_tree.specs.declared.Program.{Program}
+use Rattle.syntax_tree.specs.declared.Block.{Block}
+use Rattle.syntax_tree.specs.Places.{name_places, group_places, stmt_places, program_places}
+use Rattle.typed_tree.specs.Ids.{Stands, AreByPlace}
+use Rattle.typed_tree.specs.Look.{BlockEnds, entries_of_look, is_formed_mark}
+use Rattle.typing.specs.Passing.{Passed, After, after, behind_marks}
+use Rattle.typing.specs.Steps.{begins}
+use Rattle.typing.specs.Statements.{statement}
+use Rattle.typing.specs.Typing.{declarations, statement_part, typing}
+use Rattle.typing_laws.specs.Lawful.{Lawful}
+use Rattle.typing_laws.proofs.Covers.{Covers, covers_more, covers_behind, covers_skip}
+use Rattle.typing_laws.proofs.Ordered.{covers_by_place}
+use Rattle.typing_laws.proofs.Grown.{Fine, Grown}
+use Rattle.typing_laws.proofs.Steps.{Does, Anything, split, split_behind, last, mark_does}
+use Rattle.typing_laws.proofs.Statements.{compound_does, statements_lawful}
+use Rattle.typing_laws.proofs.Declarations.{IsReady, declarations_keep}
+
+-- the statements of a block
+statement_part_does : (variables : ℕ) (block : Block) → Does variables 0 (Covers (flat_map stmt_places block.statements.items)) (statement_part block) Anything
+unfolding statement_part
+statement_part_does variables block =
+    let items = block.statements.items in
+    last ((compound_does variables (flat_map stmt_places items) (map statement items) (statements_lawful variables items)).passes 0) λ _ _ _ _.
+    mark_does (BlockEnds block.end) refl (λ n h. refl)
+
+-- the places of the statements are among those of the program
+program_covers : (program : Program) (sites : List Stands) → Covers (flat_map stmt_places program.block.statements.items) sites
+    → Covers (program_places program) sites
+program_covers program sites has =
+    let statements = flat_map stmt_places program.block.statements.items in
+    let groups = flat_map group_places program.block.variables.items in
+    let ends = program.block.end ∷ [] in
+    covers_skip program.name.place (name_places program.parameters.items ++ (groups ++ (statements ++ ends))) sites
+    (covers_behind (name_places program.parameters.items) (groups ++ (statements ++ ends)) sites
+    (covers_behind groups (statements ++ ends) sites (covers_more statements ends sites has)))
+
+-- behind the declarations
+fine_ready : (s : Passed) → IsReady s → Fine (length s.variables) s
+fine_ready s r = record { sound = r.sound; few_sites = omega (arith, ap length r.sites); few_entries = omega (arith, r.entries) }
+
+grown_lawful : (program : Program) (s : Passed) (a : After (Unit {0})) → IsReady s
+    → Grown (length s.variables) (Covers (flat_map stmt_places program.block.statements.items)) a.look s a.passed → Lawful program a
+grown_lawful program s a r g = record {
+  numbered = g.numbered ∙ ap (λ n. range_with_len n (length (entries_of_look a.look))) r.entries;
+  few_entries = omega (arith, g.entered, g.few_entries);
+  formed = ap (λ n. list_all (is_formed_mark n (length a.passed.sites)) a.look) kept ∙ g.formed (length a.passed.sites) (omega arith);
+  few_variables = omega (arith, kept, r.declared, r.room);
+  few_sites = g.few_sites;
+  types = g.types ∙ r.types;
+  by_place = λ order.
+      subst AreByPlace (sym (g.sites ∙ ap (λ l. l ++ g.added) r.sites))
+      (covers_by_place (program_places program) g.added order (program_covers program g.added g.covered));
+}
+  where
+    kept : length a.passed.variables ≡ length s.variables
+    kept = ap length g.variables_kept
+
+-- what each typed program has
+pub typing_is_lawful : (program : Program) (a : After (Unit {0})) → typing program ≡ Ok a → Lawful program a
+unfolding typing
+typing_is_lawful program a is =
+    let start = begins program.name.place in
+    let x = split (declarations program start) (λ b. behind_marks b.look (statement_part program.block b.passed)) a is in
+    let y = split_behind x.0.look (statement_part program.block x.0.passed) a x.2 in
+    let ready : IsReady start = record { sound = tt; types = refl; sites = refl; entries = refl; declared = omega arith; room = omega arith } in
+    let declared = (declarations_keep program).keeps start x.0 x.1 ready in
+    let grown = (statement_part_does (length x.0.passed.variables) program.block).does x.0.passed y.0 y.1 (fine_ready x.0.passed declared.1) (omega arith) in
+    let same : after y.0.answer y.0.look y.0.passed ≡ a = ap (λ l. after y.0.answer (l ++ y.0.look) y.0.passed) (sym declared.0) ∙ y.2 in
+    subst (Lawful program) same (grown_lawful program x.0.passed y.0 declared.1 grown.0)

@@ -1,0 +1,240 @@
+-- What statements do, form by form, and the law of every statement, by induction over its form.
+use Rattle.std.proofs.Common.{◌≡◌, ℕ, ◌<◌, Bool, true, false, ◌&&◌, if◌then◌else◌, List, [], ◌∷◌, map, Option, Some, None, Ok, Err, refl, sym, subst, arith}
+use Rattle.std.specs.List.{flat_map}
+use Rattle.place.specs.declared.Place.{Place}
+use Rattle.syntax_tree.specs.declared.Name.{Name}
+use Rattle.syntax_tree.specs.declared.Expr.{Expr}
+use Rattle.syntax_tree.specs.declared.Actual.{Actual}
+use Rattle.syntax_tree.specs.declared.Link.{Link}
+use Rattle.syntax_tree.specs.declared.Expr.TheOpen as expr_layer
+use Rattle.syntax_tree.specs.declared.Expr.TheViews.{out-Expr, out-Actual}
+use Rattle.syntax_tree.specs.declared.Stmt.{Stmt}
+use Rattle.syntax_tree.specs.declared.Stmt.TheOpen as layer
+use Rattle.syntax_tree.specs.declared.Stmt.TheViews.{roll-Stmt}
+use Rattle.syntax_tree.specs.declared.Stmt.TheFolds.{map-Stmt, fold-roll-Stmt, ind-Stmt}
+use Rattle.syntax_tree.specs.Places.{Places, joined_places, expr_places, actual_places, stmt_places, statement_step as statement_row}
+use Rattle.types.specs.declared.form.TypeForm.{TypeForm}
+use Rattle.types.specs.declared.form.TypeForm.TheVariants as form
+use Rattle.types.specs.declared.form.TypeId.{TypeId}
+use Rattle.types.specs.declared.form.OrdinalRange.{OrdinalRange}
+use Rattle.types.specs.Types.{integer, is_same, is_assignable, form_at, form_range, range_of}
+use Rattle.scopes.specs.declared.denotation.Denotation.{Denotation}
+use Rattle.scopes.specs.declared.denotation.Denotation.TheVariants as denotes
+use Rattle.scopes.specs.declared.denotation.RequiredProcedure.{RequiredProcedure}
+use Rattle.typed_tree.specs.declared.site.SiteKind.TheVariants as kind
+use Rattle.typed_tree.specs.Ids.{Stands}
+use Rattle.typed_tree.specs.WellFormed.{is_whole}
+use Rattle.typed_tree.specs.Look.{Assign, Target, Fits, Write, Written as WrittenMark, Width, Empty, Compound, Ends}
+use Rattle.typing.specs.Passing.{Checked, Passing, and_then, each}
+use Rattle.typing.specs.Expressions.{Typed, Written, WrittenActual, fits, or_mismatch, expression, written_actual}
+use Rattle.typing.specs.Statements.{as_variable, fitting, assignment, as_procedure, ends_line, is_output, names_file, unless_wide, is_file, written_values}
+use Rattle.typing.specs.Statements.{has_values, measured, width, parameter, write, procedure_call, compound, statement_step, statement}
+use Rattle.typing_laws.proofs.Sound.{IsSound}
+use Rattle.typing_laws.proofs.Covers.{Covers, covers_both, covers_none, covers_behind, covers_skip, leads_first}
+use Rattle.typing_laws.proofs.Grown.{both_true}
+use Rattle.typing_laws.proofs.Steps.{Does, Anything, Nothing, joins, quietly, last, checks, sited, pure_does, given_does, find_does, wants_output_does}
+use Rattle.typing_laws.proofs.Steps.{mark_does, enter_does, site_does, IsKnown}
+use Rattle.typing_laws.proofs.Expressions.{lt_true, LawfulWritten, led_covers}
+use Rattle.typing_laws.proofs.EveryExpression.{LawfulActual, IsLawfulWidth, expression_lawful, actual_lawful}
+
+-- ---- assignments
+
+variable_is : (variables : ℕ) (place : Place) (d : Denotation) (target : ℕ × TypeId) → as_variable place d ≡ Ok target → IsSound variables d
+    → target.0 < variables
+variable_is variables place (denotes.Variable root type_id) target is sound = let same : root ≡ target.0 = cc in subst (λ n. n < variables) same sound
+variable_is variables place (denotes.Constant value type_id) target is sound = absurd cc
+variable_is variables place (denotes.TypeName type_id) target is sound = absurd cc
+variable_is variables place (denotes.Procedure procedure) target is sound = absurd cc
+variable_is variables place (denotes.Function function) target is sound = absurd cc
+variable_is variables place denotes.Output target is sound = absurd cc
+
+abbrev IsWholeRange : OrdinalRange → Type 0
+IsWholeRange range = (is_whole range.first && is_whole range.last) ≡ true
+
+-- of what is answered, and nothing of a fault
+abbrev AnswersWhole : Checked OrdinalRange → Type 0
+AnswersWhole (Ok range) = IsWholeRange range
+AnswersWhole (Err why) = Unit {0}
+
+form_whole : (place : Place) (f : Option TypeForm) (range : OrdinalRange) → or_mismatch place (form_range f) ≡ Ok range → IsWholeRange range
+form_whole place None range is = absurd cc
+form_whole place (Some form.Integer) range is = subst AnswersWhole is refl
+form_whole place (Some form.Boolean) range is = subst AnswersWhole is refl
+
+fitting_whole : (place : Place) (types : List TypeForm) (target value : TypeId) (range : OrdinalRange)
+    → or_mismatch place (fitting types target value) ≡ Ok range → IsWholeRange range
+fitting_whole place types target value range is = by (is_assignable types target value) is
+  where
+    by : (test : Bool) → or_mismatch place (if test then range_of types target else None) ≡ Ok range → IsWholeRange range
+    by true h = form_whole place (form_at types target) range h
+    by false h = absurd cc
+
+measured_is : (place : Place) (t : Typed) (id : ℕ) → measured place t ≡ Ok id → t.site ≡ Some id
+measured_is place t id is = by (is_same t.type_id integer) t.site is
+  where
+    by : (test : Bool) (s : Option ℕ) → and_then (fits test place s) (or_mismatch place) ≡ Ok id → s ≡ Some id
+    by true (Some n) h = cc
+    by true None h = absurd cc
+    by false s h = absurd cc
+
+module _ (variables : ℕ) where
+  pub record LawfulStatement (places : List Place) (p : Passing (Unit {0})) : Type 0 where
+    pub passes : (least : ℕ) → Does variables least (Covers places) p Anything
+
+  assignment_does : (name : Name) (becomes : Place) (places : List Place) (value : Written) → LawfulWritten variables places value
+      → LawfulStatement (name.place ∷ becomes ∷ places) (assignment name becomes value)
+  unfolding assignment
+  assignment_does name becomes places value law = record {
+    passes = λ least.
+        quietly (enter_does (λ n. Assign n becomes) (λ n. refl) (λ n m h. refl)) λ _ _ _ _.
+        quietly (find_does name) λ d _ _ sound.
+        quietly (given_does (as_variable name.place d)) λ target _ _ is.
+        let within = variable_is variables name.place d target is sound in
+        quietly (enter_does (λ n. Target n target.0) (λ n. refl) (λ n m h. lt_true target.0 variables within)) λ _ now _ _.
+        sited (λ sites. covers_skip name.place (becomes ∷ places) sites)
+        (led_covers variables becomes places (kind.Subrange ∷ []) tt
+        (joins (leads_first becomes (kind.Subrange ∷ []) places) (site_does kind.Subrange becomes) λ id there _ known.
+        last (checks {L = λ range n. IsWholeRange range} (law.types there None tt) λ types t range n more whole _.
+        fitting_whole becomes types target.1 t.type_id range whole) λ range n more whole.
+        mark_does (Fits (record { site = id; range = range })) refl (λ m h. both_true _ _ (lt_true id m (omega (arith, known, more, h))) whole)));
+  }
+
+  -- ---- what is written
+
+  names_file_does : {least : ℕ} (e : expr_layer.Expr-F Expr Actual Link) → Does variables least Nothing (names_file e) Anything
+  names_file_does (expr_layer.Name name) = quietly (find_does name) λ d _ _ _. pure_does (is_output d) (λ n h. tt)
+  names_file_does (expr_layer.Number value place) = pure_does false (λ n h. tt)
+  names_file_does (expr_layer.Call name actuals) = pure_does false (λ n h. tt)
+  names_file_does (expr_layer.Parenthesized place inner) = pure_does false (λ n h. tt)
+  names_file_does (expr_layer.Not place operand) = pure_does false (λ n h. tt)
+  names_file_does (expr_layer.Signed s place term) = pure_does false (λ n h. tt)
+  names_file_does (expr_layer.Chain first rest) = pure_does false (λ n h. tt)
+
+  unless_wide_does : {least : ℕ} (value : Expr) (w : Option Expr) → Does variables least Nothing (unless_wide value w) Anything
+  unless_wide_does value None = names_file_does (out-Expr value)
+  unless_wide_does value (Some w) = pure_does false (λ n h. tt)
+
+  is_file_does : {least : ℕ} (actual : Actual) → Does variables least Nothing (is_file actual) Anything
+  unfolding is_file
+  is_file_does actual = unless_wide_does (out-Actual actual).value (out-Actual actual).width
+
+  -- sites at the places of these are sites at the places of all
+  abbrev AreAmong : List Actual → List Actual → Type 0
+  AreAmong all values = (sites : List Stands) → Covers (flat_map actual_places values) sites → Covers (flat_map actual_places all) sites
+
+  among : (file : Bool) (first : Actual) (rest : List Actual) → AreAmong (first ∷ rest) (if file then rest else first ∷ rest)
+  among true first rest = λ sites. covers_behind (actual_places first) (flat_map actual_places rest) sites
+  among false first rest = λ sites has. has
+
+  written_values_do : {least : ℕ} (actuals : List Actual) → Does variables least Nothing (written_values actuals) (λ values now. AreAmong actuals values)
+  unfolding written_values
+  written_values_do [] = pure_does [] (λ n h sites has. has)
+  written_values_do (first ∷ rest) = quietly (is_file_does first) λ file _ _ _. pure_does (if file then rest else first ∷ rest) (λ n h. among file first rest)
+
+  width_does : (least : ℕ) (places : List Place) (w : Option Written) → IsLawfulWidth variables places w
+      → Does variables least (Covers places) (width w) Anything
+  unfolding width
+  width_does least places None law =
+      sited (λ sites none. subst (Covers places) (sym none) (covers_none places))
+      (pure_does {K = Anything} tt (λ n h. tt))
+  width_does least places (Some w) law =
+      last (checks {L = λ id n. IsKnown (Some id) n} (law.types least (Some kind.Width) (omega arith)) λ types t id n more is known.
+      subst (λ z. IsKnown z n) (measured_is w.first t id is) known) λ id n more known.
+      mark_does (Width id) refl (λ m h. lt_true id m (omega (arith, known, h)))
+
+  parameter_does : (least : ℕ) (places : List Place) (a : WrittenActual) → LawfulActual variables places a
+      → Does variables least (Covers places) (parameter a) Anything
+  unfolding parameter
+  parameter_does least places a law =
+      sited (λ sites. subst (λ p. Covers p sites) (sym law.places_are))
+      (joins (covers_both law.of_value law.of_width) (checks {L = Anything} (law.value.types least None tt) λ types t b n more is _. tt) λ written now _ _.
+      quietly (mark_does (WrittenMark written) refl (λ n h. refl)) λ _ next _ _.
+      width_does next law.of_width a.width law.width)
+
+  parameters_do : (least : ℕ) (values : List Actual)
+      → Does variables least (Covers (flat_map actual_places values)) (each parameter (map written_actual values)) Anything
+  parameters_do least [] = pure_does tt (λ n h. tt)
+  parameters_do least (value ∷ values) =
+      joins (covers_both (actual_places value) (flat_map actual_places values))
+      (parameter_does least (actual_places value) (written_actual value) (actual_lawful variables value)) λ _ now _ _.
+      parameters_do now values
+
+  write_does : (least : ℕ) (name : Name) (actuals : List Actual) (procedure : RequiredProcedure)
+      → Does variables least (Covers (flat_map actual_places actuals)) (write name actuals procedure) Anything
+  unfolding write
+  write_does least name actuals procedure =
+      quietly (wants_output_does name.place) λ _ _ _ _.
+      quietly (enter_does (λ n. Write n name.place (ends_line procedure)) (λ n. refl) (λ n m h. refl)) λ _ _ _ _.
+      quietly (written_values_do actuals) λ values now _ among.
+      sited among
+      (quietly (given_does (has_values name.place procedure values)) λ _ there _ _.
+      last (parameters_do there values) λ _ m _ _.
+      mark_does Ends refl (λ n h. refl))
+
+  call_does : (name : Name) (actuals : List Actual) → LawfulStatement (name.place ∷ flat_map actual_places actuals) (procedure_call name actuals)
+  unfolding procedure_call
+  call_does name actuals = record {
+    passes = λ least.
+        sited (λ sites. covers_skip name.place (flat_map actual_places actuals) sites)
+        (quietly (find_does name) λ d _ _ _.
+        quietly (given_does (as_procedure name.place d)) λ procedure now _ _.
+        write_does now name actuals procedure);
+  }
+
+  -- ---- compound statements
+
+  pub compound_does : (places : List Place) (statements : List (Passing (Unit {0})))
+      → ((least : ℕ) → Does variables least (Covers places) (each (λ s. s) statements) Anything) → LawfulStatement places (compound statements)
+  unfolding compound
+  compound_does places statements row = record {
+    passes = λ least.
+        quietly (enter_does Compound (λ n. refl) (λ n m h. refl)) λ _ now _ _.
+        last (row now) λ _ m _ _.
+        mark_does Ends refl (λ n h. refl);
+  }
+
+  -- ---- every statement
+
+  abbrev LawfulStmt : Stmt → Type 0
+  LawfulStmt w = LawfulStatement (stmt_places w) (statement w)
+
+  abbrev WithStmt : Type 0
+  WithStmt = (w : Stmt) × LawfulStmt w
+
+  abbrev bare : layer.Stmt-F WithStmt → layer.Stmt-F Stmt
+  bare y = map-Stmt WithStmt Stmt (λ w. w.0) y
+
+  from_layer : (d : layer.Stmt-F Stmt)
+      → LawfulStatement (statement_row (map-Stmt Stmt Places stmt_places d)) (statement_step (map-Stmt Stmt (Passing (Unit {0})) statement d))
+      → LawfulStmt (roll-Stmt d)
+  from_layer d law =
+      subst (λ p. LawfulStatement p (statement (roll-Stmt d))) (sym (fold-roll-Stmt Places statement_row d))
+      (subst (LawfulStatement _) (sym (fold-roll-Stmt (Passing (Unit {0})) statement_step d)) law)
+
+  abbrev bare_row : List WithStmt → List Stmt
+  bare_row ys = map (λ (y : WithStmt). y.0) ys
+
+  row_lawful : (ys : List WithStmt) (least : ℕ)
+      → Does variables least (Covers (joined_places (map stmt_places (bare_row ys)))) (each (λ s. s) (map statement (bare_row ys))) Anything
+  row_lawful [] least = pure_does tt (λ n h. tt)
+  row_lawful (y ∷ ys) least =
+      joins (covers_both (stmt_places y.0) (joined_places (map stmt_places (bare_row ys)))) (y.1.passes least) λ _ now _ _.
+      row_lawful ys now
+
+  statement_layer : (y : layer.Stmt-F WithStmt) → LawfulStmt (roll-Stmt (bare y))
+  statement_layer layer.Empty = from_layer layer.Empty (record { passes = λ least. enter_does Empty (λ n. refl) (λ n m h. refl) })
+  statement_layer (layer.Assign name becomes value) =
+      from_layer (layer.Assign name becomes value)
+      (assignment_does name becomes (expr_places value) (expression value) (expression_lawful variables value))
+  statement_layer (layer.Call name actuals) = from_layer (layer.Call name actuals) (call_does name actuals.items)
+  statement_layer (layer.Compound statements) = from_layer (bare (layer.Compound statements)) (compound_does _ _ (row_lawful statements.items))
+
+  -- every statement
+  pub statement_lawful : (w : Stmt) → LawfulStmt w
+  statement_lawful = ind-Stmt LawfulStmt (λ x y is. subst (λ z. LawfulStmt (roll-Stmt z)) is (statement_layer y))
+
+  pub statements_lawful : (ws : List Stmt) (least : ℕ) → Does variables least (Covers (flat_map stmt_places ws)) (each (λ s. s) (map statement ws)) Anything
+  statements_lawful [] least = pure_does tt (λ n h. tt)
+  statements_lawful (w ∷ ws) least =
+      joins (covers_both (stmt_places w) (flat_map stmt_places ws)) ((statement_lawful w).passes least) λ _ now _ _.
+      statements_lawful ws now

@@ -1,0 +1,302 @@
+-- What the steps of typing do, and what they do one after another.
+use Rattle.std.proofs.Common.{◌≡◌, ℕ, ◌+◌, ◌<◌, ◌≤◌, Bool, true, false, nat_le, Result, List, [], ◌∷◌, ◌++◌, length, Option, Some, None, Ok, Err, if◌then◌else◌}
+use Rattle.std.proofs.Common.{append-nil, length-append, refl, sym, ap, subst, ◌∙◌, arith}
+use Rattle.std.specs.List.{range_with_len}
+use Rattle.std.proofs.lemmas.Bool.Decides.{nat_tests}
+use Rattle.place.specs.declared.Place.{Place}
+use Rattle.syntax_tree.specs.declared.Name.{Name}
+use Rattle.types.specs.declared.form.TypeForm.{TypeForm}
+use Rattle.scopes.specs.Scopes.{found}
+use Rattle.scopes.specs.declared.denotation.Denotation.{Denotation}
+use Rattle.scopes.specs.declared.fault.ScopeFault.{ScopeFault}
+use Rattle.typed_tree.specs.declared.fault.TypeFault.{TypeFault}
+use Rattle.typed_tree.specs.declared.fault.TypeFault.TheVariants as fault
+use Rattle.typed_tree.specs.declared.site.SiteKind.{SiteKind}
+use Rattle.typed_tree.specs.Ids.{Stands}
+use Rattle.typed_tree.specs.Look.{Mark, Look, mark_entries, is_formed_mark}
+use Rattle.typing.specs.Passing.{Passed, Checked, After, Passing, and_then, after, pure, fail, given, mark, behind_marks, ◌>>=◌, ◌>>?◌}
+use Rattle.typing.specs.Steps.{most_sites, most_entries, pass, enter, enter_as, site, find, told, wants_output}
+use Rattle.typing.specs.Expressions.{behind}
+use Rattle.typing.specs.Names.{folded}
+use Rattle.typing_laws.proofs.Sound.{IsSound, found_sound}
+use Rattle.typing_laws.proofs.Covers.{at_place}
+use Rattle.typing_laws.proofs.Grown.{Fine, Grown, fine_later, more_sites, grown_then, both_true}
+
+-- a form has grown what is known, and its answer has this
+abbrev pub Leaves : {A : Type 0} → ℕ → (List Stands → Type 0) → Passed → (A → ℕ → Type 0) → After A → Type 0
+Leaves variables Has s Answers a = Grown variables Has a.look s a.passed × Answers a.answer (length a.passed.sites)
+
+-- from at least so many sites, its answer has this with as many sites as there are then
+pub record Does (variables least : ℕ) {A : Type 0} (Has : List Stands → Type 0) (p : Passing A) (Answers : A → ℕ → Type 0) : Type 0 where
+  pub does : (s : Passed) (a : After A) → p s ≡ Ok a → Fine variables s → least ≤ length s.sites
+      → Leaves variables Has s Answers a
+
+abbrev pub Anything : {A : Type 0} → A → ℕ → Type 0
+Anything answer sites = Unit {0}
+
+-- no site
+abbrev pub Nothing : List Stands → Type 0
+Nothing added = added ≡ []
+
+-- ---- what an answer says of the parts
+
+pub split : {A B : Type 0} (c : Checked A) (f : A → Checked B) (b : B) → and_then c f ≡ Ok b → (a : A) × (c ≡ Ok a) × (f a ≡ Ok b)
+split (Ok a) f b h = (a, refl, h)
+split (Err fault) f b h = absurd cc
+
+pub split_behind : {A : Type 0} (look : Look) (c : Checked (After A)) (b : After A) → behind_marks look c ≡ Ok b
+    → (a : After A) × (c ≡ Ok a) × (after a.answer (look ++ a.look) a.passed ≡ b)
+split_behind look (Ok a) b h = (a, refl, cc)
+split_behind look (Err fault) b h = absurd cc
+
+pub split_unless : {A : Type 0} (test : Bool) (fault : TypeFault) (a b : A) → (if test then Err fault else Ok a) ≡ Ok b → (test ≡ false) × (a ≡ b)
+split_unless true fault a b h = absurd cc
+split_unless false fault a b h = (refl, cc)
+
+pub split_if : {A : Type 0} (test : Bool) (fault : TypeFault) (a b : A) → (if test then Ok a else Err fault) ≡ Ok b → (test ≡ true) × (a ≡ b)
+split_if true fault a b h = (refl, cc)
+split_if false fault a b h = absurd cc
+
+pub below : (a b : ℕ) → nat_le a b ≡ false → b < a
+below a b h = grind (arith, nat_tests)
+
+-- ---- one after another
+
+pub joins : {variables least : ℕ} {A B : Type 0} {First Second Both : List Stands → Type 0} {p : Passing A} {f : A → Passing B} {K : A → ℕ → Type 0}
+    {L : B → ℕ → Type 0}
+    → ((a b : List Stands) → First a → Second b → Both (a ++ b)) → Does variables least First p K
+    → ((x : A) (now : ℕ) → least ≤ now → K x now → Does variables now Second (f x) L) → Does variables least Both (p >>= f) L
+joins {variables} {least} {A} {B} {First} {Second} {Both} {p} {f} {K} {L} joined first rest = record {
+  does = λ s b is fine h.
+      let x = split (p s) (λ a. behind_marks a.look (f a.answer a.passed)) b is in
+      let y = split_behind x.0.look (f x.0.answer x.0.passed) b x.2 in
+      let one = first.does s x.0 x.1 fine h in
+      let now : least ≤ length x.0.passed.sites = omega (arith, more_sites one.0, h) in
+      let two = (rest x.0.answer (length x.0.passed.sites) now one.1).does x.0.passed y.0 y.1 (fine_later one.0 fine) (omega arith) in
+      subst (Leaves variables Both s L) y.2 (grown_then joined one.0 two.0, two.1);
+}
+
+-- a step that adds no site, and then others
+pub quietly : {variables least : ℕ} {A B : Type 0} {Has : List Stands → Type 0} {p : Passing A} {f : A → Passing B} {K : A → ℕ → Type 0} {L : B → ℕ → Type 0}
+    → Does variables least Nothing p K
+    → ((x : A) (now : ℕ) → least ≤ now → K x now → Does variables now Has (f x) L) → Does variables least Has (p >>= f) L
+quietly {Has = Has} first rest = joins (λ a b none has. subst (λ l. Has (l ++ b)) (sym none) has) first rest
+
+-- a step, and then others that add no site
+pub last : {variables least : ℕ} {A B : Type 0} {Has : List Stands → Type 0} {p : Passing A} {f : A → Passing B} {K : A → ℕ → Type 0} {L : B → ℕ → Type 0}
+    → Does variables least Has p K
+    → ((x : A) (now : ℕ) → least ≤ now → K x now → Does variables now Nothing (f x) L) → Does variables least Has (p >>= f) L
+last {Has = Has} first rest = joins (λ a b has none. subst Has (sym (append-nil a) ∙ ap (λ l. a ++ l) (sym none)) has) first rest
+
+-- a form, and then a test of what it is
+pub checks : {variables least : ℕ} {A B : Type 0} {Has : List Stands → Type 0} {p : Passing A} {test : List TypeForm → A → Checked B}
+    {K : A → ℕ → Type 0} {L : B → ℕ → Type 0}
+    → Does variables least Has p K
+    → ((types : List TypeForm) (x : A) (b : B) (now : ℕ) → least ≤ now → test types x ≡ Ok b → K x now → L b now) → Does variables least Has (p >>? test) L
+checks {variables} {least} {A} {B} {Has} {p} {test} {K} {L} first fits = record {
+  does = λ s b is fine h.
+      let x = split (p s) (λ a. and_then (test a.passed.types a.answer) (λ b. Ok (after b a.look a.passed))) b is in
+      let y = split (test x.0.passed.types x.0.answer) (λ b. Ok (after b x.0.look x.0.passed)) b x.2 in
+      let one = first.does s x.0 x.1 fine h in
+      let same : after y.0 x.0.look x.0.passed ≡ b = cc in
+      subst (Leaves variables Has s L) same
+      (one.0, fits x.0.passed.types x.0.answer y.0 (length x.0.passed.sites) (omega (arith, more_sites one.0, h)) y.1 one.1);
+}
+
+-- the same, with something else that holds of its sites
+pub sited : {variables least : ℕ} {A : Type 0} {Has Had : List Stands → Type 0} {p : Passing A} {K : A → ℕ → Type 0} → ((a : List Stands) → Has a → Had a)
+    → Does variables least Has p K → Does variables least Had p K
+sited {variables} {Has = Has} {Had = Had} has d = record {
+  does = λ s a is fine h.
+      let k = d.does s a is fine h in
+      (otherwise k.0, k.1);
+}
+  where
+    otherwise : {look : Look} {old new : Passed} → Grown variables Has look old new → Grown variables Had look old new
+    otherwise g = record {
+      regions = g.regions;
+      types = g.types;
+      variables_kept = g.variables_kept;
+      added = g.added;
+      sites = g.sites;
+      covered = has g.added g.covered;
+      few_sites = g.few_sites;
+      numbered = g.numbered;
+      entered = g.entered;
+      few_entries = g.few_entries;
+      formed = g.formed;
+    }
+
+-- ---- steps that add no site
+
+-- what is known is the same, but for the latest token
+pub grown_silent : (variables : ℕ) (s new : Passed) → new.regions ≡ s.regions → new.types ≡ s.types → new.variables ≡ s.variables → new.sites ≡ s.sites
+    → new.entries ≡ s.entries → Fine variables s
+    → Grown variables Nothing [] s new
+grown_silent variables s new regions types declared sites entries fine = record {
+  regions = regions;
+  types = types;
+  variables_kept = declared;
+  added = [];
+  sites = sites ∙ sym (append-nil s.sites);
+  covered = refl;
+  few_sites = omega (arith, ap length sites, fine.few_sites);
+  numbered = refl;
+  entered = omega (arith, entries);
+  few_entries = omega (arith, entries, fine.few_entries);
+  formed = λ n h. refl;
+}
+
+pub pass_does : {variables least : ℕ} (place : Place) → Does variables least Nothing (pass place) Anything
+unfolding pass
+pass_does {variables} place = record {
+  does = λ s a is fine h.
+      let same : after tt [] (record s { latest = place }) ≡ a = cc in
+      subst (Leaves variables Nothing s Anything) same (grown_silent variables s (record s { latest = place }) refl refl refl refl refl fine, tt);
+}
+
+pub pure_does : {variables least : ℕ} {A : Type 0} {K : A → ℕ → Type 0} (x : A) → ((now : ℕ) → least ≤ now → K x now) → Does variables least Nothing (pure x) K
+pure_does {variables} {least} {A} {K} x known = record {
+  does = λ s a is fine h.
+      let same : after x [] s ≡ a = cc in
+      subst (Leaves variables Nothing s K) same (grown_silent variables s s refl refl refl refl refl fine, known (length s.sites) h);
+}
+
+pub given_does : {variables least : ℕ} {A : Type 0} (checked : Checked A) → Does variables least Nothing (given checked) (λ x now. checked ≡ Ok x)
+given_does {variables} {least} {A} checked = record {
+  does = λ s a is fine h.
+      let x = split checked (λ b. Ok (after b [] s)) a is in
+      let same : after x.0 [] s ≡ a = cc in
+      subst (Leaves variables Nothing s (λ x now. checked ≡ Ok x)) same (grown_silent variables s s refl refl refl refl refl fine, x.1);
+}
+
+pub fail_does : {variables least : ℕ} {A : Type 0} {Has : List Stands → Type 0} {K : A → ℕ → Type 0} (why : TypeFault)
+    → Does variables least Has (fail {A = A} why) K
+fail_does why = record { does = λ s a is fine h. absurd cc }
+
+-- a name denotes what is sound
+pub find_does : {variables least : ℕ} (name : Name) → Does variables least Nothing (find name) (λ denotation now. IsSound variables denotation)
+unfolding find
+find_does {variables} name = record {
+  does = λ s a is fine h.
+      let text = folded name.text.now in
+      let x = split (told name.place (found s.regions text)) (λ denotation. Ok (after denotation [] (record s { latest = name.place }))) a is in
+      let same : after x.0 [] (record s { latest = name.place }) ≡ a = cc in
+      let there = found_sound variables s.regions text x.0 fine.sound (by (found s.regions text) x.0 x.1) in
+      subst (Leaves variables Nothing s (λ denotation now. IsSound variables denotation)) same
+      (grown_silent variables s (record s { latest = name.place }) refl refl refl refl refl fine, there);
+}
+  where
+    by : (r : Result Denotation ScopeFault) (d : Denotation) → told name.place r ≡ Ok d → r ≡ Ok d
+    by (Ok d) e is = let same : d ≡ e = cc in ap Ok same
+    by (Err why) e is = absurd cc
+
+pub wants_output_does : {variables least : ℕ} (place : Place) → Does variables least Nothing (wants_output place) Anything
+unfolding wants_output
+wants_output_does {variables} place = record {
+  does = λ s a is fine h.
+      let x = split_if s.has_output (fault.NotProgramParameter place) (after tt [] s) a is in
+      subst (Leaves variables Nothing s Anything) x.1 (grown_silent variables s s refl refl refl refl refl fine, tt);
+}
+
+-- ---- marks
+
+-- no entry, but well formed
+pub mark_does : {variables least : ℕ} (one : Mark) → mark_entries one ≡ [] → ((n : ℕ) → least ≤ n → is_formed_mark variables n one ≡ true)
+    → Does variables least Nothing (mark one) Anything
+mark_does {variables} {least} one none formed = record {
+  does = λ s a is fine h.
+      let same : after tt (one ∷ []) s ≡ a = cc in
+      let counted : length (mark_entries one ++ []) ≡ 0 = ap (λ (l : List ℕ). length (l ++ [])) none in
+      let g : Grown variables Nothing (one ∷ []) s s = record {
+        regions = refl;
+        types = refl;
+        variables_kept = refl;
+        added = [];
+        sites = sym (append-nil s.sites);
+        covered = refl;
+        few_sites = fine.few_sites;
+        numbered = subst (λ (l : List ℕ). l ++ [] ≡ range_with_len s.entries (length (l ++ []))) (sym none) refl;
+        entered = omega (arith, counted);
+        few_entries = fine.few_entries;
+        formed = λ n more. both_true _ true (formed n (omega (arith, more, h))) refl;
+      } in
+      subst (Leaves variables Nothing s Anything) same (g, tt);
+}
+
+-- an entry, with the next number
+pub enter_does : {variables least : ℕ} (marked : ℕ → Mark) → ((k : ℕ) → mark_entries (marked k) ≡ k ∷ [])
+    → ((k n : ℕ) → least ≤ n → is_formed_mark variables n (marked k) ≡ true) → Does variables least Nothing (enter_as marked) Anything
+unfolding enter_as enter
+enter_does {variables} {least} marked one formed = record {
+  does = λ s a is fine h.
+      let x = split (if nat_le most_entries s.entries then Err (fault.TooMany s.latest) else Ok (after s.entries [] (record s { entries = s.entries + 1 })))
+      (λ b. behind_marks b.look (mark (marked b.answer) b.passed)) a is in
+      let y = split_unless (nat_le most_entries s.entries) (fault.TooMany s.latest) (after s.entries [] (record s { entries = s.entries + 1 })) x.0 x.1 in
+      let new : Passed = record s { entries = s.entries + 1 } in
+      let number = s.entries in
+      let same : after tt (marked s.entries ∷ []) new ≡ a = by x.0 a y.1 x.2 in
+      let counted : length (mark_entries (marked number) ++ []) ≡ 1 = ap (λ (l : List ℕ). length (l ++ [])) (one number) in
+      let g : Grown variables Nothing (marked number ∷ []) s new = record {
+        regions = refl;
+        types = refl;
+        variables_kept = refl;
+        added = [];
+        sites = sym (append-nil s.sites);
+        covered = refl;
+        few_sites = fine.few_sites;
+        numbered = subst (λ (l : List ℕ). l ++ [] ≡ range_with_len s.entries (length (l ++ []))) (sym (one number)) refl;
+        entered = omega (arith, counted);
+        few_entries = omega (arith, below most_entries s.entries y.0);
+        formed = λ n more. both_true _ true (formed number n (omega (arith, more, h))) refl;
+      } in
+      subst (Leaves variables Nothing s Anything) same (g, tt);
+}
+  where
+    by : {new : Passed} {number : ℕ} (x : After ℕ) (a : After (Unit {0})) → after number [] new ≡ x
+        → behind_marks x.look (mark (marked x.answer) x.passed) ≡ Ok a → after tt (marked number ∷ []) new ≡ a
+    by {new} {number} x a is h =
+        let there : behind_marks [] (mark (marked number) new) ≡ Ok a =
+        subst (λ (z : After ℕ). behind_marks z.look (mark (marked z.answer) z.passed) ≡ Ok a) (sym is) h in
+        cc
+
+-- ---- sites
+
+pub site_does : {variables least : ℕ} (kind : SiteKind) (place : Place)
+    → Does variables least (λ added. added ≡ (kind, place) ∷ []) (site kind place) (λ id now. id < now)
+unfolding site
+site_does {variables} {least} kind place = record {
+  does = λ s a is fine h.
+      let new : Passed = record s { sites = s.sites ++ (kind, place) ∷ []; latest = place } in
+      let y = split_unless (nat_le most_sites (length s.sites)) (fault.TooMany place) (after (length s.sites) [] new) a is in
+      let counted = length-append s.sites ((kind, place) ∷ []) in
+      let g : Grown variables (λ added. added ≡ (kind, place) ∷ []) [] s new = record {
+        regions = refl;
+        types = refl;
+        variables_kept = refl;
+        added = (kind, place) ∷ [];
+        sites = refl;
+        covered = refl;
+        few_sites = omega (arith, counted, below most_sites (length s.sites) y.0);
+        numbered = refl;
+        entered = omega arith;
+        few_entries = fine.few_entries;
+        formed = λ n more. refl;
+      } in
+      subst (Leaves variables (λ added. added ≡ (kind, place) ∷ []) s (λ id now. id < now)) y.1 (g, omega (arith, counted));
+}
+
+-- the kinds of the leading site
+abbrev pub led : Option SiteKind → List SiteKind
+led None = []
+led (Some kind) = kind ∷ []
+
+abbrev pub IsKnown : Option ℕ → ℕ → Type 0
+IsKnown None sites = Unit {0}
+IsKnown (Some id) sites = id < sites
+
+pub behind_does : {variables least : ℕ} (lead : Option SiteKind) (place : Place)
+    → Does variables least (λ added. added ≡ at_place place (led lead)) (behind lead place) IsKnown
+unfolding behind
+behind_does None place = pure_does None (λ now more. tt)
+behind_does (Some kind) place = last (site_does kind place) (λ id now more known. pure_does (Some id) (λ n h. omega (arith, h, known)))

@@ -1,0 +1,31 @@
+-- What a typed program has: by how its typed tree looks, and by what is known behind it. It says nothing of what the
+-- program does.
+use Rattle.std.specs.Prelude.{◌≡◌, ◌≤◌, true, length, Ok}
+use Rattle.std.specs.List.{range_with_len, list_all}
+use Rattle.place.specs.Place.{ArePlacesInOrder}
+use Rattle.syntax_tree.specs.declared.Program.{Program}
+use Rattle.syntax_tree.specs.Places.{program_places}
+use Rattle.types.specs.Types.{required_forms}
+use Rattle.typed_tree.specs.Ids.{AreByPlace}
+use Rattle.typed_tree.specs.Look.{entries_of_look, is_formed_mark}
+use Rattle.typing.specs.Passing.{After}
+use Rattle.typing.specs.Steps.{most_sites, most_entries, most_cells}
+use Rattle.typing.specs.Typing.{typing}
+
+-- what a typed program has, by how its tree looks and what is known behind it
+pub record Lawful (program : Program) (a : After (Unit {0})) : Type 0 where
+  -- its entries are numbered from 0, in the order of the text
+  pub numbered : entries_of_look a.look ≡ range_with_len 0 (length (entries_of_look a.look))
+  pub few_entries : length (entries_of_look a.look) ≤ most_entries
+  -- each form is well formed, with the program's variables and sites
+  pub formed : list_all (is_formed_mark (length a.passed.variables) (length a.passed.sites)) a.look ≡ true
+  pub few_variables : length a.passed.variables ≤ most_cells
+  pub few_sites : length a.passed.sites ≤ most_sites
+  -- the program declares no types of its own
+  pub types : a.passed.types ≡ required_forms
+  -- its sites stand by place and then by kind, if its places stand in order
+  pub by_place : ArePlacesInOrder (program_places program) → AreByPlace a.passed.sites
+
+-- each program that is typed has all this
+abbrev pub TypedProgramsAreLawful : Type 0
+TypedProgramsAreLawful = (program : Program) (a : After (Unit {0})) → typing program ≡ Ok a → Lawful program a
