@@ -1,3 +1,4 @@
 mod Chains
 mod Files
 mod MadeRows
+mod Programs

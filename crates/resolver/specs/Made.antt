@@ -3,10 +3,13 @@
 use Rattle.std.specs.Prelude.{◌≡◌, ℕ, List, [], ◌∷◌, ◌++◌, flat_map, Result, Option, Some, Vec}
 use Rattle.std.specs.Borrow.{Bor}
 use Rattle.std.specs.declared.alloc.Global.{Global}
+use Rattle.syntax_tree.specs.declared.Program.{Program}
 use Rattle.syntax_tree.specs.declared.Actual.{Actual}
 use Rattle.syntax_tree.specs.declared.Expr.{Expr as SyntaxExpr}
 use Rattle.syntax_tree.specs.declared.Expr.TheViews.{out-Actual}
 use Rattle.typed_tree.specs.declared.fault.TypeFault.{TypeFault}
+use Rattle.typed_tree.specs.declared.tree.Tree.{Tree}
+use Rattle.typed_tree.specs.declared.tree.Block.{Block}
 use Rattle.typed_tree.specs.declared.tree.Stmt.{Stmt}
 use Rattle.typed_tree.specs.declared.tree.Link.{Link}
 use Rattle.typed_tree.specs.declared.tree.WriteParameter.{WriteParameter}
@@ -16,6 +19,7 @@ use Rattle.typed_tree.specs.Look.{Look, Begins, Ends, look_expr, look_link, look
 use Rattle.typing.specs.Passing.{Passed, Checked, After}
 use Rattle.typing.specs.Expressions.{Typed, typed}
 use Rattle.typing.specs.Outcomes.{Makes}
+use Rattle.typing.specs.Sound.{IsTyped}
 use Rattle.resolver.specs.declared.typed.Typed.{Typed as MadeExpr}
 use Rattle.resolver.specs.declared.typed.TypedLink.{TypedLink}
 use Rattle.resolver.specs.declared.typed.TypedLinks.{TypedLinks}
@@ -70,3 +74,9 @@ MakesWidth = Makes (λ made. tt) look_width
 -- a width
 abbrev pub MakesOwnWidth : Checked (After (Unit {0})) → Result Width TypeFault → Passed → Type 0
 MakesOwnWidth = Makes (λ made. tt) (λ made. look_width (Some made))
+
+-- the typed tree of a program, which has one block
+pub record IsResolved (program : Program) (tree : Tree) : Type 0 where
+  pub is_typed : IsTyped program tree
+  pub block : Block
+  pub blocks : tree.blocks.items ≡ block ∷ []

@@ -3,5 +3,8 @@
 #![tactic(auto)]
 
 mod expressions;
+mod program;
 mod statements;
 mod typed;
+
+pub use program::resolve;

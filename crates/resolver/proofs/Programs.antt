@@ -1,0 +1,120 @@
+-- Programs: their typing goes on from that of their declarations and of their statements; and what the typed tree of one
+-- has by the laws of typing.
+use Rattle.std.proofs.Common.{◌≡◌, ◌⊎◌, ℕ, ◌<◌, ◌≤◌, true, List, [], ◌∷◌, ◌++◌, length, map, Ok, Err, inl, inr, refl, sym, ap, subst, ◌∙◌, append-nil, arith}
+use Rattle.std.specs.List.{list_all, range_with_len, flat_map}
+use Rattle.std.proofs.lemmas.List.{length-map}
+use Rattle.place.specs.Place.{ArePlacesInOrder}
+use Rattle.syntax_tree.specs.declared.Program.{Program}
+use Rattle.syntax_tree.specs.Places.{program_places}
+use Rattle.types.specs.Types.{required_forms}
+use Rattle.typed_tree.specs.declared.fault.TypeFault.{TypeFault}
+use Rattle.typed_tree.specs.declared.tree.Tree.{Tree}
+use Rattle.typed_tree.specs.declared.tree.Block.{Block}
+use Rattle.typed_tree.specs.Entries.{entries_of}
+use Rattle.typed_tree.specs.Ids.{AreInOrder, AreByPlace}
+use Rattle.typed_tree.specs.Look.{Look, BlockEnds, look_stmt, look_block, tree_look, entries_of_look, is_formed_mark}
+use Rattle.typed_tree.specs.WellFormed.{IsWellFormed, is_well_formed_block}
+use Rattle.typed_tree.proofs.Looks.{entries_are, formed_are}
+use Rattle.typing.specs.Passing.{Passed, after, and_then, behind_marks, mark, ◌>>=◌, ◌>>◌}
+use Rattle.typing.specs.Outcomes.{IsFault}
+use Rattle.typing.specs.Statements.{statement, compound}
+use Rattle.typing.specs.Typing.{typing, declarations, statement_part}
+use Rattle.typing.specs.Sound.{IsTyped, IsLeft, stands}
+use Rattle.typing_laws.specs.Lawful.{Lawful}
+use Rattle.typing_laws.proofs.Programs.{typing_is_lawful}
+use Rattle.declarations.specs.Declared.{declared}
+use Rattle.resolver.specs.Made.{IsResolved}
+
+-- ---- from the parts to the program
+
+module _ (program : Program) where
+  pub stops_in_declarations : (why : TypeFault) → IsFault (declared program) why → IsFault (typing program) why
+  unfolding typing
+  stops_in_declarations why (inl memory) = inl memory
+  stops_in_declarations why (inr stops) = inr (ap (λ r. and_then r (λ a. behind_marks a.look (statement_part program.block a.passed))) stops)
+
+  module _ (m : Passed) (passes : declared program ≡ Ok (after tt [] m)) where
+    on : typing program ≡ behind_marks [] (statement_part program.block m)
+    unfolding typing
+    on = ap (λ r. and_then r (λ a. behind_marks a.look (statement_part program.block a.passed))) passes
+
+    pub stops_in_statements : (why : TypeFault) → IsFault (compound (map statement program.block.statements.items) m) why → IsFault (typing program) why
+    unfolding statement_part
+    stops_in_statements why (inl memory) = inl memory
+    stops_in_statements why (inr stops) = inr (
+        on ∙ ap (λ r. behind_marks [] (and_then r (λ a. behind_marks a.look (mark (BlockEnds program.block.end) a.passed)))) stops)
+
+    program_passes : (look : Look) (n : Passed) → compound (map statement program.block.statements.items) m ≡ Ok (after tt look n)
+        → typing program ≡ Ok (after tt (look ++ (BlockEnds program.block.end ∷ [])) n)
+    unfolding statement_part
+    program_passes look n ends =
+        on ∙ ap (λ r. behind_marks [] (and_then r (λ a. behind_marks a.look (mark (BlockEnds program.block.end) a.passed)))) ends
+
+    -- the tree of the program
+    pub is_resolved : (n : Passed) (block : Block) (tree : Tree) → compound (map statement program.block.statements.items) m ≡ Ok (after tt (look_stmt block.body) n)
+        → block.end ≡ program.block.end → tree.blocks.items ≡ block ∷ [] → IsLeft n tree → IsResolved program tree
+    is_resolved n block tree ends end blocks left = record {
+      is_typed = record {
+        left = n;
+        typed =
+            program_passes (look_stmt block.body) n ends
+            ∙ ap (λ place. Ok (after tt (look_stmt block.body ++ (BlockEnds place ∷ [])) n)) (sym end)
+            ∙ ap (λ look. Ok (after tt look n)) (sym (append-nil (look_stmt block.body ++ (BlockEnds block.end ∷ []))))
+            ∙ ap (λ bs. Ok (after tt (flat_map look_block bs) n)) (sym blocks);
+        is_left = left;
+      };
+      block = block;
+      blocks = blocks;
+    }
+
+-- ---- what the tree of a program has
+
+module _ (program : Program) (tree : Tree) (resolved : IsResolved program tree) where
+  passed : Passed
+  passed = resolved.is_typed.left
+
+  is_left : IsLeft passed tree
+  unfolding passed
+  is_left = resolved.is_typed.is_left
+
+  lawful : Lawful program (after tt (tree_look tree) passed)
+  unfolding passed
+  lawful = typing_is_lawful program (after tt (tree_look tree) resolved.is_typed.left) resolved.is_typed.typed
+
+  pub is_typed : IsTyped program tree
+  is_typed = resolved.is_typed
+
+  pub ids_in_order : AreInOrder tree.sites.items
+  ids_in_order = is_left.ids
+
+  pub has_no_points : tree.points.items ≡ []
+  has_no_points = is_left.points
+
+  pub has_required_types : tree.types ≡ required_forms
+  has_required_types = is_left.types ∙ lawful.types
+
+  pub has_one_block : length tree.blocks.items ≡ 1
+  has_one_block = ap length resolved.blocks
+
+  as_many_sites : length tree.sites.items ≡ length passed.sites
+  as_many_sites = sym (length-map tree.sites.items stands) ∙ ap length is_left.sites
+
+  pub has_few_sites : length tree.sites.items ≤ 1000000
+  has_few_sites = subst (λ n. n ≤ 1000000) (sym as_many_sites) lawful.few_sites
+
+  pub is_numbered : entries_of tree ≡ range_with_len 0 (length (entries_of tree))
+  is_numbered = subst (λ es. es ≡ range_with_len 0 (length es)) (entries_are tree) lawful.numbered
+
+  pub sites_by_place : ArePlacesInOrder (program_places program) → AreByPlace (map stands tree.sites.items)
+  sites_by_place order = subst AreByPlace (sym is_left.sites) (lawful.by_place order)
+
+  pub is_well_formed : IsWellFormed tree
+  is_well_formed = record {
+    few_variables = subst (λ n. n ≤ 65536) (sym (ap length is_left.variables)) lawful.few_variables;
+    a_block = subst (λ n. 0 < n) (sym has_one_block) (omega arith);
+    blocks =
+        sym (formed_are (length tree.variables.items) (length tree.sites.items) tree)
+        ∙ ap (λ n. list_all (is_formed_mark n (length tree.sites.items)) (tree_look tree)) (ap length is_left.variables)
+        ∙ ap (λ n. list_all (is_formed_mark (length passed.variables) n) (tree_look tree)) as_many_sites
+        ∙ lawful.formed;
+  }
