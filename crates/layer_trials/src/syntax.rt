@@ -103,6 +103,6 @@ fn answers_any_list(rt: HostRuntime) -> Result<(), Fail> {
 
 #[test]
 fn the_law_is_called(_rt: HostRuntime) -> Result<(), Fail> {
-    syntax_laws::tokens_have_one_tree();
+    grammar::tokens_have_one_tree();
     Ok(())
 }

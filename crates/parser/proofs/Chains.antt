@@ -11,10 +11,13 @@ use Rattle.syntax_tree.specs.declared.Link.{Link}
 use Rattle.syntax_tree.specs.declared.Expr.TheViews.{roll-Link}
 use Rattle.parser.specs.Cursor.{IsOfRules}
 use Rattle.parser.specs.Level.{level_number}
-use Rattle.parser.specs.WellFormed.{first_level, operand_level}
-use Rattle.parser.specs.Reading.{Ends, NoOperator, Stops, ReadsDeep}
-use Rattle.parser.specs.Rules.{Read, BeginsExpr, BeginsLinks, ReadLinks, LinksEnd, missed, related, LinksGoOn}
-use Rattle.parser.proofs.ExactChains.{Chain, level_is, chain_parts, goes_on, first_answer, operand_answer, chain_ends, chain_behind, LinksLeft, links_begin, links_left}
+use Rattle.grammar.specs.WellFormed.{first_level, operand_level}
+use Rattle.grammar.specs.Following.{Ends, NoOperator}
+use Rattle.parser.specs.Reading.{Stops, ReadsDeep}
+use Rattle.parser.specs.Rules.{Read, ReadLinks, LinksEnd, missed, related, LinksGoOn}
+use Rattle.grammar.specs.Begins.{BeginsExpr, BeginsLinks}
+use Rattle.grammar.proofs.Chains.{Chain, chain_parts, goes_on, chain_ends, LinksLeft, links_begin}
+use Rattle.parser.proofs.ExactChains.{level_is, first_answer, operand_answer, chain_behind, links_left}
 use Rattle.parser.proofs.Rules.{links_go_on, gives-Alone}
 
 -- these operators were read, and each that may stand there go on so

@@ -6,7 +6,7 @@ use Rattle.parser.specs.declared.cursor.Cursor.{Cursor}
 use Rattle.syntax_tree.specs.declared.Name.{Name}
 use Rattle.parser.specs.Cursor.{IsOfRules, Took}
 use Rattle.parser.specs.Kept.{Added, NotKept}
-use Rattle.parser.specs.Spelling.{identifier}
+use Rattle.grammar.specs.Spelling.{identifier}
 
 -- what was read, now the last of a list
 pub record Last {A : Type 0} (old new : List A) (found : Result A ParseFault) : Type 0 where

@@ -1,6 +1,6 @@
 -- What the rules give, form by form.
-use Rattle.std.proofs.Common.{◌≡◌, ℕ, ◌+◌, ◌≤◌, max, Bool, true, false, ◌&&◌, ◌||◌, nat_lt, nat_eq, List, [], ◌∷◌, ◌++◌, map, length, Some, refl, subst, sym, ap, ◌∙◌, arith, Result, Ok, Err, None, MatchResult}
-use Rattle.std.proofs.lemmas.Bool.{lt-ltb, ltb-false, eq-eqb}
+use Rattle.std.proofs.Common.{◌≡◌, ℕ, ◌+◌, ◌≤◌, max, true, nat_eq, List, [], ◌∷◌, ◌++◌, map, length, Some, refl, subst, sym, ap, ◌∙◌, arith, Result, Ok, Err, None, MatchResult}
+use Rattle.std.proofs.lemmas.Bool.{eq-eqb}
 use Rattle.std.proofs.lemmas.List.{append-nil}
 use Rattle.std.specs.List.{list_all}
 use Rattle.std.specs.declared.alloc.Global.{Global}
@@ -21,14 +21,16 @@ use Rattle.syntax_tree.specs.declared.Link.{Link}
 use Rattle.syntax_tree.specs.declared.Expr.TheVariants as tree
 use Rattle.syntax_tree.specs.declared.Expr.TheViews.{roll-Link, roll-Actual}
 use Rattle.parser.specs.Cursor.{Took, IsOfRules}
-use Rattle.parser.specs.Spelling.{expr_spelling, link_spelling, actual_spelling, joined, in_parentheses, of_kind_at, mark, identifier, operator, sign}
-use Rattle.parser.specs.WellFormed.{Form, LinkForm, expr_form, link_form, chain_form, is_actual, is_expression, has_items, is_link, fits, operator_level, first_level, operand_level, relation_level, signed_level, product_level, factor_level}
-use Rattle.parser.specs.Nesting.{expr_levels, link_levels, deepest}
-use Rattle.parser.specs.Rules.{Read, BeginsExpr, BeginsActual, BeginsActuals, BeginsLinks}
-use Rattle.parser.proofs.Equations.{spelling-Number, form-Number, levels-Number, spelling-Not, form-Not, levels-Not, spelling-Signed, form-Signed, levels-Signed, spelling-Alone, form-Alone, levels-Alone, spelling-Name, form-Name, levels-Name, spelling-Function, form-Function, levels-Function, spelling-Parenthesized, form-Parenthesized, levels-Parenthesized, spelling-Chain, form-Chain, levels-Chain, spelling-Link, form-Link, levels-Link, spelling-Wide, form-Wide, levels-Wide}
-use Rattle.parser.proofs.Lists.{map_push, all_push, deepest_push, all_mapped, and_true, and_left, length_map}
-use Rattle.parser.proofs.Reading.{both, without_place, joined_push}
-use Rattle.parser.proofs.ExactChains.{fits_if, fits_level, fits_well, link_level}
+use Rattle.grammar.specs.Spelling.{expr_spelling, link_spelling, actual_spelling, joined, in_parentheses, of_kind_at, mark, identifier, operator, sign}
+use Rattle.grammar.specs.WellFormed.{LinkForm, expr_form, link_form, chain_form, is_actual, is_expression, has_items, is_link, fits, operator_level, first_level, operand_level, relation_level, signed_level, product_level, factor_level}
+use Rattle.grammar.specs.Nesting.{expr_levels, link_levels, deepest}
+use Rattle.parser.specs.Rules.{Read}
+use Rattle.grammar.specs.Begins.{BeginsExpr, BeginsActual, BeginsActuals, BeginsLinks}
+use Rattle.grammar.proofs.Equations.{spelling-Number, form-Number, levels-Number, spelling-Not, form-Not, levels-Not, spelling-Signed, form-Signed, levels-Signed, spelling-Alone, form-Alone, levels-Alone, spelling-Name, form-Name, levels-Name, spelling-Function, form-Function, levels-Function, spelling-Parenthesized, form-Parenthesized, levels-Parenthesized, spelling-Chain, form-Chain, levels-Chain, spelling-Link, form-Link, levels-Link, spelling-Wide, form-Wide, levels-Wide}
+use Rattle.grammar.proofs.Lists.{map_push, all_push, deepest_push, all_mapped, and_true}
+use Rattle.grammar.proofs.Reading.{both, without_place, joined_push}
+use Rattle.grammar.proofs.Chains.{fits_if, fits_level, fits_well}
+use Rattle.grammar.proofs.Forms.{no_items, has_mapped, forms_chain_of}
 
 -- an expression in parentheses
 pub gives-Parenthesized : (levels inner_levels : ℕ) (a b c d : Cursor) (p q : Place) (box : Box Expr Global) (inner : Expr)
@@ -79,10 +81,6 @@ gives-Unsigned levels a b c (Ok e) same given = record {
 }
 gives-Unsigned levels a b c (Err fault) same given = given
 
-no_items : {A : Type 0} (xs : List A) → length xs ≡ 0 → xs ≡ []
-no_items [] h = refl
-no_items (x ∷ xs) h = absurd (omega arith)
-
 -- a name with no actuals behind it
 pub gives-Name : (levels : ℕ) (a b c : Cursor) (n : Name) (actuals : List Actual) → Took a b (identifier n ∷ []) → Read (BeginsActuals levels) b c actuals → length actuals ≡ 0 → Read (BeginsExpr factor_level levels) a c (tree.Name n)
 gives-Name levels a b c n actuals taken given none = record {
@@ -90,14 +88,6 @@ gives-Name levels a b c n actuals taken given none = record {
   formed = subst (λ f. fits factor_level f ≡ true) (sym (form-Name n)) refl;
   nests = let e = levels-Name n in omega arith;
 }
-
-has : {A : Type 0} (xs : List A) → ¬ (xs ≡ []) → has_items xs ≡ true
-has [] h = absurd (h refl)
-has (x ∷ xs) h = lt-ltb 0 (length (x ∷ xs)) (omega arith)
-
-has_mapped : {A B : Type 0} (f : A → B) (xs : List A) → ¬ (xs ≡ []) → has_items (map f xs) ≡ true
-has_mapped f [] h = absurd (h refl)
-has_mapped f (x ∷ xs) h = lt-ltb 0 (length (map f (x ∷ xs))) (omega arith)
 
 -- a name with its actuals
 pub gives-Call : (levels : ℕ) (a b c : Cursor) (n : Name) (v : Vec Actual Global) → Took a b (identifier n ∷ []) → Read (BeginsActuals levels) b c v.items → ¬ (v.items ≡ []) → Read (BeginsExpr factor_level levels) a c (tree.Call n v)
@@ -154,29 +144,6 @@ links_go_on level levels a b c d rest grown o p operand is so_far none taken giv
       few = λ z. subst (λ xs. length xs ≤ 1) (sym (e ∙ ap (λ xs. xs ++ link ∷ []) (none z))) (omega arith);
       nests = subst (λ x. deepest x ≤ levels) (sym nests) (deepest_push levels (map link_levels rest) (expr_levels operand) so_far.nests given.nests);
     }
-
-few_tells_if : (level n : ℕ) (b : Bool) → nat_lt relation_level level ≡ b → (level ≡ relation_level → n ≤ 0) → b || nat_eq n 0 ≡ true
-few_tells_if level n true e few = refl
-few_tells_if level n false e few = eq-eqb n 0 (let z : level ≡ relation_level = (let k = ltb-false relation_level level e in omega arith) in let m = few z in omega arith)
-
-few_tells : (level n : ℕ) → (level ≡ relation_level → n ≤ 0) → nat_lt relation_level level || nat_eq n 0 ≡ true
-few_tells level n few = few_tells_if level n (nat_lt relation_level level) refl few
-
-forms_chain : (level : ℕ) (first : Form) (link : LinkForm) (links : List LinkForm) → fits (first_level level) first ≡ true → list_all (is_link level) (link ∷ links) ≡ true → (level ≡ relation_level → length links ≤ 0)
-    → link.level ≡ level → fits level (chain_form first (link ∷ links)) ≡ true
-forms_chain level first link links f all few e =
-    let well : (l : ℕ) → level ≡ l → fits (first_level l) first && (list_all (is_link l) (link ∷ links) && (nat_lt relation_level l || nat_eq (length links) 0)) ≡ true =
-    λ l s. subst (λ m. fits (first_level m) first && (list_all (is_link m) (link ∷ links) && (nat_lt relation_level m || nat_eq (length links) 0)) ≡ true) s
-    (and_true (fits (first_level level) first) (list_all (is_link level) (link ∷ links) && (nat_lt relation_level level || nat_eq (length links) 0)) f
-    (and_true (list_all (is_link level) (link ∷ links)) (nat_lt relation_level level || nat_eq (length links) 0) all (few_tells level (length links) few))) in
-    fits_if level (chain_form first (link ∷ links)) (omega arith) (well link.level (sym e))
-
-forms_chain_of : (level : ℕ) (first : Form) (links : List Link) → ¬ (links ≡ []) → fits (first_level level) first ≡ true → list_all (is_link level) (map link_form links) ≡ true → (level ≡ relation_level → length links ≤ 1)
-    → fits level (chain_form first (map link_form links)) ≡ true
-forms_chain_of level first [] some f all few = absurd (some refl)
-forms_chain_of level first (l ∷ ls) some f all few =
-    forms_chain level first (link_form l) (map link_form ls) f all (λ z. let k = few z in let m = length_map link_form ls in omega arith)
-    (link_level level (link_form l) (and_left (is_link level (link_form l)) (list_all (is_link level) (map link_form ls)) all))
 
 -- a first operand with operators behind it
 pub gives-Chain : (level levels : ℕ) (a b c : Cursor) (first : Expr) (box : Box Expr Global) (v : Vec Link Global) → box.value ≡ first → ¬ (v.items ≡ []) → Read (BeginsExpr (first_level level) levels) a b first

@@ -16,13 +16,14 @@ use Rattle.syntax_tree.specs.declared.Name.{Name}
 use Rattle.syntax_tree.specs.declared.Stmt.{Stmt}
 use Rattle.syntax_tree.specs.declared.Stmt.TheVariants as statement
 use Rattle.parser.specs.Cursor.{Took}
-use Rattle.parser.specs.Spelling.{Spelling, expr_spelling, identifier, actual_spelling, stmt_spelling, of_kind_at, mark, word_symbol, separated, in_parentheses}
-use Rattle.parser.specs.WellFormed.{relation_level, is_actual, is_statement, has_items}
-use Rattle.parser.specs.Nesting.{actual_levels, stmt_levels, deepest}
-use Rattle.parser.specs.Rules.{Read, BeginsExpr, BeginsList, BeginsActual, BeginsActualList, BeginsActuals, BeginsStmt, BeginsStatements, BeginsCompound}
-use Rattle.parser.proofs.Equations.{spelling-Empty, form-Empty, levels-Empty, spelling-Assign, form-Assign, levels-Assign, spelling-Call, form-Call, levels-Call, spelling-Compound, form-Compound, levels-Compound}
-use Rattle.parser.proofs.Lists.{map_push, all_push, deepest_push, all_mapped, and_true, length_map}
-use Rattle.parser.proofs.Reading.{both, without_place, without_last_place, separated_more, in_parentheses_some}
+use Rattle.grammar.specs.Spelling.{Spelling, expr_spelling, identifier, actual_spelling, stmt_spelling, of_kind_at, mark, word_symbol, separated, in_parentheses}
+use Rattle.grammar.specs.WellFormed.{relation_level, is_actual, is_statement, has_items}
+use Rattle.grammar.specs.Nesting.{actual_levels, stmt_levels, deepest}
+use Rattle.parser.specs.Rules.{Read}
+use Rattle.grammar.specs.Begins.{BeginsExpr, BeginsList, BeginsActual, BeginsActualList, BeginsActuals, BeginsStmt, BeginsStatements, BeginsCompound}
+use Rattle.grammar.proofs.Equations.{spelling-Empty, form-Empty, levels-Empty, spelling-Assign, form-Assign, levels-Assign, spelling-Call, form-Call, levels-Call, spelling-Compound, form-Compound, levels-Compound}
+use Rattle.grammar.proofs.Lists.{map_push, all_push, deepest_push, all_mapped, and_true, length_map}
+use Rattle.grammar.proofs.Reading.{both, without_place, without_last_place, separated_more, in_parentheses_some}
 
 pub some_grown : {A : Type 0} (xs : List A) (x : A) → 0 < length (xs ++ x ∷ [])
 some_grown [] x = omega arith

@@ -4,7 +4,7 @@ use Rattle.std.specs.Prelude.{ℕ, ◌+◌, ◌-◌, ◌^◌, min, List, [], ◌
 use Rattle.place.specs.declared.Place.{Place}
 use Rattle.place.specs.Place.{start}
 use Rattle.lexer.specs.declared.token.Token.{Token}
-use Rattle.parser.specs.Spelling.{Spelling, Reads}
+use Rattle.grammar.specs.Spelling.{Spelling, Reads}
 use Rattle.parser.specs.declared.cursor.Cursor.{Cursor}
 use Rattle.parser.specs.declared.fault.ParseFault.{ParseFault}
 use Rattle.parser.specs.declared.fault.ParseFault.TheVariants.{LeftOut}

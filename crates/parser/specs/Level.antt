@@ -2,7 +2,7 @@
 use Rattle.std.specs.Prelude.{ℕ}
 use Rattle.parser.specs.declared.operator.Level.{Level}
 use Rattle.parser.specs.declared.operator.Level.TheVariants.{Relation, Sum, Product}
-use Rattle.parser.specs.WellFormed.{relation_level, sum_level, product_level}
+use Rattle.grammar.specs.WellFormed.{relation_level, sum_level, product_level}
 
 -- the level of the chains of these operators
 abbrev pub level_number : Level → ℕ

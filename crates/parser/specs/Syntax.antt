@@ -11,9 +11,9 @@ use Rattle.lexer.specs.declared.token.Token.{Token}
 use Rattle.parser.specs.declared.fault.ParseFault.{ParseFault}
 use Rattle.parser.specs.declared.fault.ParseFault.TheVariants.{Memory, NoProgram, TooDeep, LeftOut}
 use Rattle.syntax_tree.specs.declared.Program.{Program}
-use Rattle.parser.specs.Spelling.{Spells, program_spelling}
-use Rattle.parser.specs.WellFormed.{is_program}
-use Rattle.parser.specs.Nesting.{nesting}
+use Rattle.grammar.specs.Spelling.{Spells, program_spelling}
+use Rattle.grammar.specs.WellFormed.{is_program}
+use Rattle.grammar.specs.Nesting.{nesting}
 
 -- how deep a program may nest
 abbrev pub most : ℕ

@@ -16,11 +16,11 @@ pub struct Cursor<'t, 'a> {
 }
 
 impl<'t, 'a> Cursor<'t, 'a> {
-    ghost use Rattle.parser.specs.Spelling.{of_kind_at, identifier, sign, operator};
-    ghost use Rattle.parser.specs.WellFormed.{operator_level};
+    ghost use Rattle.grammar.specs.Spelling.{of_kind_at, identifier, sign, operator};
+    ghost use Rattle.grammar.specs.WellFormed.{operator_level};
     ghost use Rattle.parser.specs.Level.{level_number};
     ghost use Rattle.parser.specs.Cursor.{place_of_next, IsOfRules, Took};
-    ghost use Rattle.parser.specs.Reading.{next_kind, NoSign, NoOperator};
+    ghost use Rattle.grammar.specs.Following.{next_kind, NoSign, NoOperator};
 
     pub fn new(tokens: &'t [Token<'a>]) -> Self
         ensures rest { result.rest.now ≡ tokens.now }

@@ -1,9 +1,11 @@
 ghost use Rattle.std.specs.Prelude.{◌≡◌, MatchResult, IfSome, IfNone, Some};
 ghost use Rattle.parser.specs.Cursor.{IsOfRules};
 ghost use Rattle.parser.specs.Level.{level_number};
-ghost use Rattle.parser.specs.Reading.{next_kind, ReadsDeep, Ends, EndsActual, Closes, NoNext};
-ghost use Rattle.parser.specs.Rules.{Read, BeginsExpr, BeginsActual, BeginsActualList, BeginsActuals, BeginsLinks, ReadLinks, LinksEnd, LinksGoOn};
-ghost use Rattle.parser.specs.WellFormed.{first_level, operand_level, signed_level, factor_level};
+ghost use Rattle.grammar.specs.Following.{next_kind, Ends, EndsActual, Closes, NoNext};
+ghost use Rattle.parser.specs.Reading.{ReadsDeep};
+ghost use Rattle.parser.specs.Rules.{Read, ReadLinks, LinksEnd, LinksGoOn};
+ghost use Rattle.grammar.specs.Begins.{BeginsExpr, BeginsActual, BeginsActualList, BeginsActuals, BeginsLinks};
+ghost use Rattle.grammar.specs.WellFormed.{first_level, operand_level, signed_level, factor_level};
 
 use crate::cursor::Cursor;
 use crate::fault::ParseFault;

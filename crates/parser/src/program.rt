@@ -1,7 +1,9 @@
 ghost use Rattle.std.specs.Prelude.{◌≡◌, IfErr, MatchOption, MatchResult};
 ghost use Rattle.parser.specs.Cursor.{IsOfRules};
-ghost use Rattle.parser.specs.Rules.{Read, BeginsList, BeginsNames, BeginsParameters, BeginsGroup, BeginsGroups, BeginsVariables, BeginsBlock, Stop};
-ghost use Rattle.parser.specs.Reading.{ReadsEach, ReadsDeep, NoNext, BeginsStatementPart, Anything};
+ghost use Rattle.parser.specs.Rules.{Read};
+ghost use Rattle.grammar.specs.Begins.{BeginsList, BeginsNames, BeginsParameters, BeginsGroup, BeginsGroups, BeginsVariables, BeginsBlock, Stop};
+ghost use Rattle.parser.specs.Reading.{ReadsEach, ReadsDeep};
+ghost use Rattle.grammar.specs.Following.{NoNext, BeginsStatementPart, Anything};
 ghost use Rattle.parser.specs.Syntax.{first_left_out, is_left_out, IsTreeOf, IsRefused, Answers};
 
 use crate::cursor::Cursor;

@@ -1,7 +1,9 @@
 ghost use Rattle.std.specs.Prelude.{◌≡◌, ◌+◌, MatchResult, Some};
 ghost use Rattle.parser.specs.Cursor.{IsOfRules};
-ghost use Rattle.parser.specs.Reading.{next_kind, ReadsDeep, EndsStmt, EndsStatements, Anything};
-ghost use Rattle.parser.specs.Rules.{Read, BeginsStmt, BeginsStatements, BeginsCompound};
+ghost use Rattle.grammar.specs.Following.{next_kind, EndsStmt, EndsStatements, Anything};
+ghost use Rattle.parser.specs.Reading.{ReadsDeep};
+ghost use Rattle.parser.specs.Rules.{Read};
+ghost use Rattle.grammar.specs.Begins.{BeginsStmt, BeginsStatements, BeginsCompound};
 
 use crate::cursor::Cursor;
 use crate::expression::{actuals, expression};

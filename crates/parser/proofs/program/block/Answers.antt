@@ -2,7 +2,8 @@ use Rattle.std.proofs.Common.{rules, ◌≡◌}
 use Rattle.parser.specs.declared.fault.ParseFault.TheVariants.{Memory}
 use Rattle.parser.specs.Reading.{Stops}
 use Rattle.parser.proofs.Exact.{stops_above}
-use Rattle.parser.proofs.ExactPrograms.{block_parts, block_behind_variables}
+use Rattle.grammar.proofs.Programs.{block_parts}
+use Rattle.parser.proofs.ExactPrograms.{block_behind_variables}
 use Rattle.parser.proofs.Programs.{block_stands}
 use Rattle.parser.proofs.program.block.Goals as goal
 

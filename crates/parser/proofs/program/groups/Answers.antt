@@ -2,11 +2,14 @@ use Rattle.std.proofs.Common.{rules, ◌≡◌, refl, subst}
 use Rattle.lexer.specs.declared.token.Kind.TheVariants as kind
 use Rattle.parser.specs.declared.fault.ParseFault.TheVariants.{Memory}
 use Rattle.parser.specs.Cursor.{IsOfRules}
-use Rattle.parser.specs.Reading.{Next, NoNext, ReadsEach, Anything}
-use Rattle.parser.specs.Rules.{Read, BeginsGroup, BeginsGroups}
+use Rattle.grammar.specs.Following.{Next, NoNext, Anything}
+use Rattle.parser.specs.Reading.{ReadsEach}
+use Rattle.parser.specs.Rules.{Read}
+use Rattle.grammar.specs.Begins.{BeginsGroup, BeginsGroups}
 use Rattle.parser.proofs.Kept.{handed_on, last, was_read, not_kept}
-use Rattle.parser.proofs.Lists.{pushed, emptied}
-use Rattle.parser.proofs.ExactPrograms.{groups_begin_with, groups_go_on_with, groups_left, groups_end, group_fewer}
+use Rattle.grammar.proofs.Lists.{pushed, emptied}
+use Rattle.grammar.proofs.Programs.{groups_begin_with, groups_go_on_with, groups_end, group_fewer}
+use Rattle.parser.proofs.ExactPrograms.{groups_left}
 use Rattle.parser.proofs.Programs.{GroupsGrow, groups_grow_first, groups_grow}
 use Rattle.parser.proofs.program.groups.Goals as goal
 use Rattle.parser.proofs.program.groups.Goals.{in_default-via-in-Some+in_default, in_default-via-in_default}

@@ -1,12 +1,14 @@
 use Rattle.std.proofs.Common.{[], ap, sym}
 use Rattle.lexer.specs.declared.token.Kind.TheVariants as kind
 use Rattle.lexer.specs.declared.token.Symbol.TheVariants as symbol
-use Rattle.parser.specs.Rules.{Read, BeginsParameters}
-use Rattle.parser.specs.Spelling.{identifiers, of_kind_at, mark}
+use Rattle.parser.specs.Rules.{Read}
+use Rattle.grammar.specs.Begins.{BeginsParameters}
+use Rattle.grammar.specs.Spelling.{identifiers, of_kind_at, mark}
 use Rattle.parser.proofs.Kept.{handed_on}
-use Rattle.parser.proofs.Exact.{begins, same_first}
-use Rattle.parser.proofs.Lists.{emptied}
-use Rattle.parser.proofs.ExactPrograms.{no_parameters, parameters_opened, parameters_names_end, parameters_behind_names}
+use Rattle.grammar.proofs.Rows.{begins, same_first}
+use Rattle.grammar.proofs.Lists.{emptied}
+use Rattle.parser.proofs.ExactPrograms.{no_parameters, parameters_behind_names}
+use Rattle.grammar.proofs.Programs.{parameters_opened, parameters_names_end}
 use Rattle.parser.proofs.Statements.{in_their_parentheses}
 use Rattle.parser.proofs.program.parameters.Goals as goal
 

@@ -2,10 +2,11 @@ use Rattle.std.proofs.Common.{rules, ◌≡◌, [], subst, sym}
 use Rattle.lexer.specs.declared.token.Symbol.TheVariants as symbol
 use Rattle.parser.specs.declared.fault.ParseFault.TheVariants.{Memory}
 use Rattle.parser.specs.Reading.{Stops}
-use Rattle.parser.specs.Spelling.{mark}
+use Rattle.grammar.specs.Spelling.{mark}
 use Rattle.parser.specs.Syntax.{most, IsRefused}
-use Rattle.parser.proofs.Exact.{begins}
-use Rattle.parser.proofs.ExactPrograms.{program_first, program_named, program_behind_name, program_parameters_end, program_behind_parameters, program_behind_semicolon, program_behind_block, refused}
+use Rattle.grammar.proofs.Rows.{begins}
+use Rattle.grammar.proofs.Programs.{program_first, program_named, program_behind_name, program_parameters_end, program_behind_semicolon}
+use Rattle.parser.proofs.ExactPrograms.{program_behind_parameters, program_behind_block, refused}
 use Rattle.parser.proofs.Programs.{program_stands}
 use Rattle.parser.proofs.program.program.Goals as goal
 

@@ -1,4 +1,4 @@
-use Rattle.parser.proofs.ExactPrograms.{variables_opened, statement_part_ends}
+use Rattle.grammar.proofs.Programs.{variables_opened, statement_part_ends}
 use Rattle.parser.proofs.program.variables.Goals as goal
 
 pub returns-clause-exact : goal.returns-clause-exact

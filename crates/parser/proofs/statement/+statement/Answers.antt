@@ -2,16 +2,21 @@ use Rattle.std.proofs.Common.{rules, arith, ◌≡◌, ap, sym, subst, ◌∙◌
 use Rattle.lexer.specs.declared.token.Kind.TheVariants as kind
 use Rattle.lexer.specs.declared.token.Word.TheVariants as word
 use Rattle.syntax_tree.specs.declared.Stmt.{Stmt}
-use Rattle.parser.specs.Spelling.{Reads, of_kind_at, word_symbol}
-use Rattle.parser.specs.Reading.{next_kind, Stops, ReadWithin, ReadsDeep, EndsStmt}
+use Rattle.grammar.specs.Spelling.{Reads, of_kind_at, word_symbol}
+use Rattle.grammar.specs.Following.{next_kind, EndsStmt}
+use Rattle.parser.specs.Reading.{Stops, ReadWithin, ReadsDeep}
 use Rattle.parser.specs.Cursor.{IsOfRules}
-use Rattle.parser.specs.Rules.{Read, BeginsStatements, BeginsStmt}
-use Rattle.parser.proofs.Lists.{pushed, emptied}
+use Rattle.parser.specs.Rules.{Read}
+use Rattle.grammar.specs.Begins.{BeginsStatements, BeginsStmt}
+use Rattle.grammar.proofs.Lists.{pushed, emptied}
 use Rattle.parser.proofs.Kept.{handed_on, last, was_read, not_kept}
-use Rattle.parser.proofs.Exact.{begins, same_first, stops_above}
-use Rattle.parser.proofs.ExactLists.{parts_end}
-use Rattle.parser.proofs.Reading.{reads_fewer, reads_no_more, unchanged}
-use Rattle.parser.proofs.ExactStatements.{compounded, opened_compound, statement_list_parts, statement_answer, statement_list_begins, statement_list_goes_on, statement_list_left}
+use Rattle.grammar.proofs.Rows.{begins, same_first}
+use Rattle.parser.proofs.Exact.{stops_above}
+use Rattle.grammar.proofs.Parts.{parts_end}
+use Rattle.grammar.proofs.Reading.{reads_fewer, reads_no_more}
+use Rattle.parser.proofs.Reading.{unchanged}
+use Rattle.grammar.proofs.Statements.{compounded, opened_compound, statement_list_parts, statement_list_begins, statement_list_goes_on}
+use Rattle.parser.proofs.ExactStatements.{statement_answer, statement_list_left}
 use Rattle.parser.proofs.Statements.{gives-Empty, StatementsGrow, statements_grow_first, statements_grow, compound_closed, compound_stands}
 use Rattle.parser.proofs.statement.+statement.Goals as goal
 

@@ -1,10 +1,11 @@
 use Rattle.std.proofs.Common.{◌≡◌, ◌+◌, refl}
 use Rattle.lexer.specs.declared.token.Kind.TheVariants as kind
 use Rattle.lexer.specs.declared.token.Symbol.TheVariants as symbol
-use Rattle.parser.specs.Reading.{NoNext}
+use Rattle.grammar.specs.Following.{NoNext}
 use Rattle.parser.proofs.Kept.{handed_on}
 use Rattle.parser.proofs.Exact.{stops_above}
-use Rattle.parser.proofs.ExactStatements.{ends_value, simple_parts, becomes_taken, becomes_missed_at}
+use Rattle.grammar.proofs.Statements.{ends_value, simple_parts, becomes_taken}
+use Rattle.parser.proofs.ExactStatements.{becomes_missed_at}
 use Rattle.parser.proofs.Statements.{gives-Assign, gives-Called}
 use Rattle.parser.proofs.statement.simple.Goals as goal
 

@@ -6,14 +6,14 @@ use Rattle.lexer.specs.declared.token.Kind.TheVariants as kind
 use Rattle.lexer.specs.declared.token.Symbol.{Symbol}
 use Rattle.lexer.specs.declared.token.Symbol.TheVariants as symbol
 use Rattle.lexer.specs.declared.token.Token.{Token}
-use Rattle.parser.specs.Spelling.{Spelling, Reads, mark, separated, in_parentheses}
-use Rattle.parser.specs.Reading.{next_kind, Next, NoNext}
-use Rattle.syntax_laws.specs.Notation.{Notation}
-use Rattle.parser.proofs.Lists.{and_left, and_right}
-use Rattle.parser.proofs.Reading.{reads_no_more}
-use Rattle.parser.proofs.Exact.{parted, begins}
-use Rattle.parser.proofs.Led.{led, list_begins}
-use Rattle.syntax_laws.proofs.OneTree.{Alike, first_is_one, last_is_one}
+use Rattle.grammar.specs.Spelling.{Spelling, Reads, mark, separated, in_parentheses}
+use Rattle.grammar.specs.Following.{next_kind, Next, NoNext}
+use Rattle.grammar.specs.Notation.{Notation}
+use Rattle.grammar.proofs.Lists.{and_left, and_right}
+use Rattle.grammar.proofs.Reading.{reads_no_more}
+use Rattle.grammar.proofs.Rows.{parted, begins}
+use Rattle.grammar.proofs.Led.{led, list_begins}
+use Rattle.grammar.proofs.OneTree.{Alike, first_is_one, last_is_one}
 
 -- what the parts of a list are: the symbol between them, what stands behind them all, and how they are spelled, formed and written
 pub record Parts (A : Type 0) : Type 0 where

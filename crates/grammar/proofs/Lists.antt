@@ -1,7 +1,7 @@
 -- Lists that grow by one at the end.
 use Rattle.std.proofs.Common.{◌≡◌, ℕ, ◌≤◌, max, Bool, true, false, ◌&&◌, List, [], ◌∷◌, ◌++◌, map, fold, length, refl, ap, subst, sym, arith}
 use Rattle.std.specs.List.{list_all}
-use Rattle.parser.specs.Nesting.{deepest}
+use Rattle.grammar.specs.Nesting.{deepest}
 
 pub map_push : {A B : Type 0} (f : A → B) (xs : List A) (x : A) → map f (xs ++ x ∷ []) ≡ map f xs ++ f x ∷ []
 map_push f [] x = refl

@@ -4,7 +4,7 @@ use Rattle.place.specs.declared.Place.{Place}
 use Rattle.lexer.specs.declared.token.Kind.{Kind}
 use Rattle.lexer.specs.declared.token.Token.{Token}
 use Rattle.syntax_tree.specs.declared.Name.{Name}
-use Rattle.parser.specs.Spelling.{Lexeme, Spelling, IsSpelledBy, Reads, of_kind_at, identifier}
+use Rattle.grammar.specs.Spelling.{Lexeme, Spelling, IsSpelledBy, Reads, of_kind_at, identifier}
 
 -- two spellings from the same tokens: their first token is one, and the others stand behind it
 pub record FirstIsOne (l m : Lexeme) (s t : Spelling) (a c d : List Token) : Type 0 where

@@ -12,20 +12,20 @@ use Rattle.syntax_tree.specs.declared.Stmt.{Stmt}
 use Rattle.syntax_tree.specs.declared.Stmt.TheOpen as stmt
 use Rattle.syntax_tree.specs.declared.Stmt.TheViews.{out-Stmt, roll-out-Stmt}
 use Rattle.syntax_tree.specs.declared.Stmt.TheFolds.{map-Stmt, fold-roll-Stmt}
-use Rattle.parser.specs.Spelling.{Spelling, Reads, expr_spelling, actual_spelling, stmt_spelling, of_kind_at, mark, word_symbol, identifier, separated, in_parentheses}
-use Rattle.parser.specs.Spelling as spell
-use Rattle.parser.specs.WellFormed.{relation_level, is_actual, is_statement, has_items}
-use Rattle.parser.specs.WellFormed as form
-use Rattle.parser.specs.Reading.{next_kind, NoNext, Next, Ends}
-use Rattle.syntax_laws.specs.Notation.{Notation, bracketed, token, row, expr_notation, actual_notation, stmt_notation}
-use Rattle.syntax_laws.specs.Notation as note
-use Rattle.parser.proofs.Lists.{and_left, and_right, all_mapped, length_map}
-use Rattle.parser.proofs.Exact.{parted, begins}
-use Rattle.parser.proofs.ExactChains.{semicolon_ends, end_ends}
-use Rattle.parser.proofs.ExactPrograms.{some_items}
-use Rattle.syntax_laws.proofs.OneTree.{Alike, first_is_one, last_is_one, at_is_one, name_is_one}
-use Rattle.syntax_laws.proofs.OneTreeLists.{Parts, EndsPart, more, last, Part, OnePart, Listed, list_alike}
-use Rattle.syntax_laws.proofs.OneTreeExpressions.{one_expression, actuals_alike}
+use Rattle.grammar.specs.Spelling.{Spelling, Reads, expr_spelling, actual_spelling, stmt_spelling, of_kind_at, word_symbol, identifier, separated, in_parentheses}
+use Rattle.grammar.specs.Spelling as spell
+use Rattle.grammar.specs.WellFormed.{relation_level, is_statement, has_items}
+use Rattle.grammar.specs.WellFormed as form
+use Rattle.grammar.specs.Following.{next_kind, NoNext, Next, Ends}
+use Rattle.grammar.specs.Notation.{Notation, bracketed, token, row, expr_notation, actual_notation, stmt_notation}
+use Rattle.grammar.specs.Notation as note
+use Rattle.grammar.proofs.Lists.{and_left, and_right, all_mapped, length_map}
+use Rattle.grammar.proofs.Rows.{parted, begins}
+use Rattle.grammar.proofs.Chains.{semicolon_ends, end_ends}
+use Rattle.grammar.proofs.Programs.{some_items}
+use Rattle.grammar.proofs.OneTree.{Alike, first_is_one, last_is_one, at_is_one, name_is_one}
+use Rattle.grammar.proofs.OneTreeLists.{Parts, EndsPart, more, last, Part, OnePart, Listed, list_alike}
+use Rattle.grammar.proofs.OneTreeExpressions.{one_expression, actuals_alike}
 
 -- the parts of a list of statements
 abbrev pub statement_parts : Parts Stmt

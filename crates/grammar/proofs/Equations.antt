@@ -21,9 +21,9 @@ use Rattle.syntax_tree.specs.declared.Stmt.{Stmt}
 use Rattle.syntax_tree.specs.declared.Stmt.TheVariants as statement
 use Rattle.syntax_tree.specs.declared.Stmt.TheOpen as stmt
 use Rattle.syntax_tree.specs.declared.Stmt.TheFolds.{fold-roll-Stmt}
-use Rattle.parser.specs.Spelling as spell
-use Rattle.parser.specs.WellFormed as form
-use Rattle.parser.specs.Nesting as nest
+use Rattle.grammar.specs.Spelling as spell
+use Rattle.grammar.specs.WellFormed as form
+use Rattle.grammar.specs.Nesting as nest
 
 -- ---- expressions
 

@@ -14,19 +14,19 @@ use Rattle.syntax_tree.specs.declared.VariableGroup.{VariableGroup}
 use Rattle.syntax_tree.specs.declared.Stmt.{Stmt}
 use Rattle.syntax_tree.specs.declared.Block.{Block}
 use Rattle.syntax_tree.specs.declared.Program.{Program}
-use Rattle.parser.specs.Spelling.{Lexeme, Spelling, Reads, Spells, of_kind_at, mark, word_symbol, identifier, identifiers, separated, joined, in_parentheses, denoter_spelling, group_spelling, variables_spelling, stmt_spelling, block_spelling, program_spelling}
-use Rattle.parser.specs.WellFormed.{is_group, is_statement, is_block, is_program, has_items}
-use Rattle.parser.specs.Reading.{next_kind, NoNext, Next}
-use Rattle.syntax_laws.specs.Notation.{Notation, bracketed, token, row, names_notation, denoter_notation, group_notation, stmt_notation, block_notation, notation}
-use Rattle.syntax_laws.specs.Notation as note
-use Rattle.syntax_laws.specs.Laws.{HasOneTree}
-use Rattle.parser.proofs.Lists.{and_left, and_right}
-use Rattle.parser.proofs.Exact.{parted, begins}
-use Rattle.parser.proofs.Led.{list_begins}
-use Rattle.parser.proofs.ExactPrograms.{some_items, other_kind}
-use Rattle.syntax_laws.proofs.OneTree.{Alike, first_is_one, last_is_one, at_is_one, name_is_one}
-use Rattle.syntax_laws.proofs.OneTreeLists.{Parts, OnePart, Listed, list_alike, InParentheses, parenthesized_alike}
-use Rattle.syntax_laws.proofs.OneTreeStatements.{statement_parts, one_statement}
+use Rattle.grammar.specs.Spelling.{Lexeme, Spelling, Reads, Spells, of_kind_at, mark, word_symbol, identifier, identifiers, separated, joined, in_parentheses, denoter_spelling, group_spelling, variables_spelling, stmt_spelling, block_spelling, program_spelling}
+use Rattle.grammar.specs.WellFormed.{is_group, is_statement, is_block, is_program, has_items}
+use Rattle.grammar.specs.Following.{next_kind, NoNext, Next}
+use Rattle.grammar.specs.Notation.{Notation, bracketed, token, row, names_notation, denoter_notation, group_notation, block_notation, notation}
+use Rattle.grammar.specs.Notation as note
+use Rattle.grammar.specs.Laws.{HasOneTree}
+use Rattle.grammar.proofs.Lists.{and_left, and_right}
+use Rattle.grammar.proofs.Rows.{parted, begins}
+use Rattle.grammar.proofs.Led.{list_begins}
+use Rattle.grammar.proofs.Programs.{some_items, other_kind}
+use Rattle.grammar.proofs.OneTree.{Alike, first_is_one, last_is_one, at_is_one, name_is_one}
+use Rattle.grammar.proofs.OneTreeLists.{Parts, OnePart, Listed, list_alike, InParentheses, parenthesized_alike}
+use Rattle.grammar.proofs.OneTreeStatements.{statement_parts, one_statement}
 
 -- ---- names
 

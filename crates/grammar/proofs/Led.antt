@@ -5,9 +5,9 @@ use Rattle.place.specs.declared.Place.{Place}
 use Rattle.lexer.specs.declared.token.Kind.TheVariants as kind
 use Rattle.lexer.specs.declared.token.Symbol.{Symbol}
 use Rattle.lexer.specs.declared.token.Token.{Token}
-use Rattle.parser.specs.Spelling.{Spelling, Reads, of_kind_at, mark, separated}
-use Rattle.parser.specs.Reading.{next_kind}
-use Rattle.parser.proofs.Exact.{parted, begins, same_first}
+use Rattle.grammar.specs.Spelling.{Spelling, Reads, of_kind_at, mark, separated}
+use Rattle.grammar.specs.Following.{next_kind}
+use Rattle.grammar.proofs.Rows.{parted, begins, same_first}
 
 -- spellings with a symbol before each
 unfoldable pub led : Symbol → List Spelling → Spelling

@@ -5,12 +5,12 @@ use Rattle.place.specs.declared.Place.{Place}
 use Rattle.lexer.specs.declared.token.Kind.TheVariants as kind
 use Rattle.lexer.specs.declared.token.Symbol.{Symbol}
 use Rattle.lexer.specs.declared.token.Token.{Token}
-use Rattle.parser.specs.Spelling.{Spelling, Reads, mark, of_kind_at, separated}
-use Rattle.parser.specs.Nesting.{deepest}
-use Rattle.parser.specs.Reading.{next_kind}
-use Rattle.parser.proofs.Lists.{and_left, and_right}
-use Rattle.parser.proofs.Exact.{parted, begins, start_below, other_start}
-use Rattle.parser.proofs.Led.{led, list_begins, led_next, led_some, led_ends}
+use Rattle.grammar.specs.Spelling.{Spelling, Reads, mark, of_kind_at, separated}
+use Rattle.grammar.specs.Nesting.{deepest}
+use Rattle.grammar.specs.Following.{next_kind}
+use Rattle.grammar.proofs.Lists.{and_left, and_right}
+use Rattle.grammar.proofs.Rows.{parted, begins, start_below, other_start}
+use Rattle.grammar.proofs.Led.{led, list_begins, led_next, led_some, led_ends}
 
 -- what the parts of a list are: the symbol between them, their spelling, whether they are well formed, and their levels
 pub record Parts (A : Type 0) : Type 0 where

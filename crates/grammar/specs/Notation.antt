@@ -21,7 +21,7 @@ use Rattle.syntax_tree.specs.declared.Stmt.{Stmt}
 use Rattle.syntax_tree.specs.declared.Stmt.TheOpen.{Stmt-F}
 use Rattle.syntax_tree.specs.declared.Stmt.TheOpen as stmt
 use Rattle.syntax_tree.specs.declared.Stmt.TheFolds.{fold-Stmt}
-use Rattle.parser.specs.Spelling.{Lexeme, of_kind_at, identifier, sign, operator}
+use Rattle.grammar.specs.Spelling.{Lexeme, of_kind_at, identifier, sign, operator}
 
 -- the forms of expressions, of statements and of declarations
 pub data Shape : Type 0 where

@@ -3,9 +3,9 @@
 use Rattle.std.specs.Prelude.{◌≡◌, List, IsTrue}
 use Rattle.lexer.specs.declared.token.Token.{Token}
 use Rattle.syntax_tree.specs.declared.Program.{Program}
-use Rattle.parser.specs.Spelling.{Spells, program_spelling}
-use Rattle.parser.specs.WellFormed.{is_program}
-use Rattle.syntax_laws.specs.Notation.{notation}
+use Rattle.grammar.specs.Spelling.{Spells, program_spelling}
+use Rattle.grammar.specs.WellFormed.{is_program}
+use Rattle.grammar.specs.Notation.{notation}
 
 -- well formed trees that the tokens spell are one: they are written alike, each form in its brackets
 unfoldable pub HasOneTree : List Token → Type 0

@@ -19,22 +19,22 @@ use Rattle.syntax_tree.specs.declared.Link.{Link}
 use Rattle.syntax_tree.specs.declared.Expr.TheOpen as expr
 use Rattle.syntax_tree.specs.declared.Expr.TheViews.{out-Expr, roll-Expr, roll-out-Expr, out-Link, roll-out-Link, out-Actual, roll-Actual, roll-out-Actual}
 use Rattle.syntax_tree.specs.declared.Expr.TheFolds.{map-Expr, fold-roll-Expr, fold-roll-Link, fold-roll-Actual}
-use Rattle.parser.specs.Spelling.{Lexeme, Spelling, IsSpelledBy, Reads, expr_spelling, actual_spelling, link_spelling, of_kind_at, mark, identifier, sign, operator, operator_kind, in_parentheses, joined, separated}
-use Rattle.parser.specs.Spelling as spell
-use Rattle.parser.specs.WellFormed.{Form, LinkForm, expr_form, is_actual, is_expression, link_form, chain_form, fits, has_items, is_link, operator_level, first_level, operand_level, relation_level, sum_level, signed_level, product_level, factor_level}
-use Rattle.parser.specs.WellFormed as form
-use Rattle.parser.specs.Reading.{next_kind, Ends}
-use Rattle.parser.specs.Nesting.{expr_levels}
-use Rattle.syntax_laws.specs.Notation.{Notation, bracketed, token, row, expr_notation, link_notation, actual_notation, width_notation}
-use Rattle.syntax_laws.specs.Notation as note
-use Rattle.parser.proofs.Lists.{and_left, and_right, all_mapped}
-use Rattle.parser.proofs.Reading.{reads_no_more}
-use Rattle.parser.proofs.Equations.{spelling_of, form_of, spelling-Alone, spelling-Wide, form-Alone, form-Wide}
-use Rattle.parser.proofs.Exact.{parted, begins}
-use Rattle.parser.proofs.ExactChains.{IsLevel, relation, sum, product, level_below, level_unsigned, operand_above, operand_below, fits_level, fits_well, fits_if, ends_above, close_ends, comma_ends, colon_ends, link_spelled, operator_of_link, operand_of_link, parts_of, behind_with}
-use Rattle.parser.proofs.ExactExpressions.{chain_no_factor, chain_unsigned, term_unsigned}
-use Rattle.syntax_laws.proofs.OneTree.{Alike, first_is_one, last_is_one, at_is_one, name_is_one}
-use Rattle.syntax_laws.proofs.OneTreeLists.{Parts, EndsPart, more, last, Part, OnePart, InParentheses, in_commas, parenthesized_alike}
+use Rattle.grammar.specs.Spelling.{Lexeme, Spelling, IsSpelledBy, Reads, expr_spelling, actual_spelling, link_spelling, of_kind_at, mark, identifier, sign, operator, operator_kind, in_parentheses, joined}
+use Rattle.grammar.specs.Spelling as spell
+use Rattle.grammar.specs.WellFormed.{Form, LinkForm, expr_form, is_actual, is_expression, link_form, chain_form, fits, has_items, is_link, first_level, operand_level, relation_level, sum_level, signed_level, product_level, factor_level}
+use Rattle.grammar.specs.WellFormed as form
+use Rattle.grammar.specs.Following.{next_kind, Ends}
+use Rattle.grammar.specs.Nesting.{expr_levels}
+use Rattle.grammar.specs.Notation.{Notation, bracketed, token, row, expr_notation, link_notation, actual_notation, width_notation}
+use Rattle.grammar.specs.Notation as note
+use Rattle.grammar.proofs.Lists.{and_left, and_right, all_mapped}
+use Rattle.grammar.proofs.Reading.{reads_no_more}
+use Rattle.grammar.proofs.Equations.{spelling_of, form_of, spelling-Alone, spelling-Wide, form-Alone, form-Wide}
+use Rattle.grammar.proofs.Rows.{parted, begins}
+use Rattle.grammar.proofs.Chains.{IsLevel, relation, sum, product, level_below, level_unsigned, operand_above, operand_below, fits_level, fits_well, fits_if, ends_above, close_ends, comma_ends, colon_ends, link_spelled, operator_of_link, operand_of_link, parts_of, behind_with}
+use Rattle.grammar.proofs.Expressions.{chain_no_factor, chain_unsigned, term_unsigned}
+use Rattle.grammar.proofs.OneTree.{Alike, first_is_one, last_is_one, at_is_one, name_is_one}
+use Rattle.grammar.proofs.OneTreeLists.{Parts, EndsPart, more, last, Part, OnePart, InParentheses, in_commas, parenthesized_alike}
 
 -- the form, the spelling and the notation of one layer
 abbrev form_layer : expr.Expr-F Expr Actual Link → Form

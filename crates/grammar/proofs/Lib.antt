@@ -1,0 +1,17 @@
+pub mod Actuals
+pub mod Chains
+pub mod Equations
+pub mod Expressions
+pub mod Forms
+pub mod Led
+pub mod Lists
+pub mod OneTree
+pub mod OneTreeExpressions
+pub mod OneTreeLists
+pub mod OneTreePrograms
+pub mod OneTreeStatements
+pub mod Parts
+pub mod Programs
+pub mod Reading
+pub mod Rows
+pub mod Statements
