@@ -1,10 +1,10 @@
 use lexer::token::{Kind, Symbol, Token, Word};
-use parser::fault::ParseFault;
 use parser::parse;
 use place::Place;
 use std::alloc::{AllocError, Global};
 use std::test::Fail;
 use test_words::texts::next_random;
+use token_cursor::fault::ParseFault;
 
 const PLACE: Place = Place {
     line: 0,

@@ -2,15 +2,15 @@
 use Rattle.std.proofs.Common.{◌≡◌, ℕ, List, [], ◌∷◌, ◌++◌, Result, Ok, Err, MatchResult, subst, sym, ap, ◌∙◌, refl, arith}
 use Rattle.place.specs.declared.Place.{Place}
 use Rattle.lexer.specs.declared.token.Token.{Token}
-use Rattle.parser.specs.declared.fault.ParseFault.{ParseFault}
-use Rattle.parser.specs.declared.cursor.Cursor.{Cursor}
-use Rattle.parser.specs.declared.operator.Level.{Level}
+use Rattle.token_cursor.specs.declared.fault.ParseFault.{ParseFault}
+use Rattle.token_cursor.specs.declared.cursor.Cursor.{Cursor}
+use Rattle.token_cursor.specs.declared.operator.Level.{Level}
 use Rattle.syntax_tree.specs.declared.Operator.{Operator}
 use Rattle.syntax_tree.specs.declared.Expr.{Expr}
 use Rattle.syntax_tree.specs.declared.Link.{Link}
 use Rattle.syntax_tree.specs.declared.Expr.TheViews.{roll-Link}
-use Rattle.parser.specs.Cursor.{IsOfRules}
-use Rattle.parser.specs.Level.{level_number}
+use Rattle.token_cursor.specs.Cursor.{IsOfRules}
+use Rattle.token_cursor.specs.Level.{level_number}
 use Rattle.grammar.specs.WellFormed.{first_level, operand_level}
 use Rattle.grammar.specs.Following.{Ends, NoOperator}
 use Rattle.parser.specs.Reading.{Stops, ReadsDeep}

@@ -2,9 +2,9 @@
 use Rattle.std.proofs.Common.{◌≡◌, ℕ, ◌+◌, ◌<◌, Result, Ok, Err, List, subst, sym, arith}
 use Rattle.lexer.specs.declared.token.Token.{Token}
 use Rattle.place.specs.declared.Place.{Place}
-use Rattle.parser.specs.declared.fault.ParseFault.{ParseFault}
-use Rattle.parser.specs.declared.fault.ParseFault.TheVariants.{Memory, NoProgram, TooDeep, LeftOut}
-use Rattle.parser.specs.declared.cursor.Cursor.{Cursor}
+use Rattle.token_cursor.specs.declared.fault.ParseFault.{ParseFault}
+use Rattle.token_cursor.specs.declared.fault.ParseFault.TheVariants.{Memory, NoProgram, TooDeep, LeftOut}
+use Rattle.token_cursor.specs.declared.cursor.Cursor.{Cursor}
 use Rattle.parser.specs.Reading.{Stops, ReadWithin}
 
 -- what stops a rule one level below stops the rule

@@ -3,16 +3,16 @@
 use Rattle.std.proofs.Common.{◌≡◌, ℕ, List, [], ◌∷◌, Result, Ok, subst, sym, ◌∙◌, arith}
 use Rattle.place.specs.declared.Place.{Place}
 use Rattle.lexer.specs.declared.token.Token.{Token}
-use Rattle.parser.specs.declared.fault.ParseFault.{ParseFault}
-use Rattle.parser.specs.declared.cursor.Cursor.{Cursor}
-use Rattle.parser.specs.declared.operator.Level.{Level}
-use Rattle.parser.specs.declared.operator.Level.TheVariants.{Relation, Sum, Product}
+use Rattle.token_cursor.specs.declared.fault.ParseFault.{ParseFault}
+use Rattle.token_cursor.specs.declared.cursor.Cursor.{Cursor}
+use Rattle.token_cursor.specs.declared.operator.Level.{Level}
+use Rattle.token_cursor.specs.declared.operator.Level.TheVariants.{Relation, Sum, Product}
 use Rattle.syntax_tree.specs.declared.Operator.{Operator}
 use Rattle.syntax_tree.specs.declared.Expr.{Expr}
 use Rattle.syntax_tree.specs.declared.Link.{Link}
 use Rattle.grammar.specs.Spelling.{Reads, operator}
 use Rattle.grammar.specs.WellFormed.{operator_level, first_level, operand_level}
-use Rattle.parser.specs.Level.{level_number}
+use Rattle.token_cursor.specs.Level.{level_number}
 use Rattle.grammar.specs.Following.{Ends}
 use Rattle.parser.specs.Reading.{ReadWithin, ReadsDeep}
 use Rattle.grammar.specs.Begins.{BeginsExpr}

@@ -5,13 +5,13 @@ use Rattle.lexer.specs.declared.token.Kind.TheVariants as kind
 use Rattle.lexer.specs.declared.token.Symbol.TheVariants as symbol
 use Rattle.lexer.specs.declared.token.Word.TheVariants as word
 use Rattle.lexer.specs.declared.token.Token.{Token}
-use Rattle.parser.specs.declared.fault.ParseFault.{ParseFault}
-use Rattle.parser.specs.declared.cursor.Cursor.{Cursor}
+use Rattle.token_cursor.specs.declared.fault.ParseFault.{ParseFault}
+use Rattle.token_cursor.specs.declared.cursor.Cursor.{Cursor}
 use Rattle.syntax_tree.specs.declared.Expr.{Expr}
 use Rattle.grammar.specs.Spelling.{Reads, of_kind_at}
 use Rattle.grammar.specs.WellFormed.{relation_level, signed_level, product_level, factor_level}
 use Rattle.grammar.specs.Nesting.{expr_levels}
-use Rattle.parser.specs.Cursor.{Took}
+use Rattle.token_cursor.specs.Cursor.{Took}
 use Rattle.grammar.specs.Begins.{BeginsExpr}
 use Rattle.grammar.specs.Following.{next_kind, Ends, NoSign, NoNext}
 use Rattle.parser.specs.Reading.{ReadWithin, ReadsDeep}

@@ -5,13 +5,13 @@ use Rattle.std.specs.declared.vec.Vec.{Vec}
 use Rattle.lexer.specs.declared.token.Kind.TheVariants as kind
 use Rattle.lexer.specs.declared.token.Symbol.TheVariants as symbol
 use Rattle.lexer.specs.declared.token.Token.{Token}
-use Rattle.parser.specs.declared.cursor.Cursor.{Cursor}
+use Rattle.token_cursor.specs.declared.cursor.Cursor.{Cursor}
 use Rattle.syntax_tree.specs.declared.Name.{Name}
 use Rattle.syntax_tree.specs.declared.VariableGroup.{VariableGroup}
 use Rattle.syntax_tree.specs.declared.Block.{Block}
 use Rattle.syntax_tree.specs.declared.Program.{Program}
-use Rattle.parser.specs.declared.fault.ParseFault.{ParseFault}
-use Rattle.parser.specs.declared.fault.ParseFault.TheVariants.{Memory, NoProgram, TooDeep, LeftOut}
+use Rattle.token_cursor.specs.declared.fault.ParseFault.{ParseFault}
+use Rattle.token_cursor.specs.declared.fault.ParseFault.TheVariants.{Memory, NoProgram, TooDeep, LeftOut}
 use Rattle.grammar.specs.Spelling.{Reads, mark, identifier}
 use Rattle.grammar.specs.Nesting.{nesting}
 use Rattle.grammar.specs.Begins.{BeginsNames, BeginsParameters, BeginsGroup, BeginsVariables, BeginsCompound, BeginsBlock, BeginsProgram}

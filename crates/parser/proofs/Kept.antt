@@ -1,10 +1,10 @@
 -- What was read and kept, and why it wasn't.
 use Rattle.std.proofs.Common.{◌≡◌, Result, Ok, Err, MatchResult, IfOk, IfErr, IsErr, IsErrAnd, List, [], ◌∷◌, ◌++◌, refl, sym, subst}
-use Rattle.parser.specs.declared.fault.ParseFault.{ParseFault}
-use Rattle.parser.specs.declared.fault.ParseFault.TheVariants.{Memory}
-use Rattle.parser.specs.declared.cursor.Cursor.{Cursor}
+use Rattle.token_cursor.specs.declared.fault.ParseFault.{ParseFault}
+use Rattle.token_cursor.specs.declared.fault.ParseFault.TheVariants.{Memory}
+use Rattle.token_cursor.specs.declared.cursor.Cursor.{Cursor}
 use Rattle.syntax_tree.specs.declared.Name.{Name}
-use Rattle.parser.specs.Cursor.{IsOfRules, Took}
+use Rattle.token_cursor.specs.Cursor.{IsOfRules, Took}
 use Rattle.parser.specs.Kept.{Added, NotKept}
 use Rattle.grammar.specs.Spelling.{identifier}
 

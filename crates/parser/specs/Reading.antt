@@ -4,9 +4,9 @@
 -- This doesn't say what a rule answers to other tokens.
 use Rattle.std.specs.Prelude.{◌≡◌, ℕ, ◌<◌, List, Result, MatchResult}
 use Rattle.lexer.specs.declared.token.Token.{Token}
-use Rattle.parser.specs.declared.fault.ParseFault.{ParseFault}
-use Rattle.parser.specs.declared.fault.ParseFault.TheVariants.{Memory, TooDeep}
-use Rattle.parser.specs.declared.cursor.Cursor.{Cursor}
+use Rattle.token_cursor.specs.declared.fault.ParseFault.{ParseFault}
+use Rattle.token_cursor.specs.declared.fault.ParseFault.TheVariants.{Memory, TooDeep}
+use Rattle.token_cursor.specs.declared.cursor.Cursor.{Cursor}
 
 -- the rule read up to these tokens, or memory ran out
 abbrev pub ReadTo : {A : Type 0} → List Token → Cursor → Result A ParseFault → Type 0

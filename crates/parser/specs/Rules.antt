@@ -3,14 +3,14 @@
 use Rattle.std.specs.Prelude.{◌≡◌, ℕ, List, [], ◌∷◌}
 use Rattle.place.specs.declared.Place.{Place}
 use Rattle.lexer.specs.declared.token.Token.{Token}
-use Rattle.parser.specs.declared.cursor.Cursor.{Cursor}
+use Rattle.token_cursor.specs.declared.cursor.Cursor.{Cursor}
 use Rattle.syntax_tree.specs.declared.Link.{Link}
 use Rattle.syntax_tree.specs.declared.Operator.{Operator}
-use Rattle.parser.specs.declared.operator.Level.{Level}
+use Rattle.token_cursor.specs.declared.operator.Level.{Level}
 use Rattle.grammar.specs.Spelling.{operator}
 use Rattle.grammar.specs.WellFormed.{operator_level, relation_level}
-use Rattle.parser.specs.Cursor.{Took}
-use Rattle.parser.specs.Level.{level_number}
+use Rattle.token_cursor.specs.Cursor.{Took}
+use Rattle.token_cursor.specs.Level.{level_number}
 use Rattle.grammar.specs.Following.{NoOperator}
 use Rattle.grammar.specs.Begins.{BeginsLinks}
 

@@ -1,20 +1,21 @@
 ghost use Rattle.std.specs.Prelude.{◌≡◌, IfErr, MatchOption, MatchResult};
-ghost use Rattle.parser.specs.Cursor.{IsOfRules};
+ghost use Rattle.token_cursor.specs.Cursor.{IsOfRules};
 ghost use Rattle.parser.specs.Rules.{Read};
-ghost use Rattle.grammar.specs.Begins.{BeginsList, BeginsNames, BeginsParameters, BeginsGroup, BeginsGroups, BeginsVariables, BeginsBlock, Stop};
+ghost use Rattle.grammar.specs.Begins.{BeginsList, BeginsNames, BeginsParameters, BeginsGroup, BeginsGroups, BeginsVariables, BeginsBlock};
 ghost use Rattle.parser.specs.Reading.{ReadsEach, ReadsDeep};
 ghost use Rattle.grammar.specs.Following.{NoNext, BeginsStatementPart, Anything};
-ghost use Rattle.parser.specs.Syntax.{first_left_out, is_left_out, IsTreeOf, IsRefused, Answers};
+ghost use Rattle.token_cursor.specs.LeftOut.{first_left_out};
+ghost use Rattle.parser.specs.Syntax.{IsTreeOf, IsRefused, Answers};
 
-use crate::cursor::Cursor;
-use crate::fault::ParseFault;
 use crate::memory::put;
-use crate::nesting::{MAX_NESTING, inside};
 use crate::statement::compound;
 use lexer::token::{Kind, Symbol, Token, Word};
-use place::Place;
 use std::alloc::Global;
 use syntax_tree::{Block, Name, Program, TypeDenoter, VariableGroup};
+use token_cursor::cursor::Cursor;
+use token_cursor::fault::ParseFault;
+use token_cursor::left_out::first_left_out;
+use token_cursor::nesting::{MAX_NESTING, inside};
 
 /// The syntax tree that the tokens spell (6.2 to 6.10), its parentheses kept. P3 where a token
 /// stands that only forms left out have: the first of these, before all else. Otherwise P1 at the
@@ -32,28 +33,6 @@ pub fn parse<'a>(alloc: Global, tokens: &[Token<'a>]) -> Result<Program<'a>, Par
     }
 }
 
-/// The place of the first token that only forms left out have.
-fn first_left_out(tokens: &[Token<'_>]) -> Option<Place>
-    ensures { result ≡ first_left_out tokens.now }
-{
-    for token in tokens {
-        if is_left_out(token.kind) {
-            return Some(token.place);
-        }
-    }
-    None
-}
-
-/// Whether a token is label, goto, nil, file or `^`.
-fn is_left_out(kind: Kind) -> bool
-    ensures { result ≡ is_left_out kind }
-{
-    matches!(
-        kind,
-        Kind::Word(Word::Label | Word::Goto | Word::Nil | Word::File) | Kind::Symbol(Symbol::Arrow)
-    )
-}
-
 // program = "program" name parameters ";" block "."
 /// A program and nothing behind it.
 fn program<'a>(alloc: Global, cursor: &mut Cursor<'_, 'a>) -> Result<Program<'a>, ParseFault>
@@ -65,24 +44,12 @@ fn program<'a>(alloc: Global, cursor: &mut Cursor<'_, 'a>) -> Result<Program<'a>
     let parameters = parameters(alloc, cursor)?;
     cursor.expect_symbol(Symbol::Semicolon)?;
     let block = block(alloc, cursor, MAX_NESTING)?;
-    stop(cursor)?;
+    cursor.stop()?;
     Ok(Program {
         name,
         parameters,
         block,
     })
-}
-
-/// The period of a program and nothing behind it.
-fn stop(cursor: &mut Cursor<'_, '_>) -> Result<(), ParseFault>
-    ensures given { MatchResult result (λ _. Stop cursor.old.rest.now) IsOfRules }
-    ensures missed { IfErr result (λ _. ¬ Stop cursor.old.rest.now) }
-{
-    cursor.expect_symbol(Symbol::Period)?;
-    match cursor.peek() {
-        None => Ok(()),
-        Some(_) => Err(cursor.no_program()),
-    }
 }
 
 // parameters = ["(" names ")"]

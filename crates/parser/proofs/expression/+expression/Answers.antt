@@ -3,9 +3,9 @@ use Rattle.lexer.specs.declared.token.Kind.TheVariants as kind
 use Rattle.lexer.specs.declared.token.Symbol.TheVariants as symbol
 use Rattle.lexer.specs.declared.token.Word.TheVariants as word
 use Rattle.syntax_tree.specs.declared.Actual.{Actual}
-use Rattle.parser.specs.declared.cursor.Cursor.{Cursor}
-use Rattle.parser.specs.Cursor.{IsOfRules, Took}
-use Rattle.parser.specs.Level.{level_number}
+use Rattle.token_cursor.specs.declared.cursor.Cursor.{Cursor}
+use Rattle.token_cursor.specs.Cursor.{IsOfRules, Took}
+use Rattle.token_cursor.specs.Level.{level_number}
 use Rattle.parser.specs.Rules.{Read, LinksEnd, LinksGoOn}
 use Rattle.grammar.specs.Begins.{BeginsExpr, BeginsActual, BeginsActualList}
 use Rattle.grammar.specs.Spelling.{Reads, mark, of_kind_at}

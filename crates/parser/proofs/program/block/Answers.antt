@@ -1,5 +1,5 @@
 use Rattle.std.proofs.Common.{rules, ◌≡◌}
-use Rattle.parser.specs.declared.fault.ParseFault.TheVariants.{Memory}
+use Rattle.token_cursor.specs.declared.fault.ParseFault.TheVariants.{Memory}
 use Rattle.parser.specs.Reading.{Stops}
 use Rattle.parser.proofs.Exact.{stops_above}
 use Rattle.grammar.proofs.Programs.{block_parts}

@@ -1,7 +1,7 @@
 use Rattle.std.proofs.Common.{rules, ◌≡◌, refl, subst}
 use Rattle.lexer.specs.declared.token.Kind.TheVariants as kind
-use Rattle.parser.specs.declared.fault.ParseFault.TheVariants.{Memory}
-use Rattle.parser.specs.Cursor.{IsOfRules}
+use Rattle.token_cursor.specs.declared.fault.ParseFault.TheVariants.{Memory}
+use Rattle.token_cursor.specs.Cursor.{IsOfRules}
 use Rattle.grammar.specs.Following.{Next, NoNext, Anything}
 use Rattle.parser.specs.Reading.{ReadsEach}
 use Rattle.parser.specs.Rules.{Read}

@@ -1,4 +1,4 @@
-use Rattle.parser.specs.Cursor.{left}
+use Rattle.token_cursor.specs.Cursor.{left}
 use Rattle.grammar.proofs.Programs.{NameNext}
 use Rattle.parser.proofs.Programs.{NamesGrow}
 use Rattle.parser.proofs.program.names.Given as goal

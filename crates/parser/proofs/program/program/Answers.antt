@@ -1,6 +1,6 @@
 use Rattle.std.proofs.Common.{rules, ◌≡◌, [], subst, sym}
 use Rattle.lexer.specs.declared.token.Symbol.TheVariants as symbol
-use Rattle.parser.specs.declared.fault.ParseFault.TheVariants.{Memory}
+use Rattle.token_cursor.specs.declared.fault.ParseFault.TheVariants.{Memory}
 use Rattle.parser.specs.Reading.{Stops}
 use Rattle.grammar.specs.Spelling.{mark}
 use Rattle.parser.specs.Syntax.{most, IsRefused}

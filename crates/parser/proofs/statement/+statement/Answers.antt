@@ -5,7 +5,7 @@ use Rattle.syntax_tree.specs.declared.Stmt.{Stmt}
 use Rattle.grammar.specs.Spelling.{Reads, of_kind_at, word_symbol}
 use Rattle.grammar.specs.Following.{next_kind, EndsStmt}
 use Rattle.parser.specs.Reading.{Stops, ReadWithin, ReadsDeep}
-use Rattle.parser.specs.Cursor.{IsOfRules}
+use Rattle.token_cursor.specs.Cursor.{IsOfRules}
 use Rattle.parser.specs.Rules.{Read}
 use Rattle.grammar.specs.Begins.{BeginsStatements, BeginsStmt}
 use Rattle.grammar.proofs.Lists.{pushed, emptied}

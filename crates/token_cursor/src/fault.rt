@@ -1,5 +1,5 @@
 ghost use Rattle.std.specs.Prelude.{◌≡◌};
-ghost use Rattle.parser.specs.declared.fault.ParseFault.TheVariants.{Memory};
+ghost use Rattle.token_cursor.specs.declared.fault.ParseFault.TheVariants.{Memory};
 
 use place::Place;
 use std::alloc::{AllocError, AllocFailed};
@@ -22,7 +22,7 @@ pub enum ParseFault {
 }
 
 impl ParseFault {
-    ghost use Rattle.parser.specs.ParseFault.{number_of, place_of_fault};
+    ghost use Rattle.token_cursor.specs.ParseFault.{number_of, place_of_fault};
 
     /// Its number behind the letter P, from 1 to 3, or 0 for `Memory`.
     pub fn number(&self) -> u8

@@ -1,5 +1,5 @@
-ghost use Rattle.std.specs.Prelude.{◌≡◌, [], ◌∷◌, IfSome, IfOk, ℕ, ◌↔◌, IsTrue, IfErr, IfNone, MatchBool};
-ghost use Rattle.parser.specs.Cursor.{end_of};
+ghost use Rattle.std.specs.Prelude.{◌≡◌, [], ◌∷◌, IfSome, IfOk, ℕ, ◌↔◌, IsTrue, IfErr, IfNone, MatchBool, MatchResult};
+ghost use Rattle.token_cursor.specs.Cursor.{end_of};
 
 use crate::fault::ParseFault;
 use crate::operator::{Level, level_of, operator_of};
@@ -10,16 +10,17 @@ use syntax_tree::{Name, Operator, Sign};
 /// The tokens that are left to read.
 #[derive(Clone, Copy)]
 pub struct Cursor<'t, 'a> {
-    rest: &'t [Token<'a>],
+    pub rest: &'t [Token<'a>],
     /// Just past the last token of all.
-    end: Place,
+    pub end: Place,
 }
 
 impl<'t, 'a> Cursor<'t, 'a> {
     ghost use Rattle.grammar.specs.Spelling.{of_kind_at, identifier, sign, operator};
     ghost use Rattle.grammar.specs.WellFormed.{operator_level};
-    ghost use Rattle.parser.specs.Level.{level_number};
-    ghost use Rattle.parser.specs.Cursor.{place_of_next, IsOfRules, Took};
+    ghost use Rattle.token_cursor.specs.Level.{level_number};
+    ghost use Rattle.token_cursor.specs.Cursor.{place_of_next, IsOfRules, Took};
+    ghost use Rattle.grammar.specs.Begins.{Stop};
     ghost use Rattle.grammar.specs.Following.{next_kind, NoSign, NoOperator};
 
     pub fn new(tokens: &'t [Token<'a>]) -> Self
@@ -205,6 +206,18 @@ impl<'t, 'a> Cursor<'t, 'a> {
                 _ => None,
             },
             _ => None,
+        }
+    }
+
+    /// Takes the period of a program, behind which nothing may stand.
+    pub fn stop(&mut self) -> Result<(), ParseFault>
+        ensures given { MatchResult result (λ _. Stop self.old.rest.now) IsOfRules }
+        ensures missed { IfErr result (λ _. ¬ Stop self.old.rest.now) }
+    {
+        self.expect_symbol(Symbol::Period)?;
+        match self.peek() {
+            None => Ok(()),
+            Some(_) => Err(self.no_program()),
         }
     }
 }

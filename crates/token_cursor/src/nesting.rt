@@ -1,5 +1,5 @@
 ghost use Rattle.std.specs.Prelude.{◌≡◌, ◌+◌, IfErr, MatchResult};
-ghost use Rattle.parser.specs.Cursor.{IsOfRules};
+ghost use Rattle.token_cursor.specs.Cursor.{IsOfRules};
 
 use crate::fault::ParseFault;
 use place::Place;

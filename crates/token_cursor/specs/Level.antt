@@ -1,7 +1,7 @@
 -- The levels of the operators that the rules of chains take.
 use Rattle.std.specs.Prelude.{ℕ}
-use Rattle.parser.specs.declared.operator.Level.{Level}
-use Rattle.parser.specs.declared.operator.Level.TheVariants.{Relation, Sum, Product}
+use Rattle.token_cursor.specs.declared.operator.Level.{Level}
+use Rattle.token_cursor.specs.declared.operator.Level.TheVariants.{Relation, Sum, Product}
 use Rattle.grammar.specs.WellFormed.{relation_level, sum_level, product_level}
 
 -- the level of the chains of these operators

@@ -2,7 +2,7 @@ ghost use Rattle.std.specs.Prelude.{◌≡◌, IfSome, IfNone};
 ghost use Rattle.syntax_tree.specs.declared.Operator.{Operator};
 ghost use Rattle.grammar.specs.Spelling.{operator_kind};
 ghost use Rattle.grammar.specs.WellFormed.{operator_level};
-ghost use Rattle.parser.specs.Level.{level_number};
+ghost use Rattle.token_cursor.specs.Level.{level_number};
 
 use lexer::token::{Kind, Symbol, Word};
 use syntax_tree::Operator;

@@ -2,8 +2,8 @@
 -- This doesn't say which list has which fault.
 use Rattle.std.specs.Prelude.{ℕ, Option, Some, None}
 use Rattle.place.specs.declared.Place.{Place}
-use Rattle.parser.specs.declared.fault.ParseFault.{ParseFault}
-use Rattle.parser.specs.declared.fault.ParseFault.TheVariants.{Memory, NoProgram, TooDeep, LeftOut}
+use Rattle.token_cursor.specs.declared.fault.ParseFault.{ParseFault}
+use Rattle.token_cursor.specs.declared.fault.ParseFault.TheVariants.{Memory, NoProgram, TooDeep, LeftOut}
 
 -- the number of a fault behind the letter P, and 0 for want of memory
 abbrev pub number_of : ParseFault → ℕ

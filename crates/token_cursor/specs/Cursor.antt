@@ -5,9 +5,9 @@ use Rattle.place.specs.declared.Place.{Place}
 use Rattle.place.specs.Place.{start}
 use Rattle.lexer.specs.declared.token.Token.{Token}
 use Rattle.grammar.specs.Spelling.{Spelling, Reads}
-use Rattle.parser.specs.declared.cursor.Cursor.{Cursor}
-use Rattle.parser.specs.declared.fault.ParseFault.{ParseFault}
-use Rattle.parser.specs.declared.fault.ParseFault.TheVariants.{LeftOut}
+use Rattle.token_cursor.specs.declared.cursor.Cursor.{Cursor}
+use Rattle.token_cursor.specs.declared.fault.ParseFault.{ParseFault}
+use Rattle.token_cursor.specs.declared.fault.ParseFault.TheVariants.{LeftOut}
 
 -- how many tokens are left
 abbrev pub left : Cursor → ℕ

@@ -1,0 +1,87 @@
+-- The places that a syntax tree keeps, in the order of the text: of names, numbers, operators and `:=`, of the opening
+-- parenthesis of an expression, and of the last `end`. It says nothing of what stands there.
+use Rattle.std.specs.Prelude.{List, [], ◌∷◌, ◌++◌, Option, Some, None, map, flat_map}
+use Rattle.place.specs.declared.Place.{Place}
+use Rattle.syntax_tree.specs.declared.Name.{Name}
+use Rattle.syntax_tree.specs.declared.TypeDenoter.{TypeDenoter}
+use Rattle.syntax_tree.specs.declared.TypeDenoter.TheVariants as denoter
+use Rattle.syntax_tree.specs.declared.VariableGroup.{VariableGroup}
+use Rattle.syntax_tree.specs.declared.Program.{Program}
+use Rattle.syntax_tree.specs.declared.Block.{Block}
+use Rattle.syntax_tree.specs.declared.Expr.{Expr}
+use Rattle.syntax_tree.specs.declared.Actual.{Actual}
+use Rattle.syntax_tree.specs.declared.Link.{Link}
+use Rattle.syntax_tree.specs.declared.Expr.TheOpen.{Expr-F, Actual-F, Link-F}
+use Rattle.syntax_tree.specs.declared.Expr.TheOpen.Expr-F.{Number, Name as NameOf, Call as CallOf, Parenthesized, Not, Signed, Chain}
+use Rattle.syntax_tree.specs.declared.Expr.TheFolds.{fold-Expr, fold-Actual, fold-Link}
+use Rattle.syntax_tree.specs.declared.Stmt.{Stmt}
+use Rattle.syntax_tree.specs.declared.Stmt.TheOpen.{Stmt-F}
+use Rattle.syntax_tree.specs.declared.Stmt.TheOpen.Stmt-F.{Empty, Assign, Call, Compound}
+use Rattle.syntax_tree.specs.declared.Stmt.TheFolds.{fold-Stmt}
+
+abbrev pub Places : Type 0
+Places = List Place
+
+-- several rows as one
+abbrev pub joined_places : List Places → Places
+joined_places rows = flat_map (λ row. row) rows
+
+abbrev pub link_step : Link-F Places Places Places → Places
+link_step link = link.place ∷ link.operand
+
+abbrev pub width_places : Option Places → Places
+width_places None = []
+width_places (Some places) = places
+
+abbrev pub actual_step : Actual-F Places Places Places → Places
+actual_step actual = actual.value ++ width_places actual.width
+
+abbrev pub expression_step : Expr-F Places Places Places → Places
+expression_step (Number value place) = place ∷ []
+expression_step (NameOf name) = name.place ∷ []
+expression_step (CallOf name actuals) = name.place ∷ joined_places actuals.items
+expression_step (Parenthesized bracket inner) = bracket ∷ inner.value
+expression_step (Not place operand) = place ∷ operand.value
+expression_step (Signed sign place term) = place ∷ term.value
+expression_step (Chain first rest) = first.value ++ joined_places rest.items
+
+-- the places of an expression
+abbrev pub expr_places : Expr → Places
+expr_places = fold-Expr Places Places Places expression_step actual_step link_step
+
+-- the places of an actual
+abbrev pub actual_places : Actual → Places
+actual_places = fold-Actual Places Places Places expression_step actual_step link_step
+
+-- the places of an operator and its right operand
+abbrev pub link_places : Link → Places
+link_places = fold-Link Places Places Places expression_step actual_step link_step
+
+abbrev pub statement_step : Stmt-F Places → Places
+statement_step Empty = []
+statement_step (Assign name becomes value) = name.place ∷ becomes ∷ expr_places value
+statement_step (Call name actuals) = name.place ∷ flat_map actual_places actuals.items
+statement_step (Compound statements) = joined_places statements.items
+
+-- the places of a statement
+abbrev pub stmt_places : Stmt → Places
+stmt_places = fold-Stmt Places statement_step
+
+abbrev pub name_places : List Name → Places
+name_places names = map (λ name. name.place) names
+
+abbrev pub denoter_places : TypeDenoter → Places
+denoter_places (denoter.Name name) = name.place ∷ []
+
+-- the places of variables that are declared together
+abbrev pub group_places : VariableGroup → Places
+group_places group = name_places group.names.items ++ denoter_places group.denoter
+
+-- the places of a block
+abbrev pub block_places : Block → Places
+block_places block =
+    flat_map group_places block.variables.items ++ (flat_map stmt_places block.statements.items ++ (block.end ∷ []))
+
+-- the places of a program
+abbrev pub program_places : Program → Places
+program_places program = program.name.place ∷ (name_places program.parameters.items ++ block_places program.block)
