@@ -20,10 +20,12 @@ use Rattle.syntax_tree.specs.declared.Expr.TheFolds.{map-Expr, fold-roll-Expr, f
 use Rattle.syntax_tree.specs.declared.Stmt.{Stmt}
 use Rattle.syntax_tree.specs.declared.Stmt.TheVariants as statement
 use Rattle.syntax_tree.specs.declared.Stmt.TheOpen as stmt
-use Rattle.syntax_tree.specs.declared.Stmt.TheFolds.{fold-roll-Stmt}
+use Rattle.syntax_tree.specs.declared.Stmt.TheViews.{roll-Stmt}
+use Rattle.syntax_tree.specs.declared.Stmt.TheFolds.{map-Stmt, fold-roll-Stmt}
 use Rattle.grammar.specs.Spelling as spell
 use Rattle.grammar.specs.WellFormed as form
 use Rattle.grammar.specs.Nesting as nest
+use Rattle.grammar.proofs.Lists.{all_computed}
 
 -- ---- expressions
 
@@ -135,8 +137,18 @@ levels-Wide e w = fold-roll-Actual ℕ ℕ ℕ nest.expr_step nest.actual_step (
 pub spelling-Compound : (v : Vec Stmt Global) → spell.stmt_spelling (statement.Compound v) ≡ spell.word_symbol word.Begin ∷ spell.separated symbol.Semicolon (map spell.stmt_spelling v.items) ++ spell.word_symbol word.End ∷ []
 spelling-Compound v = ap spell.stmt_spelling (sym (statement.rolls-Compound v)) ∙ fold-roll-Stmt spell.Spelling spell.stmt_step (stmt.Compound v)
 
-pub form-Compound : (v : Vec Stmt Global) → form.is_statement (statement.Compound v) ≡ form.has_items (map form.is_statement v.items) && list_all (λ well. well) (map form.is_statement v.items)
-form-Compound v = ap form.is_statement (sym (statement.rolls-Compound v)) ∙ fold-roll-Stmt Bool form.stmt_step (stmt.Compound v)
+pub stmt_form_of : (d : stmt.Stmt-F Stmt) → form.stmt_form (roll-Stmt d) ≡ form.stmt_step (map-Stmt Stmt form.StmtForm form.stmt_form d)
+stmt_form_of d = fold-roll-Stmt form.StmtForm form.stmt_step d
+
+-- whether one layer of a statement is well formed
+pub stmt_well_of : (d : stmt.Stmt-F Stmt) → form.is_statement (roll-Stmt d) ≡ (form.stmt_step (map-Stmt Stmt form.StmtForm form.stmt_form d)).well
+stmt_well_of d = ap (λ (f : form.StmtForm). f.well) (stmt_form_of d)
+
+pub form-Compound : (v : Vec Stmt Global)
+    → form.is_statement (statement.Compound v) ≡ form.has_items (map form.stmt_form v.items) && list_all form.is_statement v.items
+form-Compound v =
+    ap form.is_statement (sym (statement.rolls-Compound v)) ∙ stmt_well_of (stmt.Compound v)
+    ∙ ap (λ all. form.has_items (map form.stmt_form v.items) && all) (all_computed (λ (f : form.StmtForm). f.well) form.stmt_form v.items)
 
 pub levels-Compound : (v : Vec Stmt Global) → nest.stmt_levels (statement.Compound v) ≡ 1 + nest.deepest (map nest.stmt_levels v.items)
 levels-Compound v = ap nest.stmt_levels (sym (statement.rolls-Compound v)) ∙ fold-roll-Stmt ℕ nest.stmt_step (stmt.Compound v)
@@ -145,7 +157,7 @@ pub spelling-Empty : spell.stmt_spelling statement.Empty ≡ []
 spelling-Empty = ap spell.stmt_spelling (sym statement.rolls-Empty) ∙ fold-roll-Stmt spell.Spelling spell.stmt_step stmt.Empty
 
 pub form-Empty : form.is_statement statement.Empty ≡ true
-form-Empty = ap form.is_statement (sym statement.rolls-Empty) ∙ fold-roll-Stmt Bool form.stmt_step stmt.Empty
+form-Empty = ap form.is_statement (sym statement.rolls-Empty) ∙ stmt_well_of stmt.Empty
 
 pub levels-Empty : nest.stmt_levels statement.Empty ≡ 1
 levels-Empty = ap nest.stmt_levels (sym statement.rolls-Empty) ∙ fold-roll-Stmt ℕ nest.stmt_step stmt.Empty
@@ -154,7 +166,7 @@ pub spelling-Assign : (n : Name) (p : Place) (e : Expr) → spell.stmt_spelling 
 spelling-Assign n p e = ap spell.stmt_spelling (sym (statement.rolls-Assign n p e)) ∙ fold-roll-Stmt spell.Spelling spell.stmt_step (stmt.Assign n p e)
 
 pub form-Assign : (n : Name) (p : Place) (e : Expr) → form.is_statement (statement.Assign n p e) ≡ form.is_expression e
-form-Assign n p e = ap form.is_statement (sym (statement.rolls-Assign n p e)) ∙ fold-roll-Stmt Bool form.stmt_step (stmt.Assign n p e)
+form-Assign n p e = ap form.is_statement (sym (statement.rolls-Assign n p e)) ∙ stmt_well_of (stmt.Assign n p e)
 
 pub levels-Assign : (n : Name) (p : Place) (e : Expr) → nest.stmt_levels (statement.Assign n p e) ≡ 1 + nest.expr_levels e
 levels-Assign n p e = ap nest.stmt_levels (sym (statement.rolls-Assign n p e)) ∙ fold-roll-Stmt ℕ nest.stmt_step (stmt.Assign n p e)
@@ -163,7 +175,7 @@ pub spelling-Call : (n : Name) (v : Vec Actual Global) → spell.stmt_spelling (
 spelling-Call n v = ap spell.stmt_spelling (sym (statement.rolls-Call n v)) ∙ fold-roll-Stmt spell.Spelling spell.stmt_step (stmt.Call n v)
 
 pub form-Call : (n : Name) (v : Vec Actual Global) → form.is_statement (statement.Call n v) ≡ list_all form.is_actual v.items
-form-Call n v = ap form.is_statement (sym (statement.rolls-Call n v)) ∙ fold-roll-Stmt Bool form.stmt_step (stmt.Call n v)
+form-Call n v = ap form.is_statement (sym (statement.rolls-Call n v)) ∙ stmt_well_of (stmt.Call n v)
 
 pub levels-Call : (n : Name) (v : Vec Actual Global) → nest.stmt_levels (statement.Call n v) ≡ 1 + nest.deepest (map nest.actual_levels v.items)
 levels-Call n v = ap nest.stmt_levels (sym (statement.rolls-Call n v)) ∙ fold-roll-Stmt ℕ nest.stmt_step (stmt.Call n v)

@@ -32,9 +32,12 @@ pub deepest_push : (n : ℕ) (xs : List ℕ) (x : ℕ) → deepest xs ≤ n → 
 deepest_push n xs x h k = let e = fold_max_push 0 xs x in omega arith
 
 -- a test of each of a list that was computed
+pub all_computed : {A B : Type 0} (p : B → Bool) (f : A → B) (xs : List A) → list_all p (map f xs) ≡ list_all (λ x. p (f x)) xs
+all_computed p f [] = refl
+all_computed p f (x ∷ xs) = ap (λ b. p (f x) && b) (all_computed p f xs)
+
 pub all_mapped : {A : Type 0} (f : A → Bool) (xs : List A) → list_all (λ b. b) (map f xs) ≡ list_all f xs
-all_mapped f [] = refl
-all_mapped f (x ∷ xs) = ap (λ b. f x && b) (all_mapped f xs)
+all_mapped f xs = all_computed (λ b. b) f xs
 
 pub length_map : {A B : Type 0} (f : A → B) (xs : List A) → length (map f xs) ≡ length xs
 length_map f [] = refl

@@ -1,5 +1,5 @@
 -- Two statements from the same tokens are written alike: by how many tokens there are, and the first of them.
-use Rattle.std.proofs.Common.{◌≡◌, ℕ, zero, suc, ◌+◌, ◌≤◌, Bool, true, ◌&&◌, List, [], ◌∷◌, ◌++◌, map, length, Some, refl, subst, sym, ap, ◌∙◌, arith}
+use Rattle.std.proofs.Common.{◌≡◌, ℕ, zero, suc, ◌+◌, ◌≤◌, true, ◌&&◌, List, [], ◌∷◌, ◌++◌, map, length, Some, refl, subst, sym, ap, ◌∙◌, arith}
 use Rattle.std.specs.List.{list_all}
 use Rattle.place.specs.declared.Place.{Place}
 use Rattle.lexer.specs.declared.token.Kind.{Kind}
@@ -14,12 +14,13 @@ use Rattle.syntax_tree.specs.declared.Stmt.TheViews.{out-Stmt, roll-out-Stmt}
 use Rattle.syntax_tree.specs.declared.Stmt.TheFolds.{map-Stmt, fold-roll-Stmt}
 use Rattle.grammar.specs.Spelling.{Spelling, Reads, expr_spelling, actual_spelling, stmt_spelling, of_kind_at, word_symbol, identifier, separated, in_parentheses}
 use Rattle.grammar.specs.Spelling as spell
-use Rattle.grammar.specs.WellFormed.{relation_level, is_statement, has_items}
+use Rattle.grammar.specs.WellFormed.{relation_level, StmtForm, stmt_form, is_statement, has_items}
 use Rattle.grammar.specs.WellFormed as form
 use Rattle.grammar.specs.Following.{next_kind, NoNext, Next, Ends}
 use Rattle.grammar.specs.Notation.{Notation, bracketed, token, row, expr_notation, actual_notation, stmt_notation}
 use Rattle.grammar.specs.Notation as note
-use Rattle.grammar.proofs.Lists.{and_left, and_right, all_mapped, length_map}
+use Rattle.grammar.proofs.Lists.{and_left, and_right, all_computed, length_map}
+use Rattle.grammar.proofs.Equations.{stmt_well_of}
 use Rattle.grammar.proofs.Rows.{parted, begins}
 use Rattle.grammar.proofs.Chains.{semicolon_ends, end_ends}
 use Rattle.grammar.proofs.Programs.{some_items}
@@ -93,7 +94,7 @@ not_called p s a c d (x ∷ xs) h k ends = let no : Some (kind.Symbol symbol.Bec
 -- one layer of a statement that begins these tokens
 record Stands (a c : List Token) (x : stmt.Stmt-F Stmt) : Type 0 where
   pub spelled : Reads a (spell.stmt_step (map-Stmt Stmt Spelling stmt_spelling x)) c
-  pub formed : form.stmt_step (map-Stmt Stmt Bool is_statement x) ≡ true
+  pub formed : (form.stmt_step (map-Stmt Stmt StmtForm stmt_form x)).well ≡ true
   pub ends : EndsOne c
 
 -- what is written of it
@@ -101,14 +102,14 @@ abbrev written_of : stmt.Stmt-F Stmt → Notation
 written_of x = note.stmt_step (map-Stmt Stmt Notation stmt_notation x)
 
 listed : (a c : List Token) (xs : List Stmt) → Reads a (separated symbol.Semicolon (map stmt_spelling xs)) c
-    → has_items (map is_statement xs) && list_all (λ well. well) (map is_statement xs) ≡ true → Next (kind.Word word.End) c
+    → has_items (map stmt_form xs) && list_all (λ (f : StmtForm). f.well) (map stmt_form xs) ≡ true → Next (kind.Word word.End) c
     → Listed Stmt statement_parts a c xs
 listed a c xs h f closed = record {
   some =
-      let e = length_map is_statement xs in
-      let m = some_items (map is_statement xs) (and_left (has_items (map is_statement xs)) (list_all (λ well. well) (map is_statement xs)) f) in omega arith;
+      let e = length_map stmt_form xs in
+      let m = some_items (map stmt_form xs) (and_left (has_items (map stmt_form xs)) (list_all (λ (f : StmtForm). f.well) (map stmt_form xs)) f) in omega arith;
   spelled = h;
-  formed = sym (all_mapped is_statement xs) ∙ and_right (has_items (map is_statement xs)) (list_all (λ well. well) (map is_statement xs)) f;
+  formed = sym (all_computed (λ (f : StmtForm). f.well) stmt_form xs) ∙ and_right (has_items (map stmt_form xs)) (list_all (λ (f : StmtForm). f.well) (map stmt_form xs)) f;
   closed = closed;
 }
 
@@ -176,7 +177,7 @@ stands a c s h ends =
     let o = sym (roll-out-Stmt s) in
     record {
       spelled = subst (λ x. Reads a x c) (ap stmt_spelling o ∙ fold-roll-Stmt Spelling spell.stmt_step d) h.spelled;
-      formed = sym (ap is_statement o ∙ fold-roll-Stmt Bool form.stmt_step d) ∙ h.formed;
+      formed = sym (ap is_statement o ∙ stmt_well_of d) ∙ h.formed;
       ends = ends;
     }
 

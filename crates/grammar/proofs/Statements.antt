@@ -1,5 +1,5 @@
 -- The rules of statements read each spelling of their form: by the first token, form by form.
-use Rattle.std.proofs.Common.{◌≡◌, ℕ, ◌+◌, ◌<◌, ◌≤◌, true, Bool, List, [], ◌∷◌, ◌++◌, map, length, Some, refl, subst, sym, ap, ◌∙◌, arith}
+use Rattle.std.proofs.Common.{◌≡◌, ℕ, ◌+◌, ◌<◌, ◌≤◌, true, List, [], ◌∷◌, ◌++◌, map, length, Some, refl, subst, sym, ap, ◌∙◌, arith}
 use Rattle.std.specs.List.{list_all}
 use Rattle.place.specs.declared.Place.{Place}
 use Rattle.lexer.specs.declared.token.Kind.{Kind}
@@ -16,13 +16,14 @@ use Rattle.syntax_tree.specs.declared.Stmt.TheViews.{out-Stmt, roll-out-Stmt}
 use Rattle.syntax_tree.specs.declared.Stmt.TheFolds.{map-Stmt, fold-roll-Stmt}
 use Rattle.grammar.specs.Spelling.{Spelling, Reads, expr_spelling, actual_spelling, stmt_spelling, of_kind, of_kind_at, mark, word_symbol, identifier, separated, in_parentheses}
 use Rattle.grammar.specs.Spelling as spell
-use Rattle.grammar.specs.WellFormed.{relation_level, is_expression, is_actual, is_statement, has_items}
+use Rattle.grammar.specs.WellFormed.{relation_level, is_expression, is_actual, StmtForm, stmt_form, is_statement, has_items}
 use Rattle.grammar.specs.WellFormed as form
 use Rattle.grammar.specs.Nesting.{expr_levels, actual_levels, stmt_levels, deepest}
 use Rattle.grammar.specs.Nesting as nest
 use Rattle.grammar.specs.Following.{next_kind, NoNext, Ends, EndsStmt, EndsStatements, semicolon, end}
 use Rattle.grammar.specs.Begins.{BeginsExpr, BeginsActuals, BeginsStmt, BeginsStatements, BeginsCompound}
-use Rattle.grammar.proofs.Lists.{and_left, and_right, all_mapped}
+use Rattle.grammar.proofs.Lists.{and_left, and_right, all_computed}
+use Rattle.grammar.proofs.Equations.{stmt_well_of}
 use Rattle.grammar.proofs.Rows.{parted, begins, same_first}
 use Rattle.grammar.proofs.Chains.{semicolon_ends, end_ends}
 use Rattle.grammar.proofs.Parts.{Parts, PartsLeft, PartThenOthers, ComesBehind, one_more, no_more, parts_begin, parts_go_on}
@@ -49,7 +50,7 @@ pub data IsSimple (levels : ℕ) (tokens others : List Token) : Type 0 where
       → 1 + deepest (map actual_levels actuals) ≤ levels → IsSimple levels tokens others
 
 simple_of : (levels : ℕ) (m : Name) (a b c : List Token) (d : stmt.Stmt-F Stmt) → Reads a (identifier m ∷ []) b → EndsStmt c → Reads a (spell.stmt_step (map-Stmt Stmt Spelling stmt_spelling d)) c
-    → form.stmt_step (map-Stmt Stmt Bool is_statement d) ≡ true → nest.stmt_step (map-Stmt Stmt ℕ stmt_levels d) ≤ levels → IsSimple levels b c
+    → (form.stmt_step (map-Stmt Stmt StmtForm stmt_form d)).well ≡ true → nest.stmt_step (map-Stmt Stmt ℕ stmt_levels d) ≤ levels → IsSimple levels b c
 simple_of levels m a b c stmt.Empty k ends s f n = absurd (no_name c ends (ap next_kind (sym s) ∙ begins (identifier m) [] a b k))
 simple_of levels m a b c (stmt.Assign x p v) k ends s f n = assigned p v (same_first (identifier m) (identifier x) (of_kind_at (kind.Symbol symbol.Becomes) p ∷ expr_spelling v) a b c k s).1 f n
 simple_of levels m a b c (stmt.Call x v) k ends s f n = called v.items (same_first (identifier m) (identifier x) (in_parentheses (map actual_spelling v.items)) a b c k s).1 f n
@@ -63,7 +64,7 @@ simple_parts levels m a b c s k ends h =
     let d = out-Stmt s in
     let o = sym (roll-out-Stmt s) in
     simple_of levels m a b c d k ends (subst (λ x. Reads a x c) (ap stmt_spelling o ∙ fold-roll-Stmt Spelling spell.stmt_step d) h.spelled)
-    (sym (ap is_statement o ∙ fold-roll-Stmt Bool form.stmt_step d) ∙ h.formed) (subst (λ n. n ≤ levels) (ap stmt_levels o ∙ fold-roll-Stmt ℕ nest.stmt_step d) h.nests)
+    (sym (ap is_statement o ∙ stmt_well_of d) ∙ h.formed) (subst (λ n. n ≤ levels) (ap stmt_levels o ∙ fold-roll-Stmt ℕ nest.stmt_step d) h.nests)
 
 -- the value of an assignment
 pub record IsAssigned (levels : ℕ) (a c : List Token) : Type 0 where
@@ -112,7 +113,7 @@ pub record Compounded (levels : ℕ) (a c : List Token) : Type 0 where
   pub less : below < levels
   pub begun : BeginsCompound below a c found
 
-some_of : (statements : List Stmt) → has_items (map is_statement statements) ≡ true → 0 < length statements
+some_of : (statements : List Stmt) → has_items (map stmt_form statements) ≡ true → 0 < length statements
 some_of [] h = cc
 some_of (s ∷ ss) h = omega arith
 
@@ -121,7 +122,7 @@ no_begin c (semicolon h) e = let no : Some (kind.Symbol symbol.Semicolon) ≡ So
 no_begin c (end h) e = let no : Some (kind.Word word.End) ≡ Some (kind.Word word.Begin) = sym h ∙ e in cc
 
 compounded_of : (levels : ℕ) (a c : List Token) (d : stmt.Stmt-F Stmt) → next_kind a ≡ Some (kind.Word word.Begin) → EndsStmt c
-    → Reads a (spell.stmt_step (map-Stmt Stmt Spelling stmt_spelling d)) c → form.stmt_step (map-Stmt Stmt Bool is_statement d) ≡ true → nest.stmt_step (map-Stmt Stmt ℕ stmt_levels d) ≤ levels → Compounded levels a c
+    → Reads a (spell.stmt_step (map-Stmt Stmt Spelling stmt_spelling d)) c → (form.stmt_step (map-Stmt Stmt StmtForm stmt_form d)).well ≡ true → nest.stmt_step (map-Stmt Stmt ℕ stmt_levels d) ≤ levels → Compounded levels a c
 compounded_of levels a c stmt.Empty e ends s f n = absurd (no_begin c ends (ap next_kind (sym s) ∙ e))
 compounded_of levels a c (stmt.Assign m p v) e ends s f n =
     let no : Some kind.Identifier ≡ Some (kind.Word word.Begin) = sym (begins (identifier m) (of_kind_at (kind.Symbol symbol.Becomes) p ∷ expr_spelling v) a c s) ∙ e in cc
@@ -129,9 +130,9 @@ compounded_of levels a c (stmt.Call m v) e ends s f n =
     let no : Some kind.Identifier ≡ Some (kind.Word word.Begin) = sym (begins (identifier m) (in_parentheses (map actual_spelling v.items)) a c s) ∙ e in cc
 compounded_of levels a c (stmt.Compound v) e ends s f n =
     let r = with_last_place (kind.Word word.End) (word_symbol word.Begin ∷ separated symbol.Semicolon (map stmt_spelling v.items)) a c s in
-    let some = and_left (has_items (map is_statement v.items)) (list_all (λ b. b) (map is_statement v.items)) f in
-    let all = and_right (has_items (map is_statement v.items)) (list_all (λ b. b) (map is_statement v.items)) f in
-    record { found = (v.items, r.0); below = deepest (map stmt_levels v.items); less = omega arith; begun = record { spelled = r.1; some = some_of v.items some; formed = sym (all_mapped is_statement v.items) ∙ all; nests = omega arith } }
+    let some = and_left (has_items (map stmt_form v.items)) (list_all (λ (f : StmtForm). f.well) (map stmt_form v.items)) f in
+    let all = and_right (has_items (map stmt_form v.items)) (list_all (λ (f : StmtForm). f.well) (map stmt_form v.items)) f in
+    record { found = (v.items, r.0); below = deepest (map stmt_levels v.items); less = omega arith; begun = record { spelled = r.1; some = some_of v.items some; formed = sym (all_computed (λ (f : StmtForm). f.well) stmt_form v.items) ∙ all; nests = omega arith } }
 
 -- at `begin` stands a compound statement
 pub compounded : (levels : ℕ) (a c : List Token) (s : Stmt) → next_kind a ≡ Some (kind.Word word.Begin) → EndsStmt c → BeginsStmt levels a c s → Compounded levels a c
@@ -139,7 +140,7 @@ compounded levels a c s e ends h =
     let d = out-Stmt s in
     let o = sym (roll-out-Stmt s) in
     compounded_of levels a c d e ends (subst (λ x. Reads a x c) (ap stmt_spelling o ∙ fold-roll-Stmt Spelling spell.stmt_step d) h.spelled)
-    (sym (ap is_statement o ∙ fold-roll-Stmt Bool form.stmt_step d) ∙ h.formed) (subst (λ n. n ≤ levels) (ap stmt_levels o ∙ fold-roll-Stmt ℕ nest.stmt_step d) h.nests)
+    (sym (ap is_statement o ∙ stmt_well_of d) ∙ h.formed) (subst (λ n. n ≤ levels) (ap stmt_levels o ∙ fold-roll-Stmt ℕ nest.stmt_step d) h.nests)
 
 -- what stands behind the `begin` of a compound statement
 pub record OpenedCompound (levels : ℕ) (a c : List Token) (statements : List Stmt) : Type 0 where

@@ -123,15 +123,29 @@ is_actual = fold-Actual Form Bool LinkForm expr_step actual_step link_step
 abbrev pub is_expression : Expr → Bool
 is_expression e = fits relation_level (expr_form e)
 
+-- whether a statement is well formed, and whether it ends in an if without else
+pub record StmtForm : Type 0 where
+  pub well : Bool
+  pub ends_open : Bool
+
+-- a form that doesn't end in an if without else
+abbrev pub closed : Bool → StmtForm
+closed well = record { well = well; ends_open = false }
+
 -- one layer of a statement
-abbrev pub stmt_step : Stmt-F Bool → Bool
-stmt_step stmt.Empty = true
-stmt_step (stmt.Assign name becomes value) = is_expression value
-stmt_step (stmt.Call name actuals) = list_all is_actual actuals.items
-stmt_step (stmt.Compound statements) = has_items statements.items && list_all (λ well. well) statements.items
+abbrev pub stmt_step : Stmt-F StmtForm → StmtForm
+stmt_step stmt.Empty = closed true
+stmt_step (stmt.Assign name becomes value) = closed (is_expression value)
+stmt_step (stmt.Call name actuals) = closed (list_all is_actual actuals.items)
+stmt_step (stmt.Compound statements) =
+    closed (has_items statements.items && list_all (λ statement. statement.well) statements.items)
+
+-- the form of a statement
+abbrev pub stmt_form : Stmt → StmtForm
+stmt_form = fold-Stmt StmtForm stmt_step
 
 abbrev pub is_statement : Stmt → Bool
-is_statement = fold-Stmt Bool stmt_step
+is_statement s = (stmt_form s).well
 
 abbrev pub is_group : VariableGroup → Bool
 is_group g = has_items g.names.items

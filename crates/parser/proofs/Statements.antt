@@ -17,21 +17,21 @@ use Rattle.syntax_tree.specs.declared.Stmt.{Stmt}
 use Rattle.syntax_tree.specs.declared.Stmt.TheVariants as statement
 use Rattle.token_cursor.specs.Cursor.{Took}
 use Rattle.grammar.specs.Spelling.{Spelling, expr_spelling, identifier, actual_spelling, stmt_spelling, of_kind_at, mark, word_symbol, separated, in_parentheses}
-use Rattle.grammar.specs.WellFormed.{relation_level, is_actual, is_statement, has_items}
+use Rattle.grammar.specs.WellFormed.{relation_level, is_actual, stmt_form, is_statement, has_items}
 use Rattle.grammar.specs.Nesting.{actual_levels, stmt_levels, deepest}
 use Rattle.parser.specs.Rules.{Read}
 use Rattle.grammar.specs.Begins.{BeginsExpr, BeginsList, BeginsActual, BeginsActualList, BeginsActuals, BeginsStmt, BeginsStatements, BeginsCompound}
 use Rattle.grammar.proofs.Equations.{spelling-Empty, form-Empty, levels-Empty, spelling-Assign, form-Assign, levels-Assign, spelling-Call, form-Call, levels-Call, spelling-Compound, form-Compound, levels-Compound}
-use Rattle.grammar.proofs.Lists.{map_push, all_push, deepest_push, all_mapped, and_true, length_map}
+use Rattle.grammar.proofs.Lists.{map_push, all_push, deepest_push, and_true, length_map}
 use Rattle.grammar.proofs.Reading.{both, without_place, without_last_place, separated_more, in_parentheses_some}
 
 pub some_grown : {A : Type 0} (xs : List A) (x : A) → 0 < length (xs ++ x ∷ [])
 some_grown [] x = omega arith
 some_grown (y ∷ ys) x = omega arith
 
-has : (xs : List Stmt) → 0 < length xs → has_items (map is_statement xs) ≡ true
+has : (xs : List Stmt) → 0 < length xs → has_items (map stmt_form xs) ≡ true
 has [] h = absurd (omega arith)
-has (x ∷ xs) h = lt-ltb 0 (length (map is_statement (x ∷ xs))) (omega arith)
+has (x ∷ xs) h = lt-ltb 0 (length (map stmt_form (x ∷ xs))) (omega arith)
 
 -- one more part
 pub list_goes_on : (m : Symbol) (a b c d : Cursor) (parts grown : List Spelling) (p : Place) (last : Spelling)
@@ -125,7 +125,7 @@ compound_closed levels a b c d p end statements opened list closed = record {
 pub compound_stands : (levels inner : ℕ) (a b : Cursor) (end : Place) (v : Vec Stmt Global) → inner + 1 ≡ levels → Read (BeginsCompound inner) a b (v.items, end) → Read (BeginsStmt levels) a b (statement.Compound v)
 compound_stands levels inner a b end v less given = record {
   spelled = subst (λ s. Took a b s) (sym (spelling-Compound v)) (without_last_place (kind.Word word.End) end (word_symbol word.Begin ∷ separated symbol.Semicolon (map stmt_spelling v.items)) a.rest.now b.rest.now given.spelled);
-  formed = form-Compound v ∙ and_true (has_items (map is_statement v.items)) (list_all (λ b. b) (map is_statement v.items)) (has v.items given.some) (all_mapped is_statement v.items ∙ given.formed);
+  formed = form-Compound v ∙ and_true (has_items (map stmt_form v.items)) (list_all is_statement v.items) (has v.items given.some) given.formed;
   nests = let e = levels-Compound v in let n = given.nests in omega arith;
 }
 
