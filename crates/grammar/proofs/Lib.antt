@@ -11,7 +11,9 @@ pub mod OneTreeLists
 pub mod OneTreePrograms
 pub mod OneTreeStatements
 pub mod Parts
+pub mod ProgramPlaces
 pub mod Programs
 pub mod Reading
 pub mod Rows
 pub mod Statements
+pub mod TreePlaces

@@ -6,6 +6,7 @@ pub mod ExactExpressions
 pub mod ExactPrograms
 pub mod ExactStatements
 pub mod Kept
+pub mod Order
 pub mod Programs
 pub mod Reading
 pub mod Rules

@@ -1,4 +1,7 @@
-ghost use Rattle.std.specs.Prelude.{◌≡◌, IfErr, MatchOption, MatchResult};
+ghost use Rattle.std.specs.Prelude.{◌≡◌, IfErr, IfOk, MatchOption, MatchResult, map};
+ghost use Rattle.place.specs.Place.{ArePlacesInOrder};
+ghost use Rattle.syntax_tree.specs.Places.{program_places};
+ghost use Rattle.grammar.specs.Laws.{HasOneTree};
 ghost use Rattle.token_cursor.specs.Cursor.{IsOfRules};
 ghost use Rattle.parser.specs.Rules.{Read};
 ghost use Rattle.grammar.specs.Begins.{BeginsList, BeginsNames, BeginsParameters, BeginsGroup, BeginsGroups, BeginsVariables, BeginsBlock};
@@ -21,11 +24,16 @@ use token_cursor::nesting::{MAX_NESTING, inside};
 /// stands that only forms left out have: the first of these, before all else. Otherwise P1 at the
 /// first token with which no program goes on, or just past the last, or P2 where the nesting passes
 /// `MAX_NESTING`; nesting alone is never P1. The clauses leave the places of P1 and P2 open, and let
-/// P2 stand where P1 might.
+/// P2 stand where P1 might. No list of tokens has two trees, and where its places ascend, those of
+/// the tree do.
+#[tactic(auto, using(grammar::proofs::OneTreePrograms::one_tree))]
 pub fn parse<'a>(alloc: Global, tokens: &[Token<'a>]) -> Result<Program<'a>, ParseFault>
     ensures left_out { MatchOption (first_left_out tokens.now) (IfErr result IsOfRules)
         (λ place. result ≡ Err (ParseFault.LeftOut place)) }
     ensures exact { Answers result tokens.now }
+    ensures one_tree { HasOneTree tokens.now }
+    ensures in_order { ArePlacesInOrder (map (λ token. token.place) tokens.now)
+        → IfOk result (λ tree. ArePlacesInOrder (program_places tree)) }
 {
     match first_left_out(tokens) {
         Some(place) => Err(ParseFault::LeftOut(place)),
