@@ -1,7 +1,8 @@
 -- What was read and kept, and why it wasn't.
-use Rattle.std.proofs.Common.{◌≡◌, Result, Ok, Err, MatchResult, IfOk, IfErr, IsErr, IsErrAnd, List, [], ◌∷◌, ◌++◌, refl, sym, subst}
+use Rattle.std.proofs.Common.{◌≡◌, Result, Ok, Err, MatchResult, IfOk, IfErr, IsErr, IsErrAnd, List, [], ◌∷◌, ◌++◌, refl, sym, subst, ◌∙◌}
+use Rattle.place.specs.declared.Place.{Place}
 use Rattle.token_cursor.specs.declared.fault.ParseFault.{ParseFault}
-use Rattle.token_cursor.specs.declared.fault.ParseFault.TheVariants.{Memory}
+use Rattle.token_cursor.specs.declared.fault.ParseFault.TheVariants.{Memory, NoProgram}
 use Rattle.token_cursor.specs.declared.cursor.Cursor.{Cursor}
 use Rattle.syntax_tree.specs.declared.Name.{Name}
 use Rattle.token_cursor.specs.Cursor.{IsOfRules, Took}
@@ -27,9 +28,10 @@ pub not_kept : {A : Type 0} (Q : A → Type 0) (P : ParseFault → Type 0) (foun
 not_kept Q P (Ok item) fault memory h same = subst P (sym same) memory
 not_kept Q P (Err why) fault memory h same = subst P (sym same) h
 
-pub rules_of : {A : Type 0} (X : Type 0) (found : Result A ParseFault) (fault : ParseFault) → IfErr found (λ why. X × IsOfRules why) → NotKept found fault → IsOfRules fault
-rules_of X (Ok item) fault h same = subst IsOfRules (sym same) tt
-rules_of X (Err why) fault h same = subst IsOfRules (sym same) h.1
+pub rules_of : {A : Type 0} (X : Type 0) (place : Place) (found : Result A ParseFault) (fault : ParseFault) → IfErr found (λ why. X × (why ≡ NoProgram place))
+    → NotKept found fault → IsOfRules fault
+rules_of X place (Ok item) fault h same = subst IsOfRules (sym same) tt
+rules_of X place (Err why) fault h same = subst IsOfRules (sym (same ∙ h.1)) tt
 
 -- what comes next is read, or memory runs out
 pub memory_out : {A : Type 0} (N : Type 0) (found : Result A ParseFault) (fault : ParseFault) → IfErr found (λ _. ¬ N) → N → NotKept found fault → fault ≡ Memory

@@ -19,7 +19,7 @@ impl<'t, 'a> Cursor<'t, 'a> {
     ghost use Rattle.grammar.specs.Spelling.{of_kind_at, identifier, sign, operator};
     ghost use Rattle.grammar.specs.WellFormed.{operator_level};
     ghost use Rattle.token_cursor.specs.Level.{level_number};
-    ghost use Rattle.token_cursor.specs.Cursor.{place_of_next, IsOfRules, Took};
+    ghost use Rattle.token_cursor.specs.Cursor.{place_of_next, Took};
     ghost use Rattle.grammar.specs.Begins.{Stop};
     ghost use Rattle.grammar.specs.Following.{next_kind, NoSign, NoOperator};
 
@@ -96,7 +96,8 @@ impl<'t, 'a> Cursor<'t, 'a> {
     }
 
     pub fn expect_word(&mut self, word: Word) -> Result<Place, ParseFault>
-        ensures kept { IfErr result (λ fault. (self.new ≡ self.old) × IsOfRules fault) }
+        ensures kept { IfErr result
+            (λ fault. (self.new ≡ self.old) × (fault ≡ ParseFault.NoProgram (place_of_next self.old))) }
         ensures missed { IfErr result (λ _. ¬ (next_kind self.old.rest.now ≡ Some (Kind.Word word))) }
         ensures spelled { IfOk result
             (λ place. Took self.old self.new (of_kind_at (Kind.Word word) place ∷ [])) }
@@ -105,7 +106,8 @@ impl<'t, 'a> Cursor<'t, 'a> {
     }
 
     pub fn expect_symbol(&mut self, symbol: Symbol) -> Result<Place, ParseFault>
-        ensures kept { IfErr result (λ fault. (self.new ≡ self.old) × IsOfRules fault) }
+        ensures kept { IfErr result
+            (λ fault. (self.new ≡ self.old) × (fault ≡ ParseFault.NoProgram (place_of_next self.old))) }
         ensures missed { IfErr result (λ _. ¬ (next_kind self.old.rest.now ≡ Some (Kind.Symbol symbol))) }
         ensures spelled { IfOk result
             (λ place. Took self.old self.new (of_kind_at (Kind.Symbol symbol) place ∷ [])) }
@@ -139,7 +141,8 @@ impl<'t, 'a> Cursor<'t, 'a> {
     }
 
     pub fn expect_name(&mut self) -> Result<Name<'a>, ParseFault>
-        ensures kept { IfErr result (λ fault. (self.new ≡ self.old) × IsOfRules fault) }
+        ensures kept { IfErr result
+            (λ fault. (self.new ≡ self.old) × (fault ≡ ParseFault.NoProgram (place_of_next self.old))) }
         ensures missed { IfErr result (λ _. ¬ (next_kind self.old.rest.now ≡ Some Kind.Identifier)) }
         ensures spelled { IfOk result (λ name. Took self.old self.new (identifier name ∷ [])) }
     {
@@ -211,7 +214,8 @@ impl<'t, 'a> Cursor<'t, 'a> {
 
     /// Takes the period of a program, behind which nothing may stand.
     pub fn stop(&mut self) -> Result<(), ParseFault>
-        ensures given { MatchResult result (λ _. Stop self.old.rest.now) IsOfRules }
+        ensures given { MatchResult result (λ _. Stop self.old.rest.now)
+            (λ fault. fault ≡ ParseFault.NoProgram (place_of_next self.new)) }
         ensures missed { IfErr result (λ _. ¬ Stop self.old.rest.now) }
     {
         self.expect_symbol(Symbol::Period)?;
