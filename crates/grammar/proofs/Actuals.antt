@@ -24,7 +24,8 @@ use Rattle.grammar.proofs.Parts.{Parts, PartsLeft, PartThenOthers, ComesBehind, 
 -- a width behind its colon, or none
 pub data IsWidth (levels : ℕ) (tokens others : List Token) : Type 0 where
   absent : tokens ≡ others → IsWidth levels tokens others
-  wide : (w : Expr) → Reads tokens (mark symbol.Colon ∷ expr_spelling w) others → is_expression w ≡ true → 1 + expr_levels w ≤ levels → IsWidth levels tokens others
+  wide : (w : Expr) → Reads tokens (mark symbol.Colon ∷ expr_spelling w) others → is_expression w ≡ true → 1 + expr_levels w ≤ levels → IsWidth levels tokens
+      others
 
 -- a value, and its width behind it
 pub record IsValue (levels : ℕ) (tokens others : List Token) : Type 0 where
@@ -35,7 +36,8 @@ pub record IsValue (levels : ℕ) (tokens others : List Token) : Type 0 where
   pub nests : 1 + expr_levels value ≤ levels
   pub width : IsWidth levels middle others
 
-actual_with : (levels : ℕ) (a c : List Token) (e : Expr) (w : Option Expr) → BeginsActual levels a c (roll-Actual (record { value = e; width = w })) → IsValue levels a c
+actual_with : (levels : ℕ) (a c : List Token) (e : Expr) (w : Option Expr) → BeginsActual levels a c (roll-Actual (record { value = e; width = w }))
+    → IsValue levels a c
 actual_with levels a c e None h =
     let n = levels-Alone e in
     let m = h.nests in
@@ -63,7 +65,8 @@ actual_with levels a c e (Some w) h =
 
 -- each actual has these parts
 pub actual_parts : (levels : ℕ) (a c : List Token) (x : Actual) → BeginsActual levels a c x → IsValue levels a c
-actual_parts levels a c x h = actual_with levels a c (out-Actual x).value (out-Actual x).width (subst (λ y. BeginsActual levels a c y) (sym (roll-out-Actual x)) h)
+actual_parts levels a c x h = actual_with levels a c (out-Actual x).value (out-Actual x).width
+    (subst (λ y. BeginsActual levels a c y) (sym (roll-out-Actual x)) h)
 
 pub ends_expression : (c : List Token) → EndsActual c → Ends relation_level c
 ends_expression c (comma h) = comma_ends relation_level c h (omega arith)
@@ -90,9 +93,16 @@ no_colon c (comma h) e = let no : Some (kind.Symbol symbol.Comma) ≡ Some (kind
 no_colon c (parenthesis h) e = let no : Some (kind.Symbol symbol.CloseParenthesis) ≡ Some (kind.Symbol symbol.Colon) = sym h ∙ e in cc
 
 -- behind a colon stands a width
-pub width_taken : (levels : ℕ) (p : Place) (a b c : List Token) → Reads a (of_kind_at (kind.Symbol symbol.Colon) p ∷ []) b → EndsActual c → IsWidth levels a c → IsWide levels b c
+pub width_taken : (levels : ℕ) (p : Place) (a b c : List Token) → Reads a (of_kind_at (kind.Symbol symbol.Colon) p ∷ []) b → EndsActual c → IsWidth levels a c
+    → IsWide levels b c
 width_taken levels p a b c k ends (absent h) = absurd (no_colon c ends (ap next_kind (sym h) ∙ begins (of_kind_at (kind.Symbol symbol.Colon) p) [] a b k))
-width_taken levels p a b c k ends (wide w h f n) = record { width = w; spelled = (same_first (of_kind_at (kind.Symbol symbol.Colon) p) (mark symbol.Colon) (expr_spelling w) a b c k h).1; formed = f; nests = n }
+width_taken levels p a b c k ends (wide w h f n) = record {
+  width = w;
+  spelled = (same_first (of_kind_at (kind.Symbol symbol.Colon) p) (mark symbol.Colon)
+      (expr_spelling w) a b c k h).1;
+  formed = f;
+  nests = n;
+}
 
 -- ---- lists of actuals
 
@@ -102,17 +112,20 @@ actual_list_parts = record { symbol = symbol.Comma; spelling = actual_spelling; 
 
 -- what is left of each list of actuals that may stand there
 abbrev pub ActualsListLeft : List Token → List Token → Type 0
-ActualsListLeft start now = (depth : ℕ) (actuals : List Actual) (others : List Token) → BeginsActualList depth start others actuals → Closes others → PartsLeft Actual actual_list_parts depth now others
+ActualsListLeft start now = (depth : ℕ) (actuals : List Actual) (others : List Token) → BeginsActualList depth start others actuals → Closes others → PartsLeft
+    Actual actual_list_parts depth now others
 
 -- a list of actuals begins with one
-pub actuals_begin : (levels : ℕ) (a c : List Token) (actuals : List Actual) → BeginsActualList levels a c actuals → PartThenOthers Actual actual_list_parts levels a c
+pub actuals_begin : (levels : ℕ) (a c : List Token) (actuals : List Actual) → BeginsActualList levels a c actuals
+    → PartThenOthers Actual actual_list_parts levels a c
 actuals_begin levels a c actuals h = parts_begin Actual actual_list_parts levels a c actuals h.list.some h.list.spelled h.formed h.nests
 
 no_comma : (c : List Token) → Closes c → ¬ (next_kind c ≡ Some (kind.Symbol symbol.Comma))
 no_comma c closes e = let no : Some (kind.Symbol symbol.CloseParenthesis) ≡ Some (kind.Symbol symbol.Comma) = sym closes ∙ e in cc
 
 -- behind a comma stands one more actual
-pub one_more_actual : (levels : ℕ) (p : Place) (a b c : List Token) → Reads a (of_kind_at (kind.Symbol symbol.Comma) p ∷ []) b → Closes c → PartsLeft Actual actual_list_parts levels a c → PartThenOthers Actual actual_list_parts levels b c
+pub one_more_actual : (levels : ℕ) (p : Place) (a b c : List Token) → Reads a (of_kind_at (kind.Symbol symbol.Comma) p ∷ []) b → Closes c
+    → PartsLeft Actual actual_list_parts levels a c → PartThenOthers Actual actual_list_parts levels b c
 one_more_actual levels p a b c k closes h = parts_go_on Actual actual_list_parts levels p a b c k (no_comma c closes) h
 
 pub actual_ends : (a c : List Token) → ComesBehind symbol.Comma a c → Closes c → EndsActual a
@@ -121,14 +134,16 @@ actual_ends a c (no_more e) closes = parenthesis (e ∙ closes)
 
 -- an actual comes next, in each list of actuals that may stand there
 abbrev pub ActualNext : List Token → List Token → Type 0
-ActualNext start now = (depth : ℕ) (actuals : List Actual) (others : List Token) → BeginsActualList depth start others actuals → Closes others → PartThenOthers Actual actual_list_parts depth now others
+ActualNext start now = (depth : ℕ) (actuals : List Actual) (others : List Token) → BeginsActualList depth start others actuals → Closes others → PartThenOthers
+    Actual actual_list_parts depth now others
 
 -- the first actual
 pub actual_list_begins : (start : List Token) → ActualNext start start
 actual_list_begins start depth actuals others h closes = actuals_begin depth start others actuals h
 
 -- behind a comma
-pub actual_list_goes_on : (p : Place) (start a b : List Token) → Reads a (of_kind_at (kind.Symbol symbol.Comma) p ∷ []) b → ActualsListLeft start a → ActualNext start b
+pub actual_list_goes_on : (p : Place) (start a b : List Token) → Reads a (of_kind_at (kind.Symbol symbol.Comma) p ∷ []) b → ActualsListLeft start a
+    → ActualNext start b
 actual_list_goes_on p start a b k left depth actuals others h closes = one_more_actual depth p a b others k closes (left depth actuals others h closes)
 
 -- what stands behind the opening parenthesis of actuals
@@ -139,7 +154,8 @@ pub record OpenedActuals (levels : ℕ) (a c : List Token) (actuals : List Actua
   pub closes : Closes middle
 
 -- in them stands a list, and a closing parenthesis behind it
-pub opened_actuals : (levels : ℕ) (p : Place) (a b c : List Token) (actuals : List Actual) → Reads a (of_kind_at (kind.Symbol symbol.OpenParenthesis) p ∷ []) b → NoNext (kind.Symbol symbol.OpenParenthesis) c
+pub opened_actuals : (levels : ℕ) (p : Place) (a b c : List Token) (actuals : List Actual) → Reads a (of_kind_at (kind.Symbol symbol.OpenParenthesis) p ∷ []) b
+    → NoNext (kind.Symbol symbol.OpenParenthesis) c
     → BeginsActuals levels a c actuals → OpenedActuals levels b c actuals
 opened_actuals levels p a b c [] k ends h = absurd (ends (ap next_kind (sym h.spelled) ∙ begins (of_kind_at (kind.Symbol symbol.OpenParenthesis) p) [] a b k))
 opened_actuals levels p a b c (e ∷ es) k ends h =

@@ -194,9 +194,21 @@ pub record IsChained (level levels : ℕ) (tokens others : List Token) : Type 0 
   pub chain : Chain level levels middle others
 
 lone : (level levels : ℕ) (a c : List Token) (e : Expr) → BeginsExpr (first_level level) levels a c e → IsChained level levels a c
-lone level levels a c e h = record { first = e; middle = c; begun = h; chain = record { links = []; spelled = refl; formed = refl; few = λ _. omega arith; nests = omega arith } }
+lone level levels a c e h = record {
+  first = e;
+  middle = c;
+  begun = h;
+  chain = record {
+    links = [];
+    spelled = refl;
+    formed = refl;
+    few = λ _. omega arith;
+    nests = omega arith;
+  };
+}
 
-few_if : (level : ℕ) (ls : List Link) (b : Bool) → nat_lt relation_level level ≡ b → b || nat_eq (length (map link_form ls)) 0 ≡ true → level ≡ relation_level → length ls ≤ 0
+few_if : (level : ℕ) (ls : List Link) (b : Bool) → nat_lt relation_level level ≡ b → b || nat_eq (length (map link_form ls)) 0 ≡ true → level ≡ relation_level
+    → length ls ≤ 0
 few_if level ls true s h e = let k = ltb-true relation_level level s in absurd (omega arith)
 few_if level ls false s h e = let k = eqb-true (length (map link_form ls)) 0 h in let m = length_map link_form ls in omega arith
 
@@ -211,15 +223,19 @@ pub record HasParts (level : ℕ) (first : Form) (link : LinkForm) (links : List
 
 pub parts_of : (first : Form) (link : LinkForm) (links : List LinkForm) → (chain_form first (link ∷ links)).well ≡ true → HasParts link.level first link links
 parts_of first link links h =
-    let rest = and_right (fits (first_level link.level) first) (list_all (is_link link.level) (link ∷ links) && (nat_lt relation_level link.level || nat_eq (length links) 0)) h in
+    let rest = and_right (fits (first_level link.level) first) (list_all (is_link link.level) (link ∷ links) &&
+    (nat_lt relation_level link.level || nat_eq (length links) 0)) h in
     record {
-      first_fits = and_left (fits (first_level link.level) first) (list_all (is_link link.level) (link ∷ links) && (nat_lt relation_level link.level || nat_eq (length links) 0)) h;
+      first_fits = and_left (fits (first_level link.level) first) (list_all (is_link link.level) (link ∷ links) &&
+          (nat_lt relation_level link.level || nat_eq (length links) 0)) h;
       all = and_left (list_all (is_link link.level) (link ∷ links)) (nat_lt relation_level link.level || nat_eq (length links) 0) rest;
       few = and_right (list_all (is_link link.level) (link ∷ links)) (nat_lt relation_level link.level || nat_eq (length links) 0) rest;
     }
 
-chained_with : (level levels : ℕ) (a c : List Token) (first : Expr) (links : List Link) → (chain_form (expr_form first) (map link_form links)).level ≡ level → (chain_form (expr_form first) (map link_form links)).well ≡ true
-    → Reads a (expr_spelling first ++ joined (map link_spelling links)) c → max (expr_levels first) (deepest (map link_levels links)) ≤ levels → IsChained level levels a c
+chained_with : (level levels : ℕ) (a c : List Token) (first : Expr) (links : List Link) → (chain_form (expr_form first) (map link_form links)).level ≡ level
+    → (chain_form (expr_form first) (map link_form links)).well ≡ true
+    → Reads a (expr_spelling first ++ joined (map link_spelling links)) c → max (expr_levels first) (deepest (map link_levels links)) ≤ levels
+    → IsChained level levels a c
 chained_with level levels a c first [] e w s n = let no : false ≡ true = w in cc
 chained_with level levels a c first (l ∷ ls) e w s n =
     let parts = subst (λ m. HasParts m (expr_form first) (link_form l) (map link_form ls)) e (parts_of (expr_form first) (link_form l) (map link_form ls) w) in
@@ -231,7 +247,8 @@ chained_with level levels a c first (l ∷ ls) e w s n =
       chain = record { links = l ∷ ls; spelled = r.2; formed = parts.all; few = λ z. let k = few_of level ls parts.few z in omega arith; nests = omega arith };
     }
 
-chained_of : (level levels : ℕ) (a c : List Token) (d : expr.Expr-F Expr Actual Link) → IsLevel level → (form.expr_step (map-Expr Expr Actual Link Form Bool LinkForm expr_form is_actual link_form d)).level ≡ level
+chained_of : (level levels : ℕ) (a c : List Token) (d : expr.Expr-F Expr Actual Link) → IsLevel level
+    → (form.expr_step (map-Expr Expr Actual Link Form Bool LinkForm expr_form is_actual link_form d)).level ≡ level
     → (form.expr_step (map-Expr Expr Actual Link Form Bool LinkForm expr_form is_actual link_form d)).well ≡ true
     → Reads a (spell.expr_step (map-Expr Expr Actual Link Spelling Spelling Spelling expr_spelling actual_spelling link_spelling d)) c
     → nest.expr_step (map-Expr Expr Actual Link ℕ ℕ ℕ expr_levels actual_levels link_levels d) ≤ levels → IsChained level levels a c
@@ -243,17 +260,26 @@ chained_of level levels a c (expr.Not p b) is e w s n = let b = level_below leve
 chained_of level levels a c (expr.Signed g p b) is e w s n = absurd (level_unsigned level is (sym e))
 chained_of level levels a c (expr.Chain b v) is e w s n = chained_with level levels a c b.value v.items e w s n
 
-chained_at : (level levels : ℕ) (a c : List Token) (e : Expr) → IsLevel level → (expr_form e).level ≡ level → BeginsExpr level levels a c e → IsChained level levels a c
+chained_at : (level levels : ℕ) (a c : List Token) (e : Expr) → IsLevel level → (expr_form e).level ≡ level → BeginsExpr level levels a c e
+    → IsChained level levels a c
 chained_at level levels a c e is at h =
     let d = out-Expr e in
     let o = sym (roll-out-Expr e) in
-    chained_of level levels a c d is (sym (ap (λ (f : Form). f.level) (ap expr_form o ∙ form_of d)) ∙ at) (sym (ap (λ (f : Form). f.well) (ap expr_form o ∙ form_of d)) ∙ fits_well level (expr_form e) h.formed)
+    chained_of level levels a c d is (sym (ap (λ (f : Form). f.level) (ap expr_form o ∙ form_of d)) ∙ at)
+    (sym (ap (λ (f : Form). f.well) (ap expr_form o ∙ form_of d)) ∙ fits_well level (expr_form e) h.formed)
     (subst (λ s. Reads a s c) (ap expr_spelling o ∙ spelling_of d) h.spelled) (subst (λ n. n ≤ levels) (ap expr_levels o ∙ levels_of d) h.nests)
 
-above : (level levels : ℕ) (a c : List Token) (e : Expr) → level + 1 ≤ (expr_form e).level → BeginsExpr level levels a c e → BeginsExpr (first_level level) levels a c e
-above level levels a c e k h = record { spelled = h.spelled; formed = fits_if (first_level level) (expr_form e) k (fits_well level (expr_form e) h.formed); nests = h.nests }
+above : (level levels : ℕ) (a c : List Token) (e : Expr) → level + 1 ≤ (expr_form e).level → BeginsExpr level levels a c e
+    → BeginsExpr (first_level level) levels a c e
+above level levels a c e k h = record {
+  spelled = h.spelled;
+  formed = fits_if (first_level level) (expr_form e) k
+      (fits_well level (expr_form e) h.formed);
+  nests = h.nests;
+}
 
-chained_if : (level levels : ℕ) (a c : List Token) (e : Expr) (b : Bool) → nat_le (level + 1) (expr_form e).level ≡ b → IsLevel level → BeginsExpr level levels a c e → IsChained level levels a c
+chained_if : (level levels : ℕ) (a c : List Token) (e : Expr) (b : Bool) → nat_le (level + 1) (expr_form e).level ≡ b → IsLevel level
+    → BeginsExpr level levels a c e → IsChained level levels a c
 chained_if level levels a c e true t is h = lone level levels a c e (above level levels a c e (leb-true (level + 1) (expr_form e).level t) h)
 chained_if level levels a c e false t is h =
     let k = leb-false (level + 1) (expr_form e).level t in
@@ -276,12 +302,15 @@ none_left : (a c : List Token) (ls : List Link) → length ls ≤ 0 → Reads a 
 none_left a c [] n h = h
 none_left a c (l ∷ ls) n h = absurd (omega arith)
 
-goes_on_with : (level levels : ℕ) (o : Operator) (p : Place) (a b c : List Token) (links : List Link) → operator_level o ≡ level → Reads a (operator o p ∷ []) b → Ends level c
-    → Reads a (joined (map link_spelling links)) c → list_all (is_link level) (map link_form links) ≡ true → (level ≡ relation_level → length links ≤ 1) → deepest (map link_levels links) ≤ levels → GoesOn level levels b c
+goes_on_with : (level levels : ℕ) (o : Operator) (p : Place) (a b c : List Token) (links : List Link) → operator_level o ≡ level
+    → Reads a (operator o p ∷ []) b → Ends level c
+    → Reads a (joined (map link_spelling links)) c → list_all (is_link level) (map link_form links) ≡ true → (level ≡ relation_level → length links ≤ 1)
+    → deepest (map link_levels links) ≤ levels → GoesOn level levels b c
 goes_on_with level levels o p a b c [] is k ends h f few n = absurd (ends.operators o (omega arith) (ap next_kind (sym h) ∙ begins (operator o p) [] a b k))
 goes_on_with level levels o p a b c (l ∷ ls) is k ends h f few n =
     let i = out-Link l in
-    let whole : Reads a (operator i.operator i.place ∷ expr_spelling i.operand ++ joined (map link_spelling ls)) c = subst (λ x. Reads a (x ++ joined (map link_spelling ls)) c) (link_spelled l) h in
+    let whole : Reads a (operator i.operator i.place ∷ expr_spelling i.operand ++ joined (map link_spelling ls)) c = subst
+    (λ x. Reads a (x ++ joined (map link_spelling ls)) c) (link_spelled l) h in
     let r = parted (expr_spelling i.operand) (joined (map link_spelling ls)) b c (same_first (operator o p) (operator i.operator i.place) _ a b c k whole).1 in
     let one = and_left (is_link level (link_form l)) (list_all (is_link level) (map link_form ls)) f in
     let e = link_nests l in
@@ -301,21 +330,25 @@ goes_on_with level levels o p a b c (l ∷ ls) is k ends h f few n =
     }
 
 -- behind an operator the chain goes on
-pub goes_on : (level levels : ℕ) (o : Operator) (p : Place) (a b c : List Token) → operator_level o ≡ level → Reads a (operator o p ∷ []) b → Ends level c → Chain level levels a c → GoesOn level levels b c
+pub goes_on : (level levels : ℕ) (o : Operator) (p : Place) (a b c : List Token) → operator_level o ≡ level → Reads a (operator o p ∷ []) b → Ends level c
+    → Chain level levels a c → GoesOn level levels b c
 goes_on level levels o p a b c is k ends h = goes_on_with level levels o p a b c h.links is k ends h.spelled h.formed h.few h.nests
 
-ends_with : (level : ℕ) (a c : List Token) (links : List Link) → NoOperator level a → Reads a (joined (map link_spelling links)) c → list_all (is_link level) (map link_form links) ≡ true → a ≡ c
+ends_with : (level : ℕ) (a c : List Token) (links : List Link) → NoOperator level a → Reads a (joined (map link_spelling links)) c
+    → list_all (is_link level) (map link_form links) ≡ true → a ≡ c
 ends_with level a c [] none h f = h
 ends_with level a c (l ∷ ls) none h f =
     let i = out-Link l in
     absurd (none i.operator (operator_of_link level l (and_left (is_link level (link_form l)) (list_all (is_link level) (map link_form ls)) f))
-    (begins (operator i.operator i.place) (expr_spelling i.operand ++ joined (map link_spelling ls)) a c (subst (λ x. Reads a (x ++ joined (map link_spelling ls)) c) (link_spelled l) h)))
+    (begins (operator i.operator i.place) (expr_spelling i.operand ++ joined (map link_spelling ls)) a c
+    (subst (λ x. Reads a (x ++ joined (map link_spelling ls)) c) (link_spelled l) h)))
 
 -- where no operator comes the chain ends
 pub chain_ends : (level levels : ℕ) (a c : List Token) → NoOperator level a → Chain level levels a c → a ≡ c
 chain_ends level levels a c none h = ends_with level a c h.links none h.spelled h.formed
 
-pub behind_with : (level above : ℕ) (a c : List Token) (links : List Link) → level + 1 ≤ above → above ≤ 4 → Ends level c → Reads a (joined (map link_spelling links)) c → list_all (is_link level) (map link_form links) ≡ true → Ends above a
+pub behind_with : (level above : ℕ) (a c : List Token) (links : List Link) → level + 1 ≤ above → above ≤ 4 → Ends level c
+    → Reads a (joined (map link_spelling links)) c → list_all (is_link level) (map link_form links) ≡ true → Ends above a
 unfolding binds
 behind_with level above a c [] k m ends h f = subst (λ x. Ends above x) (sym h) (ends_above level above c (omega arith) ends)
 behind_with level above a c (l ∷ ls) k m ends h f =
@@ -323,7 +356,8 @@ behind_with level above a c (l ∷ ls) k m ends h f =
     let is = operator_of_link level l (and_left (is_link level (link_form l)) (list_all (is_link level) (map link_form ls)) f) in
     let n = binds_operator i.operator in
     ends_before (operator_kind i.operator) above a
-    (begins (operator i.operator i.place) (expr_spelling i.operand ++ joined (map link_spelling ls)) a c (subst (λ x. Reads a (x ++ joined (map link_spelling ls)) c) (link_spelled l) h)) (omega arith) m
+    (begins (operator i.operator i.place) (expr_spelling i.operand ++ joined (map link_spelling ls)) a c
+    (subst (λ x. Reads a (x ++ joined (map link_spelling ls)) c) (link_spelled l) h)) (omega arith) m
 
 -- an operand of a chain ends where the chain goes on, or ends with it
 pub operand_ends : (level above levels : ℕ) (a c : List Token) → level + 1 ≤ above → above ≤ 4 → Ends level c → Chain level levels a c → Ends above a
@@ -340,7 +374,8 @@ pub record ChainStill (level : ℕ) (rest : List Link) (levels : ℕ) (tokens ot
 
 -- what is left of each of the operators that may stand there
 abbrev pub LinksLeft : ℕ → List Link → List Token → List Token → Type 0
-LinksLeft level rest start now = (depth : ℕ) (links : List Link) (others : List Token) → BeginsLinks level depth start others links → Ends level others → ChainStill level rest depth now others
+LinksLeft level rest start now = (depth : ℕ) (links : List Link) (others : List Token) → BeginsLinks level depth start others links → Ends level others
+    → ChainStill level rest depth now others
 
 -- before the first
 pub links_begin : (level : ℕ) (rest : List Link) (start : List Token) → rest ≡ [] → LinksLeft level rest start start

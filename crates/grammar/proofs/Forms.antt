@@ -21,21 +21,25 @@ has_mapped f (x ∷ xs) h = lt-ltb 0 (length (map f (x ∷ xs))) (omega arith)
 
 few_tells_if : (level n : ℕ) (b : Bool) → nat_lt relation_level level ≡ b → (level ≡ relation_level → n ≤ 0) → b || nat_eq n 0 ≡ true
 few_tells_if level n true e few = refl
-few_tells_if level n false e few = eq-eqb n 0 (let z : level ≡ relation_level = (let k = ltb-false relation_level level e in omega arith) in let m = few z in omega arith)
+few_tells_if level n false e few = eq-eqb n 0 (let z : level ≡ relation_level = (let k = ltb-false relation_level level e in omega arith) in let m = few z in
+    omega arith)
 
 few_tells : (level n : ℕ) → (level ≡ relation_level → n ≤ 0) → nat_lt relation_level level || nat_eq n 0 ≡ true
 few_tells level n few = few_tells_if level n (nat_lt relation_level level) refl few
 
-forms_chain : (level : ℕ) (first : Form) (link : LinkForm) (links : List LinkForm) → fits (first_level level) first ≡ true → list_all (is_link level) (link ∷ links) ≡ true → (level ≡ relation_level → length links ≤ 0)
+forms_chain : (level : ℕ) (first : Form) (link : LinkForm) (links : List LinkForm) → fits (first_level level) first ≡ true
+    → list_all (is_link level) (link ∷ links) ≡ true → (level ≡ relation_level → length links ≤ 0)
     → link.level ≡ level → fits level (chain_form first (link ∷ links)) ≡ true
 forms_chain level first link links f all few e =
-    let well : (l : ℕ) → level ≡ l → fits (first_level l) first && (list_all (is_link l) (link ∷ links) && (nat_lt relation_level l || nat_eq (length links) 0)) ≡ true =
+    let well : (l : ℕ) → level ≡ l → fits (first_level l) first && (list_all (is_link l) (link ∷ links) &&
+    (nat_lt relation_level l || nat_eq (length links) 0)) ≡ true =
     λ l s. subst (λ m. fits (first_level m) first && (list_all (is_link m) (link ∷ links) && (nat_lt relation_level m || nat_eq (length links) 0)) ≡ true) s
     (and_true (fits (first_level level) first) (list_all (is_link level) (link ∷ links) && (nat_lt relation_level level || nat_eq (length links) 0)) f
     (and_true (list_all (is_link level) (link ∷ links)) (nat_lt relation_level level || nat_eq (length links) 0) all (few_tells level (length links) few))) in
     fits_if level (chain_form first (link ∷ links)) (omega arith) (well link.level (sym e))
 
-pub forms_chain_of : (level : ℕ) (first : Form) (links : List Link) → ¬ (links ≡ []) → fits (first_level level) first ≡ true → list_all (is_link level) (map link_form links) ≡ true → (level ≡ relation_level → length links ≤ 1)
+pub forms_chain_of : (level : ℕ) (first : Form) (links : List Link) → ¬ (links ≡ []) → fits (first_level level) first ≡ true
+    → list_all (is_link level) (map link_form links) ≡ true → (level ≡ relation_level → length links ≤ 1)
     → fits level (chain_form first (map link_form links)) ≡ true
 forms_chain_of level first [] some f all few = absurd (some refl)
 forms_chain_of level first (l ∷ ls) some f all few =

@@ -109,7 +109,8 @@ listed a c xs h f closed = record {
       let e = length_map stmt_form xs in
       let m = some_items (map stmt_form xs) (and_left (has_items (map stmt_form xs)) (list_all (λ (f : StmtForm). f.well) (map stmt_form xs)) f) in omega arith;
   spelled = h;
-  formed = sym (all_computed (λ (f : StmtForm). f.well) stmt_form xs) ∙ and_right (has_items (map stmt_form xs)) (list_all (λ (f : StmtForm). f.well) (map stmt_form xs)) f;
+  formed = sym (all_computed (λ (f : StmtForm). f.well) stmt_form xs) ∙ and_right (has_items (map stmt_form xs))
+      (list_all (λ (f : StmtForm). f.well) (map stmt_form xs)) f;
   closed = closed;
 }
 

@@ -35,7 +35,8 @@ pub record PartThenOthers (A : Type 0) (of : Parts A) (levels : ℕ) (tokens oth
   pub nests : of.levels first ≤ levels
   pub left : PartsLeft A of levels middle others
 
-part_then_others : (A : Type 0) (of : Parts A) (levels : ℕ) (a b c : List Token) (x : A) (xs : List A) → Reads a (of.spelling x) b → Reads b (led of.symbol (map of.spelling xs)) c
+part_then_others : (A : Type 0) (of : Parts A) (levels : ℕ) (a b c : List Token) (x : A) (xs : List A) → Reads a (of.spelling x) b
+    → Reads b (led of.symbol (map of.spelling xs)) c
     → list_all of.well (x ∷ xs) ≡ true → deepest (map of.levels (x ∷ xs)) ≤ levels → PartThenOthers A of levels a c
 part_then_others A of levels a b c x xs s t f n =
     let m = start_below levels (max 0 (of.levels x)) (map of.levels xs) n in
@@ -45,26 +46,36 @@ part_then_others A of levels a b c x xs s t f n =
       spelled = s;
       formed = and_left (of.well x) (list_all of.well xs) f;
       nests = omega arith;
-      left = record { parts = xs; spelled = t; formed = and_right (of.well x) (list_all of.well xs) f; nests = other_start levels 0 (max 0 (of.levels x)) (map of.levels xs) (omega arith) n };
+      left = record {
+        parts = xs;
+        spelled = t;
+        formed = and_right (of.well x) (list_all of.well xs) f;
+        nests = other_start levels 0 (max 0 (of.levels x))
+            (map of.levels xs) (omega arith) n;
+      };
     }
 
 -- a list that has parts begins with one
-pub parts_begin : (A : Type 0) (of : Parts A) (levels : ℕ) (a c : List Token) (parts : List A) → 0 < length (map of.spelling parts) → Reads a (separated of.symbol (map of.spelling parts)) c
+pub parts_begin : (A : Type 0) (of : Parts A) (levels : ℕ) (a c : List Token) (parts : List A) → 0 < length (map of.spelling parts)
+    → Reads a (separated of.symbol (map of.spelling parts)) c
     → list_all of.well parts ≡ true → deepest (map of.levels parts) ≤ levels → PartThenOthers A of levels a c
 parts_begin A of levels a c [] some h f n = absurd (omega arith)
 parts_begin A of levels a c (x ∷ xs) some h f n =
     let r = list_begins of.symbol (of.spelling x) (map of.spelling xs) a c h in
     part_then_others A of levels a r.0 c x xs r.1 r.2 f n
 
-goes_on_with : (A : Type 0) (of : Parts A) (levels : ℕ) (p : Place) (a b c : List Token) (parts : List A) → Reads a (of_kind_at (kind.Symbol of.symbol) p ∷ []) b → ¬ (next_kind c ≡ Some (kind.Symbol of.symbol))
-    → Reads a (led of.symbol (map of.spelling parts)) c → list_all of.well parts ≡ true → deepest (map of.levels parts) ≤ levels → PartThenOthers A of levels b c
+goes_on_with : (A : Type 0) (of : Parts A) (levels : ℕ) (p : Place) (a b c : List Token) (parts : List A)
+    → Reads a (of_kind_at (kind.Symbol of.symbol) p ∷ []) b → ¬ (next_kind c ≡ Some (kind.Symbol of.symbol))
+    → Reads a (led of.symbol (map of.spelling parts)) c → list_all of.well parts ≡ true → deepest (map of.levels parts) ≤ levels
+    → PartThenOthers A of levels b c
 goes_on_with A of levels p a b c [] k ends h f n = absurd (led_some of.symbol p a b c k ends h)
 goes_on_with A of levels p a b c (x ∷ xs) k ends h f n =
     let r = parted (of.spelling x) (led of.symbol (map of.spelling xs)) b c (led_next of.symbol p (of.spelling x) (map of.spelling xs) a b c k h) in
     part_then_others A of levels b r.0 c x xs r.1 r.2 f n
 
 -- behind the symbol the list goes on
-pub parts_go_on : (A : Type 0) (of : Parts A) (levels : ℕ) (p : Place) (a b c : List Token) → Reads a (of_kind_at (kind.Symbol of.symbol) p ∷ []) b → ¬ (next_kind c ≡ Some (kind.Symbol of.symbol))
+pub parts_go_on : (A : Type 0) (of : Parts A) (levels : ℕ) (p : Place) (a b c : List Token) → Reads a (of_kind_at (kind.Symbol of.symbol) p ∷ []) b
+    → ¬ (next_kind c ≡ Some (kind.Symbol of.symbol))
     → PartsLeft A of levels a c → PartThenOthers A of levels b c
 parts_go_on A of levels p a b c k ends h = goes_on_with A of levels p a b c h.parts k ends h.spelled h.formed h.nests
 

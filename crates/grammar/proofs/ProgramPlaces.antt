@@ -39,11 +39,13 @@ abbrev stmt_parts : stmt.Stmt-F KeptStmt → stmt.Stmt-F Stmt
 stmt_parts = map-Stmt KeptStmt Stmt (λ s. s.0)
 
 stmt_layer : (y : stmt.Stmt-F KeptStmt)
-    → place.statement_step (map-Stmt Stmt Places stmt_places (stmt_parts y)) ≡ kept_places (spell.stmt_step (map-Stmt Stmt Spelling stmt_spelling (stmt_parts y)))
+    → place.statement_step (map-Stmt Stmt Places stmt_places (stmt_parts y))
+    ≡ kept_places (spell.stmt_step (map-Stmt Stmt Spelling stmt_spelling (stmt_parts y)))
 stmt_layer stmt.Empty = refl
 stmt_layer (stmt.Assign n p e) = ap (λ ps. n.place ∷ p ∷ ps) (expr_kept e)
 stmt_layer (stmt.Call n v) =
-    ap (λ ps. n.place ∷ ps) (parenthesized_kept Actual actual_spelling actual_places v.items (each_kept Actual actual_spelling actual_places v.items actual_kept))
+    ap (λ ps. n.place ∷ ps) (parenthesized_kept Actual actual_spelling actual_places v.items
+    (each_kept Actual actual_spelling actual_places v.items actual_kept))
 stmt_layer (stmt.Compound v) =
     let inner = separated symbol.Semicolon (map stmt_spelling (map (λ s. s.0) v.items)) in
     flat_map-map (λ row. row) stmt_places (map (λ s. s.0) v.items)

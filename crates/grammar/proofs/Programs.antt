@@ -48,7 +48,8 @@ pub record NameThenOthers (tokens others : List Token) : Type 0 where
   pub rest : List Name
   pub spelled : Reads tokens (identifier name ∷ led symbol.Comma (identifiers rest)) others
 
-names_next : (p : Place) (rest : List Name) (a b c : List Token) → Reads a (of_kind_at (kind.Symbol symbol.Comma) p ∷ []) b → NoNext (kind.Symbol symbol.Comma) c
+names_next : (p : Place) (rest : List Name) (a b c : List Token) → Reads a (of_kind_at (kind.Symbol symbol.Comma) p ∷ []) b
+    → NoNext (kind.Symbol symbol.Comma) c
     → Reads a (led symbol.Comma (identifiers rest)) c → NameThenOthers b c
 names_next p [] a b c k ends h = absurd (led_some symbol.Comma p a b c k ends h)
 names_next p (n ∷ ns) a b c k ends h = record { name = n; rest = ns; spelled = led_next symbol.Comma p (identifier n ∷ []) (identifiers ns) a b c k h }
@@ -60,7 +61,8 @@ names_go_on_with p start a b k left names others h ends = let r = left names oth
 
 -- a name comes next, in each list of names that may stand there
 abbrev pub NameNext : List Token → List Token → Type 0
-NameNext start now = (names : List Name) (others : List Token) → BeginsNames start others names → NoNext (kind.Symbol symbol.Comma) others → NameThenOthers now others
+NameNext start now = (names : List Name) (others : List Token) → BeginsNames start others names → NoNext
+    (kind.Symbol symbol.Comma) others → NameThenOthers now others
 
 -- the first name
 pub names_begin : (start : List Token) → NameNext start start
@@ -91,10 +93,12 @@ pub record GroupParts (tokens others : List Token) : Type 0 where
 denoter_named : (d : TypeDenoter) → (n : Name) × (denoter_spelling d ≡ identifier n ∷ [])
 denoter_named (denoter.Name n) = (n, refl)
 
-group_parts : (n : Name) (a c : List Token) (g : VariableGroup) → denoter_spelling g.denoter ≡ identifier n ∷ [] → 0 < length g.names.items → BeginsGroup a c g → GroupParts a c
+group_parts : (n : Name) (a c : List Token) (g : VariableGroup) → denoter_spelling g.denoter ≡ identifier n ∷ [] → 0 < length g.names.items → BeginsGroup a c g
+    → GroupParts a c
 group_parts n a c g named some h =
     let r = parted (separated symbol.Comma (identifiers g.names.items)) (mark symbol.Colon ∷ denoter_spelling g.denoter ++ mark symbol.Semicolon ∷ []) a c
-    (subst (λ s. Reads a s c) (append_assoc (separated symbol.Comma (identifiers g.names.items)) (mark symbol.Colon ∷ denoter_spelling g.denoter) (mark symbol.Semicolon ∷ [])) h.spelled) in
+    (subst (λ s. Reads a s c) (append_assoc (separated symbol.Comma (identifiers g.names.items)) (mark symbol.Colon ∷ denoter_spelling g.denoter)
+    (mark symbol.Semicolon ∷ [])) h.spelled) in
     record {
       names = g.names.items;
       middle = r.0;
@@ -109,7 +113,8 @@ group_begins a c g h = let d = denoter_named g.denoter in group_parts d.0 a c g 
 
 -- at the colon the names end
 pub group_names_end : (a c : List Token) (p : GroupParts a c) → NoNext (kind.Symbol symbol.Comma) p.middle
-group_names_end a c p = other_kind (kind.Symbol symbol.Colon) (kind.Symbol symbol.Comma) p.middle (begins (mark symbol.Colon) (identifier p.type ∷ mark symbol.Semicolon ∷ []) p.middle c p.behind) (λ e. cc)
+group_names_end a c p = other_kind (kind.Symbol symbol.Colon) (kind.Symbol symbol.Comma) p.middle
+    (begins (mark symbol.Colon) (identifier p.type ∷ mark symbol.Semicolon ∷ []) p.middle c p.behind) (λ e. cc)
 
 -- what stands behind the names of a group
 pub record GroupBehindNames (tokens others : List Token) : Type 0 where
@@ -119,7 +124,8 @@ pub record GroupBehindNames (tokens others : List Token) : Type 0 where
 -- behind the colon too
 pub group_behind_colon : (p : Place) (a b c : List Token) → Reads a (of_kind_at (kind.Symbol symbol.Colon) p ∷ []) b → (h : GroupBehindNames a c)
     → Reads b (identifier h.type ∷ mark symbol.Semicolon ∷ []) c
-group_behind_colon p a b c k h = (same_first (of_kind_at (kind.Symbol symbol.Colon) p) (mark symbol.Colon) (identifier h.type ∷ mark symbol.Semicolon ∷ []) a b c k h.spelled).1
+group_behind_colon p a b c k h = (same_first (of_kind_at (kind.Symbol symbol.Colon) p) (mark symbol.Colon)
+    (identifier h.type ∷ mark symbol.Semicolon ∷ []) a b c k h.spelled).1
 
 -- behind the type too
 pub group_behind_type : (p : Place) (n : Name) (a b c d : List Token) → Reads a (of_kind_at (kind.Symbol symbol.Colon) p ∷ []) b → Reads b (identifier n ∷ []) c
@@ -135,7 +141,8 @@ pub record GroupsLeft (tokens others : List Token) : Type 0 where
 
 -- what is left of each row of groups that may stand there
 abbrev pub EachGroupsLeft : List Token → List Token → Type 0
-EachGroupsLeft start now = (groups : List VariableGroup) (others : List Token) → BeginsGroups start others groups → NoNext kind.Identifier others → GroupsLeft now others
+EachGroupsLeft start now = (groups : List VariableGroup) (others : List Token) → BeginsGroups start others groups → NoNext kind.Identifier others → GroupsLeft
+    now others
 
 -- a group, and the others behind it
 pub record GroupThenOthers (tokens others : List Token) : Type 0 where
@@ -144,7 +151,8 @@ pub record GroupThenOthers (tokens others : List Token) : Type 0 where
   pub begun : BeginsGroup tokens middle group
   pub left : GroupsLeft middle others
 
-groups_part : (a c : List Token) (g : VariableGroup) (gs : List VariableGroup) → Reads a (joined (map group_spelling (g ∷ gs))) c → list_all is_group (g ∷ gs) ≡ true → GroupThenOthers a c
+groups_part : (a c : List Token) (g : VariableGroup) (gs : List VariableGroup) → Reads a (joined (map group_spelling (g ∷ gs))) c
+    → list_all is_group (g ∷ gs) ≡ true → GroupThenOthers a c
 groups_part a c g gs h f =
     let r = parted (group_spelling g) (joined (map group_spelling gs)) a c h in
     record {
@@ -154,7 +162,8 @@ groups_part a c g gs h f =
       left = record { groups = gs; spelled = r.2; formed = and_right (is_group g) (list_all is_group gs) f };
     }
 
-groups_part_of : (a c : List Token) (gs : List VariableGroup) → Reads a (joined (map group_spelling gs)) c → list_all is_group gs ≡ true → Next kind.Identifier a → NoNext kind.Identifier c
+groups_part_of : (a c : List Token) (gs : List VariableGroup) → Reads a (joined (map group_spelling gs)) c → list_all is_group gs ≡ true
+    → Next kind.Identifier a → NoNext kind.Identifier c
     → GroupThenOthers a c
 groups_part_of a c [] h f next ends = absurd (ends (ap next_kind (sym h) ∙ next))
 groups_part_of a c (g ∷ gs) h f next ends = groups_part a c g gs h f
@@ -166,7 +175,8 @@ groups_begin_with a c (g ∷ gs) h = groups_part a c g gs h.spelled h.formed
 
 -- a group comes next, in each row of groups that may stand there
 abbrev pub GroupNext : List Token → List Token → Type 0
-GroupNext start now = (groups : List VariableGroup) (others : List Token) → BeginsGroups start others groups → NoNext kind.Identifier others → GroupThenOthers now others
+GroupNext start now = (groups : List VariableGroup) (others : List Token) → BeginsGroups start others groups → NoNext kind.Identifier others → GroupThenOthers
+    now others
 
 -- where a name comes a group stands
 pub groups_go_on_with : (start a : List Token) → EachGroupsLeft start a → Next kind.Identifier a
@@ -186,7 +196,8 @@ group_fewer a c g h =
     let behind = reads_fewer (mark symbol.Colon) (identifier p.type ∷ mark symbol.Semicolon ∷ []) p.middle c p.behind in
     omega arith
 
-groups_stop : (a c : List Token) (gs : List VariableGroup) → Reads a (joined (map group_spelling gs)) c → list_all is_group gs ≡ true → NoNext kind.Identifier a → a ≡ c
+groups_stop : (a c : List Token) (gs : List VariableGroup) → Reads a (joined (map group_spelling gs)) c → list_all is_group gs ≡ true
+    → NoNext kind.Identifier a → a ≡ c
 groups_stop a c [] h f none = h
 groups_stop a c (g ∷ gs) h f none = let p = groups_part a c g gs h f in absurd (none (group_first a p.middle p.group p.begun))
 
@@ -203,23 +214,28 @@ pub record NamesThenClosed (tokens others : List Token) : Type 0 where
   pub closed : Reads middle (mark symbol.CloseParenthesis ∷ []) others
 
 -- behind the opening parenthesis
-pub parameters_opened : (p : Place) (a b c : List Token) (names : List Name) → Reads a (of_kind_at (kind.Symbol symbol.OpenParenthesis) p ∷ []) b → BeginsParameters a c names
+pub parameters_opened : (p : Place) (a b c : List Token) (names : List Name) → Reads a (of_kind_at (kind.Symbol symbol.OpenParenthesis) p ∷ []) b
+    → BeginsParameters a c names
     → NoNext (kind.Symbol symbol.OpenParenthesis) c → NamesThenClosed b c
 parameters_opened p a b c [] k h ends = absurd (ends (ap next_kind (sym h) ∙ begins (of_kind_at (kind.Symbol symbol.OpenParenthesis) p) [] a b k))
 parameters_opened p a b c (n ∷ ns) k h ends =
     let r = parted (separated symbol.Comma (identifiers (n ∷ ns))) (mark symbol.CloseParenthesis ∷ []) b c
-    (same_first (of_kind_at (kind.Symbol symbol.OpenParenthesis) p) (mark symbol.OpenParenthesis) (separated symbol.Comma (identifiers (n ∷ ns)) ++ mark symbol.CloseParenthesis ∷ []) a b c k h).1 in
+    (same_first (of_kind_at (kind.Symbol symbol.OpenParenthesis) p) (mark symbol.OpenParenthesis)
+    (separated symbol.Comma (identifiers (n ∷ ns)) ++ mark symbol.CloseParenthesis ∷ []) a b c k h).1 in
     record { names = n ∷ ns; middle = r.0; begun = record { some = omega arith; spelled = r.1 }; closed = r.2 }
 
 -- at the parenthesis the names end
 pub parameters_names_end : (a c : List Token) (o : NamesThenClosed a c) → NoNext (kind.Symbol symbol.Comma) o.middle
-parameters_names_end a c o = other_kind (kind.Symbol symbol.CloseParenthesis) (kind.Symbol symbol.Comma) o.middle (begins (mark symbol.CloseParenthesis) [] o.middle c o.closed) (λ e. cc)
+parameters_names_end a c o = other_kind (kind.Symbol symbol.CloseParenthesis) (kind.Symbol symbol.Comma) o.middle
+    (begins (mark symbol.CloseParenthesis) [] o.middle c o.closed) (λ e. cc)
 
 -- behind `var`
-pub variables_opened : (p : Place) (a b c : List Token) (groups : List VariableGroup) → Reads a (of_kind_at (kind.Word word.Var) p ∷ []) b → BeginsVariables a c groups
+pub variables_opened : (p : Place) (a b c : List Token) (groups : List VariableGroup) → Reads a (of_kind_at (kind.Word word.Var) p ∷ []) b
+    → BeginsVariables a c groups
     → BeginsStatementPart c → BeginsGroups b c groups
 variables_opened p a b c [] k h ends =
-    absurd (other_kind (kind.Word word.Begin) (kind.Word word.Var) a (ap next_kind h.spelled ∙ ends) (λ e. cc) (begins (of_kind_at (kind.Word word.Var) p) [] a b k))
+    absurd (other_kind (kind.Word word.Begin) (kind.Word word.Var) a (ap next_kind h.spelled ∙ ends) (λ e. cc)
+    (begins (of_kind_at (kind.Word word.Var) p) [] a b k))
 variables_opened p a b c (g ∷ gs) k h ends = record {
   some = omega arith;
   spelled = (same_first (of_kind_at (kind.Word word.Var) p) (word_symbol word.Var) (joined (map group_spelling (g ∷ gs))) a b c k h.spelled).1;
@@ -247,13 +263,18 @@ pub block_parts : (levels : ℕ) (a c : List Token) (b : Block) → BeginsBlock 
 block_parts levels a c b h =
     let compound : Spelling = word_symbol word.Begin ∷ separated symbol.Semicolon (map stmt_spelling b.statements.items) in
     let last : Spelling = of_kind_at (kind.Word word.End) b.end ∷ [] in
-    let r = parted (variables_spelling b.variables.items) (compound ++ last) a c (subst (λ s. Reads a s c) (append_assoc (variables_spelling b.variables.items) compound last) h.spelled) in
+    let r = parted (variables_spelling b.variables.items) (compound ++ last) a c (subst (λ s. Reads a s c)
+    (append_assoc (variables_spelling b.variables.items) compound last) h.spelled) in
     let behind = and_right (list_all is_group b.variables.items) (has_items b.statements.items && list_all is_statement b.statements.items) h.formed in
     let n = h.nests in
     record {
       groups = b.variables.items;
       middle = r.0;
-      declared = record { spelled = r.1; formed = and_left (list_all is_group b.variables.items) (has_items b.statements.items && list_all is_statement b.statements.items) h.formed };
+      declared = record {
+        spelled = r.1;
+        formed = and_left (list_all is_group b.variables.items)
+            (has_items b.statements.items && list_all is_statement b.statements.items) h.formed;
+      };
       begins = begins (word_symbol word.Begin) (separated symbol.Semicolon (map stmt_spelling b.statements.items) ++ last) r.0 c r.2;
       statements = b.statements.items;
       end = b.end;
@@ -296,7 +317,8 @@ pub record ProgramBehindName (levels : ℕ) (tokens others : List Token) : Type 
   pub behind : ProgramBehindParameters levels middle others
 
 -- behind the word symbol and the name
-pub program_behind_name : (levels : ℕ) (p : Place) (n : Name) (a b c d : List Token) (t : Program) → Reads a (of_kind_at (kind.Word word.Program) p ∷ []) b → Reads b (identifier n ∷ []) c
+pub program_behind_name : (levels : ℕ) (p : Place) (n : Name) (a b c d : List Token) (t : Program) → Reads a (of_kind_at (kind.Word word.Program) p ∷ []) b
+    → Reads b (identifier n ∷ []) c
     → BeginsProgram levels a d t → ProgramBehindName levels c d
 program_behind_name levels p n a b c d t opened named h =
     let listed = in_parentheses (identifiers t.parameters.items) in
@@ -305,7 +327,8 @@ program_behind_name levels p n a b c d t opened named h =
     let last = parted (head ++ body) (mark symbol.Period ∷ []) a d h.spelled in
     let middle = parted head body a last.0 last.1 in
     let semicolon = parted (mark symbol.Semicolon ∷ []) (block_spelling t.block) middle.0 last.0 middle.2 in
-    let behind_word = (same_first (of_kind_at (kind.Word word.Program) p) (word_symbol word.Program) (identifier t.name ∷ listed) a b middle.0 opened middle.1).1 in
+    let behind_word = (same_first (of_kind_at (kind.Word word.Program) p) (word_symbol word.Program)
+    (identifier t.name ∷ listed) a b middle.0 opened middle.1).1 in
     record {
       parameters = t.parameters.items;
       middle = middle.0;
@@ -320,7 +343,8 @@ program_behind_name levels p n a b c d t opened named h =
 -- at the semicolon the parameters end
 pub program_parameters_end : (levels : ℕ) (a c : List Token) (h : ProgramBehindName levels a c) → NoNext (kind.Symbol symbol.OpenParenthesis) h.middle
 program_parameters_end levels a c h =
-    other_kind (kind.Symbol symbol.Semicolon) (kind.Symbol symbol.OpenParenthesis) h.middle (begins (mark symbol.Semicolon) [] h.middle h.behind.middle h.behind.semicolon) (λ e. cc)
+    other_kind (kind.Symbol symbol.Semicolon) (kind.Symbol symbol.OpenParenthesis) h.middle
+    (begins (mark symbol.Semicolon) [] h.middle h.behind.middle h.behind.semicolon) (λ e. cc)
 
 -- behind the semicolon too
 pub program_behind_semicolon : (levels : ℕ) (p : Place) (a b c : List Token) → Reads a (of_kind_at (kind.Symbol symbol.Semicolon) p ∷ []) b
@@ -338,6 +362,8 @@ pub program_first : (levels : ℕ) (a : List Token) (t : Program) → BeginsProg
 program_first levels a t h = begins (word_symbol word.Program) (identifier t.name ∷ behind_name t) a [] h.spelled
 
 -- and behind it a name stands
-pub program_named : (levels : ℕ) (p : Place) (a b : List Token) (t : Program) → Reads a (of_kind_at (kind.Word word.Program) p ∷ []) b → BeginsProgram levels a [] t → Next kind.Identifier b
+pub program_named : (levels : ℕ) (p : Place) (a b : List Token) (t : Program) → Reads a (of_kind_at (kind.Word word.Program) p ∷ []) b
+    → BeginsProgram levels a [] t → Next kind.Identifier b
 program_named levels p a b t opened h =
-    begins (identifier t.name) (behind_name t) b [] (same_first (of_kind_at (kind.Word word.Program) p) (word_symbol word.Program) (identifier t.name ∷ behind_name t) a b [] opened h.spelled).1
+    begins (identifier t.name) (behind_name t) b [] (same_first (of_kind_at (kind.Word word.Program) p) (word_symbol word.Program)
+    (identifier t.name ∷ behind_name t) a b [] opened h.spelled).1

@@ -9,7 +9,8 @@ use Rattle.lexer.specs.declared.token.Token.{Token}
 use Rattle.grammar.specs.Spelling.{Lexeme, Spelling, IsSpelledBy, Reads, of_kind, of_kind_at, separated, joined, mark, in_parentheses}
 
 -- one token
-pub one : (tokens : List Token) (token : Token) (behind : List Token) (l : Lexeme) → tokens ≡ token ∷ behind → IsSpelledBy l token → Reads tokens (l ∷ []) behind
+pub one : (tokens : List Token) (token : Token) (behind : List Token) (l : Lexeme) → tokens ≡ token ∷ behind → IsSpelledBy l token
+    → Reads tokens (l ∷ []) behind
 one tokens token behind l e h = (token, behind, e, h, refl)
 
 -- two spellings
@@ -27,7 +28,8 @@ without_last_place k p [] a b h = without_place k p [] a b h
 without_last_place k p (l ∷ s) a b h = (h.0, h.1, h.2, h.3, without_last_place k p s h.1 b h.4)
 
 -- one more with a symbol before it
-pub separated_push : (m : Symbol) (one : Spelling) (others : List Spelling) (last : Spelling) → separated m ((one ∷ others) ++ last ∷ []) ≡ separated m (one ∷ others) ++ mark m ∷ last
+pub separated_push : (m : Symbol) (one : Spelling) (others : List Spelling) (last : Spelling)
+    → separated m ((one ∷ others) ++ last ∷ []) ≡ separated m (one ∷ others) ++ mark m ∷ last
 separated_push m one [] last = refl
 separated_push m one (two ∷ others) last =
     ap (λ s. one ++ mark m ∷ s) (separated_push m two others last) ∙ sym (append_assoc one (mark m ∷ separated m (two ∷ others)) (mark m ∷ last))
@@ -41,7 +43,8 @@ separated_more m [] last h = absurd (omega arith)
 separated_more m (one ∷ others) last h = separated_push m one others last
 
 -- a list that has items, in parentheses
-pub in_parentheses_some : (all : List Spelling) → 0 < length all → in_parentheses all ≡ mark symbol.OpenParenthesis ∷ separated symbol.Comma all ++ mark symbol.CloseParenthesis ∷ []
+pub in_parentheses_some : (all : List Spelling) → 0 < length all
+    → in_parentheses all ≡ mark symbol.OpenParenthesis ∷ separated symbol.Comma all ++ mark symbol.CloseParenthesis ∷ []
 in_parentheses_some [] h = absurd (omega arith)
 in_parentheses_some (one ∷ others) h = refl
 

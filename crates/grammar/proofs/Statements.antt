@@ -45,21 +45,27 @@ no_becomes c (end h) e = let no : Some (kind.Word word.End) ≡ Some (kind.Symbo
 
 -- what stands behind the name of a statement
 pub data IsSimple (levels : ℕ) (tokens others : List Token) : Type 0 where
-  assigned : (p : Place) (e : Expr) → Reads tokens (of_kind_at (kind.Symbol symbol.Becomes) p ∷ expr_spelling e) others → is_expression e ≡ true → 1 + expr_levels e ≤ levels → IsSimple levels tokens others
+  assigned : (p : Place) (e : Expr) → Reads tokens (of_kind_at (kind.Symbol symbol.Becomes) p ∷ expr_spelling e) others → is_expression e ≡ true → 1 +
+      expr_levels e ≤ levels → IsSimple levels tokens others
   called : (actuals : List Actual) → Reads tokens (in_parentheses (map actual_spelling actuals)) others → list_all is_actual actuals ≡ true
       → 1 + deepest (map actual_levels actuals) ≤ levels → IsSimple levels tokens others
 
-simple_of : (levels : ℕ) (m : Name) (a b c : List Token) (d : stmt.Stmt-F Stmt) → Reads a (identifier m ∷ []) b → EndsStmt c → Reads a (spell.stmt_step (map-Stmt Stmt Spelling stmt_spelling d)) c
+simple_of : (levels : ℕ) (m : Name) (a b c : List Token) (d : stmt.Stmt-F Stmt) → Reads a (identifier m ∷ []) b → EndsStmt c
+    → Reads a (spell.stmt_step (map-Stmt Stmt Spelling stmt_spelling d)) c
     → (form.stmt_step (map-Stmt Stmt StmtForm stmt_form d)).well ≡ true → nest.stmt_step (map-Stmt Stmt ℕ stmt_levels d) ≤ levels → IsSimple levels b c
 simple_of levels m a b c stmt.Empty k ends s f n = absurd (no_name c ends (ap next_kind (sym s) ∙ begins (identifier m) [] a b k))
-simple_of levels m a b c (stmt.Assign x p v) k ends s f n = assigned p v (same_first (identifier m) (identifier x) (of_kind_at (kind.Symbol symbol.Becomes) p ∷ expr_spelling v) a b c k s).1 f n
-simple_of levels m a b c (stmt.Call x v) k ends s f n = called v.items (same_first (identifier m) (identifier x) (in_parentheses (map actual_spelling v.items)) a b c k s).1 f n
+simple_of levels m a b c (stmt.Assign x p v) k ends s f n = assigned p v (same_first (identifier m) (identifier x)
+    (of_kind_at (kind.Symbol symbol.Becomes) p ∷ expr_spelling v) a b c k s).1 f n
+simple_of levels m a b c (stmt.Call x v) k ends s f n = called v.items (same_first (identifier m) (identifier x)
+    (in_parentheses (map actual_spelling v.items)) a b c k s).1 f n
 simple_of levels m a b c (stmt.Compound v) k ends s f n =
     let no : Some (kind.Word word.Begin) ≡ Some kind.Identifier =
-    sym (begins (word_symbol word.Begin) (separated symbol.Semicolon (map stmt_spelling v.items) ++ word_symbol word.End ∷ []) a c s) ∙ begins (identifier m) [] a b k in cc
+    sym (begins (word_symbol word.Begin) (separated symbol.Semicolon (map stmt_spelling v.items) ++ word_symbol word.End ∷ []) a c s) ∙ begins
+    (identifier m) [] a b k in cc
 
 -- at a name stands an assignment or a call
-pub simple_parts : (levels : ℕ) (m : Name) (a b c : List Token) (s : Stmt) → Reads a (identifier m ∷ []) b → EndsStmt c → BeginsStmt levels a c s → IsSimple levels b c
+pub simple_parts : (levels : ℕ) (m : Name) (a b c : List Token) (s : Stmt) → Reads a (identifier m ∷ []) b → EndsStmt c → BeginsStmt levels a c s
+    → IsSimple levels b c
 simple_parts levels m a b c s k ends h =
     let d = out-Stmt s in
     let o = sym (roll-out-Stmt s) in
@@ -74,16 +80,24 @@ pub record IsAssigned (levels : ℕ) (a c : List Token) : Type 0 where
   pub begun : BeginsExpr relation_level below a c value
 
 -- behind `:=` stands a value
-pub becomes_taken : (levels : ℕ) (p : Place) (a b c : List Token) → Reads a (of_kind_at (kind.Symbol symbol.Becomes) p ∷ []) b → EndsStmt c → IsSimple levels a c → IsAssigned levels b c
+pub becomes_taken : (levels : ℕ) (p : Place) (a b c : List Token) → Reads a (of_kind_at (kind.Symbol symbol.Becomes) p ∷ []) b → EndsStmt c
+    → IsSimple levels a c → IsAssigned levels b c
 becomes_taken levels p a b c k ends (assigned q e h f n) = record {
   value = e;
   below = expr_levels e;
   less = omega arith;
-  begun = record { spelled = (same_first (of_kind_at (kind.Symbol symbol.Becomes) p) (of_kind_at (kind.Symbol symbol.Becomes) q) (expr_spelling e) a b c k h).1; formed = f; nests = omega arith };
+  begun = record {
+    spelled = (same_first (of_kind_at (kind.Symbol symbol.Becomes) p) (of_kind_at (kind.Symbol symbol.Becomes) q)
+        (expr_spelling e) a b c k h).1;
+    formed = f;
+    nests = omega arith;
+  };
 }
-becomes_taken levels p a b c k ends (called [] h f n) = absurd (no_becomes c ends (ap next_kind (sym h) ∙ begins (of_kind_at (kind.Symbol symbol.Becomes) p) [] a b k))
+becomes_taken levels p a b c k ends (called [] h f n) = absurd (no_becomes c ends
+    (ap next_kind (sym h) ∙ begins (of_kind_at (kind.Symbol symbol.Becomes) p) [] a b k))
 becomes_taken levels p a b c k ends (called (x ∷ xs) h f n) =
-    let no : Some (kind.Symbol symbol.OpenParenthesis) ≡ Some (kind.Symbol symbol.Becomes) = (same_first (of_kind_at (kind.Symbol symbol.Becomes) p) (mark symbol.OpenParenthesis) _ a b c k h).0 in cc
+    let no : Some (kind.Symbol symbol.OpenParenthesis) ≡ Some (kind.Symbol symbol.Becomes) = (same_first (of_kind_at (kind.Symbol symbol.Becomes) p)
+    (mark symbol.OpenParenthesis) _ a b c k h).0 in cc
 
 -- the actuals of a call
 pub record IsCalled (levels : ℕ) (a c : List Token) : Type 0 where
@@ -94,7 +108,13 @@ pub record IsCalled (levels : ℕ) (a c : List Token) : Type 0 where
 
 pub becomes_missed : (levels : ℕ) (a c : List Token) → NoNext (kind.Symbol symbol.Becomes) a → IsSimple levels a c → IsCalled levels a c
 becomes_missed levels a c none (assigned p e h f n) = absurd (none (begins (of_kind_at (kind.Symbol symbol.Becomes) p) (expr_spelling e) a c h))
-becomes_missed levels a c none (called xs h f n) = record { actuals = xs; below = deepest (map actual_levels xs); less = omega arith; begun = record { spelled = h; formed = f; nests = omega arith } }
+becomes_missed levels a c none (called xs h f n) = record {
+  actuals = xs;
+  below = deepest
+      (map actual_levels xs);
+  less = omega arith;
+  begun = record { spelled = h; formed = f; nests = omega arith };
+}
 
 -- ---- compound statements
 
@@ -122,20 +142,34 @@ no_begin c (semicolon h) e = let no : Some (kind.Symbol symbol.Semicolon) ≡ So
 no_begin c (end h) e = let no : Some (kind.Word word.End) ≡ Some (kind.Word word.Begin) = sym h ∙ e in cc
 
 compounded_of : (levels : ℕ) (a c : List Token) (d : stmt.Stmt-F Stmt) → next_kind a ≡ Some (kind.Word word.Begin) → EndsStmt c
-    → Reads a (spell.stmt_step (map-Stmt Stmt Spelling stmt_spelling d)) c → (form.stmt_step (map-Stmt Stmt StmtForm stmt_form d)).well ≡ true → nest.stmt_step (map-Stmt Stmt ℕ stmt_levels d) ≤ levels → Compounded levels a c
+    → Reads a (spell.stmt_step (map-Stmt Stmt Spelling stmt_spelling d)) c → (form.stmt_step (map-Stmt Stmt StmtForm stmt_form d)).well ≡ true
+    → nest.stmt_step (map-Stmt Stmt ℕ stmt_levels d) ≤ levels → Compounded levels a c
 compounded_of levels a c stmt.Empty e ends s f n = absurd (no_begin c ends (ap next_kind (sym s) ∙ e))
 compounded_of levels a c (stmt.Assign m p v) e ends s f n =
-    let no : Some kind.Identifier ≡ Some (kind.Word word.Begin) = sym (begins (identifier m) (of_kind_at (kind.Symbol symbol.Becomes) p ∷ expr_spelling v) a c s) ∙ e in cc
+    let no : Some kind.Identifier ≡ Some (kind.Word word.Begin) = sym (begins (identifier m)
+    (of_kind_at (kind.Symbol symbol.Becomes) p ∷ expr_spelling v) a c s) ∙ e in cc
 compounded_of levels a c (stmt.Call m v) e ends s f n =
     let no : Some kind.Identifier ≡ Some (kind.Word word.Begin) = sym (begins (identifier m) (in_parentheses (map actual_spelling v.items)) a c s) ∙ e in cc
 compounded_of levels a c (stmt.Compound v) e ends s f n =
     let r = with_last_place (kind.Word word.End) (word_symbol word.Begin ∷ separated symbol.Semicolon (map stmt_spelling v.items)) a c s in
     let some = and_left (has_items (map stmt_form v.items)) (list_all (λ (f : StmtForm). f.well) (map stmt_form v.items)) f in
     let all = and_right (has_items (map stmt_form v.items)) (list_all (λ (f : StmtForm). f.well) (map stmt_form v.items)) f in
-    record { found = (v.items, r.0); below = deepest (map stmt_levels v.items); less = omega arith; begun = record { spelled = r.1; some = some_of v.items some; formed = sym (all_computed (λ (f : StmtForm). f.well) stmt_form v.items) ∙ all; nests = omega arith } }
+    record {
+      found = (v.items, r.0);
+      below = deepest (map stmt_levels v.items);
+      less = omega arith;
+      begun = record {
+        spelled = r.1;
+        some = some_of v.items some;
+        formed = sym (all_computed (λ (f : StmtForm). f.well) stmt_form v.items)
+            ∙ all;
+        nests = omega arith;
+      };
+    }
 
 -- at `begin` stands a compound statement
-pub compounded : (levels : ℕ) (a c : List Token) (s : Stmt) → next_kind a ≡ Some (kind.Word word.Begin) → EndsStmt c → BeginsStmt levels a c s → Compounded levels a c
+pub compounded : (levels : ℕ) (a c : List Token) (s : Stmt) → next_kind a ≡ Some (kind.Word word.Begin) → EndsStmt c → BeginsStmt levels a c s
+    → Compounded levels a c
 compounded levels a c s e ends h =
     let d = out-Stmt s in
     let o = sym (roll-out-Stmt s) in
@@ -155,7 +189,8 @@ length_spelled [] h = absurd (omega arith)
 length_spelled (s ∷ ss) h = omega arith
 
 -- in it stands a list of statements, and `end` behind it
-pub opened_compound : (levels : ℕ) (p : Place) (a b c : List Token) (found : List Stmt × Place) → Reads a (of_kind_at (kind.Word word.Begin) p ∷ []) b → BeginsCompound levels a c found → OpenedCompound levels b c found.0
+pub opened_compound : (levels : ℕ) (p : Place) (a b c : List Token) (found : List Stmt × Place) → Reads a (of_kind_at (kind.Word word.Begin) p ∷ []) b
+    → BeginsCompound levels a c found → OpenedCompound levels b c found.0
 opened_compound levels p a b c found k h =
     let r = parted (separated symbol.Semicolon (map stmt_spelling found.0)) (of_kind_at (kind.Word word.End) found.1 ∷ []) b c
     (same_first (of_kind_at (kind.Word word.Begin) p) (word_symbol word.Begin) _ a b c k h.spelled).1 in
@@ -175,17 +210,20 @@ statement_list_parts = record { symbol = symbol.Semicolon; spelling = stmt_spell
 
 -- what is left of each list of statements that may stand there
 abbrev pub StatementsLeft : List Token → List Token → Type 0
-StatementsLeft start now = (depth : ℕ) (statements : List Stmt) (others : List Token) → BeginsStatements depth start others statements → EndsStatements others → PartsLeft Stmt statement_list_parts depth now others
+StatementsLeft start now = (depth : ℕ) (statements : List Stmt) (others : List Token) → BeginsStatements depth start others statements → EndsStatements others
+    → PartsLeft Stmt statement_list_parts depth now others
 
 -- a list of statements begins with one
-pub statements_begin : (levels : ℕ) (a c : List Token) (statements : List Stmt) → BeginsStatements levels a c statements → PartThenOthers Stmt statement_list_parts levels a c
+pub statements_begin : (levels : ℕ) (a c : List Token) (statements : List Stmt) → BeginsStatements levels a c statements
+    → PartThenOthers Stmt statement_list_parts levels a c
 statements_begin levels a c statements h = parts_begin Stmt statement_list_parts levels a c statements h.list.some h.list.spelled h.formed h.nests
 
 no_semicolon : (c : List Token) → EndsStatements c → ¬ (next_kind c ≡ Some (kind.Symbol symbol.Semicolon))
 no_semicolon c ends e = let no : Some (kind.Word word.End) ≡ Some (kind.Symbol symbol.Semicolon) = sym ends ∙ e in cc
 
 -- behind a semicolon stands one more statement
-pub one_more_statement : (levels : ℕ) (p : Place) (a b c : List Token) → Reads a (of_kind_at (kind.Symbol symbol.Semicolon) p ∷ []) b → EndsStatements c → PartsLeft Stmt statement_list_parts levels a c
+pub one_more_statement : (levels : ℕ) (p : Place) (a b c : List Token) → Reads a (of_kind_at (kind.Symbol symbol.Semicolon) p ∷ []) b → EndsStatements c
+    → PartsLeft Stmt statement_list_parts levels a c
     → PartThenOthers Stmt statement_list_parts levels b c
 one_more_statement levels p a b c k ends h = parts_go_on Stmt statement_list_parts levels p a b c k (no_semicolon c ends) h
 
@@ -195,12 +233,14 @@ stmt_ends a c (no_more e) ends = end (e ∙ ends)
 
 -- a statement comes next, in each list of statements that may stand there
 abbrev pub StatementNext : List Token → List Token → Type 0
-StatementNext start now = (depth : ℕ) (statements : List Stmt) (others : List Token) → BeginsStatements depth start others statements → EndsStatements others → PartThenOthers Stmt statement_list_parts depth now others
+StatementNext start now = (depth : ℕ) (statements : List Stmt) (others : List Token) → BeginsStatements depth start others statements → EndsStatements others
+    → PartThenOthers Stmt statement_list_parts depth now others
 
 -- the first statement
 pub statement_list_begins : (start : List Token) → StatementNext start start
 statement_list_begins start depth statements others h ends = statements_begin depth start others statements h
 
 -- behind a semicolon
-pub statement_list_goes_on : (p : Place) (start a b : List Token) → Reads a (of_kind_at (kind.Symbol symbol.Semicolon) p ∷ []) b → StatementsLeft start a → StatementNext start b
+pub statement_list_goes_on : (p : Place) (start a b : List Token) → Reads a (of_kind_at (kind.Symbol symbol.Semicolon) p ∷ []) b → StatementsLeft start a
+    → StatementNext start b
 statement_list_goes_on p start a b k left depth statements others h ends = one_more_statement depth p a b others k ends (left depth statements others h ends)

@@ -42,7 +42,8 @@ abbrev pub AllKept : (A : Type 0) → (A → Spelling) → (A → Places) → Li
 AllKept A spelling places [] = Unit {0}
 AllKept A spelling places (x ∷ xs) = (places x ≡ kept_places (spelling x)) × AllKept A spelling places xs
 
-pub each_kept : (A : Type 0) (spelling : A → Spelling) (places : A → Places) (xs : List A) → ((x : A) → places x ≡ kept_places (spelling x)) → AllKept A spelling places xs
+pub each_kept : (A : Type 0) (spelling : A → Spelling) (places : A → Places) (xs : List A) → ((x : A) → places x ≡ kept_places (spelling x))
+    → AllKept A spelling places xs
 each_kept A spelling places [] h = tt
 each_kept A spelling places (x ∷ xs) h = (h x, each_kept A spelling places xs h)
 
@@ -133,7 +134,8 @@ expr_rolled y =
     ∙ sym (ap kept_places (spelling_of (expr_parts y)))
 
 with_width : (v : KeptExpr) (w : Option KeptExpr)
-    → place.actual_step (map-Actual Expr Actual Link Places Places Places expr_places actual_places link_places (actual_parts (record { value = v; width = w })))
+    → place.actual_step (map-Actual Expr Actual Link Places Places Places expr_places actual_places link_places
+    (actual_parts (record { value = v; width = w })))
     ≡ kept_places (spell.actual_step (map-Actual Expr Actual Link Spelling Spelling Spelling expr_spelling actual_spelling link_spelling
     (actual_parts (record { value = v; width = w }))))
 with_width v None = ap (λ ps. ps ++ []) v.1 ∙ sym (kept_both (expr_spelling v.0) [])

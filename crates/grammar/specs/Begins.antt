@@ -71,7 +71,9 @@ pub record BeginsStatements (levels : ℕ) (tokens others : List Token) (stateme
 
 -- a compound statement, with the place of its `end`
 pub record BeginsCompound (levels : ℕ) (tokens others : List Token) (found : List Stmt × Place) : Type 0 where
-  pub spelled : Reads tokens (word_symbol word.Begin ∷ separated symbol.Semicolon (map stmt_spelling found.0) ++ of_kind_at (kind.Word word.End) found.1 ∷ []) others
+  pub spelled :
+      Reads tokens (word_symbol word.Begin ∷ separated symbol.Semicolon (map stmt_spelling found.0)
+      ++ of_kind_at (kind.Word word.End) found.1 ∷ []) others
   pub some : 0 < length found.0
   pub formed : list_all is_statement found.0 ≡ true
   pub nests : deepest (map stmt_levels found.0) ≤ levels

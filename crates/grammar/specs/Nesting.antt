@@ -1,6 +1,6 @@
 -- How deep a tree nests. The program's own compound statement is the first level. Each statement in a compound
--- statement, each actual with its width, each expression in parentheses and each operand of `not` is one level below what
--- it stands in.
+-- statement, each actual with its width, each expression in parentheses and each operand of `not` is one level below
+-- what it stands in.
 -- A chain of operators is a list and no nesting. The standard sets no bound.
 use Rattle.std.specs.Prelude.{ℕ, ◌+◌, List, Option, Some, None, map, max, fold}
 use Rattle.syntax_tree.specs.declared.Program.{Program}

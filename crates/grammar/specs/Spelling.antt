@@ -50,7 +50,8 @@ pub record IsSpelledBy (lexeme : Lexeme) (token : Token) : Type 0 where
 abbrev pub Reads : List Token → Spelling → List Token → Type 0
 Reads tokens [] others = tokens ≡ others
 Reads tokens (lexeme ∷ lexemes) others =
-    (token : Token) × (behind : List Token) × (tokens ≡ token ∷ behind) × IsSpelledBy lexeme token × Reads behind lexemes others
+    (token : Token) × (behind : List Token) × (tokens ≡ token ∷ behind) × IsSpelledBy lexeme token
+    × Reads behind lexemes others
 
 -- the tokens are the spelling
 abbrev pub Spells : List Token → Spelling → Type 0
@@ -174,7 +175,8 @@ denoter_spelling (denoter.Name name) = identifier name ∷ []
 -- variables declared together, with their semicolon (6.5.1)
 abbrev pub group_spelling : VariableGroup → Spelling
 group_spelling g =
-    separated symbol.Comma (identifiers g.names.items) ++ mark symbol.Colon ∷ denoter_spelling g.denoter ++ mark symbol.Semicolon ∷ []
+    separated symbol.Comma (identifiers g.names.items) ++ mark symbol.Colon ∷ denoter_spelling g.denoter
+    ++ mark symbol.Semicolon ∷ []
 
 -- a variable declaration part, which is left out where no variable is declared (6.2.1)
 abbrev pub variables_spelling : List VariableGroup → Spelling
@@ -184,11 +186,13 @@ variables_spelling (one ∷ others) = word_symbol word.Var ∷ joined (map group
 -- a block (6.2.1)
 abbrev pub block_spelling : Block → Spelling
 block_spelling b =
-    variables_spelling b.variables.items ++ word_symbol word.Begin ∷ separated symbol.Semicolon (map stmt_spelling b.statements.items)
+    variables_spelling b.variables.items
+    ++ word_symbol word.Begin ∷ separated symbol.Semicolon (map stmt_spelling b.statements.items)
     ++ of_kind_at (kind.Word word.End) b.end ∷ []
 
 -- a program (6.10)
 abbrev pub program_spelling : Program → Spelling
 program_spelling p =
-    word_symbol word.Program ∷ identifier p.name ∷ in_parentheses (identifiers p.parameters.items) ++ mark symbol.Semicolon ∷ block_spelling p.block
+    word_symbol word.Program ∷ identifier p.name ∷ in_parentheses (identifiers p.parameters.items)
+    ++ mark symbol.Semicolon ∷ block_spelling p.block
     ++ mark symbol.Period ∷ []

@@ -1,5 +1,5 @@
--- Which trees there may be: operators nest by precedence (ISO 7185:1990, 6.7.1, 6.7.2.1), a sign stands at the first term
--- of a sum or alone, a relation has one operator, and lists that the grammar wants nonempty are nonempty.
+-- Which trees there may be: operators nest by precedence (ISO 7185:1990, 6.7.1, 6.7.2.1), a sign stands at the first
+-- term of a sum or alone, a relation has one operator, and lists that the grammar wants nonempty are nonempty.
 -- This says nothing of names and types.
 use Rattle.std.specs.Prelude.{ℕ, ◌+◌, if◌then◌else◌, List, [], ◌∷◌, length, Bool, true, false, ◌&&◌, ◌||◌, Option, Some, None, nat_eq, nat_lt, nat_le}
 use Rattle.std.specs.List.{list_all}
@@ -85,7 +85,10 @@ abbrev pub chain_form : Form → List LinkForm → Form
 chain_form first [] = record { level = factor_level; well = false }
 chain_form first (link ∷ links) = record {
   level = link.level;
-  well = fits (first_level link.level) first && (list_all (is_link link.level) (link ∷ links) && (nat_lt relation_level link.level || nat_eq (length links) 0));
+  well =
+      fits (first_level link.level) first
+      && (list_all (is_link link.level) (link ∷ links)
+      && (nat_lt relation_level link.level || nat_eq (length links) 0));
 }
 
 -- a width, where there is one
@@ -97,7 +100,8 @@ is_width (Some width) = fits relation_level width
 abbrev pub expr_step : Expr-F Form Bool LinkForm → Form
 expr_step (expr.Number value place) = record { level = factor_level; well = true }
 expr_step (expr.Name name) = record { level = factor_level; well = true }
-expr_step (expr.Call name actuals) = record { level = factor_level; well = has_items actuals.items && list_all (λ well. well) actuals.items }
+expr_step (expr.Call name actuals) =
+    record { level = factor_level; well = has_items actuals.items && list_all (λ well. well) actuals.items }
 expr_step (expr.Parenthesized place inner) = record { level = factor_level; well = fits relation_level inner.value }
 expr_step (expr.Not place operand) = record { level = factor_level; well = fits factor_level operand.value }
 expr_step (expr.Signed s place operand) = record { level = signed_level; well = fits product_level operand.value }
@@ -151,7 +155,8 @@ abbrev pub is_group : VariableGroup → Bool
 is_group g = has_items g.names.items
 
 abbrev pub is_block : Block → Bool
-is_block b = list_all is_group b.variables.items && (has_items b.statements.items && list_all is_statement b.statements.items)
+is_block b =
+    list_all is_group b.variables.items && (has_items b.statements.items && list_all is_statement b.statements.items)
 
 abbrev pub is_program : Program → Bool
 is_program p = is_block p.block

@@ -1,5 +1,5 @@
-//! The grammar of a Pascal program (ISO 7185:1990, 6.2 to 6.10): which tokens spell which syntax tree, and what holds of
-//! that whatever a parser does.
+//! The grammar of a Pascal program (ISO 7185:1990, 6.2 to 6.10): which tokens spell which syntax tree, and what holds
+//! of that whatever a parser does.
 #![tactic(auto)]
 
 ghost use Rattle.grammar.specs.Laws.{TokensHaveOneTree};

@@ -14,7 +14,8 @@ stops_above levels inner depth below (TooDeep place) less under h = omega arith
 stops_above levels inner depth below (NoProgram place) less under h = h
 stops_above levels inner depth below (LeftOut place) less under h = h
 
-pub within_above : {A : Type 0} → (levels inner depth below : ℕ) (others : List Token) (new : Cursor) (answer : Result A ParseFault) → inner + 1 ≡ levels → below < depth
+pub within_above : {A : Type 0} → (levels inner depth below : ℕ) (others : List Token) (new : Cursor) (answer : Result A ParseFault) → inner + 1 ≡ levels
+    → below < depth
     → ReadWithin inner below others new answer → ReadWithin levels depth others new answer
 within_above levels inner depth below others new (Ok found) less under h = h
 within_above levels inner depth below others new (Err fault) less under h = stops_above levels inner depth below fault less under h

@@ -20,14 +20,16 @@ use Rattle.grammar.proofs.Actuals.{IsWidth, IsValue, actual_parts, ends_expressi
 
 -- what the rule of expressions answers to the value
 pub value_answer : (levels inner depth : ℕ) (a b : Cursor) (others : List Token) (answer : Result Expr ParseFault) → inner + 1 ≡ levels → EndsActual others
-    → (v : IsValue depth a.rest.now others) → ReadsDeep inner (BeginsExpr relation_level) (Ends relation_level) a b answer → ReadWithin levels depth v.middle b answer
+    → (v : IsValue depth a.rest.now others) → ReadsDeep inner (BeginsExpr relation_level) (Ends relation_level) a b answer
+    → ReadWithin levels depth v.middle b answer
 value_answer levels inner depth a b others answer less ends v reads =
     let below = expr_levels v.value in
     within_above levels inner depth below v.middle b answer less (let n = v.nests in omega arith)
     (reads below v.value v.middle (record { spelled = v.spelled; formed = v.formed; nests = omega arith }) (value_ends depth v.middle others ends v.width))
 
 -- behind a value
-pub width_left : (levels inner depth : ℕ) (a b : Cursor) (value : Expr) (x : Actual) (others : List Token) → inner + 1 ≡ levels → ReadsDeep inner (BeginsExpr relation_level) (Ends relation_level) a b (Ok value)
+pub width_left : (levels inner depth : ℕ) (a b : Cursor) (value : Expr) (x : Actual) (others : List Token) → inner + 1 ≡ levels
+    → ReadsDeep inner (BeginsExpr relation_level) (Ends relation_level) a b (Ok value)
     → BeginsActual depth a.rest.now others x → EndsActual others → IsWidth depth b.rest.now others
 width_left levels inner depth a b value x others less reads h ends =
     let v = actual_parts depth a.rest.now others x h in
@@ -42,18 +44,22 @@ width_answer levels inner depth a b others answer less ends w reads =
     (reads below w.width others (record { spelled = w.spelled; formed = w.formed; nests = omega arith }) (ends_expression others ends))
 
 -- what the rule of actuals answers there
-pub actual_answer : (levels depth : ℕ) (a b : Cursor) (others : List Token) (answer : Result Actual ParseFault) → (p : PartThenOthers Actual actual_list_parts depth a.rest.now others) → Closes others
+pub actual_answer : (levels depth : ℕ) (a b : Cursor) (others : List Token) (answer : Result Actual ParseFault)
+    → (p : PartThenOthers Actual actual_list_parts depth a.rest.now others) → Closes others
     → ReadsDeep levels BeginsActual EndsActual a b answer → ReadWithin levels depth p.middle b answer
 actual_answer levels depth a b others answer p closes reads =
-    reads depth p.first p.middle (record { spelled = p.spelled; formed = p.formed; nests = p.nests }) (actual_ends p.middle others (comes_behind Actual actual_list_parts depth p.middle others p.left) closes)
+    reads depth p.first p.middle (record { spelled = p.spelled; formed = p.formed; nests = p.nests })
+    (actual_ends p.middle others (comes_behind Actual actual_list_parts depth p.middle others p.left) closes)
 
 -- behind an actual
-pub actual_list_left : (levels : ℕ) (start : List Token) (a b : Cursor) (e : Actual) → ReadsDeep levels BeginsActual EndsActual a b (Ok e) → ActualNext start a.rest.now → ActualsListLeft start b.rest.now
+pub actual_list_left : (levels : ℕ) (start : List Token) (a b : Cursor) (e : Actual) → ReadsDeep levels BeginsActual EndsActual a b (Ok e)
+    → ActualNext start a.rest.now → ActualsListLeft start b.rest.now
 actual_list_left levels start a b e reads next depth actuals others h closes =
     let p = next depth actuals others h closes in
     subst (λ x. PartsLeft Actual actual_list_parts depth x others) (sym (actual_answer levels depth a b others (Ok e) p closes reads)) p.left
 
 -- where no parenthesis comes there are no actuals
-pub no_actuals : (levels : ℕ) (a b : Cursor) (others : List Token) (actuals : List Actual) → b ≡ a → NoNext (kind.Symbol symbol.OpenParenthesis) a.rest.now → BeginsActuals levels a.rest.now others actuals → b.rest.now ≡ others
+pub no_actuals : (levels : ℕ) (a b : Cursor) (others : List Token) (actuals : List Actual) → b ≡ a → NoNext (kind.Symbol symbol.OpenParenthesis) a.rest.now
+    → BeginsActuals levels a.rest.now others actuals → b.rest.now ≡ others
 no_actuals levels a b others [] same none h = ap (λ (k : Cursor). k.rest.now) same ∙ h.spelled
 no_actuals levels a b others (x ∷ xs) same none h = absurd (none (begins (mark symbol.OpenParenthesis) _ a.rest.now others h.spelled))

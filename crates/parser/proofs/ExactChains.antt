@@ -24,27 +24,34 @@ level_is Sum = sum
 level_is Product = product
 
 -- what the rule of first operands answers there
-pub first_answer : (level levels depth : ℕ) (a b : Cursor) (others : List Token) (answer : Result Expr ParseFault) → IsLevel level → (p : IsChained level depth a.rest.now others) → Ends level others
+pub first_answer : (level levels depth : ℕ) (a b : Cursor) (others : List Token) (answer : Result Expr ParseFault) → IsLevel level
+    → (p : IsChained level depth a.rest.now others) → Ends level others
     → ReadsDeep levels (BeginsExpr (first_level level)) (Ends (first_level level)) a b answer → ReadWithin levels depth p.middle b answer
 first_answer level levels depth a b others answer is p ends reads =
-    let k = level_below level is in reads depth p.first p.middle p.begun (operand_ends level (first_level level) depth p.middle others (omega arith) (omega arith) ends p.chain)
+    let k = level_below level is in reads depth p.first p.middle p.begun (operand_ends level (first_level level) depth p.middle others (omega arith)
+    (omega arith) ends p.chain)
 
 -- and the rule of the others
-pub operand_answer : (level levels depth : ℕ) (a b : Cursor) (others : List Token) (answer : Result Expr ParseFault) → IsLevel level → (g : GoesOn level depth a.rest.now others) → Ends level others
+pub operand_answer : (level levels depth : ℕ) (a b : Cursor) (others : List Token) (answer : Result Expr ParseFault) → IsLevel level
+    → (g : GoesOn level depth a.rest.now others) → Ends level others
     → ReadsDeep levels (BeginsExpr (operand_level level)) (Ends (operand_level level)) a b answer → ReadWithin levels depth g.middle b answer
 operand_answer level levels depth a b others answer is g ends reads =
-    reads depth g.operand g.middle g.begun (operand_ends level (operand_level level) depth g.middle others (operand_above level is) (operand_below level is) ends g.chain)
+    reads depth g.operand g.middle g.begun (operand_ends level (operand_level level) depth g.middle others (operand_above level is)
+    (operand_below level is) ends g.chain)
 
 -- where an expression's first operand was read, the operators behind it are left
-pub chain_behind : (level levels depth : ℕ) (a b : Cursor) (first e : Expr) (others : List Token) → IsLevel level → ReadsDeep levels (BeginsExpr (first_level level)) (Ends (first_level level)) a b (Ok first)
+pub chain_behind : (level levels depth : ℕ) (a b : Cursor) (first e : Expr) (others : List Token) → IsLevel level
+    → ReadsDeep levels (BeginsExpr (first_level level)) (Ends (first_level level)) a b (Ok first)
     → BeginsExpr level depth a.rest.now others e → Ends level others → Chain level depth b.rest.now others
 chain_behind level levels depth a b first e others is reads h ends =
     let p = chain_parts level depth a.rest.now others e is h in
     subst (λ x. Chain level depth x others) (sym (first_answer level levels depth a b others (Ok first) is p ends reads)) p.chain
 
 -- behind one more
-pub links_left : (level levels : ℕ) (rest grown : List Link) (o : Operator) (p : Place) (start : List Token) (a b c : Cursor) (operand : Expr) → IsLevel level → operator_level o ≡ level → Reads a.rest.now (operator o p ∷ []) b.rest.now
-    → ReadsDeep levels (BeginsExpr (operand_level level)) (Ends (operand_level level)) b c (Ok operand) → LinksLeft level rest start a.rest.now → LinksLeft level grown start c.rest.now
+pub links_left : (level levels : ℕ) (rest grown : List Link) (o : Operator) (p : Place) (start : List Token) (a b c : Cursor) (operand : Expr) → IsLevel level
+    → operator_level o ≡ level → Reads a.rest.now (operator o p ∷ []) b.rest.now
+    → ReadsDeep levels (BeginsExpr (operand_level level)) (Ends (operand_level level)) b c (Ok operand) → LinksLeft level rest start a.rest.now
+    → LinksLeft level grown start c.rest.now
 links_left level levels rest grown o p start a b c operand is at k reads left depth links others h ends =
     let g = goes_on level depth o p a.rest.now b.rest.now others at k ends (left depth links others h ends).chain in
     let same : c.rest.now ≡ g.middle = operand_answer level levels depth b c others (Ok operand) is g ends reads in

@@ -30,34 +30,46 @@ group_behind_names a b names reads g others h =
     record { type = p.type; spelled = subst (λ x. Reads x (mark symbol.Colon ∷ identifier p.type ∷ mark symbol.Semicolon ∷ []) others) (sym same) p.behind }
 
 -- behind a group
-pub groups_left : (start : List Token) (a b : Cursor) (g : VariableGroup) → ReadsEach BeginsGroup Anything a b (Ok g) → GroupNext start a.rest.now → EachGroupsLeft start b.rest.now
+pub groups_left : (start : List Token) (a b : Cursor) (g : VariableGroup) → ReadsEach BeginsGroup Anything a b (Ok g) → GroupNext start a.rest.now
+    → EachGroupsLeft start b.rest.now
 groups_left start a b g reads next groups others h ends =
     let p = next groups others h ends in
     let same : b.rest.now ≡ p.middle = reads p.group p.middle p.begun tt in
     subst (λ x. GroupsLeft x others) (sym same) p.left
 
 -- where none comes there are none
-pub no_parameters : (a b : Cursor) (others : List Token) (names : List Name) → b ≡ a → NoNext (kind.Symbol symbol.OpenParenthesis) a.rest.now → BeginsParameters a.rest.now others names → b.rest.now ≡ others
+pub no_parameters : (a b : Cursor) (others : List Token) (names : List Name) → b ≡ a → NoNext (kind.Symbol symbol.OpenParenthesis) a.rest.now
+    → BeginsParameters a.rest.now others names → b.rest.now ≡ others
 no_parameters a b others [] same none h = ap (λ (k : Cursor). k.rest.now) same ∙ h
 no_parameters a b others (n ∷ ns) same none h = absurd (none (begins (mark symbol.OpenParenthesis) _ a.rest.now others h))
 
 -- behind the names
-pub parameters_behind_names : (a b : Cursor) (others : List Token) (names : Vec Name Global) → ReadsEach BeginsNames (NoNext (kind.Symbol symbol.Comma)) a b (Ok names)
+pub parameters_behind_names : (a b : Cursor) (others : List Token) (names : Vec Name Global)
+    → ReadsEach BeginsNames (NoNext (kind.Symbol symbol.Comma)) a b (Ok names)
     → NamesThenClosed a.rest.now others → Reads b.rest.now (mark symbol.CloseParenthesis ∷ []) others
 parameters_behind_names a b others names reads o =
     let same : b.rest.now ≡ o.middle = reads o.names o.middle o.begun (parameters_names_end a.rest.now others o) in
     subst (λ x. Reads x (mark symbol.CloseParenthesis ∷ []) others) (sym same) o.closed
 
 -- behind the variables read
-pub block_behind_variables : (levels : ℕ) (a b : Cursor) (others : List Token) (variables : Vec VariableGroup Global) → ReadsEach BeginsVariables BeginsStatementPart a b (Ok variables)
+pub block_behind_variables : (levels : ℕ) (a b : Cursor) (others : List Token) (variables : Vec VariableGroup Global)
+    → ReadsEach BeginsVariables BeginsStatementPart a b (Ok variables)
     → BlockParts levels a.rest.now others → BlockBehindVariables levels b.rest.now others
 block_behind_variables levels a b others variables reads p =
     let same : b.rest.now ≡ p.middle = reads p.groups p.middle p.declared p.begins in
-    record { statements = p.statements; end = p.end; below = p.below; less = p.less; begun = subst (λ x. BeginsCompound p.below x others (p.statements, p.end)) (sym same) p.begun }
+    record {
+      statements = p.statements;
+      end = p.end;
+      below = p.below;
+      less = p.less;
+      begun = subst (λ x. BeginsCompound p.below x others (p.statements, p.end))
+          (sym same) p.begun;
+    }
 
 -- behind the parameters read
 pub program_behind_parameters : (levels : ℕ) (a b : Cursor) (others : List Token) (parameters : Vec Name Global)
-    → ReadsEach BeginsParameters (NoNext (kind.Symbol symbol.OpenParenthesis)) a b (Ok parameters) → ProgramBehindName levels a.rest.now others → ProgramBehindParameters levels b.rest.now others
+    → ReadsEach BeginsParameters (NoNext (kind.Symbol symbol.OpenParenthesis)) a b (Ok parameters) → ProgramBehindName levels a.rest.now others
+    → ProgramBehindParameters levels b.rest.now others
 program_behind_parameters levels a b others parameters reads h =
     let same : b.rest.now ≡ h.middle = reads h.parameters h.middle h.begun (program_parameters_end levels a.rest.now others h) in
     subst (λ x. ProgramBehindParameters levels x others) (sym same) h.behind
@@ -69,8 +81,10 @@ program_behind_block levels depth a b others block reads h =
     let same : b.rest.now ≡ h.middle = reads depth h.block h.middle h.begun tt in subst (λ x. Reads x (mark symbol.Period ∷ []) others) (sym same) h.period
 
 -- a fault where each spelling of a program would be read, if it isn't too deep
-pub refused : (tokens : List Token) (fault : ParseFault) → ((depth : ℕ) (tree : Program) → BeginsProgram depth tokens [] tree → Stops most depth fault) → IsRefused tokens fault
+pub refused : (tokens : List Token) (fault : ParseFault) → ((depth : ℕ) (tree : Program) → BeginsProgram depth tokens [] tree → Stops most depth fault)
+    → IsRefused tokens fault
 refused tokens Memory f = tt
 refused tokens (NoProgram place) f = λ tree formed spelled. f (nesting tree) tree (record { spelled = spelled; formed = formed; nests = omega arith })
-refused tokens (TooDeep place) f = λ tree h. let deep = f most tree (record { spelled = h.spelled; formed = h.well_formed; nests = h.nests }) in absurd (omega arith)
+refused tokens (TooDeep place) f = λ tree h. let deep = f most tree (record { spelled = h.spelled; formed = h.well_formed; nests = h.nests }) in absurd
+    (omega arith)
 refused tokens (LeftOut place) f = λ tree formed spelled. f (nesting tree) tree (record { spelled = spelled; formed = formed; nests = omega arith })

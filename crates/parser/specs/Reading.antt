@@ -1,6 +1,6 @@
 -- What a rule answers where the tokens that are left begin with a spelling of its form: it reads this spelling and no
--- more, or memory runs out, or the form is deeper than the levels that are left. What stands behind the form may not go on
--- with it.
+-- more, or memory runs out, or the form is deeper than the levels that are left. What stands behind the form may not go
+-- on with it.
 -- This doesn't say what a rule answers to other tokens.
 use Rattle.std.specs.Prelude.{◌≡◌, ℕ, ◌<◌, List, Result, MatchResult}
 use Rattle.lexer.specs.declared.token.Token.{Token}
@@ -13,8 +13,10 @@ abbrev pub ReadTo : {A : Type 0} → List Token → Cursor → Result A ParseFau
 ReadTo others new answer = MatchResult answer (λ _. new.rest.now ≡ others) (λ fault. fault ≡ Memory)
 
 -- whatever the tokens begin with, where what is left can stand behind it: the rule reads it and no more
-abbrev pub ReadsEach : {A B : Type 0} → (List Token → List Token → A → Type 0) → (List Token → Type 0) → Cursor → Cursor → Result B ParseFault → Type 0
-ReadsEach {A} Begins Ends old new answer = (found : A) (others : List Token) → Begins old.rest.now others found → Ends others → ReadTo others new answer
+abbrev pub ReadsEach : {A B : Type 0} → (List Token → List Token → A → Type 0) → (List Token → Type 0)
+    → Cursor → Cursor → Result B ParseFault → Type 0
+ReadsEach {A} Begins Ends old new answer =
+    (found : A) (others : List Token) → Begins old.rest.now others found → Ends others → ReadTo others new answer
 
 -- why a rule below which so many levels are left stops at a form of this depth: memory ran out, or the form is deeper
 abbrev pub Stops : ℕ → ℕ → ParseFault → Type 0
@@ -27,6 +29,8 @@ abbrev pub ReadWithin : {A : Type 0} → ℕ → ℕ → List Token → Cursor �
 ReadWithin levels depth others new answer = MatchResult answer (λ _. new.rest.now ≡ others) (Stops levels depth)
 
 -- the same as ReadsEach of forms that nest, of whatever depth
-abbrev pub ReadsDeep : {A B : Type 0} → ℕ → (ℕ → List Token → List Token → A → Type 0) → (List Token → Type 0) → Cursor → Cursor → Result B ParseFault → Type 0
+abbrev pub ReadsDeep : {A B : Type 0} → ℕ → (ℕ → List Token → List Token → A → Type 0) → (List Token → Type 0)
+    → Cursor → Cursor → Result B ParseFault → Type 0
 ReadsDeep {A} levels Begins Ends old new answer =
-    (depth : ℕ) (found : A) (others : List Token) → Begins depth old.rest.now others found → Ends others → ReadWithin levels depth others new answer
+    (depth : ℕ) (found : A) (others : List Token)
+    → Begins depth old.rest.now others found → Ends others → ReadWithin levels depth others new answer

@@ -24,9 +24,9 @@ pub record ReadLinks (level : Level) (levels : ℕ) (old new : Cursor) (links : 
   pub none : links ≡ [] → NoOperator (level_number level) old.rest.now
 
 -- behind these one more operator of the level was read
-pub record LinksGoOn (level : Level) (links : List Link) (old new : Cursor) (o : Operator) (place : Place) : Type 0 where
+pub record LinksGoOn (level : Level) (links : List Link) (old new : Cursor) (o : Operator) (p : Place) : Type 0 where
   pub alike : operator_level o ≡ level_number level
-  pub spelled : Took old new (operator o place ∷ [])
+  pub spelled : Took old new (operator o p ∷ [])
   pub few : level_number level ≡ relation_level → links ≡ []
 
 -- behind these none was: none comes, or they are a relation's, which has one alone

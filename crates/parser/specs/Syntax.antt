@@ -1,5 +1,6 @@
 -- Which tree a list of tokens has, and why it has none (ISO 7185:1990, 6.2 to 6.10).
--- This doesn't say at which token a list goes wrong, nor whether P1 or P2 is told of a list that has no tree however deep.
+-- This doesn't say at which token a list goes wrong, nor whether P1 or P2 is told of a list that has no tree however
+-- deep.
 use Rattle.std.specs.Prelude.{◌≡◌, ℕ, ◌≤◌, List, IsTrue, Some, None, Result, MatchResult}
 use Rattle.lexer.specs.declared.token.Token.{Token}
 use Rattle.token_cursor.specs.declared.fault.ParseFault.{ParseFault}
@@ -34,8 +35,8 @@ IsRefused tokens Memory = Unit {0}
 IsRefused tokens (TooDeep place) = HasNoTree tokens
 IsRefused tokens _ = HasNoTreeAtAll tokens
 
--- The fault is one of these tokens: a form left out before all others, at its first token. Nesting is told only where it
--- keeps the tokens from having a tree that is allowed, and P1 never for nesting alone.
+-- The fault is one of these tokens: a form left out before all others, at its first token. Nesting is told only where
+-- it keeps the tokens from having a tree that is allowed, and P1 never for nesting alone.
 abbrev pub IsFaultOf : ParseFault → List Token → Type 0
 IsFaultOf Memory tokens = Unit {0}
 IsFaultOf (LeftOut place) tokens = first_left_out tokens ≡ Some place

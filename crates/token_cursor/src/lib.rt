@@ -1,5 +1,5 @@
-//! What a parser of Pascal reads its tokens by: a cursor over them, the levels of operators and of nesting, the forms that
-//! the language leaves out, and the faults.
+//! What a parser of Pascal reads its tokens by: a cursor over them, the levels of operators and of nesting, the forms
+//! that the language leaves out, and the faults.
 #![tactic(auto)]
 
 pub mod cursor;

@@ -14,12 +14,14 @@ returns-in_err-name-clause-exact c = λ first depth s others h ends. absurd (c.i
 
 pub returns-in_ok-expression-in-Some-clause-given : goal.returns-in_ok-expression-in-Some-clause-given
 returns-in_ok-expression-in-Some-clause-given c =
-    gives-Assign c.args.levels c.args.cursor.now c.expect_name.new.self c.take_symbol.new.self c.expression.new.cursor c.in_ok-name.name c.in-Some.becomes c.in_ok-expression-in-Some.field-0
+    gives-Assign c.args.levels c.args.cursor.now c.expect_name.new.self c.take_symbol.new.self c.expression.new.cursor c.in_ok-name.name c.in-Some.becomes
+    c.in_ok-expression-in-Some.field-0
     c.in_ok-name.ensures.spelled c.in-Some.ensures.spelled c.in_ok-expression-in-Some.ensures.given
 
 pub returns-in_ok-actuals-in-None-clause-given : goal.returns-in_ok-actuals-in-None-clause-given
 returns-in_ok-actuals-in-None-clause-given c =
-    gives-Called c.args.levels c.args.cursor.now c.expect_name.new.self c.take_symbol.new.self c.actuals.new.cursor c.in_ok-name.name c.in_ok-actuals-in-None.field-0
+    gives-Called c.args.levels c.args.cursor.now c.expect_name.new.self c.take_symbol.new.self c.actuals.new.cursor c.in_ok-name.name
+    c.in_ok-actuals-in-None.field-0
     c.in_ok-name.ensures.spelled c.in-None.ensures.kept c.in_ok-actuals-in-None.ensures.given
 
 pub returns-in_err-expression-in-Some-clause-exact : goal.returns-in_err-expression-in-Some-clause-exact
