@@ -1,10 +1,10 @@
 use lexer::token::{Kind, Symbol, Token, Word};
-use parser::fault::ParseFault;
 use parser::parse;
 use place::Place;
 use std::alloc::{AllocError, Global};
 use std::test::Fail;
 use test_words::texts::next_random;
+use token_cursor::fault::ParseFault;
 
 const PLACE: Place = Place {
     line: 0,
@@ -103,6 +103,6 @@ fn answers_any_list(rt: HostRuntime) -> Result<(), Fail> {
 
 #[test]
 fn the_law_is_called(_rt: HostRuntime) -> Result<(), Fail> {
-    syntax_laws::tokens_have_one_tree();
+    grammar::tokens_have_one_tree();
     Ok(())
 }

@@ -1,6 +1,6 @@
 ghost use Rattle.std.specs.Prelude.{◌≡◌, ◌+◌, ◌^◌, ◌<◌, ◌≤◌, ◌↔◌, ◌≢◌, List, map, length, take, IfOk, IfErr, IsErrOf};
 ghost use Rattle.lexer.specs.Piece.{offset_of};
-ghost use Rattle.place.specs.Place.{start, place_after};
+ghost use Rattle.place.specs.Place.{start, place_after, ArePlacesInOrder};
 ghost use Rattle.lexer.specs.Tokens.{Lexeme, lexeme_of, fault_of, IsTokenList, IsFirstFault};
 ghost use Rattle.lexer.specs.declared.fault.LexFault.{LexFault};
 
@@ -16,10 +16,11 @@ pub const MAX_TEXT: usize = 1048576;
 /// The tokens of a text, in order (6.1), or its first fault: L7 of a text above `MAX_TEXT` before
 /// all others, then the first in the text, and of two at one place the one with the lower number.
 /// The tokens are as long as can be, and nothing but blanks, line ends and comments stands between
-/// them (6.1.8). A text has at most one list, at most one first fault, and never both. `Memory` is
-/// the only other answer.
+/// them (6.1.8); their places ascend. A text has at most one list, at most one first fault, and
+/// never both. `Memory` is the only other answer.
 pub fn tokens<'a>(alloc: Global, text: &'a [u8]) -> Result<Vec<Token<'a>>, LexFault>
     ensures list { IfOk result (λ found. IsTokenList text.now (map lexeme_of found.items)) }
+    ensures in_order { IfOk result (λ found. ArePlacesInOrder (map (λ token. token.place) found.items)) }
     ensures fault { IfErr result (λ found. found ≢ LexFault.Memory → IsFirstFault text.now found) }
     ensures one_list { (a b : List Lexeme)
         → IsTokenList text.now a → IsTokenList text.now b → a ≡ b }

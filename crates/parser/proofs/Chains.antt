@@ -2,19 +2,22 @@
 use Rattle.std.proofs.Common.{◌≡◌, ℕ, List, [], ◌∷◌, ◌++◌, Result, Ok, Err, MatchResult, subst, sym, ap, ◌∙◌, refl, arith}
 use Rattle.place.specs.declared.Place.{Place}
 use Rattle.lexer.specs.declared.token.Token.{Token}
-use Rattle.parser.specs.declared.fault.ParseFault.{ParseFault}
-use Rattle.parser.specs.declared.cursor.Cursor.{Cursor}
-use Rattle.parser.specs.declared.operator.Level.{Level}
+use Rattle.token_cursor.specs.declared.fault.ParseFault.{ParseFault}
+use Rattle.token_cursor.specs.declared.cursor.Cursor.{Cursor}
+use Rattle.token_cursor.specs.declared.operator.Level.{Level}
 use Rattle.syntax_tree.specs.declared.Operator.{Operator}
 use Rattle.syntax_tree.specs.declared.Expr.{Expr}
 use Rattle.syntax_tree.specs.declared.Link.{Link}
 use Rattle.syntax_tree.specs.declared.Expr.TheViews.{roll-Link}
-use Rattle.parser.specs.Cursor.{IsOfRules}
-use Rattle.parser.specs.Level.{level_number}
-use Rattle.parser.specs.WellFormed.{first_level, operand_level}
-use Rattle.parser.specs.Reading.{Ends, NoOperator, Stops, ReadsDeep}
-use Rattle.parser.specs.Rules.{Read, BeginsExpr, BeginsLinks, ReadLinks, LinksEnd, missed, related, LinksGoOn}
-use Rattle.parser.proofs.ExactChains.{Chain, level_is, chain_parts, goes_on, first_answer, operand_answer, chain_ends, chain_behind, LinksLeft, links_begin, links_left}
+use Rattle.token_cursor.specs.Cursor.{IsOfRules}
+use Rattle.token_cursor.specs.Level.{level_number}
+use Rattle.grammar.specs.WellFormed.{first_level, operand_level}
+use Rattle.grammar.specs.Following.{Ends, NoOperator}
+use Rattle.parser.specs.Reading.{Stops, ReadsDeep}
+use Rattle.parser.specs.Rules.{Read, ReadLinks, LinksEnd, missed, related, LinksGoOn}
+use Rattle.grammar.specs.Begins.{BeginsExpr, BeginsLinks}
+use Rattle.grammar.proofs.Chains.{Chain, chain_parts, goes_on, chain_ends, LinksLeft, links_begin}
+use Rattle.parser.proofs.ExactChains.{level_is, first_answer, operand_answer, chain_behind, links_left}
 use Rattle.parser.proofs.Rules.{links_go_on, gives-Alone}
 
 -- these operators were read, and each that may stand there go on so
@@ -26,7 +29,8 @@ pub record LinksRead (level : Level) (levels : ℕ) (start now : Cursor) (links 
 -- before the first
 pub links_first : (level : Level) (levels : ℕ) (a : Cursor) (links : List Link) → links ≡ [] → LinksRead level levels a a links
 links_first level levels a links none = record {
-  so_far = subst (λ xs. Read (BeginsLinks (level_number level) levels) a a xs) (sym none) (record { spelled = refl; formed = refl; few = λ _. omega arith; nests = omega arith });
+  so_far = subst (λ xs. Read (BeginsLinks (level_number level) levels) a a xs) (sym none)
+      (record { spelled = refl; formed = refl; few = λ _. omega arith; nests = omega arith });
   left = links_begin (level_number level) links a.rest.now none;
   none = λ _. refl;
 }
@@ -47,21 +51,27 @@ links_more level levels a b c d rest grown o p operand read on given reads is = 
 }
 
 -- the fault of an operand is theirs
-pub operand_stops : (level : Level) (levels : ℕ) (a b c d : Cursor) (rest : List Link) (o : Operator) (p : Place) (fault : ParseFault) → LinksRead level levels a b rest → LinksGoOn level rest b c o p
+pub operand_stops : (level : Level) (levels : ℕ) (a b c d : Cursor) (rest : List Link) (o : Operator) (p : Place) (fault : ParseFault)
+    → LinksRead level levels a b rest → LinksGoOn level rest b c o p
     → ReadsDeep {A = Expr} {B = Expr} levels (BeginsExpr (operand_level (level_number level))) (Ends (operand_level (level_number level))) c d (Err fault)
-    → (depth : ℕ) (links : List Link) (others : List Token) → BeginsLinks (level_number level) depth a.rest.now others links → Ends (level_number level) others → Stops levels depth fault
+    → (depth : ℕ) (links : List Link) (others : List Token) → BeginsLinks (level_number level) depth a.rest.now others links → Ends (level_number level) others
+    → Stops levels depth fault
 operand_stops level levels a b c d rest o p fault read on reads depth links others h ends =
-    operand_answer (level_number level) levels depth c d others (Err fault) (level_is level) (goes_on (level_number level) depth o p b.rest.now c.rest.now others on.alike on.spelled ends (read.left depth links others h ends).chain) ends reads
+    operand_answer (level_number level) levels depth c d others (Err fault) (level_is level)
+    (goes_on (level_number level) depth o p b.rest.now c.rest.now others on.alike on.spelled ends (read.left depth links others h ends).chain) ends reads
 
 -- where none was taken they end
 pub links_end : (level : Level) (levels : ℕ) (a b c : Cursor) (rest : List Link) → LinksRead level levels a b rest → LinksEnd level rest b c
-    → (depth : ℕ) (links : List Link) (others : List Token) → BeginsLinks (level_number level) depth a.rest.now others links → Ends (level_number level) others → c.rest.now ≡ others
+    → (depth : ℕ) (links : List Link) (others : List Token) → BeginsLinks (level_number level) depth a.rest.now others links → Ends (level_number level) others
+    → c.rest.now ≡ others
 links_end level levels a b c rest read (missed same none) depth links others h ends =
     ap (λ (k : Cursor). k.rest.now) same ∙ chain_ends (level_number level) depth b.rest.now others none (read.left depth links others h ends).chain
-links_end level levels a b c rest read (related same z some) depth links others h ends = ap (λ (k : Cursor). k.rest.now) same ∙ (read.left depth links others h ends).last z some
+links_end level levels a b c rest read (related same z some) depth links others h ends = ap (λ (k : Cursor). k.rest.now) same
+    ∙ (read.left depth links others h ends).last z some
 
 -- and then they were read
-pub links_given : (level : Level) (levels : ℕ) (a b c : Cursor) (rest : List Link) → LinksRead level levels a b rest → LinksEnd level rest b c → ReadLinks level levels a c rest
+pub links_given : (level : Level) (levels : ℕ) (a b c : Cursor) (rest : List Link) → LinksRead level levels a b rest → LinksEnd level rest b c
+    → ReadLinks level levels a c rest
 links_given level levels a b c rest read (missed same none) = record {
   begun = subst (λ k. Read (BeginsLinks (level_number level) levels) a k rest) (sym same) read.so_far;
   none = λ e. subst (λ (k : Cursor). NoOperator (level_number level) k.rest.now) (read.none e) none;
@@ -72,23 +82,32 @@ links_given level levels a b c rest read (related same z some) = record {
 }
 
 -- the fault of the first operand is the chain's
-first_stops : (level : Level) (levels : ℕ) (a b : Cursor) (fault : ParseFault) → ReadsDeep {A = Expr} {B = Expr} levels (BeginsExpr (first_level (level_number level))) (Ends (first_level (level_number level))) a b (Err fault)
-    → (depth : ℕ) (e : Expr) (others : List Token) → BeginsExpr (level_number level) depth a.rest.now others e → Ends (level_number level) others → Stops levels depth fault
+first_stops : (level : Level) (levels : ℕ) (a b : Cursor) (fault : ParseFault)
+    → ReadsDeep {A = Expr} {B = Expr} levels (BeginsExpr (first_level (level_number level))) (Ends (first_level (level_number level))) a b (Err fault)
+    → (depth : ℕ) (e : Expr) (others : List Token) → BeginsExpr (level_number level) depth a.rest.now others e → Ends (level_number level) others
+    → Stops levels depth fault
 first_stops level levels a b fault reads depth e others h ends =
-    first_answer (level_number level) levels depth a b others (Err fault) (level_is level) (chain_parts (level_number level) depth a.rest.now others e (level_is level) h) ends reads
+    first_answer (level_number level) levels depth a b others (Err fault) (level_is level)
+    (chain_parts (level_number level) depth a.rest.now others e (level_is level) h) ends reads
 
 -- where no operator comes behind it the chain ends
-first_alone : (level : Level) (levels : ℕ) (a b : Cursor) (first : Expr) → ReadsDeep levels (BeginsExpr (first_level (level_number level))) (Ends (first_level (level_number level))) a b (Ok first) → NoOperator (level_number level) b.rest.now
-    → (depth : ℕ) (e : Expr) (others : List Token) → BeginsExpr (level_number level) depth a.rest.now others e → Ends (level_number level) others → b.rest.now ≡ others
+first_alone : (level : Level) (levels : ℕ) (a b : Cursor) (first : Expr)
+    → ReadsDeep levels (BeginsExpr (first_level (level_number level))) (Ends (first_level (level_number level))) a b (Ok first)
+    → NoOperator (level_number level) b.rest.now
+    → (depth : ℕ) (e : Expr) (others : List Token) → BeginsExpr (level_number level) depth a.rest.now others e → Ends (level_number level) others
+    → b.rest.now ≡ others
 first_alone level levels a b first reads none depth e others h ends =
-    chain_ends (level_number level) depth b.rest.now others none (chain_behind (level_number level) levels depth a b first e others (level_is level) reads h ends)
+    chain_ends (level_number level) depth b.rest.now others none (chain_behind (level_number level) levels depth a b first e others
+    (level_is level) reads h ends)
 
 -- the answer of the first operand is the chain's
-pub alone_given : (level levels : ℕ) (a b : Cursor) (found : Result Expr ParseFault) → MatchResult found (Read (BeginsExpr (first_level level) levels) a b) IsOfRules → MatchResult found (Read (BeginsExpr level levels) a b) IsOfRules
+pub alone_given : (level levels : ℕ) (a b : Cursor) (found : Result Expr ParseFault)
+    → MatchResult found (Read (BeginsExpr (first_level level) levels) a b) IsOfRules → MatchResult found (Read (BeginsExpr level levels) a b) IsOfRules
 alone_given level levels a b (Ok first) h = gives-Alone level levels a b first h
 alone_given level levels a b (Err fault) h = h
 
-pub alone_exact : (level : Level) (levels : ℕ) (a b : Cursor) (found : Result Expr ParseFault) → ReadsDeep levels (BeginsExpr (first_level (level_number level))) (Ends (first_level (level_number level))) a b found
+pub alone_exact : (level : Level) (levels : ℕ) (a b : Cursor) (found : Result Expr ParseFault)
+    → ReadsDeep levels (BeginsExpr (first_level (level_number level))) (Ends (first_level (level_number level))) a b found
     → NoOperator (level_number level) b.rest.now → ReadsDeep levels (BeginsExpr (level_number level)) (Ends (level_number level)) a b found
 alone_exact level levels a b (Ok first) reads none = first_alone level levels a b first reads none
 alone_exact level levels a b (Err fault) reads none = first_stops level levels a b fault reads

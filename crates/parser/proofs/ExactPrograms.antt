@@ -1,126 +1,25 @@
 -- The rules of declarations, blocks and programs read each spelling of their form.
-use Rattle.std.proofs.Common.{◌≡◌, ℕ, ◌<◌, true, false, ◌&&◌, List, [], ◌∷◌, ◌++◌, length, map, Some, Ok, refl, subst, sym, ap, ◌∙◌, append_assoc, arith}
-use Rattle.std.specs.List.{list_all}
+use Rattle.std.proofs.Common.{◌≡◌, ℕ, List, [], ◌∷◌, Ok, subst, sym, ap, ◌∙◌, arith}
 use Rattle.std.specs.declared.alloc.Global.{Global}
 use Rattle.std.specs.declared.vec.Vec.{Vec}
-use Rattle.place.specs.declared.Place.{Place}
-use Rattle.lexer.specs.declared.token.Kind.{Kind}
 use Rattle.lexer.specs.declared.token.Kind.TheVariants as kind
 use Rattle.lexer.specs.declared.token.Symbol.TheVariants as symbol
-use Rattle.lexer.specs.declared.token.Word.TheVariants as word
 use Rattle.lexer.specs.declared.token.Token.{Token}
-use Rattle.parser.specs.declared.cursor.Cursor.{Cursor}
+use Rattle.token_cursor.specs.declared.cursor.Cursor.{Cursor}
 use Rattle.syntax_tree.specs.declared.Name.{Name}
-use Rattle.syntax_tree.specs.declared.TypeDenoter.{TypeDenoter}
-use Rattle.syntax_tree.specs.declared.TypeDenoter.TheVariants as denoter
 use Rattle.syntax_tree.specs.declared.VariableGroup.{VariableGroup}
-use Rattle.syntax_tree.specs.declared.Stmt.{Stmt}
 use Rattle.syntax_tree.specs.declared.Block.{Block}
 use Rattle.syntax_tree.specs.declared.Program.{Program}
-use Rattle.parser.specs.declared.fault.ParseFault.{ParseFault}
-use Rattle.parser.specs.declared.fault.ParseFault.TheVariants.{Memory, NoProgram, TooDeep, LeftOut}
-use Rattle.parser.specs.Spelling.{Spelling, Reads, of_kind_at, mark, word_symbol, identifier, identifiers, separated, joined, in_parentheses, group_spelling, denoter_spelling, variables_spelling, stmt_spelling, block_spelling}
-use Rattle.parser.specs.WellFormed.{is_group, is_statement, has_items}
-use Rattle.parser.specs.Nesting.{stmt_levels, deepest, nesting}
-use Rattle.parser.specs.Rules.{BeginsNames, BeginsParameters, BeginsGroup, BeginsGroups, BeginsVariables, BeginsCompound, BeginsBlock, BeginsProgram}
-use Rattle.parser.specs.Reading.{next_kind, Anything, NoNext, Next, BeginsStatementPart, Stops, ReadsEach, ReadsDeep}
+use Rattle.token_cursor.specs.declared.fault.ParseFault.{ParseFault}
+use Rattle.token_cursor.specs.declared.fault.ParseFault.TheVariants.{Memory, NoProgram, TooDeep, LeftOut}
+use Rattle.grammar.specs.Spelling.{Reads, mark, identifier}
+use Rattle.grammar.specs.Nesting.{nesting}
+use Rattle.grammar.specs.Begins.{BeginsNames, BeginsParameters, BeginsGroup, BeginsVariables, BeginsCompound, BeginsBlock, BeginsProgram}
+use Rattle.grammar.specs.Following.{Anything, NoNext, BeginsStatementPart}
+use Rattle.parser.specs.Reading.{Stops, ReadsEach, ReadsDeep}
 use Rattle.parser.specs.Syntax.{most, IsRefused}
-use Rattle.parser.proofs.Exact.{parted, begins, same_first}
-use Rattle.parser.proofs.Lists.{and_left, and_right, length_map}
-use Rattle.parser.proofs.Reading.{both, reads_no_more, reads_fewer}
-use Rattle.parser.proofs.Led.{led, list_begins, led_next, led_some, led_ends}
-
--- no token of one kind comes where one of another does
-pub other_kind : (k l : Kind) (a : List Token) → Next k a → ¬ (Some k ≡ Some l) → NoNext l a
-other_kind k l a h differ e = differ (sym h ∙ e)
-
-pub some_items : {A : Type 0} (xs : List A) → has_items xs ≡ true → 0 < length xs
-some_items [] h = let no : false ≡ true = h in cc
-some_items (x ∷ xs) h = omega arith
-
--- what is left of each list of names that may stand there
-abbrev pub NamesLeft : List Token → List Token → Type 0
-NamesLeft start now = (names : List Name) (others : List Token) → BeginsNames start others names → NoNext (kind.Symbol symbol.Comma) others
-    → (rest : List Name) × Reads now (led symbol.Comma (identifiers rest)) others
-
--- a list of names begins with a name
-pub names_first : (a c : List Token) (names : List Name) → BeginsNames a c names → Next kind.Identifier a
-names_first a c [] h = let some = h.some in absurd (omega arith)
-names_first a c (n ∷ ns) h = let r = list_begins symbol.Comma (identifier n ∷ []) (identifiers ns) a c h.spelled in begins (identifier n) [] a r.0 r.1
-
--- a name, and the others behind it
-pub record NameThenOthers (tokens others : List Token) : Type 0 where
-  pub name : Name
-  pub rest : List Name
-  pub spelled : Reads tokens (identifier name ∷ led symbol.Comma (identifiers rest)) others
-
-names_next : (p : Place) (rest : List Name) (a b c : List Token) → Reads a (of_kind_at (kind.Symbol symbol.Comma) p ∷ []) b → NoNext (kind.Symbol symbol.Comma) c
-    → Reads a (led symbol.Comma (identifiers rest)) c → NameThenOthers b c
-names_next p [] a b c k ends h = absurd (led_some symbol.Comma p a b c k ends h)
-names_next p (n ∷ ns) a b c k ends h = record { name = n; rest = ns; spelled = led_next symbol.Comma p (identifier n ∷ []) (identifiers ns) a b c k h }
-
--- behind a comma a name stands
-pub names_go_on_with : (p : Place) (start a b : List Token) → Reads a (of_kind_at (kind.Symbol symbol.Comma) p ∷ []) b → NamesLeft start a
-    → (names : List Name) (others : List Token) → BeginsNames start others names → NoNext (kind.Symbol symbol.Comma) others → NameThenOthers b others
-names_go_on_with p start a b k left names others h ends = let r = left names others h ends in names_next p r.0 a b others k ends r.1
-
--- a name comes next, in each list of names that may stand there
-abbrev pub NameNext : List Token → List Token → Type 0
-NameNext start now = (names : List Name) (others : List Token) → BeginsNames start others names → NoNext (kind.Symbol symbol.Comma) others → NameThenOthers now others
-
--- the first name
-pub names_begin : (start : List Token) → NameNext start start
-names_begin start [] others h ends = let some = h.some in absurd (omega arith)
-names_begin start (n ∷ ns) others h ends =
-    let r = list_begins symbol.Comma (identifier n ∷ []) (identifiers ns) start others h.spelled in
-    record { name = n; rest = ns; spelled = both (identifier n ∷ []) (led symbol.Comma (identifiers ns)) start r.0 others r.1 r.2 }
-
--- behind a name
-pub names_left : (n : Name) (start a b : List Token) → Reads a (identifier n ∷ []) b → NameNext start a → NamesLeft start b
-names_left n start a b taken next names others h ends =
-    let g = next names others h ends in
-    (g.rest, (same_first (identifier n) (identifier g.name) (led symbol.Comma (identifiers g.rest)) a b others taken g.spelled).1)
-
--- where no comma comes the names end
-pub names_end : (start a : List Token) → NamesLeft start a → NoNext (kind.Symbol symbol.Comma) a
-    → (names : List Name) (others : List Token) → BeginsNames start others names → NoNext (kind.Symbol symbol.Comma) others → a ≡ others
-names_end start a left none names others h ends = let r = left names others h ends in led_ends symbol.Comma (identifiers r.0) a others none r.1
-
--- the parts of variables declared together
-pub record GroupParts (tokens others : List Token) : Type 0 where
-  pub names : List Name
-  pub middle : List Token
-  pub type : Name
-  pub begun : BeginsNames tokens middle names
-  pub behind : Reads middle (mark symbol.Colon ∷ identifier type ∷ mark symbol.Semicolon ∷ []) others
-
-denoter_named : (d : TypeDenoter) → (n : Name) × (denoter_spelling d ≡ identifier n ∷ [])
-denoter_named (denoter.Name n) = (n, refl)
-
-group_parts : (n : Name) (a c : List Token) (g : VariableGroup) → denoter_spelling g.denoter ≡ identifier n ∷ [] → 0 < length g.names.items → BeginsGroup a c g → GroupParts a c
-group_parts n a c g named some h =
-    let r = parted (separated symbol.Comma (identifiers g.names.items)) (mark symbol.Colon ∷ denoter_spelling g.denoter ++ mark symbol.Semicolon ∷ []) a c
-    (subst (λ s. Reads a s c) (append_assoc (separated symbol.Comma (identifiers g.names.items)) (mark symbol.Colon ∷ denoter_spelling g.denoter) (mark symbol.Semicolon ∷ [])) h.spelled) in
-    record {
-      names = g.names.items;
-      middle = r.0;
-      type = n;
-      begun = record { some = let e = length_map (λ name. identifier name ∷ []) g.names.items in omega arith; spelled = r.1 };
-      behind = subst (λ s. Reads r.0 (mark symbol.Colon ∷ s ++ mark symbol.Semicolon ∷ []) c) named r.2;
-    }
-
--- each group has them
-pub group_begins : (a c : List Token) (g : VariableGroup) → BeginsGroup a c g → GroupParts a c
-group_begins a c g h = let d = denoter_named g.denoter in group_parts d.0 a c g d.1 (some_items g.names.items h.formed) h
-
--- at the colon the names end
-pub group_names_end : (a c : List Token) (p : GroupParts a c) → NoNext (kind.Symbol symbol.Comma) p.middle
-group_names_end a c p = other_kind (kind.Symbol symbol.Colon) (kind.Symbol symbol.Comma) p.middle (begins (mark symbol.Colon) (identifier p.type ∷ mark symbol.Semicolon ∷ []) p.middle c p.behind) (λ e. cc)
-
--- what stands behind the names of a group
-pub record GroupBehindNames (tokens others : List Token) : Type 0 where
-  pub type : Name
-  pub spelled : Reads tokens (mark symbol.Colon ∷ identifier type ∷ mark symbol.Semicolon ∷ []) others
+use Rattle.grammar.proofs.Rows.{begins}
+use Rattle.grammar.proofs.Programs.{group_begins, group_names_end, GroupBehindNames, GroupsLeft, EachGroupsLeft, GroupNext, NamesThenClosed, parameters_names_end, BlockParts, BlockBehindVariables, ProgramBehindSemicolon, ProgramBehindParameters, ProgramBehindName, program_parameters_end}
 
 -- behind the names read
 pub group_behind_names : (a b : Cursor) (names : Vec Name Global) → ReadsEach BeginsNames (NoNext (kind.Symbol symbol.Comma)) a b (Ok names)
@@ -130,251 +29,50 @@ group_behind_names a b names reads g others h =
     let same : b.rest.now ≡ p.middle = reads p.names p.middle p.begun (group_names_end a.rest.now others p) in
     record { type = p.type; spelled = subst (λ x. Reads x (mark symbol.Colon ∷ identifier p.type ∷ mark symbol.Semicolon ∷ []) others) (sym same) p.behind }
 
--- behind the colon too
-pub group_behind_colon : (p : Place) (a b c : List Token) → Reads a (of_kind_at (kind.Symbol symbol.Colon) p ∷ []) b → (h : GroupBehindNames a c)
-    → Reads b (identifier h.type ∷ mark symbol.Semicolon ∷ []) c
-group_behind_colon p a b c k h = (same_first (of_kind_at (kind.Symbol symbol.Colon) p) (mark symbol.Colon) (identifier h.type ∷ mark symbol.Semicolon ∷ []) a b c k h.spelled).1
-
--- behind the type too
-pub group_behind_type : (p : Place) (n : Name) (a b c d : List Token) → Reads a (of_kind_at (kind.Symbol symbol.Colon) p ∷ []) b → Reads b (identifier n ∷ []) c
-    → GroupBehindNames a d → Reads c (mark symbol.Semicolon ∷ []) d
-group_behind_type p n a b c d k named h =
-    (same_first (identifier n) (identifier h.type) (mark symbol.Semicolon ∷ []) b c d named (group_behind_colon p a b d k h)).1
-
--- groups one behind another, or none
-pub record GroupsLeft (tokens others : List Token) : Type 0 where
-  pub groups : List VariableGroup
-  pub spelled : Reads tokens (joined (map group_spelling groups)) others
-  pub formed : list_all is_group groups ≡ true
-
--- what is left of each row of groups that may stand there
-abbrev pub EachGroupsLeft : List Token → List Token → Type 0
-EachGroupsLeft start now = (groups : List VariableGroup) (others : List Token) → BeginsGroups start others groups → NoNext kind.Identifier others → GroupsLeft now others
-
--- a group, and the others behind it
-pub record GroupThenOthers (tokens others : List Token) : Type 0 where
-  pub group : VariableGroup
-  pub middle : List Token
-  pub begun : BeginsGroup tokens middle group
-  pub left : GroupsLeft middle others
-
-groups_part : (a c : List Token) (g : VariableGroup) (gs : List VariableGroup) → Reads a (joined (map group_spelling (g ∷ gs))) c → list_all is_group (g ∷ gs) ≡ true → GroupThenOthers a c
-groups_part a c g gs h f =
-    let r = parted (group_spelling g) (joined (map group_spelling gs)) a c h in
-    record {
-      group = g;
-      middle = r.0;
-      begun = record { spelled = r.1; formed = and_left (is_group g) (list_all is_group gs) f };
-      left = record { groups = gs; spelled = r.2; formed = and_right (is_group g) (list_all is_group gs) f };
-    }
-
-groups_part_of : (a c : List Token) (gs : List VariableGroup) → Reads a (joined (map group_spelling gs)) c → list_all is_group gs ≡ true → Next kind.Identifier a → NoNext kind.Identifier c
-    → GroupThenOthers a c
-groups_part_of a c [] h f next ends = absurd (ends (ap next_kind (sym h) ∙ next))
-groups_part_of a c (g ∷ gs) h f next ends = groups_part a c g gs h f
-
--- the first group
-pub groups_begin_with : (a c : List Token) (groups : List VariableGroup) → BeginsGroups a c groups → GroupThenOthers a c
-groups_begin_with a c [] h = let some = h.some in absurd (omega arith)
-groups_begin_with a c (g ∷ gs) h = groups_part a c g gs h.spelled h.formed
-
--- a group comes next, in each row of groups that may stand there
-abbrev pub GroupNext : List Token → List Token → Type 0
-GroupNext start now = (groups : List VariableGroup) (others : List Token) → BeginsGroups start others groups → NoNext kind.Identifier others → GroupThenOthers now others
-
 -- behind a group
-pub groups_left : (start : List Token) (a b : Cursor) (g : VariableGroup) → ReadsEach BeginsGroup Anything a b (Ok g) → GroupNext start a.rest.now → EachGroupsLeft start b.rest.now
+pub groups_left : (start : List Token) (a b : Cursor) (g : VariableGroup) → ReadsEach BeginsGroup Anything a b (Ok g) → GroupNext start a.rest.now
+    → EachGroupsLeft start b.rest.now
 groups_left start a b g reads next groups others h ends =
     let p = next groups others h ends in
     let same : b.rest.now ≡ p.middle = reads p.group p.middle p.begun tt in
     subst (λ x. GroupsLeft x others) (sym same) p.left
 
--- where a name comes a group stands
-pub groups_go_on_with : (start a : List Token) → EachGroupsLeft start a → Next kind.Identifier a
-    → (groups : List VariableGroup) (others : List Token) → BeginsGroups start others groups → NoNext kind.Identifier others → GroupThenOthers a others
-groups_go_on_with start a left next groups others h ends =
-    let r = left groups others h ends in groups_part_of a others r.groups r.spelled r.formed next ends
-
--- a group begins with a name
-pub group_first : (a c : List Token) (g : VariableGroup) → BeginsGroup a c g → Next kind.Identifier a
-group_first a c g h = let p = group_begins a c g h in names_first a p.middle p.names p.begun
-
--- behind a group fewer tokens are left
-pub group_fewer : (a c : List Token) (g : VariableGroup) → BeginsGroup a c g → length c < length a
-group_fewer a c g h =
-    let p = group_begins a c g h in
-    let names = reads_no_more (separated symbol.Comma (identifiers p.names)) a p.middle p.begun.spelled in
-    let behind = reads_fewer (mark symbol.Colon) (identifier p.type ∷ mark symbol.Semicolon ∷ []) p.middle c p.behind in
-    omega arith
-
-groups_stop : (a c : List Token) (gs : List VariableGroup) → Reads a (joined (map group_spelling gs)) c → list_all is_group gs ≡ true → NoNext kind.Identifier a → a ≡ c
-groups_stop a c [] h f none = h
-groups_stop a c (g ∷ gs) h f none = let p = groups_part a c g gs h f in absurd (none (group_first a p.middle p.group p.begun))
-
--- where no name comes the groups end
-pub groups_end : (start a : List Token) → EachGroupsLeft start a → NoNext kind.Identifier a
-    → (groups : List VariableGroup) (others : List Token) → BeginsGroups start others groups → NoNext kind.Identifier others → a ≡ others
-groups_end start a left none groups others h ends = let r = left groups others h ends in groups_stop a others r.groups r.spelled r.formed none
-
--- names, and the parenthesis behind them
-pub record NamesThenClosed (tokens others : List Token) : Type 0 where
-  pub names : List Name
-  pub middle : List Token
-  pub begun : BeginsNames tokens middle names
-  pub closed : Reads middle (mark symbol.CloseParenthesis ∷ []) others
-
--- behind the opening parenthesis
-pub parameters_opened : (p : Place) (a b c : List Token) (names : List Name) → Reads a (of_kind_at (kind.Symbol symbol.OpenParenthesis) p ∷ []) b → BeginsParameters a c names
-    → NoNext (kind.Symbol symbol.OpenParenthesis) c → NamesThenClosed b c
-parameters_opened p a b c [] k h ends = absurd (ends (ap next_kind (sym h) ∙ begins (of_kind_at (kind.Symbol symbol.OpenParenthesis) p) [] a b k))
-parameters_opened p a b c (n ∷ ns) k h ends =
-    let r = parted (separated symbol.Comma (identifiers (n ∷ ns))) (mark symbol.CloseParenthesis ∷ []) b c
-    (same_first (of_kind_at (kind.Symbol symbol.OpenParenthesis) p) (mark symbol.OpenParenthesis) (separated symbol.Comma (identifiers (n ∷ ns)) ++ mark symbol.CloseParenthesis ∷ []) a b c k h).1 in
-    record { names = n ∷ ns; middle = r.0; begun = record { some = omega arith; spelled = r.1 }; closed = r.2 }
-
 -- where none comes there are none
-pub no_parameters : (a b : Cursor) (others : List Token) (names : List Name) → b ≡ a → NoNext (kind.Symbol symbol.OpenParenthesis) a.rest.now → BeginsParameters a.rest.now others names → b.rest.now ≡ others
+pub no_parameters : (a b : Cursor) (others : List Token) (names : List Name) → b ≡ a → NoNext (kind.Symbol symbol.OpenParenthesis) a.rest.now
+    → BeginsParameters a.rest.now others names → b.rest.now ≡ others
 no_parameters a b others [] same none h = ap (λ (k : Cursor). k.rest.now) same ∙ h
 no_parameters a b others (n ∷ ns) same none h = absurd (none (begins (mark symbol.OpenParenthesis) _ a.rest.now others h))
 
--- at the parenthesis the names end
-pub parameters_names_end : (a c : List Token) (o : NamesThenClosed a c) → NoNext (kind.Symbol symbol.Comma) o.middle
-parameters_names_end a c o = other_kind (kind.Symbol symbol.CloseParenthesis) (kind.Symbol symbol.Comma) o.middle (begins (mark symbol.CloseParenthesis) [] o.middle c o.closed) (λ e. cc)
-
 -- behind the names
-pub parameters_behind_names : (a b : Cursor) (others : List Token) (names : Vec Name Global) → ReadsEach BeginsNames (NoNext (kind.Symbol symbol.Comma)) a b (Ok names)
+pub parameters_behind_names : (a b : Cursor) (others : List Token) (names : Vec Name Global)
+    → ReadsEach BeginsNames (NoNext (kind.Symbol symbol.Comma)) a b (Ok names)
     → NamesThenClosed a.rest.now others → Reads b.rest.now (mark symbol.CloseParenthesis ∷ []) others
 parameters_behind_names a b others names reads o =
     let same : b.rest.now ≡ o.middle = reads o.names o.middle o.begun (parameters_names_end a.rest.now others o) in
     subst (λ x. Reads x (mark symbol.CloseParenthesis ∷ []) others) (sym same) o.closed
 
--- behind `var`
-pub variables_opened : (p : Place) (a b c : List Token) (groups : List VariableGroup) → Reads a (of_kind_at (kind.Word word.Var) p ∷ []) b → BeginsVariables a c groups
-    → BeginsStatementPart c → BeginsGroups b c groups
-variables_opened p a b c [] k h ends =
-    absurd (other_kind (kind.Word word.Begin) (kind.Word word.Var) a (ap next_kind h.spelled ∙ ends) (λ e. cc) (begins (of_kind_at (kind.Word word.Var) p) [] a b k))
-variables_opened p a b c (g ∷ gs) k h ends = record {
-  some = omega arith;
-  spelled = (same_first (of_kind_at (kind.Word word.Var) p) (word_symbol word.Var) (joined (map group_spelling (g ∷ gs))) a b c k h.spelled).1;
-  formed = h.formed;
-}
-
--- at the compound statement the groups end
-pub statement_part_ends : (a : List Token) → BeginsStatementPart a → NoNext kind.Identifier a
-statement_part_ends a h = other_kind (kind.Word word.Begin) kind.Identifier a h (λ e. cc)
-
--- the parts of a block
-pub record BlockParts (levels : ℕ) (tokens others : List Token) : Type 0 where
-  pub groups : List VariableGroup
-  pub middle : List Token
-  pub declared : BeginsVariables tokens middle groups
-  pub begins : BeginsStatementPart middle
-  pub statements : List Stmt
-  pub end : Place
-  pub below : ℕ
-  pub less : below < levels
-  pub begun : BeginsCompound below middle others (statements, end)
-
--- each block has them
-pub block_parts : (levels : ℕ) (a c : List Token) (b : Block) → BeginsBlock levels a c b → BlockParts levels a c
-block_parts levels a c b h =
-    let compound : Spelling = word_symbol word.Begin ∷ separated symbol.Semicolon (map stmt_spelling b.statements.items) in
-    let last : Spelling = of_kind_at (kind.Word word.End) b.end ∷ [] in
-    let r = parted (variables_spelling b.variables.items) (compound ++ last) a c (subst (λ s. Reads a s c) (append_assoc (variables_spelling b.variables.items) compound last) h.spelled) in
-    let behind = and_right (list_all is_group b.variables.items) (has_items b.statements.items && list_all is_statement b.statements.items) h.formed in
-    let n = h.nests in
-    record {
-      groups = b.variables.items;
-      middle = r.0;
-      declared = record { spelled = r.1; formed = and_left (list_all is_group b.variables.items) (has_items b.statements.items && list_all is_statement b.statements.items) h.formed };
-      begins = begins (word_symbol word.Begin) (separated symbol.Semicolon (map stmt_spelling b.statements.items) ++ last) r.0 c r.2;
-      statements = b.statements.items;
-      end = b.end;
-      below = deepest (map stmt_levels b.statements.items);
-      less = omega arith;
-      begun = record {
-        spelled = r.2;
-        some = some_items b.statements.items (and_left (has_items b.statements.items) (list_all is_statement b.statements.items) behind);
-        formed = and_right (has_items b.statements.items) (list_all is_statement b.statements.items) behind;
-        nests = omega arith;
-      };
-    }
-
--- what stands behind the variables of a block
-pub record BlockBehindVariables (levels : ℕ) (tokens others : List Token) : Type 0 where
-  pub statements : List Stmt
-  pub end : Place
-  pub below : ℕ
-  pub less : below < levels
-  pub begun : BeginsCompound below tokens others (statements, end)
-
 -- behind the variables read
-pub block_behind_variables : (levels : ℕ) (a b : Cursor) (others : List Token) (variables : Vec VariableGroup Global) → ReadsEach BeginsVariables BeginsStatementPart a b (Ok variables)
+pub block_behind_variables : (levels : ℕ) (a b : Cursor) (others : List Token) (variables : Vec VariableGroup Global)
+    → ReadsEach BeginsVariables BeginsStatementPart a b (Ok variables)
     → BlockParts levels a.rest.now others → BlockBehindVariables levels b.rest.now others
 block_behind_variables levels a b others variables reads p =
     let same : b.rest.now ≡ p.middle = reads p.groups p.middle p.declared p.begins in
-    record { statements = p.statements; end = p.end; below = p.below; less = p.less; begun = subst (λ x. BeginsCompound p.below x others (p.statements, p.end)) (sym same) p.begun }
-
--- what stands behind the semicolon of a program
-pub record ProgramBehindSemicolon (levels : ℕ) (tokens others : List Token) : Type 0 where
-  pub block : Block
-  pub middle : List Token
-  pub begun : BeginsBlock levels tokens middle block
-  pub period : Reads middle (mark symbol.Period ∷ []) others
-
--- what stands behind the parameters of a program
-pub record ProgramBehindParameters (levels : ℕ) (tokens others : List Token) : Type 0 where
-  pub middle : List Token
-  pub semicolon : Reads tokens (mark symbol.Semicolon ∷ []) middle
-  pub behind : ProgramBehindSemicolon levels middle others
-
--- what stands behind the name of a program
-pub record ProgramBehindName (levels : ℕ) (tokens others : List Token) : Type 0 where
-  pub parameters : List Name
-  pub middle : List Token
-  pub begun : BeginsParameters tokens middle parameters
-  pub behind : ProgramBehindParameters levels middle others
-
--- behind the word symbol and the name
-pub program_behind_name : (levels : ℕ) (p : Place) (n : Name) (a b c d : List Token) (t : Program) → Reads a (of_kind_at (kind.Word word.Program) p ∷ []) b → Reads b (identifier n ∷ []) c
-    → BeginsProgram levels a d t → ProgramBehindName levels c d
-program_behind_name levels p n a b c d t opened named h =
-    let listed = in_parentheses (identifiers t.parameters.items) in
-    let head : Spelling = word_symbol word.Program ∷ identifier t.name ∷ listed in
-    let body : Spelling = mark symbol.Semicolon ∷ block_spelling t.block in
-    let last = parted (head ++ body) (mark symbol.Period ∷ []) a d h.spelled in
-    let middle = parted head body a last.0 last.1 in
-    let semicolon = parted (mark symbol.Semicolon ∷ []) (block_spelling t.block) middle.0 last.0 middle.2 in
-    let behind_word = (same_first (of_kind_at (kind.Word word.Program) p) (word_symbol word.Program) (identifier t.name ∷ listed) a b middle.0 opened middle.1).1 in
     record {
-      parameters = t.parameters.items;
-      middle = middle.0;
-      begun = (same_first (identifier n) (identifier t.name) listed b c middle.0 named behind_word).1;
-      behind = record {
-        middle = semicolon.0;
-        semicolon = semicolon.1;
-        behind = record { block = t.block; middle = last.0; begun = record { spelled = semicolon.2; formed = h.formed; nests = h.nests }; period = last.2 };
-      };
+      statements = p.statements;
+      end = p.end;
+      below = p.below;
+      less = p.less;
+      begun = subst (λ x. BeginsCompound p.below x others (p.statements, p.end))
+          (sym same) p.begun;
     }
-
--- at the semicolon the parameters end
-pub program_parameters_end : (levels : ℕ) (a c : List Token) (h : ProgramBehindName levels a c) → NoNext (kind.Symbol symbol.OpenParenthesis) h.middle
-program_parameters_end levels a c h =
-    other_kind (kind.Symbol symbol.Semicolon) (kind.Symbol symbol.OpenParenthesis) h.middle (begins (mark symbol.Semicolon) [] h.middle h.behind.middle h.behind.semicolon) (λ e. cc)
 
 -- behind the parameters read
 pub program_behind_parameters : (levels : ℕ) (a b : Cursor) (others : List Token) (parameters : Vec Name Global)
-    → ReadsEach BeginsParameters (NoNext (kind.Symbol symbol.OpenParenthesis)) a b (Ok parameters) → ProgramBehindName levels a.rest.now others → ProgramBehindParameters levels b.rest.now others
+    → ReadsEach BeginsParameters (NoNext (kind.Symbol symbol.OpenParenthesis)) a b (Ok parameters) → ProgramBehindName levels a.rest.now others
+    → ProgramBehindParameters levels b.rest.now others
 program_behind_parameters levels a b others parameters reads h =
     let same : b.rest.now ≡ h.middle = reads h.parameters h.middle h.begun (program_parameters_end levels a.rest.now others h) in
     subst (λ x. ProgramBehindParameters levels x others) (sym same) h.behind
-
--- behind the semicolon too
-pub program_behind_semicolon : (levels : ℕ) (p : Place) (a b c : List Token) → Reads a (of_kind_at (kind.Symbol symbol.Semicolon) p ∷ []) b
-    → ProgramBehindParameters levels a c → ProgramBehindSemicolon levels b c
-program_behind_semicolon levels p a b c k h =
-    let same : b ≡ h.middle = (same_first (of_kind_at (kind.Symbol symbol.Semicolon) p) (mark symbol.Semicolon) [] a b h.middle k h.semicolon).1 in
-    subst (λ x. ProgramBehindSemicolon levels x c) (sym same) h.behind
 
 -- behind the block read
 pub program_behind_block : (levels depth : ℕ) (a b : Cursor) (others : List Token) (block : Block) → ReadsDeep levels BeginsBlock Anything a b (Ok block)
@@ -383,21 +81,10 @@ program_behind_block levels depth a b others block reads h =
     let same : b.rest.now ≡ h.middle = reads depth h.block h.middle h.begun tt in subst (λ x. Reads x (mark symbol.Period ∷ []) others) (sym same) h.period
 
 -- a fault where each spelling of a program would be read, if it isn't too deep
-pub refused : (tokens : List Token) (fault : ParseFault) → ((depth : ℕ) (tree : Program) → BeginsProgram depth tokens [] tree → Stops most depth fault) → IsRefused tokens fault
+pub refused : (tokens : List Token) (fault : ParseFault) → ((depth : ℕ) (tree : Program) → BeginsProgram depth tokens [] tree → Stops most depth fault)
+    → IsRefused tokens fault
 refused tokens Memory f = tt
 refused tokens (NoProgram place) f = λ tree formed spelled. f (nesting tree) tree (record { spelled = spelled; formed = formed; nests = omega arith })
-refused tokens (TooDeep place) f = λ tree h. let deep = f most tree (record { spelled = h.spelled; formed = h.well_formed; nests = h.nests }) in absurd (omega arith)
+refused tokens (TooDeep place) f = λ tree h. let deep = f most tree (record { spelled = h.spelled; formed = h.well_formed; nests = h.nests }) in absurd
+    (omega arith)
 refused tokens (LeftOut place) f = λ tree formed spelled. f (nesting tree) tree (record { spelled = spelled; formed = formed; nests = omega arith })
-
--- what stands behind the name of a program, as the tree spells it
-abbrev behind_name : Program → Spelling
-behind_name t = in_parentheses (identifiers t.parameters.items) ++ mark symbol.Semicolon ∷ block_spelling t.block ++ mark symbol.Period ∷ []
-
--- a program begins with its word symbol
-pub program_first : (levels : ℕ) (a : List Token) (t : Program) → BeginsProgram levels a [] t → Next (kind.Word word.Program) a
-program_first levels a t h = begins (word_symbol word.Program) (identifier t.name ∷ behind_name t) a [] h.spelled
-
--- and behind it a name stands
-pub program_named : (levels : ℕ) (p : Place) (a b : List Token) (t : Program) → Reads a (of_kind_at (kind.Word word.Program) p ∷ []) b → BeginsProgram levels a [] t → Next kind.Identifier b
-program_named levels p a b t opened h =
-    begins (identifier t.name) (behind_name t) b [] (same_first (of_kind_at (kind.Word word.Program) p) (word_symbol word.Program) (identifier t.name ∷ behind_name t) a b [] opened h.spelled).1

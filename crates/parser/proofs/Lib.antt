@@ -1,15 +1,12 @@
 pub mod Chains
-pub mod Equations
 pub mod Exact
 pub mod ExactActuals
 pub mod ExactChains
 pub mod ExactExpressions
-pub mod ExactLists
 pub mod ExactPrograms
 pub mod ExactStatements
 pub mod Kept
-pub mod Led
-pub mod Lists
+pub mod Order
 pub mod Programs
 pub mod Reading
 pub mod Rules

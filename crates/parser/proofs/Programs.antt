@@ -8,19 +8,20 @@ use Rattle.place.specs.declared.Place.{Place}
 use Rattle.lexer.specs.declared.token.Kind.TheVariants as kind
 use Rattle.lexer.specs.declared.token.Symbol.TheVariants as symbol
 use Rattle.lexer.specs.declared.token.Word.TheVariants as word
-use Rattle.parser.specs.declared.cursor.Cursor.{Cursor}
+use Rattle.token_cursor.specs.declared.cursor.Cursor.{Cursor}
 use Rattle.syntax_tree.specs.declared.Name.{Name}
 use Rattle.syntax_tree.specs.declared.Stmt.{Stmt}
 use Rattle.syntax_tree.specs.declared.TypeDenoter.TheVariants as denoter
 use Rattle.syntax_tree.specs.declared.VariableGroup.{VariableGroup}
 use Rattle.syntax_tree.specs.declared.Block.{Block}
-use Rattle.parser.specs.Cursor.{Took}
-use Rattle.parser.specs.Spelling.{of_kind_at, mark, word_symbol, identifier, identifiers, stmt_spelling, separated, joined, in_parentheses, group_spelling, variables_spelling, block_spelling}
-use Rattle.parser.specs.WellFormed.{is_group, is_statement, has_items}
-use Rattle.parser.specs.Rules.{Read, BeginsList, BeginsGroup, BeginsGroups, BeginsVariables, BeginsCompound, BeginsBlock, Stop}
+use Rattle.token_cursor.specs.Cursor.{Took}
+use Rattle.grammar.specs.Spelling.{of_kind_at, mark, word_symbol, identifier, identifiers, stmt_spelling, separated, joined, in_parentheses, group_spelling, variables_spelling, block_spelling}
+use Rattle.grammar.specs.WellFormed.{is_group, is_statement, has_items}
+use Rattle.parser.specs.Rules.{Read}
+use Rattle.grammar.specs.Begins.{BeginsList, BeginsGroup, BeginsGroups, BeginsVariables, BeginsCompound, BeginsBlock, Stop}
 use Rattle.parser.specs.Syntax.{most, IsTreeOf}
-use Rattle.parser.proofs.Lists.{map_push, all_push, and_true, length_map}
-use Rattle.parser.proofs.Reading.{both, without_place, joined_push}
+use Rattle.grammar.proofs.Lists.{map_push, all_push, and_true, length_map}
+use Rattle.grammar.proofs.Reading.{both, without_place, joined_push}
 use Rattle.parser.proofs.Statements.{list_goes_on, some_grown}
 
 has : {A : Type 0} (xs : List A) → 0 < length xs → has_items xs ≡ true
@@ -28,9 +29,11 @@ has xs h = lt-ltb 0 (length xs) h
 
 -- one more name
 pub names_go_on : (a b c d : Cursor) (names grown : List Name) (p : Place) (n : Name)
-    → Read (BeginsList symbol.Comma) a b (identifiers names) → Took b c (of_kind_at (kind.Symbol symbol.Comma) p ∷ []) → Took c d (identifier n ∷ []) → grown ≡ names ++ n ∷ [] → Read (BeginsList symbol.Comma) a d (identifiers grown)
+    → Read (BeginsList symbol.Comma) a b (identifiers names) → Took b c (of_kind_at (kind.Symbol symbol.Comma) p ∷ []) → Took c d (identifier n ∷ [])
+    → grown ≡ names ++ n ∷ [] → Read (BeginsList symbol.Comma) a d (identifiers grown)
 names_go_on a b c d names grown p n list comma taken is =
-    list_goes_on symbol.Comma a b c d (identifiers names) (identifiers grown) p (identifier n ∷ []) list comma taken (ap identifiers is ∙ map_push (λ name. identifier name ∷ []) names n)
+    list_goes_on symbol.Comma a b c d (identifiers names) (identifiers grown) p (identifier n ∷ []) list comma taken
+    (ap identifiers is ∙ map_push (λ name. identifier name ∷ []) names n)
 
 -- with one more name there is a list
 abbrev pub NamesGrow : Cursor → Cursor → List Name → Type 0
@@ -41,26 +44,32 @@ pub names_grow_first : (a : Cursor) → NamesGrow a a []
 names_grow_first a b n taken = record { some = omega arith; spelled = taken }
 
 -- behind a comma
-pub names_grow : (a b c : Cursor) (names : List Name) (p : Place) → Read (BeginsList symbol.Comma) a b (identifiers names) → Took b c (of_kind_at (kind.Symbol symbol.Comma) p ∷ []) → NamesGrow a c names
+pub names_grow : (a b c : Cursor) (names : List Name) (p : Place) → Read (BeginsList symbol.Comma) a b (identifiers names)
+    → Took b c (of_kind_at (kind.Symbol symbol.Comma) p ∷ []) → NamesGrow a c names
 names_grow a b c names p list comma d n taken = names_go_on a b c d names (names ++ n ∷ []) p n list comma taken refl
 
 -- variables declared together
 pub group_stands : (a b c d e : Cursor) (p q : Place) (names : Vec Name Global) (n : Name)
-    → Read (BeginsList symbol.Comma) a b (identifiers names.items) → Took b c (of_kind_at (kind.Symbol symbol.Colon) p ∷ []) → Took c d (identifier n ∷ []) → Took d e (of_kind_at (kind.Symbol symbol.Semicolon) q ∷ [])
+    → Read (BeginsList symbol.Comma) a b (identifiers names.items) → Took b c (of_kind_at (kind.Symbol symbol.Colon) p ∷ []) → Took c d (identifier n ∷ [])
+    → Took d e (of_kind_at (kind.Symbol symbol.Semicolon) q ∷ [])
     → Read BeginsGroup a e (record { names = names; denoter = denoter.Name n })
 group_stands a b c d e p q names n list colon type semicolon = record {
-  spelled = both (separated symbol.Comma (identifiers names.items) ++ mark symbol.Colon ∷ identifier n ∷ []) (mark symbol.Semicolon ∷ []) a.rest.now d.rest.now e.rest.now
+  spelled = both (separated symbol.Comma (identifiers names.items) ++ mark symbol.Colon ∷ identifier n ∷ [])
+      (mark symbol.Semicolon ∷ []) a.rest.now d.rest.now e.rest.now
       (both (separated symbol.Comma (identifiers names.items)) (mark symbol.Colon ∷ identifier n ∷ []) a.rest.now b.rest.now d.rest.now list.spelled
-      (both (mark symbol.Colon ∷ []) (identifier n ∷ []) b.rest.now c.rest.now d.rest.now (without_place (kind.Symbol symbol.Colon) p [] b.rest.now c.rest.now colon) type))
+      (both (mark symbol.Colon ∷ []) (identifier n ∷ []) b.rest.now c.rest.now d.rest.now
+      (without_place (kind.Symbol symbol.Colon) p [] b.rest.now c.rest.now colon) type))
       (without_place (kind.Symbol symbol.Semicolon) q [] d.rest.now e.rest.now semicolon);
   formed = has names.items (let k = length_map (λ name. identifier name ∷ []) names.items in let h = list.some in omega arith);
 }
 
 -- one more group
-pub groups_go_on : (a b c : Cursor) (groups grown : List VariableGroup) (g : VariableGroup) → Read BeginsGroups a b groups → Read BeginsGroup b c g → grown ≡ groups ++ g ∷ [] → Read BeginsGroups a c grown
+pub groups_go_on : (a b c : Cursor) (groups grown : List VariableGroup) (g : VariableGroup) → Read BeginsGroups a b groups → Read BeginsGroup b c g
+    → grown ≡ groups ++ g ∷ [] → Read BeginsGroups a c grown
 groups_go_on a b c groups grown g list given is = record {
   some = subst (λ x. 0 < length x) (sym is) (some_grown groups g);
-  spelled = subst (λ x. Took a c x) (sym (ap (λ x. joined (map group_spelling x)) is ∙ ap joined (map_push group_spelling groups g) ∙ joined_push (map group_spelling groups) (group_spelling g)))
+  spelled = subst (λ x. Took a c x) (sym (ap (λ x. joined (map group_spelling x)) is ∙ ap joined (map_push group_spelling groups g) ∙ joined_push
+      (map group_spelling groups) (group_spelling g)))
       (both (joined (map group_spelling groups)) (group_spelling g) a.rest.now b.rest.now c.rest.now list.spelled given.spelled);
   formed = subst (λ x. list_all is_group x ≡ true) (sym is) (all_push is_group groups g list.formed given.formed);
 }
@@ -83,10 +92,13 @@ groups_grow a b groups list c g given = groups_go_on a b c groups (groups ++ g �
 
 -- a block
 pub block_stands : (levels inner : ℕ) (a b c : Cursor) (variables : Vec VariableGroup Global) (statements : Vec Stmt Global) (end : Place)
-    → inner + 1 ≡ levels → Read BeginsVariables a b variables.items → Read (BeginsCompound inner) b c (statements.items, end) → Read (BeginsBlock levels) a c (record { variables = variables; statements = statements; end = end })
+    → inner + 1 ≡ levels → Read BeginsVariables a b variables.items → Read (BeginsCompound inner) b c (statements.items, end)
+    → Read (BeginsBlock levels) a c (record { variables = variables; statements = statements; end = end })
 block_stands levels inner a b c variables statements end less declared given = record {
-  spelled = subst (λ x. Took a c x) (sym (append_assoc (variables_spelling variables.items) (word_symbol word.Begin ∷ separated symbol.Semicolon (map stmt_spelling statements.items)) (of_kind_at (kind.Word word.End) end ∷ [])))
-      (both (variables_spelling variables.items) (word_symbol word.Begin ∷ separated symbol.Semicolon (map stmt_spelling statements.items) ++ of_kind_at (kind.Word word.End) end ∷ []) a.rest.now b.rest.now c.rest.now declared.spelled given.spelled);
+  spelled = subst (λ x. Took a c x) (sym (append_assoc (variables_spelling variables.items)
+      (word_symbol word.Begin ∷ separated symbol.Semicolon (map stmt_spelling statements.items)) (of_kind_at (kind.Word word.End) end ∷ [])))
+      (both (variables_spelling variables.items) (word_symbol word.Begin ∷ separated symbol.Semicolon (map stmt_spelling statements.items) ++ of_kind_at
+      (kind.Word word.End) end ∷ []) a.rest.now b.rest.now c.rest.now declared.spelled given.spelled);
   formed = and_true (list_all is_group variables.items) (has_items statements.items && list_all is_statement statements.items) declared.formed
       (and_true (has_items statements.items) (list_all is_statement statements.items) (has statements.items given.some) given.formed);
   nests = let n = given.nests in omega arith;
@@ -94,15 +106,20 @@ block_stands levels inner a b c variables statements end less declared given = r
 
 -- a program
 pub program_stands : (a b c d e f : Cursor) (p q : Place) (name : Name) (parameters : Vec Name Global) (block : Block)
-    → Took a b (of_kind_at (kind.Word word.Program) p ∷ []) → Took b c (identifier name ∷ []) → Took c d (in_parentheses (identifiers parameters.items)) → Took d e (of_kind_at (kind.Symbol symbol.Semicolon) q ∷ [])
+    → Took a b (of_kind_at (kind.Word word.Program) p ∷ []) → Took b c (identifier name ∷ []) → Took c d (in_parentheses (identifiers parameters.items))
+    → Took d e (of_kind_at (kind.Symbol symbol.Semicolon) q ∷ [])
     → Read (BeginsBlock most) e f block → Stop f.rest.now → IsTreeOf (record { name = name; parameters = parameters; block = block }) a.rest.now
 program_stands a b c d e f p q name parameters block opened named listed semicolon given period = record {
   well_formed = given.formed;
   nests = given.nests;
-  spelled = both ((word_symbol word.Program ∷ identifier name ∷ in_parentheses (identifiers parameters.items)) ++ mark symbol.Semicolon ∷ block_spelling block) (mark symbol.Period ∷ []) a.rest.now f.rest.now []
-      (both (word_symbol word.Program ∷ identifier name ∷ in_parentheses (identifiers parameters.items)) (mark symbol.Semicolon ∷ block_spelling block) a.rest.now d.rest.now f.rest.now
-      (both (word_symbol word.Program ∷ []) (identifier name ∷ in_parentheses (identifiers parameters.items)) a.rest.now b.rest.now d.rest.now (without_place (kind.Word word.Program) p [] a.rest.now b.rest.now opened)
+  spelled = both ((word_symbol word.Program ∷ identifier name ∷ in_parentheses (identifiers parameters.items)) ++ mark symbol.Semicolon ∷ block_spelling block)
+      (mark symbol.Period ∷ []) a.rest.now f.rest.now []
+      (both (word_symbol word.Program ∷ identifier name ∷ in_parentheses (identifiers parameters.items))
+      (mark symbol.Semicolon ∷ block_spelling block) a.rest.now d.rest.now f.rest.now
+      (both (word_symbol word.Program ∷ []) (identifier name ∷ in_parentheses (identifiers parameters.items)) a.rest.now b.rest.now d.rest.now
+      (without_place (kind.Word word.Program) p [] a.rest.now b.rest.now opened)
       (both (identifier name ∷ []) (in_parentheses (identifiers parameters.items)) b.rest.now c.rest.now d.rest.now named listed))
-      (both (mark symbol.Semicolon ∷ []) (block_spelling block) d.rest.now e.rest.now f.rest.now (without_place (kind.Symbol symbol.Semicolon) q [] d.rest.now e.rest.now semicolon) given.spelled))
+      (both (mark symbol.Semicolon ∷ []) (block_spelling block) d.rest.now e.rest.now f.rest.now
+      (without_place (kind.Symbol symbol.Semicolon) q [] d.rest.now e.rest.now semicolon) given.spelled))
       period;
 }

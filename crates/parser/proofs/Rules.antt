@@ -1,6 +1,6 @@
 -- What the rules give, form by form.
-use Rattle.std.proofs.Common.{◌≡◌, ℕ, ◌+◌, ◌≤◌, max, Bool, true, false, ◌&&◌, ◌||◌, nat_lt, nat_eq, List, [], ◌∷◌, ◌++◌, map, length, Some, refl, subst, sym, ap, ◌∙◌, arith, Result, Ok, Err, None, MatchResult}
-use Rattle.std.proofs.lemmas.Bool.{lt-ltb, ltb-false, eq-eqb}
+use Rattle.std.proofs.Common.{◌≡◌, ℕ, ◌+◌, ◌≤◌, max, true, nat_eq, List, [], ◌∷◌, ◌++◌, map, length, Some, refl, subst, sym, ap, ◌∙◌, arith, Result, Ok, Err, None, MatchResult}
+use Rattle.std.proofs.lemmas.Bool.{eq-eqb}
 use Rattle.std.proofs.lemmas.List.{append-nil}
 use Rattle.std.specs.List.{list_all}
 use Rattle.std.specs.declared.alloc.Global.{Global}
@@ -10,8 +10,8 @@ use Rattle.place.specs.declared.Place.{Place}
 use Rattle.lexer.specs.declared.token.Kind.TheVariants as kind
 use Rattle.lexer.specs.declared.token.Symbol.TheVariants as symbol
 use Rattle.lexer.specs.declared.token.Word.TheVariants as word
-use Rattle.parser.specs.declared.fault.ParseFault.{ParseFault}
-use Rattle.parser.specs.declared.cursor.Cursor.{Cursor}
+use Rattle.token_cursor.specs.declared.fault.ParseFault.{ParseFault}
+use Rattle.token_cursor.specs.declared.cursor.Cursor.{Cursor}
 use Rattle.syntax_tree.specs.declared.Name.{Name}
 use Rattle.syntax_tree.specs.declared.Sign.{Sign}
 use Rattle.syntax_tree.specs.declared.Operator.{Operator}
@@ -20,30 +20,39 @@ use Rattle.syntax_tree.specs.declared.Actual.{Actual}
 use Rattle.syntax_tree.specs.declared.Link.{Link}
 use Rattle.syntax_tree.specs.declared.Expr.TheVariants as tree
 use Rattle.syntax_tree.specs.declared.Expr.TheViews.{roll-Link, roll-Actual}
-use Rattle.parser.specs.Cursor.{Took, IsOfRules}
-use Rattle.parser.specs.Spelling.{expr_spelling, link_spelling, actual_spelling, joined, in_parentheses, of_kind_at, mark, identifier, operator, sign}
-use Rattle.parser.specs.WellFormed.{Form, LinkForm, expr_form, link_form, chain_form, is_actual, is_expression, has_items, is_link, fits, operator_level, first_level, operand_level, relation_level, signed_level, product_level, factor_level}
-use Rattle.parser.specs.Nesting.{expr_levels, link_levels, deepest}
-use Rattle.parser.specs.Rules.{Read, BeginsExpr, BeginsActual, BeginsActuals, BeginsLinks}
-use Rattle.parser.proofs.Equations.{spelling-Number, form-Number, levels-Number, spelling-Not, form-Not, levels-Not, spelling-Signed, form-Signed, levels-Signed, spelling-Alone, form-Alone, levels-Alone, spelling-Name, form-Name, levels-Name, spelling-Function, form-Function, levels-Function, spelling-Parenthesized, form-Parenthesized, levels-Parenthesized, spelling-Chain, form-Chain, levels-Chain, spelling-Link, form-Link, levels-Link, spelling-Wide, form-Wide, levels-Wide}
-use Rattle.parser.proofs.Lists.{map_push, all_push, deepest_push, all_mapped, and_true, and_left, length_map}
-use Rattle.parser.proofs.Reading.{both, without_place, joined_push}
-use Rattle.parser.proofs.ExactChains.{fits_if, fits_level, fits_well, link_level}
+use Rattle.token_cursor.specs.Cursor.{Took, IsOfRules}
+use Rattle.grammar.specs.Spelling.{expr_spelling, link_spelling, actual_spelling, joined, in_parentheses, of_kind_at, mark, identifier, operator, sign}
+use Rattle.grammar.specs.WellFormed.{LinkForm, expr_form, link_form, chain_form, is_actual, is_expression, has_items, is_link, fits, operator_level, first_level, operand_level, relation_level, signed_level, product_level, factor_level}
+use Rattle.grammar.specs.Nesting.{expr_levels, link_levels, deepest}
+use Rattle.parser.specs.Rules.{Read}
+use Rattle.grammar.specs.Begins.{BeginsExpr, BeginsActual, BeginsActuals, BeginsLinks}
+use Rattle.grammar.proofs.Equations.{spelling-Number, form-Number, levels-Number, spelling-Not, form-Not, levels-Not, spelling-Signed, form-Signed, levels-Signed, spelling-Alone, form-Alone, levels-Alone, spelling-Name, form-Name, levels-Name, spelling-Function, form-Function, levels-Function, spelling-Parenthesized, form-Parenthesized, levels-Parenthesized, spelling-Chain, form-Chain, levels-Chain, spelling-Link, form-Link, levels-Link, spelling-Wide, form-Wide, levels-Wide}
+use Rattle.grammar.proofs.Lists.{map_push, all_push, deepest_push, all_mapped, and_true}
+use Rattle.grammar.proofs.Reading.{both, without_place, joined_push}
+use Rattle.grammar.proofs.Chains.{fits_if, fits_level, fits_well}
+use Rattle.grammar.proofs.Forms.{no_items, has_mapped, forms_chain_of}
 
 -- an expression in parentheses
 pub gives-Parenthesized : (levels inner_levels : ℕ) (a b c d : Cursor) (p q : Place) (box : Box Expr Global) (inner : Expr)
     → inner_levels + 1 ≡ levels → Took a b (of_kind_at (kind.Symbol symbol.OpenParenthesis) p ∷ []) → Read (BeginsExpr relation_level inner_levels) b c inner
-    → Took c d (of_kind_at (kind.Symbol symbol.CloseParenthesis) q ∷ []) → box.value ≡ inner → Read (BeginsExpr factor_level levels) a d (tree.Parenthesized p box)
+    → Took c d (of_kind_at (kind.Symbol symbol.CloseParenthesis) q ∷ []) → box.value ≡ inner
+    → Read (BeginsExpr factor_level levels) a d (tree.Parenthesized p box)
 gives-Parenthesized levels inner_levels a b c d p q box inner less opened given closed e = record {
-  spelled = subst (λ s. Took a d s) (sym (spelling-Parenthesized p box)) (subst (λ x. Took a d (of_kind_at (kind.Symbol symbol.OpenParenthesis) p ∷ expr_spelling x ++ mark symbol.CloseParenthesis ∷ [])) (sym e)
-      (both (of_kind_at (kind.Symbol symbol.OpenParenthesis) p ∷ []) (expr_spelling inner ++ mark symbol.CloseParenthesis ∷ []) a.rest.now b.rest.now d.rest.now opened
-      (both (expr_spelling inner) (mark symbol.CloseParenthesis ∷ []) b.rest.now c.rest.now d.rest.now given.spelled (without_place (kind.Symbol symbol.CloseParenthesis) q [] c.rest.now d.rest.now closed))));
-  formed = subst (λ f. fits factor_level f ≡ true) (sym (form-Parenthesized p box)) (subst (λ x. fits relation_level (expr_form x) ≡ true) (sym e) given.formed);
-  nests = let n : expr_levels (tree.Parenthesized p box) ≡ 1 + expr_levels inner = levels-Parenthesized p box ∙ ap (λ x. 1 + expr_levels x) e in let m = given.nests in omega arith;
+  spelled = subst (λ s. Took a d s) (sym (spelling-Parenthesized p box)) (subst (λ x. Took a d
+      (of_kind_at (kind.Symbol symbol.OpenParenthesis) p ∷ expr_spelling x ++ mark symbol.CloseParenthesis ∷ [])) (sym e)
+      (both (of_kind_at (kind.Symbol symbol.OpenParenthesis) p ∷ []) (expr_spelling inner ++ mark symbol.CloseParenthesis ∷ []) a.rest.now b.rest.now
+      d.rest.now opened
+      (both (expr_spelling inner) (mark symbol.CloseParenthesis ∷ []) b.rest.now c.rest.now d.rest.now given.spelled
+      (without_place (kind.Symbol symbol.CloseParenthesis) q [] c.rest.now d.rest.now closed))));
+  formed = subst (λ f. fits factor_level f ≡ true) (sym (form-Parenthesized p box))
+      (subst (λ x. fits relation_level (expr_form x) ≡ true) (sym e) given.formed);
+  nests = let n : expr_levels (tree.Parenthesized p box) ≡ 1 + expr_levels inner = levels-Parenthesized p box ∙ ap
+      (λ x. 1 + expr_levels x) e in let m = given.nests in omega arith;
 }
 
 -- a number
-pub gives-Number : (levels v : ℕ) (p : Place) (a b : Cursor) → Took a b (of_kind_at (kind.Number v) p ∷ []) → Read (BeginsExpr factor_level levels) a b (tree.Number v p)
+pub gives-Number : (levels v : ℕ) (p : Place) (a b : Cursor) → Took a b (of_kind_at (kind.Number v) p ∷ [])
+    → Read (BeginsExpr factor_level levels) a b (tree.Number v p)
 gives-Number levels v p a b taken = record {
   spelled = subst (λ s. Took a b s) (sym (spelling-Number v p)) taken;
   formed = subst (λ f. fits factor_level f ≡ true) (sym (form-Number v p)) refl;
@@ -51,17 +60,20 @@ gives-Number levels v p a b taken = record {
 }
 
 -- a factor behind `not`
-pub gives-Not : (levels inner : ℕ) (a b c : Cursor) (p : Place) (box : Box Expr Global) (operand : Expr) → inner + 1 ≡ levels → Took a b (of_kind_at (kind.Word word.Not) p ∷ []) → Read (BeginsExpr factor_level inner) b c operand
+pub gives-Not : (levels inner : ℕ) (a b c : Cursor) (p : Place) (box : Box Expr Global) (operand : Expr) → inner + 1 ≡ levels
+    → Took a b (of_kind_at (kind.Word word.Not) p ∷ []) → Read (BeginsExpr factor_level inner) b c operand
     → box.value ≡ operand → Read (BeginsExpr factor_level levels) a c (tree.Not p box)
 gives-Not levels inner a b c p box operand less taken given e = record {
   spelled = subst (λ s. Took a c s) (sym (spelling-Not p box ∙ ap (λ x. of_kind_at (kind.Word word.Not) p ∷ expr_spelling x) e))
       (both (of_kind_at (kind.Word word.Not) p ∷ []) (expr_spelling operand) a.rest.now b.rest.now c.rest.now taken given.spelled);
   formed = subst (λ f. fits factor_level f ≡ true) (sym (form-Not p box)) (subst (λ x. fits factor_level (expr_form x) ≡ true) (sym e) given.formed);
-  nests = let n : expr_levels (tree.Not p box) ≡ 1 + expr_levels operand = levels-Not p box ∙ ap (λ x. 1 + expr_levels x) e in let m = given.nests in omega arith;
+  nests = let n : expr_levels (tree.Not p box) ≡ 1 + expr_levels operand = levels-Not p box ∙ ap
+      (λ x. 1 + expr_levels x) e in let m = given.nests in omega arith;
 }
 
 -- a term behind a sign
-pub gives-Signed : (levels : ℕ) (a b c : Cursor) (s : Sign) (p : Place) (box : Box Expr Global) (term : Expr) → Took a b (sign s p ∷ []) → Read (BeginsExpr product_level levels) b c term
+pub gives-Signed : (levels : ℕ) (a b c : Cursor) (s : Sign) (p : Place) (box : Box Expr Global) (term : Expr) → Took a b (sign s p ∷ [])
+    → Read (BeginsExpr product_level levels) b c term
     → box.value ≡ term → Read (BeginsExpr signed_level levels) a c (tree.Signed s p box)
 gives-Signed levels a b c s p box term taken given e = record {
   spelled = subst (λ x. Took a c x) (sym (spelling-Signed s p box ∙ ap (λ x. sign s p ∷ expr_spelling x) e))
@@ -71,49 +83,46 @@ gives-Signed levels a b c s p box term taken given e = record {
 }
 
 -- and one without
-pub gives-Unsigned : (levels : ℕ) (a b c : Cursor) (answer : Result Expr ParseFault) → b ≡ a → MatchResult answer (Read (BeginsExpr product_level levels) b c) IsOfRules → MatchResult answer (Read (BeginsExpr signed_level levels) a c) IsOfRules
+pub gives-Unsigned : (levels : ℕ) (a b c : Cursor) (answer : Result Expr ParseFault) → b ≡ a
+    → MatchResult answer (Read (BeginsExpr product_level levels) b c) IsOfRules → MatchResult answer (Read (BeginsExpr signed_level levels) a c) IsOfRules
 gives-Unsigned levels a b c (Ok e) same given = record {
   spelled = subst (λ k. Took k c (expr_spelling e)) same given.spelled;
-  formed = let n = fits_level product_level (expr_form e) given.formed in fits_if signed_level (expr_form e) (omega arith) (fits_well product_level (expr_form e) given.formed);
+  formed = let n = fits_level product_level (expr_form e) given.formed in fits_if signed_level (expr_form e) (omega arith)
+      (fits_well product_level (expr_form e) given.formed);
   nests = given.nests;
 }
 gives-Unsigned levels a b c (Err fault) same given = given
 
-no_items : {A : Type 0} (xs : List A) → length xs ≡ 0 → xs ≡ []
-no_items [] h = refl
-no_items (x ∷ xs) h = absurd (omega arith)
-
 -- a name with no actuals behind it
-pub gives-Name : (levels : ℕ) (a b c : Cursor) (n : Name) (actuals : List Actual) → Took a b (identifier n ∷ []) → Read (BeginsActuals levels) b c actuals → length actuals ≡ 0 → Read (BeginsExpr factor_level levels) a c (tree.Name n)
+pub gives-Name : (levels : ℕ) (a b c : Cursor) (n : Name) (actuals : List Actual) → Took a b (identifier n ∷ []) → Read (BeginsActuals levels) b c actuals
+    → length actuals ≡ 0 → Read (BeginsExpr factor_level levels) a c (tree.Name n)
 gives-Name levels a b c n actuals taken given none = record {
-  spelled = subst (λ s. Took a c s) (sym (spelling-Name n)) (both (identifier n ∷ []) [] a.rest.now b.rest.now c.rest.now taken (subst (λ xs. Took b c (in_parentheses (map actual_spelling xs))) (no_items actuals none) given.spelled));
+  spelled = subst (λ s. Took a c s) (sym (spelling-Name n)) (both (identifier n ∷ []) [] a.rest.now b.rest.now c.rest.now taken
+      (subst (λ xs. Took b c (in_parentheses (map actual_spelling xs))) (no_items actuals none) given.spelled));
   formed = subst (λ f. fits factor_level f ≡ true) (sym (form-Name n)) refl;
   nests = let e = levels-Name n in omega arith;
 }
 
-has : {A : Type 0} (xs : List A) → ¬ (xs ≡ []) → has_items xs ≡ true
-has [] h = absurd (h refl)
-has (x ∷ xs) h = lt-ltb 0 (length (x ∷ xs)) (omega arith)
-
-has_mapped : {A B : Type 0} (f : A → B) (xs : List A) → ¬ (xs ≡ []) → has_items (map f xs) ≡ true
-has_mapped f [] h = absurd (h refl)
-has_mapped f (x ∷ xs) h = lt-ltb 0 (length (map f (x ∷ xs))) (omega arith)
-
 -- a name with its actuals
-pub gives-Call : (levels : ℕ) (a b c : Cursor) (n : Name) (v : Vec Actual Global) → Took a b (identifier n ∷ []) → Read (BeginsActuals levels) b c v.items → ¬ (v.items ≡ []) → Read (BeginsExpr factor_level levels) a c (tree.Call n v)
+pub gives-Call : (levels : ℕ) (a b c : Cursor) (n : Name) (v : Vec Actual Global) → Took a b (identifier n ∷ []) → Read (BeginsActuals levels) b c v.items
+    → ¬ (v.items ≡ []) → Read (BeginsExpr factor_level levels) a c (tree.Call n v)
 gives-Call levels a b c n v taken given some = record {
-  spelled = subst (λ s. Took a c s) (sym (spelling-Function n v)) (both (identifier n ∷ []) (in_parentheses (map actual_spelling v.items)) a.rest.now b.rest.now c.rest.now taken given.spelled);
+  spelled = subst (λ s. Took a c s) (sym (spelling-Function n v)) (both (identifier n ∷ [])
+      (in_parentheses (map actual_spelling v.items)) a.rest.now b.rest.now c.rest.now taken given.spelled);
   formed = subst (λ f. fits factor_level f ≡ true) (sym (form-Function n v))
-      (and_true (has_items (map is_actual v.items)) (list_all (λ well. well) (map is_actual v.items)) (has_mapped is_actual v.items some) (all_mapped is_actual v.items ∙ given.formed));
+      (and_true (has_items (map is_actual v.items)) (list_all (λ well. well) (map is_actual v.items)) (has_mapped is_actual v.items some)
+      (all_mapped is_actual v.items ∙ given.formed));
   nests = let e = levels-Function n v in let m = given.nests in omega arith;
 }
 
 -- no actuals
 pub gives-None : (levels : ℕ) (a b : Cursor) (actuals : List Actual) → b ≡ a → actuals ≡ [] → Read (BeginsActuals levels) a b actuals
-gives-None levels a b actuals same none = subst (λ xs. Read (BeginsActuals levels) a b xs) (sym none) (record { spelled = ap (λ (k : Cursor). k.rest.now) (sym same); formed = refl; nests = omega arith })
+gives-None levels a b actuals same none = subst (λ xs. Read (BeginsActuals levels) a b xs) (sym none)
+    (record { spelled = ap (λ (k : Cursor). k.rest.now) (sym same); formed = refl; nests = omega arith })
 
 -- an actual without a width
-pub gives-Narrow : (levels inner : ℕ) (a b c : Cursor) (e : Expr) → inner + 1 ≡ levels → Read (BeginsExpr relation_level inner) a b e → c ≡ b → Read (BeginsActual levels) a c (roll-Actual (record { value = e; width = None }))
+pub gives-Narrow : (levels inner : ℕ) (a b c : Cursor) (e : Expr) → inner + 1 ≡ levels → Read (BeginsExpr relation_level inner) a b e → c ≡ b
+    → Read (BeginsActual levels) a c (roll-Actual (record { value = e; width = None }))
 gives-Narrow levels inner a b c e less given same = record {
   spelled = subst (λ s. Took a c s) (sym (spelling-Alone e ∙ append-nil (expr_spelling e))) (subst (λ k. Took a k (expr_spelling e)) (sym same) given.spelled);
   formed = form-Alone e ∙ and_true (is_expression e) true given.formed refl;
@@ -121,11 +130,14 @@ gives-Narrow levels inner a b c e less given same = record {
 }
 
 -- an actual with its width
-pub gives-Wide : (levels inner : ℕ) (a b c d : Cursor) (e w : Expr) (p : Place) → inner + 1 ≡ levels → Read (BeginsExpr relation_level inner) a b e → Took b c (of_kind_at (kind.Symbol symbol.Colon) p ∷ [])
+pub gives-Wide : (levels inner : ℕ) (a b c d : Cursor) (e w : Expr) (p : Place) → inner + 1 ≡ levels → Read (BeginsExpr relation_level inner) a b e
+    → Took b c (of_kind_at (kind.Symbol symbol.Colon) p ∷ [])
     → Read (BeginsExpr relation_level inner) c d w → Read (BeginsActual levels) a d (roll-Actual (record { value = e; width = Some w }))
 gives-Wide levels inner a b c d e w p less given colon wide = record {
-  spelled = subst (λ s. Took a d s) (sym (spelling-Wide e w)) (both (expr_spelling e) (mark symbol.Colon ∷ expr_spelling w) a.rest.now b.rest.now d.rest.now given.spelled
-      (both (mark symbol.Colon ∷ []) (expr_spelling w) b.rest.now c.rest.now d.rest.now (without_place (kind.Symbol symbol.Colon) p [] b.rest.now c.rest.now colon) wide.spelled));
+  spelled = subst (λ s. Took a d s) (sym (spelling-Wide e w)) (both (expr_spelling e)
+      (mark symbol.Colon ∷ expr_spelling w) a.rest.now b.rest.now d.rest.now given.spelled
+      (both (mark symbol.Colon ∷ []) (expr_spelling w) b.rest.now c.rest.now d.rest.now
+      (without_place (kind.Symbol symbol.Colon) p [] b.rest.now c.rest.now colon) wide.spelled));
   formed = form-Wide e w ∙ and_true (is_expression e) (is_expression w) given.formed wide.formed;
   nests = let n = levels-Wide e w in let m = given.nests in let k = wide.nests in omega arith;
 }
@@ -134,65 +146,52 @@ gives-Wide levels inner a b c d e w p less given colon wide = record {
 
 -- one more operator with its operand
 pub links_go_on : (level levels : ℕ) (a b c d : Cursor) (rest grown : List Link) (o : Operator) (p : Place) (operand : Expr)
-    → operator_level o ≡ level → Read (BeginsLinks level levels) a b rest → (level ≡ relation_level → rest ≡ []) → Took b c (operator o p ∷ []) → Read (BeginsExpr (operand_level level) levels) c d operand
+    → operator_level o ≡ level → Read (BeginsLinks level levels) a b rest → (level ≡ relation_level → rest ≡ []) → Took b c (operator o p ∷ [])
+    → Read (BeginsExpr (operand_level level) levels) c d operand
     → grown ≡ rest ++ roll-Link (record { operator = o; place = p; operand = operand }) ∷ [] → Read (BeginsLinks level levels) a d grown
 links_go_on level levels a b c d rest grown o p operand is so_far none taken given e =
     let link : Link = roll-Link (record { operator = o; place = p; operand = operand }) in
     let spelled : map link_spelling grown ≡ map link_spelling rest ++ (operator o p ∷ expr_spelling operand) ∷ [] =
-    ap (map link_spelling) e ∙ map_push link_spelling rest link ∙ ap (λ x. map link_spelling rest ++ x ∷ []) (spelling-Link (record { operator = o; place = p; operand = operand })) in
+    ap (map link_spelling) e ∙ map_push link_spelling rest link ∙ ap (λ x. map link_spelling rest ++ x ∷ [])
+    (spelling-Link (record { operator = o; place = p; operand = operand })) in
     let form : LinkForm = record { level = operator_level o; operand = expr_form operand } in
     let formed : map link_form grown ≡ map link_form rest ++ form ∷ [] =
-    ap (map link_form) e ∙ map_push link_form rest link ∙ ap (λ x. map link_form rest ++ x ∷ []) (form-Link (record { operator = o; place = p; operand = operand })) in
+    ap (map link_form) e ∙ map_push link_form rest link ∙ ap (λ x. map link_form rest ++ x ∷ [])
+    (form-Link (record { operator = o; place = p; operand = operand })) in
     let nests : map link_levels grown ≡ map link_levels rest ++ expr_levels operand ∷ [] =
-    ap (map link_levels) e ∙ map_push link_levels rest link ∙ ap (λ x. map link_levels rest ++ x ∷ []) (levels-Link (record { operator = o; place = p; operand = operand })) in
+    ap (map link_levels) e ∙ map_push link_levels rest link ∙ ap (λ x. map link_levels rest ++ x ∷ [])
+    (levels-Link (record { operator = o; place = p; operand = operand })) in
     record {
       spelled = subst (λ x. Took a d x) (sym (ap joined spelled ∙ joined_push (map link_spelling rest) (operator o p ∷ expr_spelling operand)))
           (both (joined (map link_spelling rest)) (operator o p ∷ expr_spelling operand) a.rest.now b.rest.now d.rest.now so_far.spelled
           (both (operator o p ∷ []) (expr_spelling operand) b.rest.now c.rest.now d.rest.now taken given.spelled));
       formed = subst (λ x. list_all (is_link level) x ≡ true) (sym formed)
-          (all_push (is_link level) (map link_form rest) form so_far.formed (and_true (nat_eq (operator_level o) level) (fits (operand_level level) (expr_form operand)) (eq-eqb (operator_level o) level is) given.formed));
+          (all_push (is_link level) (map link_form rest) form so_far.formed (and_true (nat_eq (operator_level o) level)
+          (fits (operand_level level) (expr_form operand)) (eq-eqb (operator_level o) level is) given.formed));
       few = λ z. subst (λ xs. length xs ≤ 1) (sym (e ∙ ap (λ xs. xs ++ link ∷ []) (none z))) (omega arith);
       nests = subst (λ x. deepest x ≤ levels) (sym nests) (deepest_push levels (map link_levels rest) (expr_levels operand) so_far.nests given.nests);
     }
 
-few_tells_if : (level n : ℕ) (b : Bool) → nat_lt relation_level level ≡ b → (level ≡ relation_level → n ≤ 0) → b || nat_eq n 0 ≡ true
-few_tells_if level n true e few = refl
-few_tells_if level n false e few = eq-eqb n 0 (let z : level ≡ relation_level = (let k = ltb-false relation_level level e in omega arith) in let m = few z in omega arith)
-
-few_tells : (level n : ℕ) → (level ≡ relation_level → n ≤ 0) → nat_lt relation_level level || nat_eq n 0 ≡ true
-few_tells level n few = few_tells_if level n (nat_lt relation_level level) refl few
-
-forms_chain : (level : ℕ) (first : Form) (link : LinkForm) (links : List LinkForm) → fits (first_level level) first ≡ true → list_all (is_link level) (link ∷ links) ≡ true → (level ≡ relation_level → length links ≤ 0)
-    → link.level ≡ level → fits level (chain_form first (link ∷ links)) ≡ true
-forms_chain level first link links f all few e =
-    let well : (l : ℕ) → level ≡ l → fits (first_level l) first && (list_all (is_link l) (link ∷ links) && (nat_lt relation_level l || nat_eq (length links) 0)) ≡ true =
-    λ l s. subst (λ m. fits (first_level m) first && (list_all (is_link m) (link ∷ links) && (nat_lt relation_level m || nat_eq (length links) 0)) ≡ true) s
-    (and_true (fits (first_level level) first) (list_all (is_link level) (link ∷ links) && (nat_lt relation_level level || nat_eq (length links) 0)) f
-    (and_true (list_all (is_link level) (link ∷ links)) (nat_lt relation_level level || nat_eq (length links) 0) all (few_tells level (length links) few))) in
-    fits_if level (chain_form first (link ∷ links)) (omega arith) (well link.level (sym e))
-
-forms_chain_of : (level : ℕ) (first : Form) (links : List Link) → ¬ (links ≡ []) → fits (first_level level) first ≡ true → list_all (is_link level) (map link_form links) ≡ true → (level ≡ relation_level → length links ≤ 1)
-    → fits level (chain_form first (map link_form links)) ≡ true
-forms_chain_of level first [] some f all few = absurd (some refl)
-forms_chain_of level first (l ∷ ls) some f all few =
-    forms_chain level first (link_form l) (map link_form ls) f all (λ z. let k = few z in let m = length_map link_form ls in omega arith)
-    (link_level level (link_form l) (and_left (is_link level (link_form l)) (list_all (is_link level) (map link_form ls)) all))
-
 -- a first operand with operators behind it
-pub gives-Chain : (level levels : ℕ) (a b c : Cursor) (first : Expr) (box : Box Expr Global) (v : Vec Link Global) → box.value ≡ first → ¬ (v.items ≡ []) → Read (BeginsExpr (first_level level) levels) a b first
+pub gives-Chain : (level levels : ℕ) (a b c : Cursor) (first : Expr) (box : Box Expr Global) (v : Vec Link Global) → box.value ≡ first → ¬ (v.items ≡ [])
+    → Read (BeginsExpr (first_level level) levels) a b first
     → Read (BeginsLinks level levels) b c v.items → Read (BeginsExpr level levels) a c (tree.Chain box v)
 gives-Chain level levels a b c first box v e some given links = record {
   spelled = subst (λ s. Took a c s) (sym (spelling-Chain box v ∙ ap (λ x. expr_spelling x ++ joined (map link_spelling v.items)) e))
       (both (expr_spelling first) (joined (map link_spelling v.items)) a.rest.now b.rest.now c.rest.now given.spelled links.spelled);
-  formed = subst (λ x. fits level x ≡ true) (sym (form-Chain box v)) (subst (λ x. fits level (chain_form (expr_form x) (map link_form v.items)) ≡ true) (sym e) (forms_chain_of level (expr_form first) v.items some given.formed links.formed links.few));
-  nests = let n : expr_levels (tree.Chain box v) ≡ max (expr_levels first) (deepest (map link_levels v.items)) = levels-Chain box v ∙ ap (λ x. max (expr_levels x) (deepest (map link_levels v.items))) e in
+  formed = subst (λ x. fits level x ≡ true) (sym (form-Chain box v)) (subst (λ x. fits level (chain_form (expr_form x) (map link_form v.items)) ≡ true) (sym e)
+      (forms_chain_of level (expr_form first) v.items some given.formed links.formed links.few));
+  nests = let n : expr_levels (tree.Chain box v) ≡ max (expr_levels first) (deepest (map link_levels v.items)) = levels-Chain box v ∙ ap
+      (λ x. max (expr_levels x) (deepest (map link_levels v.items))) e in
       let f = given.nests in let r = links.nests in omega arith;
 }
 
 -- a first operand alone
-pub gives-Alone : (level levels : ℕ) (a b : Cursor) (first : Expr) → Read (BeginsExpr (first_level level) levels) a b first → Read (BeginsExpr level levels) a b first
+pub gives-Alone : (level levels : ℕ) (a b : Cursor) (first : Expr) → Read (BeginsExpr (first_level level) levels) a b first
+    → Read (BeginsExpr level levels) a b first
 gives-Alone level levels a b first given = record {
   spelled = given.spelled;
-  formed = let n = fits_level (first_level level) (expr_form first) given.formed in fits_if level (expr_form first) (omega arith) (fits_well (first_level level) (expr_form first) given.formed);
+  formed = let n = fits_level (first_level level) (expr_form first) given.formed in fits_if level (expr_form first) (omega arith)
+      (fits_well (first_level level) (expr_form first) given.formed);
   nests = given.nests;
 }

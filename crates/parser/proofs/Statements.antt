@@ -9,28 +9,29 @@ use Rattle.lexer.specs.declared.token.Kind.TheVariants as kind
 use Rattle.lexer.specs.declared.token.Symbol.{Symbol}
 use Rattle.lexer.specs.declared.token.Symbol.TheVariants as symbol
 use Rattle.lexer.specs.declared.token.Word.TheVariants as word
-use Rattle.parser.specs.declared.cursor.Cursor.{Cursor}
+use Rattle.token_cursor.specs.declared.cursor.Cursor.{Cursor}
 use Rattle.syntax_tree.specs.declared.Actual.{Actual}
 use Rattle.syntax_tree.specs.declared.Expr.{Expr}
 use Rattle.syntax_tree.specs.declared.Name.{Name}
 use Rattle.syntax_tree.specs.declared.Stmt.{Stmt}
 use Rattle.syntax_tree.specs.declared.Stmt.TheVariants as statement
-use Rattle.parser.specs.Cursor.{Took}
-use Rattle.parser.specs.Spelling.{Spelling, expr_spelling, identifier, actual_spelling, stmt_spelling, of_kind_at, mark, word_symbol, separated, in_parentheses}
-use Rattle.parser.specs.WellFormed.{relation_level, is_actual, is_statement, has_items}
-use Rattle.parser.specs.Nesting.{actual_levels, stmt_levels, deepest}
-use Rattle.parser.specs.Rules.{Read, BeginsExpr, BeginsList, BeginsActual, BeginsActualList, BeginsActuals, BeginsStmt, BeginsStatements, BeginsCompound}
-use Rattle.parser.proofs.Equations.{spelling-Empty, form-Empty, levels-Empty, spelling-Assign, form-Assign, levels-Assign, spelling-Call, form-Call, levels-Call, spelling-Compound, form-Compound, levels-Compound}
-use Rattle.parser.proofs.Lists.{map_push, all_push, deepest_push, all_mapped, and_true, length_map}
-use Rattle.parser.proofs.Reading.{both, without_place, without_last_place, separated_more, in_parentheses_some}
+use Rattle.token_cursor.specs.Cursor.{Took}
+use Rattle.grammar.specs.Spelling.{Spelling, expr_spelling, identifier, actual_spelling, stmt_spelling, of_kind_at, mark, word_symbol, separated, in_parentheses}
+use Rattle.grammar.specs.WellFormed.{relation_level, is_actual, stmt_form, is_statement, has_items}
+use Rattle.grammar.specs.Nesting.{actual_levels, stmt_levels, deepest}
+use Rattle.parser.specs.Rules.{Read}
+use Rattle.grammar.specs.Begins.{BeginsExpr, BeginsList, BeginsActual, BeginsActualList, BeginsActuals, BeginsStmt, BeginsStatements, BeginsCompound}
+use Rattle.grammar.proofs.Equations.{spelling-Empty, form-Empty, levels-Empty, spelling-Assign, form-Assign, levels-Assign, spelling-Call, form-Call, levels-Call, spelling-Compound, form-Compound, levels-Compound}
+use Rattle.grammar.proofs.Lists.{map_push, all_push, deepest_push, and_true, length_map}
+use Rattle.grammar.proofs.Reading.{both, without_place, without_last_place, separated_more, in_parentheses_some}
 
 pub some_grown : {A : Type 0} (xs : List A) (x : A) → 0 < length (xs ++ x ∷ [])
 some_grown [] x = omega arith
 some_grown (y ∷ ys) x = omega arith
 
-has : (xs : List Stmt) → 0 < length xs → has_items (map is_statement xs) ≡ true
+has : (xs : List Stmt) → 0 < length xs → has_items (map stmt_form xs) ≡ true
 has [] h = absurd (omega arith)
-has (x ∷ xs) h = lt-ltb 0 (length (map is_statement (x ∷ xs))) (omega arith)
+has (x ∷ xs) h = lt-ltb 0 (length (map stmt_form (x ∷ xs))) (omega arith)
 
 -- one more part
 pub list_goes_on : (m : Symbol) (a b c d : Cursor) (parts grown : List Spelling) (p : Place) (last : Spelling)
@@ -44,16 +45,20 @@ list_goes_on m a b c d parts grown p last given comma taken e = record {
 
 -- one more actual
 pub actuals_go_on : (levels : ℕ) (a b c d : Cursor) (actuals grown : List Actual) (p : Place) (x : Actual)
-    → Read (BeginsActualList levels) a b actuals → Took b c (of_kind_at (kind.Symbol symbol.Comma) p ∷ []) → Read (BeginsActual levels) c d x → grown ≡ actuals ++ x ∷ [] → Read (BeginsActualList levels) a d grown
+    → Read (BeginsActualList levels) a b actuals → Took b c (of_kind_at (kind.Symbol symbol.Comma) p ∷ []) → Read (BeginsActual levels) c d x
+    → grown ≡ actuals ++ x ∷ [] → Read (BeginsActualList levels) a d grown
 actuals_go_on levels a b c d actuals grown p x list comma given is = record {
-  list = list_goes_on symbol.Comma a b c d (map actual_spelling actuals) (map actual_spelling grown) p (actual_spelling x) list.list comma given.spelled (ap (map actual_spelling) is ∙ map_push actual_spelling actuals x);
+  list = list_goes_on symbol.Comma a b c d (map actual_spelling actuals) (map actual_spelling grown) p (actual_spelling x) list.list comma given.spelled
+      (ap (map actual_spelling) is ∙ map_push actual_spelling actuals x);
   formed = subst (λ xs. list_all is_actual xs ≡ true) (sym is) (all_push is_actual actuals x list.formed given.formed);
-  nests = subst (λ xs. deepest xs ≤ levels) (sym (ap (map actual_levels) is ∙ map_push actual_levels actuals x)) (deepest_push levels (map actual_levels actuals) (actual_levels x) list.nests given.nests);
+  nests = subst (λ xs. deepest xs ≤ levels) (sym (ap (map actual_levels) is ∙ map_push actual_levels actuals x))
+      (deepest_push levels (map actual_levels actuals) (actual_levels x) list.nests given.nests);
 }
 
 -- with one more actual there is a list
 abbrev pub ActualsGrow : ℕ → Cursor → Cursor → List Actual → Type 0
-ActualsGrow levels old now actuals = (new : Cursor) (x : Actual) → Read (BeginsActual levels) now new x → Read (BeginsActualList levels) old new (actuals ++ x ∷ [])
+ActualsGrow levels old now actuals = (new : Cursor) (x : Actual) → Read (BeginsActual levels) now new x → Read (BeginsActualList levels) old new
+    (actuals ++ x ∷ [])
 
 -- the first actual
 pub actuals_grow_first : (levels : ℕ) (a : Cursor) → ActualsGrow levels a a []
@@ -64,20 +69,25 @@ actuals_grow_first levels a b x given = record {
 }
 
 -- behind a comma
-pub actuals_grow : (levels : ℕ) (a b c : Cursor) (actuals : List Actual) (p : Place) → Read (BeginsActualList levels) a b actuals → Took b c (of_kind_at (kind.Symbol symbol.Comma) p ∷ []) → ActualsGrow levels a c actuals
+pub actuals_grow : (levels : ℕ) (a b c : Cursor) (actuals : List Actual) (p : Place) → Read (BeginsActualList levels) a b actuals
+    → Took b c (of_kind_at (kind.Symbol symbol.Comma) p ∷ []) → ActualsGrow levels a c actuals
 actuals_grow levels a b c actuals p list comma d x given = actuals_go_on levels a b c d actuals (actuals ++ x ∷ []) p x list comma given refl
 
 -- a list in its parentheses
 pub in_their_parentheses : (a b c d : Cursor) (p q : Place) (parts : List Spelling)
-    → Took a b (of_kind_at (kind.Symbol symbol.OpenParenthesis) p ∷ []) → Read (BeginsList symbol.Comma) b c parts → Took c d (of_kind_at (kind.Symbol symbol.CloseParenthesis) q ∷ []) → Took a d (in_parentheses parts)
+    → Took a b (of_kind_at (kind.Symbol symbol.OpenParenthesis) p ∷ []) → Read (BeginsList symbol.Comma) b c parts
+    → Took c d (of_kind_at (kind.Symbol symbol.CloseParenthesis) q ∷ []) → Took a d (in_parentheses parts)
 in_their_parentheses a b c d p q parts opened list closed =
     subst (λ x. Took a d x) (sym (in_parentheses_some parts list.some))
-    (both (mark symbol.OpenParenthesis ∷ []) (separated symbol.Comma parts ++ mark symbol.CloseParenthesis ∷ []) a.rest.now b.rest.now d.rest.now (without_place (kind.Symbol symbol.OpenParenthesis) p [] a.rest.now b.rest.now opened)
-    (both (separated symbol.Comma parts) (mark symbol.CloseParenthesis ∷ []) b.rest.now c.rest.now d.rest.now list.spelled (without_place (kind.Symbol symbol.CloseParenthesis) q [] c.rest.now d.rest.now closed)))
+    (both (mark symbol.OpenParenthesis ∷ []) (separated symbol.Comma parts ++ mark symbol.CloseParenthesis ∷ []) a.rest.now b.rest.now d.rest.now
+    (without_place (kind.Symbol symbol.OpenParenthesis) p [] a.rest.now b.rest.now opened)
+    (both (separated symbol.Comma parts) (mark symbol.CloseParenthesis ∷ []) b.rest.now c.rest.now d.rest.now list.spelled
+    (without_place (kind.Symbol symbol.CloseParenthesis) q [] c.rest.now d.rest.now closed)))
 
 -- actuals in their parentheses
 pub actuals_closed : (levels : ℕ) (a b c d : Cursor) (p q : Place) (actuals : List Actual)
-    → Took a b (of_kind_at (kind.Symbol symbol.OpenParenthesis) p ∷ []) → Read (BeginsActualList levels) b c actuals → Took c d (of_kind_at (kind.Symbol symbol.CloseParenthesis) q ∷ []) → Read (BeginsActuals levels) a d actuals
+    → Took a b (of_kind_at (kind.Symbol symbol.OpenParenthesis) p ∷ []) → Read (BeginsActualList levels) b c actuals
+    → Took c d (of_kind_at (kind.Symbol symbol.CloseParenthesis) q ∷ []) → Read (BeginsActuals levels) a d actuals
 actuals_closed levels a b c d p q actuals opened list closed = record {
   spelled = in_their_parentheses a b c d p q (map actual_spelling actuals) opened list.list closed;
   formed = list.formed;
@@ -86,16 +96,20 @@ actuals_closed levels a b c d p q actuals opened list closed = record {
 
 -- one more statement
 pub statements_go_on : (levels : ℕ) (a b c d : Cursor) (statements grown : List Stmt) (p : Place) (s : Stmt)
-    → Read (BeginsStatements levels) a b statements → Took b c (of_kind_at (kind.Symbol symbol.Semicolon) p ∷ []) → Read (BeginsStmt levels) c d s → grown ≡ statements ++ s ∷ [] → Read (BeginsStatements levels) a d grown
+    → Read (BeginsStatements levels) a b statements → Took b c (of_kind_at (kind.Symbol symbol.Semicolon) p ∷ []) → Read (BeginsStmt levels) c d s
+    → grown ≡ statements ++ s ∷ [] → Read (BeginsStatements levels) a d grown
 statements_go_on levels a b c d statements grown p s list semicolon given is = record {
-  list = list_goes_on symbol.Semicolon a b c d (map stmt_spelling statements) (map stmt_spelling grown) p (stmt_spelling s) list.list semicolon given.spelled (ap (map stmt_spelling) is ∙ map_push stmt_spelling statements s);
+  list = list_goes_on symbol.Semicolon a b c d (map stmt_spelling statements) (map stmt_spelling grown) p (stmt_spelling s) list.list semicolon given.spelled
+      (ap (map stmt_spelling) is ∙ map_push stmt_spelling statements s);
   formed = subst (λ x. list_all is_statement x ≡ true) (sym is) (all_push is_statement statements s list.formed given.formed);
-  nests = subst (λ x. deepest x ≤ levels) (sym (ap (map stmt_levels) is ∙ map_push stmt_levels statements s)) (deepest_push levels (map stmt_levels statements) (stmt_levels s) list.nests given.nests);
+  nests = subst (λ x. deepest x ≤ levels) (sym (ap (map stmt_levels) is ∙ map_push stmt_levels statements s))
+      (deepest_push levels (map stmt_levels statements) (stmt_levels s) list.nests given.nests);
 }
 
 -- with one more statement there is a list
 abbrev pub StatementsGrow : ℕ → Cursor → Cursor → List Stmt → Type 0
-StatementsGrow levels old now statements = (new : Cursor) (s : Stmt) → Read (BeginsStmt levels) now new s → Read (BeginsStatements levels) old new (statements ++ s ∷ [])
+StatementsGrow levels old now statements = (new : Cursor) (s : Stmt) → Read (BeginsStmt levels) now new s → Read (BeginsStatements levels) old new
+    (statements ++ s ∷ [])
 
 -- the first statement
 pub statements_grow_first : (levels : ℕ) (a : Cursor) → StatementsGrow levels a a []
@@ -106,25 +120,32 @@ statements_grow_first levels a b s given = record {
 }
 
 -- behind a semicolon
-pub statements_grow : (levels : ℕ) (a b c : Cursor) (statements : List Stmt) (p : Place) → Read (BeginsStatements levels) a b statements → Took b c (of_kind_at (kind.Symbol symbol.Semicolon) p ∷ []) → StatementsGrow levels a c statements
-statements_grow levels a b c statements p list semicolon d s given = statements_go_on levels a b c d statements (statements ++ s ∷ []) p s list semicolon given refl
+pub statements_grow : (levels : ℕ) (a b c : Cursor) (statements : List Stmt) (p : Place) → Read (BeginsStatements levels) a b statements
+    → Took b c (of_kind_at (kind.Symbol symbol.Semicolon) p ∷ []) → StatementsGrow levels a c statements
+statements_grow levels a b c statements p list semicolon d s given = statements_go_on levels a b c d statements
+    (statements ++ s ∷ []) p s list semicolon given refl
 
 -- statements between their word symbols
 pub compound_closed : (levels : ℕ) (a b c d : Cursor) (p end : Place) (statements : List Stmt)
-    → Took a b (of_kind_at (kind.Word word.Begin) p ∷ []) → Read (BeginsStatements levels) b c statements → Took c d (of_kind_at (kind.Word word.End) end ∷ []) → Read (BeginsCompound levels) a d (statements, end)
+    → Took a b (of_kind_at (kind.Word word.Begin) p ∷ []) → Read (BeginsStatements levels) b c statements → Took c d (of_kind_at (kind.Word word.End) end ∷ [])
+    → Read (BeginsCompound levels) a d (statements, end)
 compound_closed levels a b c d p end statements opened list closed = record {
-  spelled = both (word_symbol word.Begin ∷ []) (separated symbol.Semicolon (map stmt_spelling statements) ++ of_kind_at (kind.Word word.End) end ∷ []) a.rest.now b.rest.now d.rest.now (without_place (kind.Word word.Begin) p [] a.rest.now b.rest.now opened)
-      (both (separated symbol.Semicolon (map stmt_spelling statements)) (of_kind_at (kind.Word word.End) end ∷ []) b.rest.now c.rest.now d.rest.now list.list.spelled closed);
+  spelled = both (word_symbol word.Begin ∷ []) (separated symbol.Semicolon (map stmt_spelling statements) ++ of_kind_at (kind.Word word.End) end ∷ [])
+      a.rest.now b.rest.now d.rest.now (without_place (kind.Word word.Begin) p [] a.rest.now b.rest.now opened)
+      (both (separated symbol.Semicolon (map stmt_spelling statements)) (of_kind_at (kind.Word word.End) end ∷ []) b.rest.now c.rest.now d.rest.now
+      list.list.spelled closed);
   some = let e = length_map stmt_spelling statements in let h = list.list.some in omega arith;
   formed = list.formed;
   nests = list.nests;
 }
 
 -- a compound statement as a statement
-pub compound_stands : (levels inner : ℕ) (a b : Cursor) (end : Place) (v : Vec Stmt Global) → inner + 1 ≡ levels → Read (BeginsCompound inner) a b (v.items, end) → Read (BeginsStmt levels) a b (statement.Compound v)
+pub compound_stands : (levels inner : ℕ) (a b : Cursor) (end : Place) (v : Vec Stmt Global) → inner + 1 ≡ levels
+    → Read (BeginsCompound inner) a b (v.items, end) → Read (BeginsStmt levels) a b (statement.Compound v)
 compound_stands levels inner a b end v less given = record {
-  spelled = subst (λ s. Took a b s) (sym (spelling-Compound v)) (without_last_place (kind.Word word.End) end (word_symbol word.Begin ∷ separated symbol.Semicolon (map stmt_spelling v.items)) a.rest.now b.rest.now given.spelled);
-  formed = form-Compound v ∙ and_true (has_items (map is_statement v.items)) (list_all (λ b. b) (map is_statement v.items)) (has v.items given.some) (all_mapped is_statement v.items ∙ given.formed);
+  spelled = subst (λ s. Took a b s) (sym (spelling-Compound v)) (without_last_place (kind.Word word.End) end
+      (word_symbol word.Begin ∷ separated symbol.Semicolon (map stmt_spelling v.items)) a.rest.now b.rest.now given.spelled);
+  formed = form-Compound v ∙ and_true (has_items (map stmt_form v.items)) (list_all is_statement v.items) (has v.items given.some) given.formed;
   nests = let e = levels-Compound v in let n = given.nests in omega arith;
 }
 
@@ -137,19 +158,23 @@ gives-Empty levels inner a less = record {
 }
 
 -- an assignment
-pub gives-Assign : (levels : ℕ) (a b c d : Cursor) (n : Name) (p : Place) (value : Expr) → Took a b (identifier n ∷ []) → Took b c (of_kind_at (kind.Symbol symbol.Becomes) p ∷ []) → Read (BeginsExpr relation_level levels) c d value
+pub gives-Assign : (levels : ℕ) (a b c d : Cursor) (n : Name) (p : Place) (value : Expr) → Took a b (identifier n ∷ [])
+    → Took b c (of_kind_at (kind.Symbol symbol.Becomes) p ∷ []) → Read (BeginsExpr relation_level levels) c d value
     → Read (BeginsStmt (levels + 1)) a d (statement.Assign n p value)
 gives-Assign levels a b c d n p value named becomes given = record {
-  spelled = subst (λ s. Took a d s) (sym (spelling-Assign n p value)) (both (identifier n ∷ []) (of_kind_at (kind.Symbol symbol.Becomes) p ∷ expr_spelling value) a.rest.now b.rest.now d.rest.now named
+  spelled = subst (λ s. Took a d s) (sym (spelling-Assign n p value)) (both (identifier n ∷ [])
+      (of_kind_at (kind.Symbol symbol.Becomes) p ∷ expr_spelling value) a.rest.now b.rest.now d.rest.now named
       (both (of_kind_at (kind.Symbol symbol.Becomes) p ∷ []) (expr_spelling value) b.rest.now c.rest.now d.rest.now becomes given.spelled));
   formed = form-Assign n p value ∙ given.formed;
   nests = let e = levels-Assign n p value in let m = given.nests in omega arith;
 }
 
 -- the call of a procedure
-pub gives-Called : (levels : ℕ) (a b c d : Cursor) (n : Name) (v : Vec Actual Global) → Took a b (identifier n ∷ []) → c ≡ b → Read (BeginsActuals levels) c d v.items → Read (BeginsStmt (levels + 1)) a d (statement.Call n v)
+pub gives-Called : (levels : ℕ) (a b c d : Cursor) (n : Name) (v : Vec Actual Global) → Took a b (identifier n ∷ []) → c ≡ b
+    → Read (BeginsActuals levels) c d v.items → Read (BeginsStmt (levels + 1)) a d (statement.Call n v)
 gives-Called levels a b c d n v named same given = record {
-  spelled = subst (λ s. Took a d s) (sym (spelling-Call n v)) (both (identifier n ∷ []) (in_parentheses (map actual_spelling v.items)) a.rest.now b.rest.now d.rest.now named
+  spelled = subst (λ s. Took a d s) (sym (spelling-Call n v)) (both (identifier n ∷ [])
+      (in_parentheses (map actual_spelling v.items)) a.rest.now b.rest.now d.rest.now named
       (subst (λ k. Took k d (in_parentheses (map actual_spelling v.items))) same given.spelled));
   formed = form-Call n v ∙ given.formed;
   nests = let e = levels-Call n v in let m = given.nests in omega arith;

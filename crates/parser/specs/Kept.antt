@@ -1,8 +1,8 @@
 -- What a rule read, kept in memory that is taken for it.
 -- This doesn't say what a rule reads.
 use Rattle.std.specs.Prelude.{◌≡◌, List, [], ◌∷◌, ◌++◌, Result, MatchResult}
-use Rattle.parser.specs.declared.fault.ParseFault.{ParseFault}
-use Rattle.parser.specs.declared.fault.ParseFault.TheVariants.{Memory}
+use Rattle.token_cursor.specs.declared.fault.ParseFault.{ParseFault}
+use Rattle.token_cursor.specs.declared.fault.ParseFault.TheVariants.{Memory}
 
 -- something was read, and stands behind the others
 abbrev pub Added : {A : Type 0} → List A → List A → Result A ParseFault → Type 0

@@ -1,10 +1,4 @@
-pub mod Cursor
 pub mod Kept
-pub mod Level
-pub mod Nesting
-pub mod ParseFault
 pub mod Reading
 pub mod Rules
-pub mod Spelling
 pub mod Syntax
-pub mod WellFormed

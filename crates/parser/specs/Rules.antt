@@ -1,48 +1,22 @@
--- What the rules of the parser read: tokens that begin with a spelling of the rule's form, well formed and nested within
--- the levels that are left. Each of these says: the tokens begin with such a thing, and then the others are left.
+-- What the rules of the parser read from one state to the next: what the tokens that are left begin with.
 -- This doesn't say when a rule refuses its tokens: see Reading.
-use Rattle.std.specs.Prelude.{◌≡◌, ℕ, ◌+◌, ◌<◌, ◌≤◌, true, List, [], ◌∷◌, ◌++◌, map, length}
-use Rattle.std.specs.List.{list_all}
+use Rattle.std.specs.Prelude.{◌≡◌, ℕ, List, [], ◌∷◌}
 use Rattle.place.specs.declared.Place.{Place}
-use Rattle.lexer.specs.declared.token.Kind.TheVariants as kind
-use Rattle.lexer.specs.declared.token.Symbol.{Symbol}
-use Rattle.lexer.specs.declared.token.Symbol.TheVariants as symbol
 use Rattle.lexer.specs.declared.token.Token.{Token}
-use Rattle.lexer.specs.declared.token.Word.TheVariants as word
-use Rattle.parser.specs.declared.cursor.Cursor.{Cursor}
-use Rattle.syntax_tree.specs.declared.Expr.{Expr}
+use Rattle.token_cursor.specs.declared.cursor.Cursor.{Cursor}
 use Rattle.syntax_tree.specs.declared.Link.{Link}
 use Rattle.syntax_tree.specs.declared.Operator.{Operator}
-use Rattle.parser.specs.declared.operator.Level.{Level}
-use Rattle.syntax_tree.specs.declared.Actual.{Actual}
-use Rattle.syntax_tree.specs.declared.Stmt.{Stmt}
-use Rattle.syntax_tree.specs.declared.Name.{Name}
-use Rattle.syntax_tree.specs.declared.VariableGroup.{VariableGroup}
-use Rattle.syntax_tree.specs.declared.Block.{Block}
-use Rattle.syntax_tree.specs.declared.Program.{Program}
-use Rattle.parser.specs.Spelling.{Spelling, Reads, expr_spelling, link_spelling, actual_spelling, stmt_spelling, joined, identifiers, group_spelling, variables_spelling, block_spelling, program_spelling, separated, in_parentheses, word_symbol, of_kind_at, mark, operator}
-use Rattle.parser.specs.WellFormed.{expr_form, link_form, fits, operator_level, relation_level, is_link, is_actual, is_statement, is_group, is_block, is_program}
-use Rattle.parser.specs.Cursor.{Took}
-use Rattle.parser.specs.Level.{level_number}
-use Rattle.parser.specs.Reading.{NoOperator}
-use Rattle.parser.specs.Nesting.{expr_levels, link_levels, actual_levels, stmt_levels, deepest, nesting}
+use Rattle.token_cursor.specs.declared.operator.Level.{Level}
+use Rattle.grammar.specs.Spelling.{operator}
+use Rattle.grammar.specs.WellFormed.{operator_level, relation_level}
+use Rattle.token_cursor.specs.Cursor.{Took}
+use Rattle.token_cursor.specs.Level.{level_number}
+use Rattle.grammar.specs.Following.{NoOperator}
+use Rattle.grammar.specs.Begins.{BeginsLinks}
 
 -- a rule read this from the old state to the new one
 abbrev pub Read : {A : Type 0} → (List Token → List Token → A → Type 0) → Cursor → Cursor → A → Type 0
 Read Begins old new found = Begins old.rest.now new.rest.now found
-
--- an expression of at least this level
-pub record BeginsExpr (level levels : ℕ) (tokens others : List Token) (e : Expr) : Type 0 where
-  pub spelled : Reads tokens (expr_spelling e) others
-  pub formed : fits level (expr_form e) ≡ true
-  pub nests : expr_levels e ≤ levels
-
--- operators of this level, each with the operand behind it: of a relation one at most
-pub record BeginsLinks (level levels : ℕ) (tokens others : List Token) (links : List Link) : Type 0 where
-  pub spelled : Reads tokens (joined (map link_spelling links)) others
-  pub formed : list_all (is_link level) (map link_form links) ≡ true
-  pub few : level ≡ relation_level → length links ≤ 1
-  pub nests : deepest (map link_levels links) ≤ levels
 
 -- these were read, and where there are none no operator of the level comes
 pub record ReadLinks (level : Level) (levels : ℕ) (old new : Cursor) (links : List Link) : Type 0 where
@@ -50,94 +24,12 @@ pub record ReadLinks (level : Level) (levels : ℕ) (old new : Cursor) (links : 
   pub none : links ≡ [] → NoOperator (level_number level) old.rest.now
 
 -- behind these one more operator of the level was read
-pub record LinksGoOn (level : Level) (links : List Link) (old new : Cursor) (o : Operator) (place : Place) : Type 0 where
+pub record LinksGoOn (level : Level) (links : List Link) (old new : Cursor) (o : Operator) (p : Place) : Type 0 where
   pub alike : operator_level o ≡ level_number level
-  pub spelled : Took old new (operator o place ∷ [])
+  pub spelled : Took old new (operator o p ∷ [])
   pub few : level_number level ≡ relation_level → links ≡ []
 
 -- behind these none was: none comes, or they are a relation's, which has one alone
 pub data LinksEnd (level : Level) (links : List Link) (old new : Cursor) : Type 0 where
   missed : new ≡ old → NoOperator (level_number level) old.rest.now → LinksEnd level links old new
   related : new ≡ old → level_number level ≡ relation_level → ¬ (links ≡ []) → LinksEnd level links old new
-
--- one or more parts with a symbol between each two
-pub record BeginsList (m : Symbol) (tokens others : List Token) (parts : List Spelling) : Type 0 where
-  pub some : 0 < length parts
-  pub spelled : Reads tokens (separated m parts) others
-
--- an actual, which is a level of its own
-pub record BeginsActual (levels : ℕ) (tokens others : List Token) (actual : Actual) : Type 0 where
-  pub spelled : Reads tokens (actual_spelling actual) others
-  pub formed : is_actual actual ≡ true
-  pub nests : actual_levels actual ≤ levels
-
--- one or more actuals
-pub record BeginsActualList (levels : ℕ) (tokens others : List Token) (actuals : List Actual) : Type 0 where
-  pub list : BeginsList symbol.Comma tokens others (map actual_spelling actuals)
-  pub formed : list_all is_actual actuals ≡ true
-  pub nests : deepest (map actual_levels actuals) ≤ levels
-
--- actuals in parentheses, or none
-pub record BeginsActuals (levels : ℕ) (tokens others : List Token) (actuals : List Actual) : Type 0 where
-  pub spelled : Reads tokens (in_parentheses (map actual_spelling actuals)) others
-  pub formed : list_all is_actual actuals ≡ true
-  pub nests : deepest (map actual_levels actuals) ≤ levels
-
--- a statement, which is a level of its own
-pub record BeginsStmt (levels : ℕ) (tokens others : List Token) (s : Stmt) : Type 0 where
-  pub spelled : Reads tokens (stmt_spelling s) others
-  pub formed : is_statement s ≡ true
-  pub nests : stmt_levels s ≤ levels
-
--- one or more statements
-pub record BeginsStatements (levels : ℕ) (tokens others : List Token) (statements : List Stmt) : Type 0 where
-  pub list : BeginsList symbol.Semicolon tokens others (map stmt_spelling statements)
-  pub formed : list_all is_statement statements ≡ true
-  pub nests : deepest (map stmt_levels statements) ≤ levels
-
--- a compound statement, with the place of its `end`
-pub record BeginsCompound (levels : ℕ) (tokens others : List Token) (found : List Stmt × Place) : Type 0 where
-  pub spelled : Reads tokens (word_symbol word.Begin ∷ separated symbol.Semicolon (map stmt_spelling found.0) ++ of_kind_at (kind.Word word.End) found.1 ∷ []) others
-  pub some : 0 < length found.0
-  pub formed : list_all is_statement found.0 ≡ true
-  pub nests : deepest (map stmt_levels found.0) ≤ levels
-
--- one or more names with a comma between each two
-abbrev pub BeginsNames : List Token → List Token → List Name → Type 0
-BeginsNames tokens others names = BeginsList symbol.Comma tokens others (identifiers names)
-
--- names in parentheses, or none
-abbrev pub BeginsParameters : List Token → List Token → List Name → Type 0
-BeginsParameters tokens others names = Reads tokens (in_parentheses (identifiers names)) others
-
--- variables declared together
-pub record BeginsGroup (tokens others : List Token) (g : VariableGroup) : Type 0 where
-  pub spelled : Reads tokens (group_spelling g) others
-  pub formed : is_group g ≡ true
-
--- one or more of these
-pub record BeginsGroups (tokens others : List Token) (groups : List VariableGroup) : Type 0 where
-  pub some : 0 < length groups
-  pub spelled : Reads tokens (joined (map group_spelling groups)) others
-  pub formed : list_all is_group groups ≡ true
-
--- a variable declaration part, or none
-pub record BeginsVariables (tokens others : List Token) (groups : List VariableGroup) : Type 0 where
-  pub spelled : Reads tokens (variables_spelling groups) others
-  pub formed : list_all is_group groups ≡ true
-
--- a block, whose compound statement is a level of its own
-pub record BeginsBlock (levels : ℕ) (tokens others : List Token) (b : Block) : Type 0 where
-  pub spelled : Reads tokens (block_spelling b) others
-  pub formed : is_block b ≡ true
-  pub nests : 1 + deepest (map stmt_levels b.statements.items) ≤ levels
-
--- a program
-pub record BeginsProgram (levels : ℕ) (tokens others : List Token) (p : Program) : Type 0 where
-  pub spelled : Reads tokens (program_spelling p) others
-  pub formed : is_program p ≡ true
-  pub nests : nesting p ≤ levels
-
--- the period of a program, the last of the tokens
-abbrev pub Stop : List Token → Type 0
-Stop tokens = Reads tokens (mark symbol.Period ∷ []) []

@@ -1,19 +1,21 @@
 ghost use Rattle.std.specs.Prelude.{◌≡◌, MatchResult, IfSome, IfNone, Some};
-ghost use Rattle.parser.specs.Cursor.{IsOfRules};
-ghost use Rattle.parser.specs.Level.{level_number};
-ghost use Rattle.parser.specs.Reading.{next_kind, ReadsDeep, Ends, EndsActual, Closes, NoNext};
-ghost use Rattle.parser.specs.Rules.{Read, BeginsExpr, BeginsActual, BeginsActualList, BeginsActuals, BeginsLinks, ReadLinks, LinksEnd, LinksGoOn};
-ghost use Rattle.parser.specs.WellFormed.{first_level, operand_level, signed_level, factor_level};
+ghost use Rattle.token_cursor.specs.Cursor.{IsOfRules};
+ghost use Rattle.token_cursor.specs.Level.{level_number};
+ghost use Rattle.grammar.specs.Following.{next_kind, Ends, EndsActual, Closes, NoNext};
+ghost use Rattle.parser.specs.Reading.{ReadsDeep};
+ghost use Rattle.parser.specs.Rules.{Read, ReadLinks, LinksEnd, LinksGoOn};
+ghost use Rattle.grammar.specs.Begins.{BeginsExpr, BeginsActual, BeginsActualList, BeginsActuals, BeginsLinks};
+ghost use Rattle.grammar.specs.WellFormed.{first_level, operand_level, signed_level, factor_level};
 
-use crate::cursor::Cursor;
-use crate::fault::ParseFault;
 use crate::memory::{boxed, put};
-use crate::nesting::inside;
-use crate::operator::Level;
 use lexer::token::{Kind, Symbol, Word};
 use place::Place;
 use std::alloc::Global;
 use syntax_tree::{Actual, Expr, Link, Operator};
+use token_cursor::cursor::Cursor;
+use token_cursor::fault::ParseFault;
+use token_cursor::nesting::inside;
+use token_cursor::operator::Level;
 
 // expression = simple [relation simple]
 // simple = signed {("+" | "-" | "or") term}

@@ -1,8 +1,8 @@
 ghost use Rattle.std.specs.Prelude.{◌≡◌, MatchResult, Ok};
 ghost use Rattle.parser.specs.Kept.{Added, NotKept};
 
-use crate::fault::ParseFault;
 use std::alloc::Global;
+use token_cursor::fault::ParseFault;
 
 /// Puts what a rule read behind the others, if it read something.
 pub fn put<T: Drop>(list: &mut Vec<T>, found: Result<T, ParseFault>) -> Result<(), ParseFault>

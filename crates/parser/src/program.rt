@@ -1,55 +1,44 @@
-ghost use Rattle.std.specs.Prelude.{◌≡◌, IfErr, MatchOption, MatchResult};
-ghost use Rattle.parser.specs.Cursor.{IsOfRules};
-ghost use Rattle.parser.specs.Rules.{Read, BeginsList, BeginsNames, BeginsParameters, BeginsGroup, BeginsGroups, BeginsVariables, BeginsBlock, Stop};
-ghost use Rattle.parser.specs.Reading.{ReadsEach, ReadsDeep, NoNext, BeginsStatementPart, Anything};
-ghost use Rattle.parser.specs.Syntax.{first_left_out, is_left_out, IsTreeOf, IsRefused, Answers};
+ghost use Rattle.std.specs.Prelude.{◌≡◌, IfErr, IfOk, MatchOption, MatchResult, map};
+ghost use Rattle.place.specs.Place.{ArePlacesInOrder};
+ghost use Rattle.syntax_tree.specs.Places.{program_places};
+ghost use Rattle.grammar.specs.Laws.{HasOneTree};
+ghost use Rattle.token_cursor.specs.Cursor.{IsOfRules};
+ghost use Rattle.parser.specs.Rules.{Read};
+ghost use Rattle.grammar.specs.Begins.{BeginsList, BeginsNames, BeginsParameters, BeginsGroup, BeginsGroups, BeginsVariables, BeginsBlock};
+ghost use Rattle.parser.specs.Reading.{ReadsEach, ReadsDeep};
+ghost use Rattle.grammar.specs.Following.{NoNext, BeginsStatementPart, Anything};
+ghost use Rattle.token_cursor.specs.LeftOut.{first_left_out};
+ghost use Rattle.parser.specs.Syntax.{IsTreeOf, IsRefused, Answers};
 
-use crate::cursor::Cursor;
-use crate::fault::ParseFault;
 use crate::memory::put;
-use crate::nesting::{MAX_NESTING, inside};
 use crate::statement::compound;
 use lexer::token::{Kind, Symbol, Token, Word};
-use place::Place;
 use std::alloc::Global;
 use syntax_tree::{Block, Name, Program, TypeDenoter, VariableGroup};
+use token_cursor::cursor::Cursor;
+use token_cursor::fault::ParseFault;
+use token_cursor::left_out::first_left_out;
+use token_cursor::nesting::{MAX_NESTING, inside};
 
 /// The syntax tree that the tokens spell (6.2 to 6.10), its parentheses kept. P3 where a token
 /// stands that only forms left out have: the first of these, before all else. Otherwise P1 at the
 /// first token with which no program goes on, or just past the last, or P2 where the nesting passes
 /// `MAX_NESTING`; nesting alone is never P1. The clauses leave the places of P1 and P2 open, and let
-/// P2 stand where P1 might.
+/// P2 stand where P1 might. No list of tokens has two trees, and where its places ascend, those of
+/// the tree do.
+#[tactic(auto, using(grammar::proofs::OneTreePrograms::one_tree))]
 pub fn parse<'a>(alloc: Global, tokens: &[Token<'a>]) -> Result<Program<'a>, ParseFault>
     ensures left_out { MatchOption (first_left_out tokens.now) (IfErr result IsOfRules)
         (λ place. result ≡ Err (ParseFault.LeftOut place)) }
     ensures exact { Answers result tokens.now }
+    ensures one_tree { HasOneTree tokens.now }
+    ensures in_order { ArePlacesInOrder (map (λ token. token.place) tokens.now)
+        → IfOk result (λ tree. ArePlacesInOrder (program_places tree)) }
 {
     match first_left_out(tokens) {
         Some(place) => Err(ParseFault::LeftOut(place)),
         None => program(alloc, &mut Cursor::new(tokens)),
     }
-}
-
-/// The place of the first token that only forms left out have.
-fn first_left_out(tokens: &[Token<'_>]) -> Option<Place>
-    ensures { result ≡ first_left_out tokens.now }
-{
-    for token in tokens {
-        if is_left_out(token.kind) {
-            return Some(token.place);
-        }
-    }
-    None
-}
-
-/// Whether a token is label, goto, nil, file or `^`.
-fn is_left_out(kind: Kind) -> bool
-    ensures { result ≡ is_left_out kind }
-{
-    matches!(
-        kind,
-        Kind::Word(Word::Label | Word::Goto | Word::Nil | Word::File) | Kind::Symbol(Symbol::Arrow)
-    )
 }
 
 // program = "program" name parameters ";" block "."
@@ -63,24 +52,12 @@ fn program<'a>(alloc: Global, cursor: &mut Cursor<'_, 'a>) -> Result<Program<'a>
     let parameters = parameters(alloc, cursor)?;
     cursor.expect_symbol(Symbol::Semicolon)?;
     let block = block(alloc, cursor, MAX_NESTING)?;
-    stop(cursor)?;
+    cursor.stop()?;
     Ok(Program {
         name,
         parameters,
         block,
     })
-}
-
-/// The period of a program and nothing behind it.
-fn stop(cursor: &mut Cursor<'_, '_>) -> Result<(), ParseFault>
-    ensures given { MatchResult result (λ _. Stop cursor.old.rest.now) IsOfRules }
-    ensures missed { IfErr result (λ _. ¬ Stop cursor.old.rest.now) }
-{
-    cursor.expect_symbol(Symbol::Period)?;
-    match cursor.peek() {
-        None => Ok(()),
-        Some(_) => Err(cursor.no_program()),
-    }
 }
 
 // parameters = ["(" names ")"]

@@ -1,18 +1,20 @@
 ghost use Rattle.std.specs.Prelude.{◌≡◌, ◌+◌, MatchResult, Some};
-ghost use Rattle.parser.specs.Cursor.{IsOfRules};
-ghost use Rattle.parser.specs.Reading.{next_kind, ReadsDeep, EndsStmt, EndsStatements, Anything};
-ghost use Rattle.parser.specs.Rules.{Read, BeginsStmt, BeginsStatements, BeginsCompound};
+ghost use Rattle.token_cursor.specs.Cursor.{IsOfRules};
+ghost use Rattle.grammar.specs.Following.{next_kind, EndsStmt, EndsStatements, Anything};
+ghost use Rattle.parser.specs.Reading.{ReadsDeep};
+ghost use Rattle.parser.specs.Rules.{Read};
+ghost use Rattle.grammar.specs.Begins.{BeginsStmt, BeginsStatements, BeginsCompound};
 
-use crate::cursor::Cursor;
 use crate::expression::{actuals, expression};
-use crate::fault::ParseFault;
 use crate::memory::put;
-use crate::nesting::inside;
-use crate::operator::Level;
 use lexer::token::{Kind, Symbol, Word};
 use place::Place;
 use std::alloc::Global;
 use syntax_tree::Stmt;
+use token_cursor::cursor::Cursor;
+use token_cursor::fault::ParseFault;
+use token_cursor::nesting::inside;
+use token_cursor::operator::Level;
 
 // compound = "begin" statements "end"
 /// The statements of a compound statement (6.8.3.2), and its `end`. Below it `levels` levels are

@@ -5,7 +5,7 @@ use denote.Ref.{Bor}
 use Rattle.lexer.specs.declared.token.Token.{Token}
 use Rattle.lexer.specs.Tokens.{IsTokenList, IsFirstFault, lexeme_of}
 use Rattle.syntax_tree.specs.declared.Program.{Program}
-use Rattle.parser.specs.declared.fault.ParseFault.TheVariants as parse
+use Rattle.token_cursor.specs.declared.fault.ParseFault.TheVariants as parse
 use Rattle.parser.specs.Syntax.{IsFaultOf}
 use Rattle.typed_tree.specs.declared.tree.Tree.{Tree}
 use Rattle.typed_tree.specs.declared.fault.TypeFault.TheVariants as typing

@@ -6,9 +6,9 @@ use cert_checker::fault::CheckFault;
 use certificate::fault::ReadFault;
 use code_generator::fault::GenFault;
 use lexer::fault::LexFault;
-use parser::fault::ParseFault;
 use std::alloc::AllocError;
 use thiserror::Error;
+use token_cursor::fault::ParseFault;
 use typed_tree::fault::TypeFault;
 
 /// Why a source was not compiled: want of memory, or the fault of the crate that refused it.

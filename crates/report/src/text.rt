@@ -9,11 +9,11 @@ use certificate::fault::ReadFault;
 use code_generator::fault::GenFault;
 use itoa::Buffer;
 use lexer::fault::LexFault;
-use parser::fault::ParseFault;
 use place::Place;
 use smallvec::SmallVec;
 use stack_machine::stop::{InputFault, MachineFault, Stop};
 use std::alloc::{AllocError, Global};
+use token_cursor::fault::ParseFault;
 use typed_tree::fault::TypeFault;
 use typed_tree::site::{Site, SiteKind};
 

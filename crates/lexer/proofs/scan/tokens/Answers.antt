@@ -5,6 +5,7 @@ use Rattle.lexer.specs.declared.token.Kind.{Kind}
 use Rattle.place.specs.Place.{start, place_after}
 use Rattle.lexer.specs.Piece.{offset_of}
 use Rattle.lexer.specs.Tokens.{Lexeme, Leaves, fault_of}
+use Rattle.lexer.proofs.Order.{tokens_in_order}
 use Rattle.lexer.proofs.Cuts.{piece_cut, fault_within}
 use Rattle.lexer.proofs.Rows.{place_behind, kept_token, kept_separator, leaves_more, place_more, place_stops, one_list, one_fault, list_or_fault}
 use Rattle.lexer.proofs.scan.tokens.Goals as goal
@@ -36,6 +37,11 @@ returns-clause-one_fault c = one_fault c.args.text.now
 
 pub returns-clause-list_or_fault : goal.returns-clause-list_or_fault
 returns-clause-list_or_fault c = list_or_fault c.args.text.now
+
+pub returns-clause-in_order : goal.returns-clause-in_order
+returns-clause-in_order c =
+    let pieces = c.loop-rest.invariant in
+    tokens_in_order c.args.text.now c.loop-rest.tokens.items pieces.2 c.loop-rest.rest.now pieces.3 pieces.4
 
 pub returns-in-Err-clause-fault : goal.returns-in-Err-clause-fault
 returns-in-Err-clause-fault c =

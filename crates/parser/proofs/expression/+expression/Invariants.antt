@@ -1,8 +1,8 @@
 use Rattle.std.proofs.Common.{◌+◌, ◌-◌, ◌*◌}
-use Rattle.parser.specs.Cursor.{left}
-use Rattle.parser.specs.Level.{level_number}
+use Rattle.token_cursor.specs.Cursor.{left}
+use Rattle.token_cursor.specs.Level.{level_number}
 use Rattle.parser.proofs.Chains.{LinksRead}
-use Rattle.parser.proofs.ExactActuals.{ActualNext}
+use Rattle.grammar.proofs.Actuals.{ActualNext}
 use Rattle.parser.proofs.Statements.{ActualsGrow}
 use Rattle.parser.proofs.expression.+expression.Given as goal
 

@@ -1,14 +1,16 @@
 use Rattle.std.proofs.Common.{rules, ◌≡◌}
-use Rattle.parser.specs.declared.fault.ParseFault.TheVariants.{Memory}
+use Rattle.token_cursor.specs.declared.fault.ParseFault.TheVariants.{Memory}
 use Rattle.parser.specs.Reading.{Stops}
 use Rattle.parser.proofs.Exact.{stops_above}
-use Rattle.parser.proofs.ExactPrograms.{block_parts, block_behind_variables}
+use Rattle.grammar.proofs.Programs.{block_parts}
+use Rattle.parser.proofs.ExactPrograms.{block_behind_variables}
 use Rattle.parser.proofs.Programs.{block_stands}
 use Rattle.parser.proofs.program.block.Goals as goal
 
 pub returns-clause-given : goal.returns-clause-given
 returns-clause-given c =
-    block_stands c.args.levels c.in_ok-levels.levels c.args.cursor.now c.variables.new.cursor c.compound.new.cursor c.in_ok-variables.variables c.in_ok-statements.statements c.in_ok-statements.end
+    block_stands c.args.levels c.in_ok-levels.levels c.args.cursor.now c.variables.new.cursor c.compound.new.cursor c.in_ok-variables.variables
+    c.in_ok-statements.statements c.in_ok-statements.end
     c.in_ok-levels.ensures.left c.in_ok-variables.ensures.given c.in_ok-statements.ensures.given
 
 pub returns-in_err-variables-clause-exact : goal.returns-in_err-variables-clause-exact
@@ -19,12 +21,15 @@ returns-in_err-variables-clause-exact c = λ depth b others h _.
 
 pub returns-in_err-statements-clause-exact : goal.returns-in_err-statements-clause-exact
 returns-in_err-statements-clause-exact c = λ depth b others h _.
-    let p = block_behind_variables depth c.args.cursor.now c.variables.new.cursor others c.in_ok-variables.variables c.in_ok-variables.ensures.exact (block_parts depth c.args.cursor.now.rest.now others b h) in
-    let m : Stops c.args.levels depth c.in_err-statements.field-0.0 = stops_above c.args.levels c.in_ok-levels.levels depth p.below c.in_err-statements.field-0.0
+    let p = block_behind_variables depth c.args.cursor.now c.variables.new.cursor others c.in_ok-variables.variables c.in_ok-variables.ensures.exact
+    (block_parts depth c.args.cursor.now.rest.now others b h) in
+    let m : Stops c.args.levels depth c.in_err-statements.field-0.0 = stops_above c.args.levels c.in_ok-levels.levels depth p.below
+    c.in_err-statements.field-0.0
     c.in_ok-levels.ensures.left p.less (c.in_err-statements.ensures.exact p.below (p.statements, p.end) others p.begun tt) in
     search rules
 
 pub returns-clause-exact : goal.returns-clause-exact
 returns-clause-exact c = λ depth b others h _.
-    let p = block_behind_variables depth c.args.cursor.now c.variables.new.cursor others c.in_ok-variables.variables c.in_ok-variables.ensures.exact (block_parts depth c.args.cursor.now.rest.now others b h) in
+    let p = block_behind_variables depth c.args.cursor.now c.variables.new.cursor others c.in_ok-variables.variables c.in_ok-variables.ensures.exact
+    (block_parts depth c.args.cursor.now.rest.now others b h) in
     c.in_ok-statements.ensures.exact p.below (p.statements, p.end) others p.begun tt

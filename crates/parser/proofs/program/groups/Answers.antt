@@ -1,12 +1,15 @@
 use Rattle.std.proofs.Common.{rules, ◌≡◌, refl, subst}
 use Rattle.lexer.specs.declared.token.Kind.TheVariants as kind
-use Rattle.parser.specs.declared.fault.ParseFault.TheVariants.{Memory}
-use Rattle.parser.specs.Cursor.{IsOfRules}
-use Rattle.parser.specs.Reading.{Next, NoNext, ReadsEach, Anything}
-use Rattle.parser.specs.Rules.{Read, BeginsGroup, BeginsGroups}
+use Rattle.token_cursor.specs.declared.fault.ParseFault.TheVariants.{Memory}
+use Rattle.token_cursor.specs.Cursor.{IsOfRules}
+use Rattle.grammar.specs.Following.{Next, NoNext, Anything}
+use Rattle.parser.specs.Reading.{ReadsEach}
+use Rattle.parser.specs.Rules.{Read}
+use Rattle.grammar.specs.Begins.{BeginsGroup, BeginsGroups}
 use Rattle.parser.proofs.Kept.{handed_on, last, was_read, not_kept}
-use Rattle.parser.proofs.Lists.{pushed, emptied}
-use Rattle.parser.proofs.ExactPrograms.{groups_begin_with, groups_go_on_with, groups_left, groups_end, group_fewer}
+use Rattle.grammar.proofs.Lists.{pushed, emptied}
+use Rattle.grammar.proofs.Programs.{groups_begin_with, groups_go_on_with, groups_end, group_fewer}
+use Rattle.parser.proofs.ExactPrograms.{groups_left}
 use Rattle.parser.proofs.Programs.{GroupsGrow, groups_grow_first, groups_grow}
 use Rattle.parser.proofs.program.groups.Goals as goal
 use Rattle.parser.proofs.program.groups.Goals.{in_default-via-in-Some+in_default, in_default-via-in_default}
@@ -23,33 +26,40 @@ loop-groups-preserved c =
     let next : Next kind.Identifier c.group.new.cursor.rest.now = search rules in
     let now = last c.loop-groups.groups.items c.put.new.list.items c.group.result c.in_ok-put.ensures.given in
     let list = pushed (λ xs. Read BeginsGroups start c.group.new.cursor xs) c.loop-groups.groups.items c.put.new.list.items now.item now.grown
-    (c.loop-groups.invariant.0 c.group.new.cursor now.item (was_read (Read BeginsGroup c.loop-groups.cursor c.group.new.cursor) IsOfRules c.group.result now.item now.is c.group.ensures.given)) in (
+    (c.loop-groups.invariant.0 c.group.new.cursor now.item (was_read (Read BeginsGroup c.loop-groups.cursor c.group.new.cursor) IsOfRules c.group.result
+    now.item now.is c.group.ensures.given)) in (
       groups_grow start c.group.new.cursor c.put.new.list.items list,
       groups_go_on_with start.rest.now c.group.new.cursor.rest.now
-          (groups_left start.rest.now c.loop-groups.cursor c.group.new.cursor now.item (subst (λ r. ReadsEach BeginsGroup Anything c.loop-groups.cursor c.group.new.cursor r) now.is c.group.ensures.exact) c.loop-groups.invariant.1) next,
+          (groups_left start.rest.now c.loop-groups.cursor c.group.new.cursor now.item
+          (subst (λ r. ReadsEach BeginsGroup Anything c.loop-groups.cursor c.group.new.cursor r) now.is c.group.ensures.exact) c.loop-groups.invariant.1)
+          next,
     )
 
 pub loop-groups-smaller : goal.loop-groups-smaller
 loop-groups-smaller c =
     let now = last c.loop-groups.groups.items c.put.new.list.items c.group.result c.in_ok-put.ensures.given in
-    group_fewer c.loop-groups.cursor.rest.now c.group.new.cursor.rest.now now.item (was_read (Read BeginsGroup c.loop-groups.cursor c.group.new.cursor) IsOfRules c.group.result now.item now.is c.group.ensures.given)
+    group_fewer c.loop-groups.cursor.rest.now c.group.new.cursor.rest.now now.item
+    (was_read (Read BeginsGroup c.loop-groups.cursor c.group.new.cursor) IsOfRules c.group.result now.item now.is c.group.ensures.given)
 
 pub returns-in_err-put-clause-given : goal.returns-in_err-put-clause-given
 returns-in_err-put-clause-given c =
     handed_on _ _ c.from_residual.result c.in_err-put.field-0.0 c.from_residual.ensures
-    (not_kept (Read BeginsGroup c.loop-groups.cursor c.group.new.cursor) IsOfRules c.group.result c.in_err-put.field-0.0 tt c.group.ensures.given c.in_err-put.ensures.given)
+    (not_kept (Read BeginsGroup c.loop-groups.cursor c.group.new.cursor) IsOfRules c.group.result c.in_err-put.field-0.0 tt c.group.ensures.given
+    c.in_err-put.ensures.given)
 
 pub returns-in_err-put-clause-exact : goal.returns-in_err-put-clause-exact
 returns-in_err-put-clause-exact c = λ groups others h ends.
     let p = c.loop-groups.invariant.1 groups others h ends in
     handed_on _ _ c.from_residual.result c.in_err-put.field-0.0 c.from_residual.ensures
-    (not_kept (λ _. c.group.new.cursor.rest.now ≡ p.middle) (λ fault. fault ≡ Memory) c.group.result c.in_err-put.field-0.0 refl (c.group.ensures.exact p.group p.middle p.begun tt) c.in_err-put.ensures.given)
+    (not_kept (λ _. c.group.new.cursor.rest.now ≡ p.middle) (λ fault. fault ≡ Memory) c.group.result c.in_err-put.field-0.0 refl
+    (c.group.ensures.exact p.group p.middle p.begun tt) c.in_err-put.ensures.given)
 
 pub returns-in_default-clause-given : goal.returns-in_default-clause-given
 returns-in_default-clause-given c =
     let now = last c.loop-groups.groups.items c.put.new.list.items c.group.result c.in_ok-put.ensures.given in
     pushed (λ xs. Read BeginsGroups c.args.cursor.now c.group.new.cursor xs) c.loop-groups.groups.items c.put.new.list.items now.item now.grown
-    (c.loop-groups.invariant.0 c.group.new.cursor now.item (was_read (Read BeginsGroup c.loop-groups.cursor c.group.new.cursor) IsOfRules c.group.result now.item now.is c.group.ensures.given))
+    (c.loop-groups.invariant.0 c.group.new.cursor now.item (was_read (Read BeginsGroup c.loop-groups.cursor c.group.new.cursor) IsOfRules c.group.result
+    now.item now.is c.group.ensures.given))
 
 pub returns-in_default-clause-exact : goal.returns-in_default-clause-exact
 returns-in_default-clause-exact c = λ groups others h ends.
@@ -58,4 +68,6 @@ returns-in_default-clause-exact c = λ groups others h ends.
     let none : NoNext kind.Identifier c.group.new.cursor.rest.now =
     elim c.in_default.branch [ in_default-via-in-Some+in_default w ↦ search rules | in_default-via-in_default w ↦ search rules ] in
     groups_end start.rest.now c.group.new.cursor.rest.now
-    (groups_left start.rest.now c.loop-groups.cursor c.group.new.cursor now.item (subst (λ r. ReadsEach BeginsGroup Anything c.loop-groups.cursor c.group.new.cursor r) now.is c.group.ensures.exact) c.loop-groups.invariant.1) none groups others h ends
+    (groups_left start.rest.now c.loop-groups.cursor c.group.new.cursor now.item (subst
+    (λ r. ReadsEach BeginsGroup Anything c.loop-groups.cursor c.group.new.cursor r) now.is c.group.ensures.exact) c.loop-groups.invariant.1) none groups
+    others h ends

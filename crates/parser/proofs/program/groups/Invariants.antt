@@ -1,5 +1,5 @@
-use Rattle.parser.specs.Cursor.{left}
-use Rattle.parser.proofs.ExactPrograms.{GroupNext}
+use Rattle.token_cursor.specs.Cursor.{left}
+use Rattle.grammar.proofs.Programs.{GroupNext}
 use Rattle.parser.proofs.Programs.{GroupsGrow}
 use Rattle.parser.proofs.program.groups.Given as goal
 

@@ -1,5 +1,5 @@
-use Rattle.parser.specs.Cursor.{left}
-use Rattle.parser.proofs.ExactPrograms.{NameNext}
+use Rattle.token_cursor.specs.Cursor.{left}
+use Rattle.grammar.proofs.Programs.{NameNext}
 use Rattle.parser.proofs.Programs.{NamesGrow}
 use Rattle.parser.proofs.program.names.Given as goal
 

@@ -2,56 +2,69 @@ use Rattle.std.proofs.Common.{rules, arith, ◌≡◌, ap, sym, subst, ◌∙◌
 use Rattle.lexer.specs.declared.token.Kind.TheVariants as kind
 use Rattle.lexer.specs.declared.token.Word.TheVariants as word
 use Rattle.syntax_tree.specs.declared.Stmt.{Stmt}
-use Rattle.parser.specs.Spelling.{Reads, of_kind_at, word_symbol}
-use Rattle.parser.specs.Reading.{next_kind, Stops, ReadWithin, ReadsDeep, EndsStmt}
-use Rattle.parser.specs.Cursor.{IsOfRules}
-use Rattle.parser.specs.Rules.{Read, BeginsStatements, BeginsStmt}
-use Rattle.parser.proofs.Lists.{pushed, emptied}
+use Rattle.grammar.specs.Spelling.{Reads, of_kind_at, word_symbol}
+use Rattle.grammar.specs.Following.{next_kind, EndsStmt}
+use Rattle.parser.specs.Reading.{Stops, ReadWithin, ReadsDeep}
+use Rattle.token_cursor.specs.Cursor.{IsOfRules}
+use Rattle.parser.specs.Rules.{Read}
+use Rattle.grammar.specs.Begins.{BeginsStatements, BeginsStmt}
+use Rattle.grammar.proofs.Lists.{pushed, emptied}
 use Rattle.parser.proofs.Kept.{handed_on, last, was_read, not_kept}
-use Rattle.parser.proofs.Exact.{begins, same_first, stops_above}
-use Rattle.parser.proofs.ExactLists.{parts_end}
-use Rattle.parser.proofs.Reading.{reads_fewer, reads_no_more, unchanged}
-use Rattle.parser.proofs.ExactStatements.{compounded, opened_compound, statement_list_parts, statement_answer, statement_list_begins, statement_list_goes_on, statement_list_left}
+use Rattle.grammar.proofs.Rows.{begins, same_first}
+use Rattle.parser.proofs.Exact.{stops_above}
+use Rattle.grammar.proofs.Parts.{parts_end}
+use Rattle.grammar.proofs.Reading.{reads_fewer, reads_no_more}
+use Rattle.parser.proofs.Reading.{unchanged}
+use Rattle.grammar.proofs.Statements.{compounded, opened_compound, statement_list_parts, statement_list_begins, statement_list_goes_on}
+use Rattle.parser.proofs.ExactStatements.{statement_answer, statement_list_left}
 use Rattle.parser.proofs.Statements.{gives-Empty, StatementsGrow, statements_grow_first, statements_grow, compound_closed, compound_stands}
 use Rattle.parser.proofs.statement.+statement.Goals as goal
 
 pub compound-returns-clause-given : goal.compound-returns-clause-given
 compound-returns-clause-given t c =
-    compound_closed c.args.levels c.args.cursor.now c.expect_word.new.self c.statements.new.cursor c.expect_word-2.new.self c.in_ok-expect_word.field-0 c.in_ok-end.end c.in_ok-statements.statements.items
+    compound_closed c.args.levels c.args.cursor.now c.expect_word.new.self c.statements.new.cursor c.expect_word-2.new.self c.in_ok-expect_word.field-0
+    c.in_ok-end.end c.in_ok-statements.statements.items
     c.in_ok-expect_word.ensures.spelled c.in_ok-statements.ensures.given c.in_ok-end.ensures.spelled
 
 pub compound-returns-in_err-expect_word-clause-exact : goal.compound-returns-in_err-expect_word-clause-exact
-compound-returns-in_err-expect_word-clause-exact t c = λ depth found others h _. absurd (c.in_err-expect_word.ensures.missed (begins (word_symbol word.Begin) _ c.args.cursor.now.rest.now others h.spelled))
+compound-returns-in_err-expect_word-clause-exact t c = λ depth found others h _. absurd
+    (c.in_err-expect_word.ensures.missed (begins (word_symbol word.Begin) _ c.args.cursor.now.rest.now others h.spelled))
 
 pub compound-returns-in_err-statements-clause-exact : goal.compound-returns-in_err-statements-clause-exact
 compound-returns-in_err-statements-clause-exact t c = λ depth found others h _.
-    let o = opened_compound depth c.in_ok-expect_word.field-0 c.args.cursor.now.rest.now c.expect_word.new.self.rest.now others found c.in_ok-expect_word.ensures.spelled h in
+    let o = opened_compound depth c.in_ok-expect_word.field-0 c.args.cursor.now.rest.now c.expect_word.new.self.rest.now others found
+    c.in_ok-expect_word.ensures.spelled h in
     handed_on _ _ c.from_residual-in_err-statements.result c.in_err-statements.field-0.0 c.from_residual-in_err-statements.ensures
     (c.in_err-statements.ensures.exact depth found.0 o.middle o.list o.ends)
 
 pub compound-returns-in_err-end-clause-exact : goal.compound-returns-in_err-end-clause-exact
 compound-returns-in_err-end-clause-exact t c = λ depth found others h _.
-    let o = opened_compound depth c.in_ok-expect_word.field-0 c.args.cursor.now.rest.now c.expect_word.new.self.rest.now others found c.in_ok-expect_word.ensures.spelled h in
+    let o = opened_compound depth c.in_ok-expect_word.field-0 c.args.cursor.now.rest.now c.expect_word.new.self.rest.now others found
+    c.in_ok-expect_word.ensures.spelled h in
     let m : c.statements.new.cursor.rest.now ≡ o.middle = c.in_ok-statements.ensures.exact depth found.0 o.middle o.list o.ends in
     absurd (c.in_err-end.ensures.missed (ap next_kind m ∙ o.ends))
 
 pub compound-returns-clause-exact : goal.compound-returns-clause-exact
 compound-returns-clause-exact t c = λ depth found others h _.
-    let o = opened_compound depth c.in_ok-expect_word.field-0 c.args.cursor.now.rest.now c.expect_word.new.self.rest.now others found c.in_ok-expect_word.ensures.spelled h in
+    let o = opened_compound depth c.in_ok-expect_word.field-0 c.args.cursor.now.rest.now c.expect_word.new.self.rest.now others found
+    c.in_ok-expect_word.ensures.spelled h in
     let m : c.statements.new.cursor.rest.now ≡ o.middle = c.in_ok-statements.ensures.exact depth found.0 o.middle o.list o.ends in
-    (same_first (of_kind_at (kind.Word word.End) c.in_ok-end.end) (of_kind_at (kind.Word word.End) o.last) [] c.statements.new.cursor.rest.now c.expect_word-2.new.self.rest.now others
+    (same_first (of_kind_at (kind.Word word.End) c.in_ok-end.end) (of_kind_at (kind.Word word.End) o.last) [] c.statements.new.cursor.rest.now
+    c.expect_word-2.new.self.rest.now others
     c.in_ok-end.ensures.spelled (subst (λ x. Reads x (of_kind_at (kind.Word word.End) o.last ∷ []) others) (sym m) o.closed)).1
 
 pub statement-returns-in_ok-statements-in-Some-Word-Begin-clause-given : goal.statement-returns-in_ok-statements-in-Some-Word-Begin-clause-given
 statement-returns-in_ok-statements-in-Some-Word-Begin-clause-given t c =
     let found = c.in_ok-statements-in-Some-Word-Begin in
-    compound_stands c.args.levels c.in_ok-levels.levels c.args.cursor.now c.compound.new.cursor found.field-0-1 found.statements c.in_ok-levels.ensures.left found.ensures.given
+    compound_stands c.args.levels c.in_ok-levels.levels c.args.cursor.now c.compound.new.cursor found.field-0-1 found.statements c.in_ok-levels.ensures.left
+    found.ensures.given
 
 pub statement-returns-in_err-statements-in-Some-Word-Begin-clause-exact : goal.statement-returns-in_err-statements-in-Some-Word-Begin-clause-exact
 statement-returns-in_err-statements-in-Some-Word-Begin-clause-exact t c = λ depth s others h ends.
     let first : next_kind c.args.cursor.now.rest.now ≡ Some (kind.Word word.Begin) = search rules in
     let k = compounded depth c.args.cursor.now.rest.now others s first ends h in
-    handed_on _ _ c.from_residual-in_err-statements-in-Some-Word-Begin.result c.in_err-statements-in-Some-Word-Begin.field-0.0 c.from_residual-in_err-statements-in-Some-Word-Begin.ensures
+    handed_on _ _ c.from_residual-in_err-statements-in-Some-Word-Begin.result c.in_err-statements-in-Some-Word-Begin.field-0.0
+    c.from_residual-in_err-statements-in-Some-Word-Begin.ensures
     (stops_above c.args.levels c.in_ok-levels.levels depth k.below c.in_err-statements-in-Some-Word-Begin.field-0.0
     c.in_ok-levels.ensures.left k.less (c.in_err-statements-in-Some-Word-Begin.ensures.exact k.below k.found others k.begun tt))
 
@@ -66,7 +79,8 @@ statement-returns-in_default-clause-given t c = gives-Empty c.args.levels c.in_o
 
 pub statement-returns-in-Some-Identifier-clause-given : goal.statement-returns-in-Some-Identifier-clause-given
 statement-returns-in-Some-Identifier-clause-given t c =
-    subst (λ n. MatchResult c.simple.result (Read (BeginsStmt n) c.args.cursor.now c.simple.new.cursor) IsOfRules) c.in_ok-levels.ensures.left c.simple.ensures.given
+    subst (λ n. MatchResult c.simple.result (Read (BeginsStmt n) c.args.cursor.now c.simple.new.cursor) IsOfRules) c.in_ok-levels.ensures.left
+    c.simple.ensures.given
 
 pub statement-returns-in-Some-Identifier-clause-exact : goal.statement-returns-in-Some-Identifier-clause-exact
 statement-returns-in-Some-Identifier-clause-exact t c = λ depth s others h ends.
@@ -75,7 +89,8 @@ statement-returns-in-Some-Identifier-clause-exact t c = λ depth s others h ends
 
 pub statements-loop-statements-init : goal.statements-loop-statements-init
 statements-loop-statements-init t c = (
-  emptied (λ xs. StatementsGrow c.args.levels c.args.cursor.now c.args.cursor.now xs) c.new-statements.result.items c.new-statements.ensures.items (statements_grow_first c.args.levels c.args.cursor.now),
+  emptied (λ xs. StatementsGrow c.args.levels c.args.cursor.now c.args.cursor.now xs) c.new-statements.result.items c.new-statements.ensures.items
+      (statements_grow_first c.args.levels c.args.cursor.now),
   statement_list_begins c.args.cursor.now.rest.now,
 )
 
@@ -83,42 +98,56 @@ pub statements-loop-statements-preserved : goal.statements-loop-statements-prese
 statements-loop-statements-preserved t c =
     let start = c.args.cursor.now in
     let now = last c.loop-statements.statements.items c.put.new.list.items c.statement.result c.in_ok-put.ensures.given in
-    let list = pushed (λ xs. Read (BeginsStatements c.args.levels) start c.statement.new.cursor xs) c.loop-statements.statements.items c.put.new.list.items now.item now.grown
-    (c.loop-statements.invariant.0 c.statement.new.cursor now.item (was_read (Read (BeginsStmt c.args.levels) c.loop-statements.cursor c.statement.new.cursor) IsOfRules c.statement.result now.item now.is c.statement.ensures.given)) in (
+    let list = pushed (λ xs. Read (BeginsStatements c.args.levels) start c.statement.new.cursor xs) c.loop-statements.statements.items c.put.new.list.items
+    now.item now.grown
+    (c.loop-statements.invariant.0 c.statement.new.cursor now.item (was_read (Read (BeginsStmt c.args.levels) c.loop-statements.cursor c.statement.new.cursor)
+    IsOfRules c.statement.result now.item now.is c.statement.ensures.given)) in (
       statements_grow c.args.levels start c.statement.new.cursor c.take_symbol.new.self c.put.new.list.items c.in-Some.field-0 list c.in-Some.ensures.spelled,
       statement_list_goes_on c.in-Some.field-0 start.rest.now c.statement.new.cursor.rest.now c.take_symbol.new.self.rest.now c.in-Some.ensures.spelled
-          (statement_list_left c.args.levels start.rest.now c.loop-statements.cursor c.statement.new.cursor now.item (subst (λ r. ReadsDeep c.args.levels BeginsStmt EndsStmt c.loop-statements.cursor c.statement.new.cursor r) now.is c.statement.ensures.exact) c.loop-statements.invariant.1),
+          (statement_list_left c.args.levels start.rest.now c.loop-statements.cursor c.statement.new.cursor now.item
+          (subst (λ r. ReadsDeep c.args.levels BeginsStmt EndsStmt c.loop-statements.cursor c.statement.new.cursor r) now.is c.statement.ensures.exact)
+          c.loop-statements.invariant.1),
     )
 
 pub statements-loop-statements-smaller : goal.statements-loop-statements-smaller
 statements-loop-statements-smaller t c =
     let now = last c.loop-statements.statements.items c.put.new.list.items c.statement.result c.in_ok-put.ensures.given in
-    let no_more = reads_no_more _ c.loop-statements.cursor.rest.now c.statement.new.cursor.rest.now (was_read (Read (BeginsStmt c.args.levels) c.loop-statements.cursor c.statement.new.cursor) IsOfRules c.statement.result now.item now.is c.statement.ensures.given).spelled in
+    let no_more = reads_no_more _ c.loop-statements.cursor.rest.now c.statement.new.cursor.rest.now
+    (was_read (Read (BeginsStmt c.args.levels) c.loop-statements.cursor c.statement.new.cursor) IsOfRules c.statement.result now.item now.is
+    c.statement.ensures.given).spelled in
     let fewer = reads_fewer _ [] c.statement.new.cursor.rest.now c.take_symbol.new.self.rest.now c.in-Some.ensures.spelled in
     omega arith
 
 pub statements-returns-in_err-put-clause-given : goal.statements-returns-in_err-put-clause-given
 statements-returns-in_err-put-clause-given t c =
     handed_on _ _ c.from_residual.result c.in_err-put.field-0.0 c.from_residual.ensures
-    (not_kept (Read (BeginsStmt c.args.levels) c.loop-statements.cursor c.statement.new.cursor) IsOfRules c.statement.result c.in_err-put.field-0.0 tt c.statement.ensures.given c.in_err-put.ensures.given)
+    (not_kept (Read (BeginsStmt c.args.levels) c.loop-statements.cursor c.statement.new.cursor) IsOfRules c.statement.result c.in_err-put.field-0.0 tt
+    c.statement.ensures.given c.in_err-put.ensures.given)
 
 pub statements-returns-in_err-put-clause-exact : goal.statements-returns-in_err-put-clause-exact
 statements-returns-in_err-put-clause-exact t c = λ depth statements others h ends.
     let p = c.loop-statements.invariant.1 depth statements others h ends in
     handed_on _ _ c.from_residual.result c.in_err-put.field-0.0 c.from_residual.ensures
     (not_kept (λ _. c.statement.new.cursor.rest.now ≡ p.middle) (Stops c.args.levels depth) c.statement.result c.in_err-put.field-0.0 tt
-    (statement_answer c.args.levels depth c.loop-statements.cursor c.statement.new.cursor others c.statement.result p ends c.statement.ensures.exact) c.in_err-put.ensures.given)
+    (statement_answer c.args.levels depth c.loop-statements.cursor c.statement.new.cursor others c.statement.result p ends c.statement.ensures.exact)
+    c.in_err-put.ensures.given)
 
 pub statements-returns-in_default-clause-given : goal.statements-returns-in_default-clause-given
 statements-returns-in_default-clause-given t c =
     let start = c.args.cursor.now in
     let now = last c.loop-statements.statements.items c.put.new.list.items c.statement.result c.in_ok-put.ensures.given in
-    let list = pushed (λ xs. Read (BeginsStatements c.args.levels) start c.statement.new.cursor xs) c.loop-statements.statements.items c.put.new.list.items now.item now.grown
-    (c.loop-statements.invariant.0 c.statement.new.cursor now.item (was_read (Read (BeginsStmt c.args.levels) c.loop-statements.cursor c.statement.new.cursor) IsOfRules c.statement.result now.item now.is c.statement.ensures.given)) in
-    unchanged (λ k. Read (BeginsStatements c.args.levels) start k c.put.new.list.items) c.statement.new.cursor c.take_symbol.new.self c.in_default.ensures.kept list
+    let list = pushed (λ xs. Read (BeginsStatements c.args.levels) start c.statement.new.cursor xs) c.loop-statements.statements.items c.put.new.list.items
+    now.item now.grown
+    (c.loop-statements.invariant.0 c.statement.new.cursor now.item (was_read (Read (BeginsStmt c.args.levels) c.loop-statements.cursor c.statement.new.cursor)
+    IsOfRules c.statement.result now.item now.is c.statement.ensures.given)) in
+    unchanged (λ k. Read (BeginsStatements c.args.levels) start k c.put.new.list.items) c.statement.new.cursor c.take_symbol.new.self c.in_default.ensures.kept
+    list
 
 pub statements-returns-in_default-clause-exact : goal.statements-returns-in_default-clause-exact
 statements-returns-in_default-clause-exact t c = λ depth statements others h ends.
     let now = last c.loop-statements.statements.items c.put.new.list.items c.statement.result c.in_ok-put.ensures.given in
-    let left = statement_list_left c.args.levels c.args.cursor.now.rest.now c.loop-statements.cursor c.statement.new.cursor now.item (subst (λ r. ReadsDeep c.args.levels BeginsStmt EndsStmt c.loop-statements.cursor c.statement.new.cursor r) now.is c.statement.ensures.exact) c.loop-statements.invariant.1 in
-    ap (λ k. k.rest.now) c.in_default.ensures.kept ∙ parts_end Stmt statement_list_parts depth c.statement.new.cursor.rest.now others c.in_default.ensures.missed (left depth statements others h ends)
+    let left = statement_list_left c.args.levels c.args.cursor.now.rest.now c.loop-statements.cursor c.statement.new.cursor now.item
+    (subst (λ r. ReadsDeep c.args.levels BeginsStmt EndsStmt c.loop-statements.cursor c.statement.new.cursor r) now.is c.statement.ensures.exact)
+    c.loop-statements.invariant.1 in
+    ap (λ k. k.rest.now) c.in_default.ensures.kept ∙ parts_end Stmt statement_list_parts depth c.statement.new.cursor.rest.now others
+    c.in_default.ensures.missed (left depth statements others h ends)

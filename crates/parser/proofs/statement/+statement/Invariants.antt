@@ -1,6 +1,6 @@
 use Rattle.std.proofs.Common.{◌+◌, ◌*◌}
-use Rattle.parser.specs.Cursor.{left}
-use Rattle.parser.proofs.ExactStatements.{StatementNext}
+use Rattle.token_cursor.specs.Cursor.{left}
+use Rattle.grammar.proofs.Statements.{StatementNext}
 use Rattle.parser.proofs.Statements.{StatementsGrow}
 use Rattle.parser.proofs.statement.+statement.Given as goal
 

@@ -1,10 +1,11 @@
 use Rattle.std.proofs.Common.{◌≡◌, ◌+◌, refl}
 use Rattle.lexer.specs.declared.token.Kind.TheVariants as kind
 use Rattle.lexer.specs.declared.token.Symbol.TheVariants as symbol
-use Rattle.parser.specs.Reading.{NoNext}
+use Rattle.grammar.specs.Following.{NoNext}
 use Rattle.parser.proofs.Kept.{handed_on}
 use Rattle.parser.proofs.Exact.{stops_above}
-use Rattle.parser.proofs.ExactStatements.{ends_value, simple_parts, becomes_taken, becomes_missed_at}
+use Rattle.grammar.proofs.Statements.{ends_value, simple_parts, becomes_taken}
+use Rattle.parser.proofs.ExactStatements.{becomes_missed_at}
 use Rattle.parser.proofs.Statements.{gives-Assign, gives-Called}
 use Rattle.parser.proofs.statement.simple.Goals as goal
 
@@ -13,12 +14,14 @@ returns-in_err-name-clause-exact c = λ first depth s others h ends. absurd (c.i
 
 pub returns-in_ok-expression-in-Some-clause-given : goal.returns-in_ok-expression-in-Some-clause-given
 returns-in_ok-expression-in-Some-clause-given c =
-    gives-Assign c.args.levels c.args.cursor.now c.expect_name.new.self c.take_symbol.new.self c.expression.new.cursor c.in_ok-name.name c.in-Some.becomes c.in_ok-expression-in-Some.field-0
+    gives-Assign c.args.levels c.args.cursor.now c.expect_name.new.self c.take_symbol.new.self c.expression.new.cursor c.in_ok-name.name c.in-Some.becomes
+    c.in_ok-expression-in-Some.field-0
     c.in_ok-name.ensures.spelled c.in-Some.ensures.spelled c.in_ok-expression-in-Some.ensures.given
 
 pub returns-in_ok-actuals-in-None-clause-given : goal.returns-in_ok-actuals-in-None-clause-given
 returns-in_ok-actuals-in-None-clause-given c =
-    gives-Called c.args.levels c.args.cursor.now c.expect_name.new.self c.take_symbol.new.self c.actuals.new.cursor c.in_ok-name.name c.in_ok-actuals-in-None.field-0
+    gives-Called c.args.levels c.args.cursor.now c.expect_name.new.self c.take_symbol.new.self c.actuals.new.cursor c.in_ok-name.name
+    c.in_ok-actuals-in-None.field-0
     c.in_ok-name.ensures.spelled c.in-None.ensures.kept c.in_ok-actuals-in-None.ensures.given
 
 pub returns-in_err-expression-in-Some-clause-exact : goal.returns-in_err-expression-in-Some-clause-exact

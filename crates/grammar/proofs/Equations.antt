@@ -1,0 +1,205 @@
+-- The spelling, the form and the levels of a tree, one equation a form: the folds computed.
+use Rattle.std.proofs.Common.{◌≡◌, ℕ, ◌+◌, max, Bool, true, ◌&&◌, [], ◌∷◌, ◌++◌, map, Some, None, sym, ap, ◌∙◌}
+use Rattle.std.specs.List.{list_all}
+use Rattle.std.specs.declared.alloc.Global.{Global}
+use Rattle.std.specs.declared.boxed.Box.{Box}
+use Rattle.std.specs.declared.vec.Vec.{Vec}
+use Rattle.place.specs.declared.Place.{Place}
+use Rattle.lexer.specs.declared.token.Kind.TheVariants as kind
+use Rattle.lexer.specs.declared.token.Symbol.TheVariants as symbol
+use Rattle.lexer.specs.declared.token.Word.TheVariants as word
+use Rattle.syntax_tree.specs.declared.Name.{Name}
+use Rattle.syntax_tree.specs.declared.Sign.{Sign}
+use Rattle.syntax_tree.specs.declared.Expr.{Expr}
+use Rattle.syntax_tree.specs.declared.Actual.{Actual}
+use Rattle.syntax_tree.specs.declared.Link.{Link}
+use Rattle.syntax_tree.specs.declared.Expr.TheVariants as tree
+use Rattle.syntax_tree.specs.declared.Expr.TheOpen as expr
+use Rattle.syntax_tree.specs.declared.Expr.TheViews.{roll-Expr, roll-Link, roll-Actual}
+use Rattle.syntax_tree.specs.declared.Expr.TheFolds.{map-Expr, fold-roll-Expr, fold-roll-Link, fold-roll-Actual}
+use Rattle.syntax_tree.specs.declared.Stmt.{Stmt}
+use Rattle.syntax_tree.specs.declared.Stmt.TheVariants as statement
+use Rattle.syntax_tree.specs.declared.Stmt.TheOpen as stmt
+use Rattle.syntax_tree.specs.declared.Stmt.TheViews.{roll-Stmt}
+use Rattle.syntax_tree.specs.declared.Stmt.TheFolds.{map-Stmt, fold-roll-Stmt}
+use Rattle.grammar.specs.Spelling as spell
+use Rattle.grammar.specs.WellFormed as form
+use Rattle.grammar.specs.Nesting as nest
+use Rattle.grammar.proofs.Lists.{all_computed}
+
+-- ---- expressions
+
+pub spelling_of : (d : expr.Expr-F Expr Actual Link)
+    → spell.expr_spelling (roll-Expr d)
+    ≡ spell.expr_step (map-Expr Expr Actual Link spell.Spelling spell.Spelling spell.Spelling spell.expr_spelling spell.actual_spelling spell.link_spelling d)
+spelling_of d = fold-roll-Expr spell.Spelling spell.Spelling spell.Spelling spell.expr_step spell.actual_step spell.link_step d
+
+pub form_of : (d : expr.Expr-F Expr Actual Link)
+    → form.expr_form (roll-Expr d) ≡ form.expr_step (map-Expr Expr Actual Link form.Form Bool form.LinkForm form.expr_form form.is_actual form.link_form d)
+form_of d = fold-roll-Expr form.Form Bool form.LinkForm form.expr_step form.actual_step form.link_step d
+
+pub levels_of : (d : expr.Expr-F Expr Actual Link)
+    → nest.expr_levels (roll-Expr d) ≡ nest.expr_step (map-Expr Expr Actual Link ℕ ℕ ℕ nest.expr_levels nest.actual_levels nest.link_levels d)
+levels_of d = fold-roll-Expr ℕ ℕ ℕ nest.expr_step nest.actual_step (λ link. link.operand) d
+
+pub spelling-Name : (n : Name) → spell.expr_spelling (tree.Name n) ≡ spell.identifier n ∷ []
+spelling-Name n = ap spell.expr_spelling (sym (tree.rolls-Name n)) ∙ spelling_of (expr.Name n)
+
+pub form-Name : (n : Name) → form.expr_form (tree.Name n) ≡ record { level = form.factor_level; well = true }
+form-Name n = ap form.expr_form (sym (tree.rolls-Name n)) ∙ form_of (expr.Name n)
+
+pub levels-Name : (n : Name) → nest.expr_levels (tree.Name n) ≡ 0
+levels-Name n = ap nest.expr_levels (sym (tree.rolls-Name n)) ∙ levels_of (expr.Name n)
+
+pub spelling-Function : (n : Name) (v : Vec Actual Global)
+    → spell.expr_spelling (tree.Call n v) ≡ spell.identifier n ∷ spell.in_parentheses (map spell.actual_spelling v.items)
+spelling-Function n v = ap spell.expr_spelling (sym (tree.rolls-Call n v)) ∙ spelling_of (expr.Call n v)
+
+pub form-Function : (n : Name) (v : Vec Actual Global)
+    → form.expr_form (tree.Call n v)
+    ≡ record { level = form.factor_level; well = form.has_items (map form.is_actual v.items) && list_all (λ well. well) (map form.is_actual v.items) }
+form-Function n v = ap form.expr_form (sym (tree.rolls-Call n v)) ∙ form_of (expr.Call n v)
+
+pub levels-Function : (n : Name) (v : Vec Actual Global) → nest.expr_levels (tree.Call n v) ≡ nest.deepest (map nest.actual_levels v.items)
+levels-Function n v = ap nest.expr_levels (sym (tree.rolls-Call n v)) ∙ levels_of (expr.Call n v)
+
+pub spelling-Parenthesized : (p : Place) (b : Box Expr Global)
+    → spell.expr_spelling (tree.Parenthesized p b)
+    ≡ spell.of_kind_at (kind.Symbol symbol.OpenParenthesis) p ∷ spell.expr_spelling b.value ++ spell.mark symbol.CloseParenthesis ∷ []
+spelling-Parenthesized p b = ap spell.expr_spelling (sym (tree.rolls-Parenthesized p b)) ∙ spelling_of (expr.Parenthesized p b)
+
+pub form-Parenthesized : (p : Place) (b : Box Expr Global)
+    → form.expr_form (tree.Parenthesized p b) ≡ record { level = form.factor_level; well = form.fits form.relation_level (form.expr_form b.value) }
+form-Parenthesized p b = ap form.expr_form (sym (tree.rolls-Parenthesized p b)) ∙ form_of (expr.Parenthesized p b)
+
+pub levels-Parenthesized : (p : Place) (b : Box Expr Global) → nest.expr_levels (tree.Parenthesized p b) ≡ 1 + nest.expr_levels b.value
+levels-Parenthesized p b = ap nest.expr_levels (sym (tree.rolls-Parenthesized p b)) ∙ levels_of (expr.Parenthesized p b)
+
+pub spelling-Number : (v : ℕ) (p : Place) → spell.expr_spelling (tree.Number v p) ≡ spell.of_kind_at (kind.Number v) p ∷ []
+spelling-Number v p = ap spell.expr_spelling (sym (tree.rolls-Number v p)) ∙ spelling_of (expr.Number v p)
+
+pub form-Number : (v : ℕ) (p : Place) → form.expr_form (tree.Number v p) ≡ record { level = form.factor_level; well = true }
+form-Number v p = ap form.expr_form (sym (tree.rolls-Number v p)) ∙ form_of (expr.Number v p)
+
+pub levels-Number : (v : ℕ) (p : Place) → nest.expr_levels (tree.Number v p) ≡ 0
+levels-Number v p = ap nest.expr_levels (sym (tree.rolls-Number v p)) ∙ levels_of (expr.Number v p)
+
+pub spelling-Not : (p : Place) (b : Box Expr Global)
+    → spell.expr_spelling (tree.Not p b) ≡ spell.of_kind_at (kind.Word word.Not) p ∷ spell.expr_spelling b.value
+spelling-Not p b = ap spell.expr_spelling (sym (tree.rolls-Not p b)) ∙ spelling_of (expr.Not p b)
+
+pub form-Not : (p : Place) (b : Box Expr Global)
+    → form.expr_form (tree.Not p b) ≡ record { level = form.factor_level; well = form.fits form.factor_level (form.expr_form b.value) }
+form-Not p b = ap form.expr_form (sym (tree.rolls-Not p b)) ∙ form_of (expr.Not p b)
+
+pub levels-Not : (p : Place) (b : Box Expr Global) → nest.expr_levels (tree.Not p b) ≡ 1 + nest.expr_levels b.value
+levels-Not p b = ap nest.expr_levels (sym (tree.rolls-Not p b)) ∙ levels_of (expr.Not p b)
+
+pub spelling-Signed : (s : Sign) (p : Place) (b : Box Expr Global) → spell.expr_spelling (tree.Signed s p b) ≡ spell.sign s p ∷ spell.expr_spelling b.value
+spelling-Signed s p b = ap spell.expr_spelling (sym (tree.rolls-Signed s p b)) ∙ spelling_of (expr.Signed s p b)
+
+pub form-Signed : (s : Sign) (p : Place) (b : Box Expr Global)
+    → form.expr_form (tree.Signed s p b) ≡ record { level = form.signed_level; well = form.fits form.product_level (form.expr_form b.value) }
+form-Signed s p b = ap form.expr_form (sym (tree.rolls-Signed s p b)) ∙ form_of (expr.Signed s p b)
+
+pub levels-Signed : (s : Sign) (p : Place) (b : Box Expr Global) → nest.expr_levels (tree.Signed s p b) ≡ nest.expr_levels b.value
+levels-Signed s p b = ap nest.expr_levels (sym (tree.rolls-Signed s p b)) ∙ levels_of (expr.Signed s p b)
+
+pub spelling-Chain : (b : Box Expr Global) (v : Vec Link Global)
+    → spell.expr_spelling (tree.Chain b v) ≡ spell.expr_spelling b.value ++ spell.joined (map spell.link_spelling v.items)
+spelling-Chain b v = ap spell.expr_spelling (sym (tree.rolls-Chain b v)) ∙ spelling_of (expr.Chain b v)
+
+pub form-Chain : (b : Box Expr Global) (v : Vec Link Global)
+    → form.expr_form (tree.Chain b v) ≡ form.chain_form (form.expr_form b.value) (map form.link_form v.items)
+form-Chain b v = ap form.expr_form (sym (tree.rolls-Chain b v)) ∙ form_of (expr.Chain b v)
+
+pub levels-Chain : (b : Box Expr Global) (v : Vec Link Global)
+    → nest.expr_levels (tree.Chain b v) ≡ max (nest.expr_levels b.value) (nest.deepest (map nest.link_levels v.items))
+levels-Chain b v = ap nest.expr_levels (sym (tree.rolls-Chain b v)) ∙ levels_of (expr.Chain b v)
+
+-- ---- links
+
+pub spelling-Link : (d : expr.Link-F Expr Actual Link) → spell.link_spelling (roll-Link d) ≡ spell.operator d.operator d.place ∷ spell.expr_spelling d.operand
+spelling-Link d = fold-roll-Link spell.Spelling spell.Spelling spell.Spelling spell.expr_step spell.actual_step spell.link_step d
+
+pub form-Link : (d : expr.Link-F Expr Actual Link)
+    → form.link_form (roll-Link d) ≡ record { level = form.operator_level d.operator; operand = form.expr_form d.operand }
+form-Link d = fold-roll-Link form.Form Bool form.LinkForm form.expr_step form.actual_step form.link_step d
+
+pub levels-Link : (d : expr.Link-F Expr Actual Link) → nest.link_levels (roll-Link d) ≡ nest.expr_levels d.operand
+levels-Link d = fold-roll-Link ℕ ℕ ℕ nest.expr_step nest.actual_step (λ link. link.operand) d
+
+-- ---- actuals
+
+pub spelling-Alone : (e : Expr) → spell.actual_spelling (roll-Actual (record { value = e; width = None })) ≡ spell.expr_spelling e ++ []
+spelling-Alone e = fold-roll-Actual spell.Spelling spell.Spelling spell.Spelling spell.expr_step spell.actual_step spell.link_step
+    (record { value = e; width = None })
+
+pub spelling-Wide : (e w : Expr)
+    → spell.actual_spelling (roll-Actual (record { value = e; width = Some w })) ≡ spell.expr_spelling e ++ spell.mark symbol.Colon ∷ spell.expr_spelling w
+spelling-Wide e w = fold-roll-Actual spell.Spelling spell.Spelling spell.Spelling spell.expr_step spell.actual_step spell.link_step
+    (record { value = e; width = Some w })
+
+pub form-Alone : (e : Expr) → form.is_actual (roll-Actual (record { value = e; width = None })) ≡ form.is_expression e && true
+form-Alone e = fold-roll-Actual form.Form Bool form.LinkForm form.expr_step form.actual_step form.link_step (record { value = e; width = None })
+
+pub form-Wide : (e w : Expr) → form.is_actual (roll-Actual (record { value = e; width = Some w })) ≡ form.is_expression e && form.is_expression w
+form-Wide e w = fold-roll-Actual form.Form Bool form.LinkForm form.expr_step form.actual_step form.link_step (record { value = e; width = Some w })
+
+pub levels-Alone : (e : Expr) → nest.actual_levels (roll-Actual (record { value = e; width = None })) ≡ 1 + max (nest.expr_levels e) 0
+levels-Alone e = fold-roll-Actual ℕ ℕ ℕ nest.expr_step nest.actual_step (λ link. link.operand) (record { value = e; width = None })
+
+pub levels-Wide : (e w : Expr) → nest.actual_levels (roll-Actual (record { value = e; width = Some w })) ≡ 1 + max (nest.expr_levels e) (nest.expr_levels w)
+levels-Wide e w = fold-roll-Actual ℕ ℕ ℕ nest.expr_step nest.actual_step (λ link. link.operand) (record { value = e; width = Some w })
+
+-- ---- statements
+
+pub spelling-Compound : (v : Vec Stmt Global)
+    → spell.stmt_spelling (statement.Compound v)
+    ≡ spell.word_symbol word.Begin ∷ spell.separated symbol.Semicolon (map spell.stmt_spelling v.items) ++ spell.word_symbol word.End ∷ []
+spelling-Compound v = ap spell.stmt_spelling (sym (statement.rolls-Compound v)) ∙ fold-roll-Stmt spell.Spelling spell.stmt_step (stmt.Compound v)
+
+pub stmt_form_of : (d : stmt.Stmt-F Stmt) → form.stmt_form (roll-Stmt d) ≡ form.stmt_step (map-Stmt Stmt form.StmtForm form.stmt_form d)
+stmt_form_of d = fold-roll-Stmt form.StmtForm form.stmt_step d
+
+-- whether one layer of a statement is well formed
+pub stmt_well_of : (d : stmt.Stmt-F Stmt) → form.is_statement (roll-Stmt d) ≡ (form.stmt_step (map-Stmt Stmt form.StmtForm form.stmt_form d)).well
+stmt_well_of d = ap (λ (f : form.StmtForm). f.well) (stmt_form_of d)
+
+pub form-Compound : (v : Vec Stmt Global)
+    → form.is_statement (statement.Compound v) ≡ form.has_items (map form.stmt_form v.items) && list_all form.is_statement v.items
+form-Compound v =
+    ap form.is_statement (sym (statement.rolls-Compound v)) ∙ stmt_well_of (stmt.Compound v)
+    ∙ ap (λ all. form.has_items (map form.stmt_form v.items) && all) (all_computed (λ (f : form.StmtForm). f.well) form.stmt_form v.items)
+
+pub levels-Compound : (v : Vec Stmt Global) → nest.stmt_levels (statement.Compound v) ≡ 1 + nest.deepest (map nest.stmt_levels v.items)
+levels-Compound v = ap nest.stmt_levels (sym (statement.rolls-Compound v)) ∙ fold-roll-Stmt ℕ nest.stmt_step (stmt.Compound v)
+
+pub spelling-Empty : spell.stmt_spelling statement.Empty ≡ []
+spelling-Empty = ap spell.stmt_spelling (sym statement.rolls-Empty) ∙ fold-roll-Stmt spell.Spelling spell.stmt_step stmt.Empty
+
+pub form-Empty : form.is_statement statement.Empty ≡ true
+form-Empty = ap form.is_statement (sym statement.rolls-Empty) ∙ stmt_well_of stmt.Empty
+
+pub levels-Empty : nest.stmt_levels statement.Empty ≡ 1
+levels-Empty = ap nest.stmt_levels (sym statement.rolls-Empty) ∙ fold-roll-Stmt ℕ nest.stmt_step stmt.Empty
+
+pub spelling-Assign : (n : Name) (p : Place) (e : Expr)
+    → spell.stmt_spelling (statement.Assign n p e) ≡ spell.identifier n ∷ spell.of_kind_at (kind.Symbol symbol.Becomes) p ∷ spell.expr_spelling e
+spelling-Assign n p e = ap spell.stmt_spelling (sym (statement.rolls-Assign n p e)) ∙ fold-roll-Stmt spell.Spelling spell.stmt_step (stmt.Assign n p e)
+
+pub form-Assign : (n : Name) (p : Place) (e : Expr) → form.is_statement (statement.Assign n p e) ≡ form.is_expression e
+form-Assign n p e = ap form.is_statement (sym (statement.rolls-Assign n p e)) ∙ stmt_well_of (stmt.Assign n p e)
+
+pub levels-Assign : (n : Name) (p : Place) (e : Expr) → nest.stmt_levels (statement.Assign n p e) ≡ 1 + nest.expr_levels e
+levels-Assign n p e = ap nest.stmt_levels (sym (statement.rolls-Assign n p e)) ∙ fold-roll-Stmt ℕ nest.stmt_step (stmt.Assign n p e)
+
+pub spelling-Call : (n : Name) (v : Vec Actual Global)
+    → spell.stmt_spelling (statement.Call n v) ≡ spell.identifier n ∷ spell.in_parentheses (map spell.actual_spelling v.items)
+spelling-Call n v = ap spell.stmt_spelling (sym (statement.rolls-Call n v)) ∙ fold-roll-Stmt spell.Spelling spell.stmt_step (stmt.Call n v)
+
+pub form-Call : (n : Name) (v : Vec Actual Global) → form.is_statement (statement.Call n v) ≡ list_all form.is_actual v.items
+form-Call n v = ap form.is_statement (sym (statement.rolls-Call n v)) ∙ stmt_well_of (stmt.Call n v)
+
+pub levels-Call : (n : Name) (v : Vec Actual Global) → nest.stmt_levels (statement.Call n v) ≡ 1 + nest.deepest (map nest.actual_levels v.items)
+levels-Call n v = ap nest.stmt_levels (sym (statement.rolls-Call n v)) ∙ fold-roll-Stmt ℕ nest.stmt_step (stmt.Call n v)

@@ -1,0 +1,321 @@
+-- Two programs from the same tokens are written alike: part by part.
+use Rattle.std.proofs.Common.{◌≡◌, ℕ, ◌+◌, Bool, true, ◌&&◌, List, [], ◌∷◌, ◌++◌, map, length, Some, refl, subst, sym, ap, ◌∙◌, append_assoc, arith}
+use Rattle.std.specs.List.{list_all}
+use Rattle.place.specs.declared.Place.{Place}
+use Rattle.lexer.specs.declared.token.Kind.{Kind}
+use Rattle.lexer.specs.declared.token.Kind.TheVariants as kind
+use Rattle.lexer.specs.declared.token.Symbol.TheVariants as symbol
+use Rattle.lexer.specs.declared.token.Word.TheVariants as word
+use Rattle.lexer.specs.declared.token.Token.{Token}
+use Rattle.syntax_tree.specs.declared.Name.{Name}
+use Rattle.syntax_tree.specs.declared.TypeDenoter.{TypeDenoter}
+use Rattle.syntax_tree.specs.declared.TypeDenoter.TheVariants as denoter
+use Rattle.syntax_tree.specs.declared.VariableGroup.{VariableGroup}
+use Rattle.syntax_tree.specs.declared.Stmt.{Stmt}
+use Rattle.syntax_tree.specs.declared.Block.{Block}
+use Rattle.syntax_tree.specs.declared.Program.{Program}
+use Rattle.grammar.specs.Spelling.{Lexeme, Spelling, Reads, Spells, of_kind_at, mark, word_symbol, identifier, identifiers, separated, joined, in_parentheses, denoter_spelling, group_spelling, variables_spelling, stmt_spelling, block_spelling, program_spelling}
+use Rattle.grammar.specs.WellFormed.{is_group, is_statement, is_block, is_program, has_items}
+use Rattle.grammar.specs.Following.{next_kind, NoNext, Next}
+use Rattle.grammar.specs.Notation.{Notation, bracketed, token, row, names_notation, denoter_notation, group_notation, block_notation, notation}
+use Rattle.grammar.specs.Notation as note
+use Rattle.grammar.specs.Laws.{HasOneTree}
+use Rattle.grammar.proofs.Lists.{and_left, and_right}
+use Rattle.grammar.proofs.Rows.{parted, begins}
+use Rattle.grammar.proofs.Led.{list_begins}
+use Rattle.grammar.proofs.Programs.{some_items, other_kind}
+use Rattle.grammar.proofs.OneTree.{Alike, first_is_one, last_is_one, at_is_one, name_is_one}
+use Rattle.grammar.proofs.OneTreeLists.{Parts, OnePart, Listed, list_alike, InParentheses, parenthesized_alike}
+use Rattle.grammar.proofs.OneTreeStatements.{statement_parts, one_statement}
+
+-- ---- names
+
+name_spelling : Name → Spelling
+name_spelling name = identifier name ∷ []
+
+name_written : Name → Notation
+name_written name = token (identifier name) ∷ []
+
+any_name : Name → Bool
+any_name name = true
+
+-- the parts of a list of names behind which such a token stands
+name_parts : Kind → Parts Name
+name_parts k = record { symbol = symbol.Comma; closer = k; spelling = name_spelling; well = any_name; written = name_written }
+
+all_names : (names : List Name) → list_all any_name names ≡ true
+unfolding any_name
+all_names [] = refl
+all_names (n ∷ ns) = all_names ns
+
+names_row : (names : List Name) → row (map name_written names) ≡ names_notation names
+unfolding name_written
+names_row [] = refl
+names_row (n ∷ ns) = ap (λ w. token (identifier n) ∷ w) (names_row ns)
+
+one_name : (k : Kind) (n : ℕ) → OnePart Name (name_parts k) n
+unfolding name_parts name_spelling name_written
+one_name k n a c d x y few h i ends_one ends_two =
+    let b = first_is_one (identifier x) (identifier y) [] [] a c d h.spelled i.spelled in
+    record { written = ap (λ l. token l ∷ []) (name_is_one x y b.first b.one b.two); left = sym b.one_behind ∙ b.two_behind }
+
+-- ---- variables
+
+-- names, their type behind a colon, and a semicolon
+record GroupAs (a c : List Token) (w : Notation) : Type 0 where
+  pub names : List Name
+  pub middle : List Token
+  pub type : Name
+  pub begun : Listed Name (name_parts (kind.Symbol symbol.Colon)) a middle names
+  pub behind : Reads middle (mark symbol.Colon ∷ identifier type ∷ mark symbol.Semicolon ∷ []) c
+  pub written : w ≡ bracketed note.group (names_notation names ++ token (identifier type) ∷ [])
+
+group_with : (a c : List Token) (names : List Name) (d : TypeDenoter)
+    → Reads a (separated symbol.Comma (identifiers names) ++ mark symbol.Colon ∷ denoter_spelling d ++ mark symbol.Semicolon ∷ []) c → has_items names ≡ true
+    → GroupAs a c (bracketed note.group (names_notation names ++ denoter_notation d))
+unfolding name_parts name_spelling
+group_with a c names (denoter.Name n) h some =
+    let r = parted (separated symbol.Comma (identifiers names)) (mark symbol.Colon ∷ identifier n ∷ mark symbol.Semicolon ∷ []) a c
+    (subst (λ s. Reads a s c) (append_assoc (separated symbol.Comma (identifiers names)) (mark symbol.Colon ∷ identifier n ∷ [])
+    (mark symbol.Semicolon ∷ [])) h) in
+    record {
+      names = names;
+      middle = r.0;
+      type = n;
+      begun = record {
+        some = some_items names some;
+        spelled = r.1;
+        formed = all_names names;
+        closed = begins (mark symbol.Colon)
+            (identifier n ∷ mark symbol.Semicolon ∷ []) r.0 c r.2;
+      };
+      behind = r.2;
+      written = refl;
+    }
+
+-- a group of variables that begins these tokens
+record Group (a c : List Token) (g : VariableGroup) : Type 0 where
+  pub spelled : Reads a (group_spelling g) c
+  pub formed : is_group g ≡ true
+
+group_as : (a c : List Token) (g : VariableGroup) → Group a c g → GroupAs a c (group_notation g)
+group_as a c g h = group_with a c g.names.items g.denoter h.spelled h.formed
+
+group_alike : (a c d : List Token) (g h : VariableGroup) → Group a c g → Group a d h → Alike Notation (group_notation g) (group_notation h) c d
+unfolding name_parts
+group_alike a c d g h i j =
+    let x = group_as a c g i in
+    let y = group_as a d h j in
+    let n = length a + 1 in
+    let names = list_alike Name (name_parts (kind.Symbol symbol.Colon)) n a x.middle y.middle x.names y.names (λ e. cc) (one_name (kind.Symbol symbol.Colon) n)
+    (omega arith) x.begun y.begun in
+    let s : Spelling = mark symbol.Semicolon ∷ [] in
+    let b = first_is_one (mark symbol.Colon) (mark symbol.Colon) (identifier x.type ∷ s) (identifier y.type ∷ s) x.middle c d x.behind
+    (subst (λ t. Reads t (mark symbol.Colon ∷ identifier y.type ∷ s) d) (sym names.left) y.behind) in
+    let t = first_is_one (identifier x.type) (identifier y.type) s s b.behind c d b.one_behind b.two_behind in
+    let list : names_notation x.names ≡ names_notation y.names = sym (names_row x.names) ∙ ap row names.written ∙ names_row y.names in
+    record {
+      written = x.written ∙ ap (λ w. bracketed note.group (w ++ token (identifier x.type) ∷ [])) list
+          ∙ ap (λ l. bracketed note.group (names_notation y.names ++ token l ∷ [])) (name_is_one x.type y.type t.first t.one t.two) ∙ sym y.written;
+      left = last_is_one (mark symbol.Semicolon) (mark symbol.Semicolon) t.behind c d t.one_behind t.two_behind;
+    }
+
+-- groups one behind another, and the compound statement behind them
+record Groups (a c : List Token) (gs : List VariableGroup) : Type 0 where
+  pub spelled : Reads a (joined (map group_spelling gs)) c
+  pub formed : list_all is_group gs ≡ true
+  pub closed : Next (kind.Word word.Begin) c
+
+names_first : (k : Kind) (a c : List Token) (names : List Name) → Listed Name (name_parts k) a c names → Next kind.Identifier a
+unfolding name_parts name_spelling
+names_first k a c [] h = let some = h.some in absurd (omega arith)
+names_first k a c (n ∷ ns) h = let r = list_begins symbol.Comma (identifier n ∷ []) (identifiers ns) a c h.spelled in begins (identifier n) [] a r.0 r.1
+
+-- a group, and the others behind it
+record GroupParted (a c : List Token) (g : VariableGroup) (gs : List VariableGroup) : Type 0 where
+  pub middle : List Token
+  pub group : Group a middle g
+  pub others : Groups middle c gs
+
+group_parted : (a c : List Token) (g : VariableGroup) (gs : List VariableGroup) → Groups a c (g ∷ gs) → GroupParted a c g gs
+group_parted a c g gs h =
+    let r = parted (group_spelling g) (joined (map group_spelling gs)) a c h.spelled in
+    record {
+      middle = r.0;
+      group = record { spelled = r.1; formed = and_left (is_group g) (list_all is_group gs) h.formed };
+      others = record { spelled = r.2; formed = and_right (is_group g) (list_all is_group gs) h.formed; closed = h.closed };
+    }
+
+no_group : (a c d : List Token) (g : VariableGroup) (gs : List VariableGroup) → Groups a c [] → Groups a d (g ∷ gs) → ⊥
+no_group a c d g gs h k =
+    let p = group_parted a d g gs k in
+    let x = group_as a p.middle g p.group in
+    let no : Some (kind.Word word.Begin) ≡ Some kind.Identifier = sym h.closed ∙ ap next_kind (sym h.spelled) ∙ names_first
+    (kind.Symbol symbol.Colon) a x.middle x.names x.begun in cc
+
+groups_alike : (a c d : List Token) (gs hs : List VariableGroup) → Groups a c gs → Groups a d hs
+    → Alike (List Notation) (map group_notation gs) (map group_notation hs) c d
+groups_alike a c d [] [] i j = record { written = refl; left = sym i.spelled ∙ j.spelled }
+groups_alike a c d [] (h ∷ hs) i j = absurd (no_group a c d h hs i j)
+groups_alike a c d (g ∷ gs) [] i j = absurd (no_group a d c g gs j i)
+groups_alike a c d (g ∷ gs) (h ∷ hs) i j =
+    let p = group_parted a c g gs i in
+    let q = group_parted a d h hs j in
+    let one = group_alike a p.middle q.middle g h p.group q.group in
+    let others = groups_alike p.middle c d gs hs p.others (subst (λ b. Groups b d hs) (sym one.left) q.others) in
+    let head = one.written in
+    let tail = others.written in
+    record { written = cc; left = others.left }
+
+-- a variable declaration part, or none
+record Variables (a c : List Token) (gs : List VariableGroup) : Type 0 where
+  pub spelled : Reads a (variables_spelling gs) c
+  pub formed : list_all is_group gs ≡ true
+  pub closed : Next (kind.Word word.Begin) c
+
+no_variables : (a c d : List Token) (g : VariableGroup) (gs : List VariableGroup) → Variables a c [] → Variables a d (g ∷ gs) → ⊥
+no_variables a c d g gs h k =
+    let no : Some (kind.Word word.Begin) ≡ Some (kind.Word word.Var) = sym h.closed ∙ ap next_kind (sym h.spelled) ∙ begins (word_symbol word.Var)
+    (joined (map group_spelling (g ∷ gs))) a d k.spelled in cc
+
+variables_alike : (a c d : List Token) (gs hs : List VariableGroup) → Variables a c gs → Variables a d hs
+    → Alike (List Notation) (map group_notation gs) (map group_notation hs) c d
+variables_alike a c d [] [] i j = record { written = refl; left = sym i.spelled ∙ j.spelled }
+variables_alike a c d [] (h ∷ hs) i j = absurd (no_variables a c d h hs i j)
+variables_alike a c d (g ∷ gs) [] i j = absurd (no_variables a d c g gs j i)
+variables_alike a c d (g ∷ gs) (h ∷ hs) i j =
+    let b = first_is_one (word_symbol word.Var) (word_symbol word.Var) (joined (map group_spelling (g ∷ gs)))
+    (joined (map group_spelling (h ∷ hs))) a c d i.spelled j.spelled in
+    groups_alike b.behind c d (g ∷ gs) (h ∷ hs) (record { spelled = b.one_behind; formed = i.formed; closed = i.closed })
+    (record { spelled = b.two_behind; formed = j.formed; closed = j.closed })
+
+-- ---- blocks
+
+-- a block that begins these tokens: its variables, its statements, and its `end`
+record BlockAs (a c : List Token) (b : Block) : Type 0 where
+  pub middle : List Token
+  pub variables : Variables a middle b.variables.items
+  pub behind : Reads middle
+      (word_symbol word.Begin ∷ separated symbol.Semicolon (map stmt_spelling b.statements.items) ++ of_kind_at (kind.Word word.End) b.end ∷ []) c
+  pub some : has_items b.statements.items ≡ true
+  pub formed : list_all is_statement b.statements.items ≡ true
+
+block_as : (a c : List Token) (b : Block) → Reads a (block_spelling b) c → is_block b ≡ true → BlockAs a c b
+block_as a c b h f =
+    let compound : Spelling = word_symbol word.Begin ∷ separated symbol.Semicolon (map stmt_spelling b.statements.items) in
+    let last : Spelling = of_kind_at (kind.Word word.End) b.end ∷ [] in
+    let r = parted (variables_spelling b.variables.items) (compound ++ last) a c
+    (subst (λ s. Reads a s c) (append_assoc (variables_spelling b.variables.items) compound last) h) in
+    let statements = has_items b.statements.items && list_all is_statement b.statements.items in
+    let g = and_right (list_all is_group b.variables.items) statements f in
+    record {
+      middle = r.0;
+      variables = record {
+        spelled = r.1;
+        formed = and_left (list_all is_group b.variables.items) statements f;
+        closed = begins (word_symbol word.Begin) (separated symbol.Semicolon (map stmt_spelling b.statements.items) ++ last) r.0 c r.2;
+      };
+      behind = r.2;
+      some = and_left (has_items b.statements.items) (list_all is_statement b.statements.items) g;
+      formed = and_right (has_items b.statements.items) (list_all is_statement b.statements.items) g;
+    }
+
+-- statements, and the `end` behind them
+record Body (a c : List Token) (statements : List Stmt) (end : Place) : Type 0 where
+  pub middle : List Token
+  pub begun : Listed Stmt statement_parts a middle statements
+  pub closed : Reads middle (of_kind_at (kind.Word word.End) end ∷ []) c
+
+body : (a c : List Token) (statements : List Stmt) (end : Place)
+    → Reads a (separated symbol.Semicolon (map stmt_spelling statements) ++ of_kind_at (kind.Word word.End) end ∷ []) c
+    → has_items statements ≡ true → list_all is_statement statements ≡ true → Body a c statements end
+body a c statements end h some f =
+    let r = parted (separated symbol.Semicolon (map stmt_spelling statements)) (of_kind_at (kind.Word word.End) end ∷ []) a c h in
+    record {
+      middle = r.0;
+      begun = record { some = some_items statements some; spelled = r.1; formed = f; closed = begins (of_kind_at (kind.Word word.End) end) [] r.0 c r.2 };
+      closed = r.2;
+    }
+
+block_written : (u v w x : Notation) (l m : Lexeme) → u ≡ v → w ≡ x → l ≡ m
+    → bracketed note.block (u ++ w ++ token l ∷ []) ≡ bracketed note.block (v ++ x ++ token m ∷ [])
+block_written u v w x l m h i j = cc
+
+-- two blocks
+block_alike : (a c d : List Token) (b e : Block) → BlockAs a c b → BlockAs a d e → Alike Notation (block_notation b) (block_notation e) c d
+block_alike a c d b e x y =
+    let variables = variables_alike a x.middle y.middle b.variables.items e.variables.items x.variables y.variables in
+    let s = separated symbol.Semicolon (map stmt_spelling b.statements.items) ++ of_kind_at (kind.Word word.End) b.end ∷ [] in
+    let t = separated symbol.Semicolon (map stmt_spelling e.statements.items) ++ of_kind_at (kind.Word word.End) e.end ∷ [] in
+    let begin = first_is_one (word_symbol word.Begin) (word_symbol word.Begin) s t x.middle c d x.behind
+    (subst (λ u. Reads u (word_symbol word.Begin ∷ t) d) (sym variables.left) y.behind) in
+    let p = body begin.behind c b.statements.items b.end begin.one_behind x.some x.formed in
+    let q = body begin.behind d e.statements.items e.end begin.two_behind y.some y.formed in
+    let n = length begin.behind + 1 in
+    let statements = list_alike Stmt statement_parts n begin.behind p.middle q.middle b.statements.items e.statements.items (λ f. cc) (one_statement n)
+    (omega arith) p.begun q.begun in
+    let closed = subst (λ u. Reads u (of_kind_at (kind.Word word.End) e.end ∷ []) d) (sym statements.left) q.closed in
+    let end = first_is_one (of_kind_at (kind.Word word.End) b.end) (of_kind_at (kind.Word word.End) e.end) [] [] p.middle c d p.closed closed in
+    let last = at_is_one (kind.Word word.End) (kind.Word word.End) b.end e.end end.first end.one end.two in
+    record {
+      written = block_written _ _ _ _ _ _ (ap row variables.written) (ap row statements.written) last;
+      left = last_is_one (of_kind_at (kind.Word word.End) b.end) (of_kind_at (kind.Word word.End) e.end) p.middle c d p.closed closed;
+    }
+
+-- ---- programs
+
+-- a program's parts: what stands behind its word symbol, its parameters, its block and its period
+record ProgramAs (a : List Token) (p : Program) : Type 0 where
+  pub first : List Token
+  pub named : Reads a (word_symbol word.Program ∷ identifier p.name ∷ in_parentheses (identifiers p.parameters.items)) first
+  pub second : List Token
+  pub semicolon : Reads first (mark symbol.Semicolon ∷ []) second
+  pub third : List Token
+  pub blocked : Reads second (block_spelling p.block) third
+
+program_as : (a : List Token) (p : Program) → Spells a (program_spelling p) → ProgramAs a p
+program_as a p h =
+    let head : Spelling = word_symbol word.Program ∷ identifier p.name ∷ in_parentheses (identifiers p.parameters.items) in
+    let behind : Spelling = mark symbol.Semicolon ∷ block_spelling p.block in
+    let last = parted (head ++ behind) (mark symbol.Period ∷ []) a [] h in
+    let middle = parted head behind a last.0 last.1 in
+    let semicolon = parted (mark symbol.Semicolon ∷ []) (block_spelling p.block) middle.0 last.0 middle.2 in
+    record { first = middle.0; named = middle.1; second = semicolon.0; semicolon = semicolon.1; third = last.0; blocked = semicolon.2 }
+
+closes_parameters : (a c : List Token) → Reads a (mark symbol.Semicolon ∷ []) c → NoNext (kind.Symbol symbol.OpenParenthesis) a
+closes_parameters a c h = other_kind (kind.Symbol symbol.Semicolon) (kind.Symbol symbol.OpenParenthesis) a (begins (mark symbol.Semicolon) [] a c h) (λ e. cc)
+
+parameters_alike : (a c d : List Token) (xs ys : List Name) → InParentheses Name name_spelling any_name a c xs
+    → InParentheses Name name_spelling any_name a d ys → Alike Notation (names_notation xs) (names_notation ys) c d
+unfolding name_parts
+parameters_alike a c d xs ys h k =
+    let r = parenthesized_alike Name name_spelling any_name name_written (length a) a c d xs ys (one_name (kind.Symbol symbol.CloseParenthesis) (length a))
+    (omega arith) h k in
+    record { written = sym (names_row xs) ∙ ap row r.written ∙ names_row ys; left = r.left }
+
+program_written : (l m : Lexeme) (u v w x : Notation) → l ≡ m → u ≡ v → w ≡ x
+    → bracketed note.program (token l ∷ bracketed note.parameters u ++ w) ≡ bracketed note.program (token m ∷ bracketed note.parameters v ++ x)
+program_written l m u v w x h i j = cc
+
+-- two programs
+programs_alike : (a : List Token) (p q : Program) → is_program p ≡ true → is_program q ≡ true → ProgramAs a p → ProgramAs a q → notation p ≡ notation q
+unfolding name_spelling
+programs_alike a p q f g x y =
+    let s = in_parentheses (identifiers p.parameters.items) in
+    let t = in_parentheses (identifiers q.parameters.items) in
+    let word = first_is_one (word_symbol word.Program) (word_symbol word.Program) (identifier p.name ∷ s)
+    (identifier q.name ∷ t) a x.first y.first x.named y.named in
+    let name = first_is_one (identifier p.name) (identifier q.name) s t word.behind x.first y.first word.one_behind word.two_behind in
+    let parameters = parameters_alike name.behind x.first y.first p.parameters.items q.parameters.items
+    (record { spelled = name.one_behind; formed = all_names p.parameters.items; ends = closes_parameters x.first x.second x.semicolon })
+    (record { spelled = name.two_behind; formed = all_names q.parameters.items; ends = closes_parameters y.first y.second y.semicolon }) in
+    let second = last_is_one (mark symbol.Semicolon) (mark symbol.Semicolon) x.first x.second y.second x.semicolon
+    (subst (λ u. Reads u (mark symbol.Semicolon ∷ []) y.second) (sym parameters.left) y.semicolon) in
+    let block = block_alike x.second x.third y.third p.block q.block (block_as x.second x.third p.block x.blocked f)
+    (block_as x.second y.third q.block (subst (λ u. Reads u (block_spelling q.block) y.third) (sym second) y.blocked) g) in
+    program_written _ _ _ _ _ _ (name_is_one p.name q.name name.first name.one name.two) parameters.written block.written
+
+-- tokens have one tree
+pub one_tree : (tokens : List Token) → HasOneTree tokens
+unfolding HasOneTree
+one_tree tokens one two f g h k = programs_alike tokens one two f g (program_as tokens one h) (program_as tokens two k)

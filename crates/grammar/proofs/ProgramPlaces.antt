@@ -1,0 +1,152 @@
+-- The places that a program keeps are those that its spelling keeps; and they are in order where those of its tokens are.
+use Rattle.std.proofs.Common.{◌≡◌, List, [], ◌∷◌, ◌++◌, map, Option, Some, None, IfSome, refl, subst, sym, ap, ◌∙◌, append_assoc}
+use Rattle.std.specs.List.{flat_map}
+use Rattle.std.proofs.lemmas.List.{append-nil}
+use Rattle.std.proofs.lemmas.List.Folds.{flat_map-map}
+use Rattle.place.specs.declared.Place.{Place}
+use Rattle.place.specs.Place.{ArePlacesInOrder}
+use Rattle.place.proofs.Order.{without_first, without_second}
+use Rattle.lexer.specs.declared.token.Kind.TheVariants as kind
+use Rattle.lexer.specs.declared.token.Symbol.TheVariants as symbol
+use Rattle.lexer.specs.declared.token.Word.TheVariants as word
+use Rattle.lexer.specs.declared.token.Token.{Token}
+use Rattle.syntax_tree.specs.declared.Name.{Name}
+use Rattle.syntax_tree.specs.declared.Actual.{Actual}
+use Rattle.syntax_tree.specs.declared.TypeDenoter.{TypeDenoter}
+use Rattle.syntax_tree.specs.declared.TypeDenoter.TheVariants as denoter
+use Rattle.syntax_tree.specs.declared.VariableGroup.{VariableGroup}
+use Rattle.syntax_tree.specs.declared.Block.{Block}
+use Rattle.syntax_tree.specs.declared.Program.{Program}
+use Rattle.syntax_tree.specs.declared.Stmt.{Stmt}
+use Rattle.syntax_tree.specs.declared.Stmt.TheOpen as stmt
+use Rattle.syntax_tree.specs.declared.Stmt.TheViews.{roll-Stmt}
+use Rattle.syntax_tree.specs.declared.Stmt.TheFolds.{map-Stmt, fold-roll-Stmt, ind-Stmt}
+use Rattle.syntax_tree.specs.Places.{Places, name_places, expr_places, actual_places, stmt_places, denoter_places, group_places, block_places, program_places}
+use Rattle.syntax_tree.specs.Places as place
+use Rattle.grammar.specs.Spelling.{Lexeme, Spelling, IsSpelledBy, Reads, Spells, joined, separated, in_parentheses, mark, word_symbol, of_kind_at, identifier, identifiers, expr_spelling, actual_spelling, stmt_spelling, denoter_spelling, group_spelling, variables_spelling, block_spelling, program_spelling}
+use Rattle.grammar.specs.Spelling as spell
+use Rattle.grammar.proofs.TreePlaces.{kept, kept_places, kept_both, AllKept, each_kept, all_kept, joined_kept, separated_kept, parenthesized_kept, expr_kept, actual_kept}
+
+-- ---- statements
+
+abbrev StmtKept : Stmt → Type 0
+StmtKept s = stmt_places s ≡ kept_places (stmt_spelling s)
+
+abbrev KeptStmt : Type 0
+KeptStmt = (s : Stmt) × StmtKept s
+
+abbrev stmt_parts : stmt.Stmt-F KeptStmt → stmt.Stmt-F Stmt
+stmt_parts = map-Stmt KeptStmt Stmt (λ s. s.0)
+
+stmt_layer : (y : stmt.Stmt-F KeptStmt)
+    → place.statement_step (map-Stmt Stmt Places stmt_places (stmt_parts y))
+    ≡ kept_places (spell.stmt_step (map-Stmt Stmt Spelling stmt_spelling (stmt_parts y)))
+stmt_layer stmt.Empty = refl
+stmt_layer (stmt.Assign n p e) = ap (λ ps. n.place ∷ p ∷ ps) (expr_kept e)
+stmt_layer (stmt.Call n v) =
+    ap (λ ps. n.place ∷ ps) (parenthesized_kept Actual actual_spelling actual_places v.items
+    (each_kept Actual actual_spelling actual_places v.items actual_kept))
+stmt_layer (stmt.Compound v) =
+    let inner = separated symbol.Semicolon (map stmt_spelling (map (λ s. s.0) v.items)) in
+    flat_map-map (λ row. row) stmt_places (map (λ s. s.0) v.items)
+    ∙ separated_kept Stmt symbol.Semicolon stmt_spelling stmt_places (map (λ s. s.0) v.items) (all_kept Stmt stmt_spelling stmt_places v.items)
+    ∙ sym (append-nil _) ∙ sym (kept_both inner (word_symbol word.End ∷ []))
+
+stmt_rolled : (y : stmt.Stmt-F KeptStmt) → StmtKept (roll-Stmt (stmt_parts y))
+stmt_rolled y =
+    fold-roll-Stmt Places place.statement_step (stmt_parts y) ∙ stmt_layer y ∙ sym (ap kept_places (fold-roll-Stmt Spelling spell.stmt_step (stmt_parts y)))
+
+pub stmt_kept : (s : Stmt) → StmtKept s
+stmt_kept = ind-Stmt StmtKept (λ x y is. subst (λ z. StmtKept (roll-Stmt z)) is (stmt_rolled y))
+
+-- ---- declarations and programs
+
+-- names one behind another
+abbrev one_place : Name → Places
+one_place name = name.place ∷ []
+
+names_in_turn : (names : List Name) → name_places names ≡ flat_map one_place names
+names_in_turn [] = refl
+names_in_turn (n ∷ ns) = ap (λ ps. n.place ∷ ps) (names_in_turn ns)
+
+abbrev one_name : Name → Spelling
+one_name name = identifier name ∷ []
+
+names_kept : (names : List Name) → AllKept Name one_name one_place names
+names_kept names = each_kept Name one_name one_place names (λ _. refl)
+
+denoter_kept : (d : TypeDenoter) → denoter_places d ≡ kept_places (denoter_spelling d)
+denoter_kept (denoter.Name n) = refl
+
+group_kept : (g : VariableGroup) → group_places g ≡ kept_places (group_spelling g)
+group_kept g =
+    let list = separated symbol.Comma (identifiers g.names.items) in
+    let type : Spelling = mark symbol.Colon ∷ denoter_spelling g.denoter in
+    let names = names_in_turn g.names.items ∙ separated_kept Name symbol.Comma one_name one_place g.names.items (names_kept g.names.items) in
+    let of_type = denoter_kept g.denoter in
+    (λ i. names i ++ of_type i) ∙ sym (kept_both list type) ∙ sym (append-nil _) ∙ sym (kept_both (list ++ type) (mark symbol.Semicolon ∷ []))
+
+variables_kept : (groups : List VariableGroup) → flat_map group_places groups ≡ kept_places (variables_spelling groups)
+variables_kept [] = refl
+variables_kept (g ∷ gs) =
+    joined_kept VariableGroup group_spelling group_places (g ∷ gs) (each_kept VariableGroup group_spelling group_places (g ∷ gs) group_kept)
+
+block_kept : (b : Block) → block_places b ≡ kept_places (block_spelling b)
+block_kept b =
+    let statements = separated symbol.Semicolon (map stmt_spelling b.statements.items) in
+    let end : Spelling = of_kind_at (kind.Word word.End) b.end ∷ [] in
+    let first = variables_kept b.variables.items in
+    let others = separated_kept Stmt symbol.Semicolon stmt_spelling stmt_places b.statements.items
+    (each_kept Stmt stmt_spelling stmt_places b.statements.items stmt_kept) in
+    (λ i. first i ++ (others i ++ b.end ∷ []))
+    ∙ sym (append_assoc (kept_places (variables_spelling b.variables.items)) (kept_places statements) (b.end ∷ []))
+    ∙ ap (λ ps. ps ++ b.end ∷ []) (sym (kept_both (variables_spelling b.variables.items) (word_symbol word.Begin ∷ statements)))
+    ∙ sym (kept_both (variables_spelling b.variables.items ++ word_symbol word.Begin ∷ statements) end)
+
+pub program_kept : (p : Program) → program_places p ≡ kept_places (program_spelling p)
+program_kept p =
+    let list = in_parentheses (identifiers p.parameters.items) in
+    let body : Spelling = mark symbol.Semicolon ∷ block_spelling p.block in
+    let names = names_in_turn p.parameters.items ∙ parenthesized_kept Name one_name one_place p.parameters.items (names_kept p.parameters.items) in
+    let block = block_kept p.block in
+    ap (λ ps. p.name.place ∷ ps)
+    ((λ i. names i ++ block i) ∙ sym (kept_both list body) ∙ sym (append-nil _) ∙ sym (kept_both (list ++ body) (mark symbol.Period ∷ [])))
+
+-- ---- the order
+
+abbrev token_places : List Token → Places
+token_places = map (λ token. token.place)
+
+-- the place of a token, kept or not, before others
+order_at : (p : Place) (token : Token) (behind : List Token) (o : Option Place) (others : Places) → IfSome o (λ place. token.place ≡ place)
+    → ((q : Place) → ArePlacesInOrder (q ∷ token_places behind) → ArePlacesInOrder (q ∷ others))
+    → ArePlacesInOrder (p ∷ token.place ∷ token_places behind) → ArePlacesInOrder (p ∷ kept o others)
+order_at p token behind None others is more h = more p (without_second p token.place (token_places behind) h)
+order_at p token behind (Some q) others is more h =
+    subst (λ x. ArePlacesInOrder (p ∷ x ∷ others)) is (h.0, more token.place h.1)
+
+-- behind a place the places that a spelling keeps are in order where those of its tokens are
+order_behind : (s : Spelling) (p : Place) (tokens : List Token) → Spells tokens s → ArePlacesInOrder (p ∷ token_places tokens)
+    → ArePlacesInOrder (p ∷ kept_places s)
+order_behind [] p tokens h k = tt
+order_behind (l ∷ s) p tokens h k =
+    order_at p h.0 h.1 l.place (kept_places s) h.3.place (λ q m. order_behind s q h.1 h.4 m)
+    (subst (λ ts. ArePlacesInOrder (p ∷ token_places ts)) h.2 k)
+
+order_first : (token : Token) (behind : List Token) (o : Option Place) (others : Places) → IfSome o (λ place. token.place ≡ place)
+    → ((q : Place) → ArePlacesInOrder (q ∷ token_places behind) → ArePlacesInOrder (q ∷ others))
+    → (ArePlacesInOrder (token_places behind) → ArePlacesInOrder others)
+    → ArePlacesInOrder (token.place ∷ token_places behind) → ArePlacesInOrder (kept o others)
+order_first token behind None others is more rest h = rest (without_first token.place (token_places behind) h)
+order_first token behind (Some q) others is more rest h = subst (λ x. ArePlacesInOrder (x ∷ others)) is (more token.place h)
+
+spelled_in_order : (s : Spelling) (tokens : List Token) → Spells tokens s → ArePlacesInOrder (token_places tokens) → ArePlacesInOrder (kept_places s)
+spelled_in_order [] tokens h k = tt
+spelled_in_order (l ∷ s) tokens h k =
+    order_first h.0 h.1 l.place (kept_places s) h.3.place (λ q m. order_behind s q h.1 h.4 m) (λ m. spelled_in_order s h.1 h.4 m)
+    (subst (λ ts. ArePlacesInOrder (token_places ts)) h.2 k)
+
+-- where the tokens are in order, so is the program that they spell
+pub program_in_order : (tokens : List Token) (p : Program) → Spells tokens (program_spelling p) → ArePlacesInOrder (map (λ token. token.place) tokens)
+    → ArePlacesInOrder (program_places p)
+program_in_order tokens p h k = subst ArePlacesInOrder (sym (program_kept p)) (spelled_in_order (program_spelling p) tokens h k)

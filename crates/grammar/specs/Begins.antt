@@ -1,0 +1,119 @@
+-- What tokens begin with: a spelling of a form, well formed and nested within so many levels. Each of these says: the
+-- tokens begin with such a thing, and then the others are left.
+-- This doesn't say what a parser answers to them.
+use Rattle.std.specs.Prelude.{◌≡◌, ℕ, ◌+◌, ◌<◌, ◌≤◌, true, List, [], ◌∷◌, ◌++◌, map, length}
+use Rattle.std.specs.List.{list_all}
+use Rattle.place.specs.declared.Place.{Place}
+use Rattle.lexer.specs.declared.token.Kind.TheVariants as kind
+use Rattle.lexer.specs.declared.token.Symbol.{Symbol}
+use Rattle.lexer.specs.declared.token.Symbol.TheVariants as symbol
+use Rattle.lexer.specs.declared.token.Token.{Token}
+use Rattle.lexer.specs.declared.token.Word.TheVariants as word
+use Rattle.syntax_tree.specs.declared.Expr.{Expr}
+use Rattle.syntax_tree.specs.declared.Link.{Link}
+use Rattle.syntax_tree.specs.declared.Actual.{Actual}
+use Rattle.syntax_tree.specs.declared.Stmt.{Stmt}
+use Rattle.syntax_tree.specs.declared.Name.{Name}
+use Rattle.syntax_tree.specs.declared.VariableGroup.{VariableGroup}
+use Rattle.syntax_tree.specs.declared.Block.{Block}
+use Rattle.syntax_tree.specs.declared.Program.{Program}
+use Rattle.grammar.specs.Spelling.{Spelling, Reads, expr_spelling, link_spelling, actual_spelling, stmt_spelling, joined, identifiers, group_spelling, variables_spelling, block_spelling, program_spelling, separated, in_parentheses, word_symbol, of_kind_at, mark}
+use Rattle.grammar.specs.WellFormed.{expr_form, link_form, fits, relation_level, is_link, is_actual, is_statement, is_group, is_block, is_program}
+use Rattle.grammar.specs.Nesting.{expr_levels, link_levels, actual_levels, stmt_levels, deepest, nesting}
+
+-- an expression of at least this level
+pub record BeginsExpr (level levels : ℕ) (tokens others : List Token) (e : Expr) : Type 0 where
+  pub spelled : Reads tokens (expr_spelling e) others
+  pub formed : fits level (expr_form e) ≡ true
+  pub nests : expr_levels e ≤ levels
+
+-- operators of this level, each with the operand behind it: of a relation one at most
+pub record BeginsLinks (level levels : ℕ) (tokens others : List Token) (links : List Link) : Type 0 where
+  pub spelled : Reads tokens (joined (map link_spelling links)) others
+  pub formed : list_all (is_link level) (map link_form links) ≡ true
+  pub few : level ≡ relation_level → length links ≤ 1
+  pub nests : deepest (map link_levels links) ≤ levels
+
+-- one or more parts with a symbol between each two
+pub record BeginsList (m : Symbol) (tokens others : List Token) (parts : List Spelling) : Type 0 where
+  pub some : 0 < length parts
+  pub spelled : Reads tokens (separated m parts) others
+
+-- an actual, which is a level of its own
+pub record BeginsActual (levels : ℕ) (tokens others : List Token) (actual : Actual) : Type 0 where
+  pub spelled : Reads tokens (actual_spelling actual) others
+  pub formed : is_actual actual ≡ true
+  pub nests : actual_levels actual ≤ levels
+
+-- one or more actuals
+pub record BeginsActualList (levels : ℕ) (tokens others : List Token) (actuals : List Actual) : Type 0 where
+  pub list : BeginsList symbol.Comma tokens others (map actual_spelling actuals)
+  pub formed : list_all is_actual actuals ≡ true
+  pub nests : deepest (map actual_levels actuals) ≤ levels
+
+-- actuals in parentheses, or none
+pub record BeginsActuals (levels : ℕ) (tokens others : List Token) (actuals : List Actual) : Type 0 where
+  pub spelled : Reads tokens (in_parentheses (map actual_spelling actuals)) others
+  pub formed : list_all is_actual actuals ≡ true
+  pub nests : deepest (map actual_levels actuals) ≤ levels
+
+-- a statement, which is a level of its own
+pub record BeginsStmt (levels : ℕ) (tokens others : List Token) (s : Stmt) : Type 0 where
+  pub spelled : Reads tokens (stmt_spelling s) others
+  pub formed : is_statement s ≡ true
+  pub nests : stmt_levels s ≤ levels
+
+-- one or more statements
+pub record BeginsStatements (levels : ℕ) (tokens others : List Token) (statements : List Stmt) : Type 0 where
+  pub list : BeginsList symbol.Semicolon tokens others (map stmt_spelling statements)
+  pub formed : list_all is_statement statements ≡ true
+  pub nests : deepest (map stmt_levels statements) ≤ levels
+
+-- a compound statement, with the place of its `end`
+pub record BeginsCompound (levels : ℕ) (tokens others : List Token) (found : List Stmt × Place) : Type 0 where
+  pub spelled :
+      Reads tokens (word_symbol word.Begin ∷ separated symbol.Semicolon (map stmt_spelling found.0)
+      ++ of_kind_at (kind.Word word.End) found.1 ∷ []) others
+  pub some : 0 < length found.0
+  pub formed : list_all is_statement found.0 ≡ true
+  pub nests : deepest (map stmt_levels found.0) ≤ levels
+
+-- one or more names with a comma between each two
+abbrev pub BeginsNames : List Token → List Token → List Name → Type 0
+BeginsNames tokens others names = BeginsList symbol.Comma tokens others (identifiers names)
+
+-- names in parentheses, or none
+abbrev pub BeginsParameters : List Token → List Token → List Name → Type 0
+BeginsParameters tokens others names = Reads tokens (in_parentheses (identifiers names)) others
+
+-- variables declared together
+pub record BeginsGroup (tokens others : List Token) (g : VariableGroup) : Type 0 where
+  pub spelled : Reads tokens (group_spelling g) others
+  pub formed : is_group g ≡ true
+
+-- one or more of these
+pub record BeginsGroups (tokens others : List Token) (groups : List VariableGroup) : Type 0 where
+  pub some : 0 < length groups
+  pub spelled : Reads tokens (joined (map group_spelling groups)) others
+  pub formed : list_all is_group groups ≡ true
+
+-- a variable declaration part, or none
+pub record BeginsVariables (tokens others : List Token) (groups : List VariableGroup) : Type 0 where
+  pub spelled : Reads tokens (variables_spelling groups) others
+  pub formed : list_all is_group groups ≡ true
+
+-- a block, whose compound statement is a level of its own
+pub record BeginsBlock (levels : ℕ) (tokens others : List Token) (b : Block) : Type 0 where
+  pub spelled : Reads tokens (block_spelling b) others
+  pub formed : is_block b ≡ true
+  pub nests : 1 + deepest (map stmt_levels b.statements.items) ≤ levels
+
+-- a program
+pub record BeginsProgram (levels : ℕ) (tokens others : List Token) (p : Program) : Type 0 where
+  pub spelled : Reads tokens (program_spelling p) others
+  pub formed : is_program p ≡ true
+  pub nests : nesting p ≤ levels
+
+-- the period of a program, the last of the tokens
+abbrev pub Stop : List Token → Type 0
+Stop tokens = Reads tokens (mark symbol.Period ∷ []) []

@@ -1,0 +1,65 @@
+-- What comes next in a list of tokens, and what may stand behind a form: nothing with which the form would go on.
+-- This doesn't say what the forms are: see Spelling.
+use Rattle.std.specs.Prelude.{◌≡◌, ℕ, ◌≤◌, List, [], ◌∷◌, Option, Some, None}
+use Rattle.place.specs.declared.Place.{Place}
+use Rattle.lexer.specs.declared.token.Kind.{Kind}
+use Rattle.lexer.specs.declared.token.Kind.TheVariants as kind
+use Rattle.lexer.specs.declared.token.Symbol.TheVariants as symbol
+use Rattle.lexer.specs.declared.token.Token.{Token}
+use Rattle.lexer.specs.declared.token.Word.TheVariants as word
+use Rattle.syntax_tree.specs.declared.Sign.{Sign}
+use Rattle.syntax_tree.specs.declared.Operator.{Operator}
+use Rattle.grammar.specs.Spelling.{sign, operator_kind}
+use Rattle.grammar.specs.WellFormed.{operator_level}
+
+-- the kind of the first token
+abbrev pub next_kind : List Token → Option Kind
+next_kind [] = None
+next_kind (token ∷ others) = Some token.kind
+
+-- anything may stand behind
+abbrev pub Anything : List Token → Type 0
+Anything others = Unit {0}
+
+-- no token of this kind comes next
+abbrev pub NoNext : Kind → List Token → Type 0
+NoNext k others = ¬ (next_kind others ≡ Some k)
+
+-- a token of this kind comes next
+abbrev pub Next : Kind → List Token → Type 0
+Next k others = next_kind others ≡ Some k
+
+-- no sign comes next
+abbrev pub NoSign : List Token → Type 0
+NoSign others = (s : Sign) (place : Place) → ¬ (next_kind others ≡ Some (sign s place).kind)
+
+-- no operator of this level comes next
+abbrev pub NoOperator : ℕ → List Token → Type 0
+NoOperator level others = (o : Operator) → operator_level o ≡ level → ¬ (next_kind others ≡ Some (operator_kind o))
+
+-- what may stand behind an expression of at least this level: nothing with which it, or its last name, would go on
+pub record Ends (level : ℕ) (others : List Token) : Type 0 where
+  pub operators : (o : Operator) → level ≤ operator_level o → ¬ (next_kind others ≡ Some (operator_kind o))
+  pub call : NoNext (kind.Symbol symbol.OpenParenthesis) others
+
+-- what comes next behind an actual: a comma or the closing parenthesis of the list
+pub data EndsActual (others : List Token) : Type 0 where
+  comma : Next (kind.Symbol symbol.Comma) others → EndsActual others
+  parenthesis : Next (kind.Symbol symbol.CloseParenthesis) others → EndsActual others
+
+-- the closing parenthesis of a list comes next
+abbrev pub Closes : List Token → Type 0
+Closes = Next (kind.Symbol symbol.CloseParenthesis)
+
+-- the `end` of a compound statement comes next
+abbrev pub EndsStatements : List Token → Type 0
+EndsStatements = Next (kind.Word word.End)
+
+-- the compound statement of a block comes next
+abbrev pub BeginsStatementPart : List Token → Type 0
+BeginsStatementPart = Next (kind.Word word.Begin)
+
+-- what comes next behind a statement: a semicolon or the `end` of the compound statement
+pub data EndsStmt (others : List Token) : Type 0 where
+  semicolon : Next (kind.Symbol symbol.Semicolon) others → EndsStmt others
+  end : Next (kind.Word word.End) others → EndsStmt others

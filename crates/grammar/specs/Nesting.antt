@@ -1,0 +1,66 @@
+-- How deep a tree nests. The program's own compound statement is the first level. Each statement in a compound
+-- statement, each actual with its width, each expression in parentheses and each operand of `not` is one level below
+-- what it stands in.
+-- A chain of operators is a list and no nesting. The standard sets no bound.
+use Rattle.std.specs.Prelude.{ℕ, ◌+◌, List, Option, Some, None, map, max, fold}
+use Rattle.syntax_tree.specs.declared.Program.{Program}
+use Rattle.syntax_tree.specs.declared.Expr.{Expr}
+use Rattle.syntax_tree.specs.declared.Link.{Link}
+use Rattle.syntax_tree.specs.declared.Actual.{Actual}
+use Rattle.syntax_tree.specs.declared.Expr.TheOpen.{Expr-F, Actual-F}
+use Rattle.syntax_tree.specs.declared.Expr.TheOpen as expr
+use Rattle.syntax_tree.specs.declared.Expr.TheFolds.{fold-Expr, fold-Link, fold-Actual}
+use Rattle.syntax_tree.specs.declared.Stmt.{Stmt}
+use Rattle.syntax_tree.specs.declared.Stmt.TheOpen.{Stmt-F}
+use Rattle.syntax_tree.specs.declared.Stmt.TheOpen as stmt
+use Rattle.syntax_tree.specs.declared.Stmt.TheFolds.{fold-Stmt}
+
+-- the deepest of several
+abbrev pub deepest : List ℕ → ℕ
+deepest = fold max 0
+
+-- the levels in a width, where there is one
+abbrev pub width_levels : Option ℕ → ℕ
+width_levels None = 0
+width_levels (Some width) = width
+
+-- one layer of an expression: the levels in it
+abbrev pub expr_step : Expr-F ℕ ℕ ℕ → ℕ
+expr_step (expr.Number value place) = 0
+expr_step (expr.Name name) = 0
+expr_step (expr.Call name actuals) = deepest actuals.items
+expr_step (expr.Parenthesized place inner) = 1 + inner.value
+expr_step (expr.Not place operand) = 1 + operand.value
+expr_step (expr.Signed s place operand) = operand.value
+expr_step (expr.Chain first rest) = max first.value (deepest rest.items)
+
+-- an actual is a level of its own
+abbrev pub actual_step : Actual-F ℕ ℕ ℕ → ℕ
+actual_step actual = 1 + max actual.value (width_levels actual.width)
+
+-- the levels in an expression, its own left out
+abbrev pub expr_levels : Expr → ℕ
+expr_levels = fold-Expr ℕ ℕ ℕ expr_step actual_step (λ link. link.operand)
+
+-- the levels in the operand behind an operator
+abbrev pub link_levels : Link → ℕ
+link_levels = fold-Link ℕ ℕ ℕ expr_step actual_step (λ link. link.operand)
+
+-- the levels of an actual, its own among them
+abbrev pub actual_levels : Actual → ℕ
+actual_levels = fold-Actual ℕ ℕ ℕ expr_step actual_step (λ link. link.operand)
+
+-- one layer of a statement: the levels in it and its own
+abbrev pub stmt_step : Stmt-F ℕ → ℕ
+stmt_step stmt.Empty = 1
+stmt_step (stmt.Assign name becomes value) = 1 + expr_levels value
+stmt_step (stmt.Call name actuals) = 1 + deepest (map actual_levels actuals.items)
+stmt_step (stmt.Compound statements) = 1 + deepest statements.items
+
+-- the levels of a statement, its own among them
+abbrev pub stmt_levels : Stmt → ℕ
+stmt_levels = fold-Stmt ℕ stmt_step
+
+-- the levels of a program
+abbrev pub nesting : Program → ℕ
+nesting p = 1 + deepest (map stmt_levels p.block.statements.items)

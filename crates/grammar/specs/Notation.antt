@@ -1,0 +1,135 @@
+-- A program written out with brackets round each form. It tells all that a tree holds but where the tree lies in
+-- memory: trees that are written alike are built alike, and of the same tokens.
+-- This doesn't say which trees there may be: see WellFormed.
+use Rattle.std.specs.Prelude.{List, [], ◌∷◌, ◌++◌, map, Option, Some, None}
+use Rattle.lexer.specs.declared.token.Kind.TheVariants as kind
+use Rattle.lexer.specs.declared.token.Symbol.TheVariants as symbol
+use Rattle.lexer.specs.declared.token.Word.TheVariants as word
+use Rattle.syntax_tree.specs.declared.Name.{Name}
+use Rattle.syntax_tree.specs.declared.TypeDenoter.{TypeDenoter}
+use Rattle.syntax_tree.specs.declared.TypeDenoter.TheVariants as denoter
+use Rattle.syntax_tree.specs.declared.VariableGroup.{VariableGroup}
+use Rattle.syntax_tree.specs.declared.Block.{Block}
+use Rattle.syntax_tree.specs.declared.Program.{Program}
+use Rattle.syntax_tree.specs.declared.Expr.{Expr}
+use Rattle.syntax_tree.specs.declared.Link.{Link}
+use Rattle.syntax_tree.specs.declared.Actual.{Actual}
+use Rattle.syntax_tree.specs.declared.Expr.TheOpen.{Expr-F, Link-F, Actual-F}
+use Rattle.syntax_tree.specs.declared.Expr.TheOpen as expr
+use Rattle.syntax_tree.specs.declared.Expr.TheFolds.{fold-Expr, fold-Link, fold-Actual}
+use Rattle.syntax_tree.specs.declared.Stmt.{Stmt}
+use Rattle.syntax_tree.specs.declared.Stmt.TheOpen.{Stmt-F}
+use Rattle.syntax_tree.specs.declared.Stmt.TheOpen as stmt
+use Rattle.syntax_tree.specs.declared.Stmt.TheFolds.{fold-Stmt}
+use Rattle.grammar.specs.Spelling.{Lexeme, of_kind_at, identifier, sign, operator}
+
+-- the forms of expressions, of statements and of declarations
+pub data Shape : Type 0 where
+  number : Shape
+  name : Shape
+  function_call : Shape
+  parenthesized : Shape
+  negated : Shape
+  signed : Shape
+  chain : Shape
+  actual : Shape
+  empty : Shape
+  assignment : Shape
+  procedure_call : Shape
+  compound : Shape
+  group : Shape
+  parameters : Shape
+  block : Shape
+  program : Shape
+
+-- where a form begins, where the innermost one ends, and a token in it
+pub data Mark : Type 0 where
+  opens : Shape → Mark
+  closes : Mark
+  token : Lexeme → Mark
+
+abbrev pub Notation : Type 0
+Notation = List Mark
+
+-- a form in its brackets
+abbrev pub bracketed : Shape → Notation → Notation
+bracketed shape inner = opens shape ∷ inner ++ closes ∷ []
+
+-- parts written one behind another
+abbrev pub row : List Notation → Notation
+row [] = []
+row (part ∷ parts) = part ++ row parts
+
+-- names written one behind another
+abbrev pub names_notation : List Name → Notation
+names_notation = map (λ name. token (identifier name))
+
+-- a width, where there is one
+abbrev pub width_notation : Option Notation → Notation
+width_notation None = []
+width_notation (Some width) = width
+
+-- one layer of an expression, its parts written out
+abbrev pub expr_step : Expr-F Notation Notation Notation → Notation
+expr_step (expr.Number value place) = bracketed number (token (of_kind_at (kind.Number value) place) ∷ [])
+expr_step (expr.Name n) = bracketed name (token (identifier n) ∷ [])
+expr_step (expr.Call n actuals) = bracketed function_call (token (identifier n) ∷ row actuals.items)
+expr_step (expr.Parenthesized place inner) =
+    bracketed parenthesized (token (of_kind_at (kind.Symbol symbol.OpenParenthesis) place) ∷ inner.value)
+expr_step (expr.Not place operand) = bracketed negated (token (of_kind_at (kind.Word word.Not) place) ∷ operand.value)
+expr_step (expr.Signed s place term) = bracketed signed (token (sign s place) ∷ term.value)
+expr_step (expr.Chain first rest) = bracketed chain (first.value ++ row rest.items)
+
+-- an operator and the operand behind it
+abbrev pub link_step : Link-F Notation Notation Notation → Notation
+link_step link = token (operator link.operator link.place) ∷ link.operand
+
+-- an actual and its width
+abbrev pub actual_step : Actual-F Notation Notation Notation → Notation
+actual_step a = bracketed actual (a.value ++ width_notation a.width)
+
+-- an expression
+abbrev pub expr_notation : Expr → Notation
+expr_notation = fold-Expr Notation Notation Notation expr_step actual_step link_step
+
+-- an operator and its operand
+abbrev pub link_notation : Link → Notation
+link_notation = fold-Link Notation Notation Notation expr_step actual_step link_step
+
+-- an actual
+abbrev pub actual_notation : Actual → Notation
+actual_notation = fold-Actual Notation Notation Notation expr_step actual_step link_step
+
+-- one layer of a statement, its parts written out
+abbrev pub stmt_step : Stmt-F Notation → Notation
+stmt_step stmt.Empty = bracketed empty []
+stmt_step (stmt.Assign n becomes value) =
+    bracketed assignment
+    (token (identifier n) ∷ token (of_kind_at (kind.Symbol symbol.Becomes) becomes) ∷ expr_notation value)
+stmt_step (stmt.Call n actuals) =
+    bracketed procedure_call (token (identifier n) ∷ row (map actual_notation actuals.items))
+stmt_step (stmt.Compound statements) = bracketed compound (row statements.items)
+
+-- a statement
+abbrev pub stmt_notation : Stmt → Notation
+stmt_notation = fold-Stmt Notation stmt_step
+
+-- a type denoter
+abbrev pub denoter_notation : TypeDenoter → Notation
+denoter_notation (denoter.Name n) = token (identifier n) ∷ []
+
+-- variables declared together, their type last
+abbrev pub group_notation : VariableGroup → Notation
+group_notation g = bracketed group (names_notation g.names.items ++ denoter_notation g.denoter)
+
+-- a block, its last `end` last
+abbrev pub block_notation : Block → Notation
+block_notation b =
+    bracketed block (row (map group_notation b.variables.items) ++ row (map stmt_notation b.statements.items)
+    ++ token (of_kind_at (kind.Word word.End) b.end) ∷ [])
+
+-- a program
+abbrev pub notation : Program → Notation
+notation p =
+    bracketed program
+    (token (identifier p.name) ∷ bracketed parameters (names_notation p.parameters.items) ++ block_notation p.block)

@@ -1,0 +1,198 @@
+-- The tokens that spell a syntax tree: ISO 7185:1990, 6.7.1 (expressions), 6.8 (statements), 6.2.1 (blocks), 6.5.1
+-- (variables), 6.10 (programs). A tree keeps its parentheses, so each tree has one spelling.
+-- This doesn't say which trees there may be: see WellFormed and Nesting.
+use Rattle.std.specs.Prelude.{◌≡◌, ℕ, List, [], ◌∷◌, ◌++◌, map, Option, Some, None, IfSome}
+use Rattle.place.specs.declared.Place.{Place}
+use Rattle.lexer.specs.declared.token.Kind.{Kind}
+use Rattle.lexer.specs.declared.token.Kind.TheVariants as kind
+use Rattle.lexer.specs.declared.token.Word.{Word}
+use Rattle.lexer.specs.declared.token.Word.TheVariants as word
+use Rattle.lexer.specs.declared.token.Symbol.{Symbol}
+use Rattle.lexer.specs.declared.token.Symbol.TheVariants as symbol
+use Rattle.lexer.specs.declared.token.Token.{Token}
+use Rattle.syntax_tree.specs.declared.Name.{Name}
+use Rattle.syntax_tree.specs.declared.Sign.{Sign}
+use Rattle.syntax_tree.specs.declared.Sign.TheVariants.{Plus, Minus}
+use Rattle.syntax_tree.specs.declared.Operator.{Operator}
+use Rattle.syntax_tree.specs.declared.Operator.TheVariants as op
+use Rattle.syntax_tree.specs.declared.TypeDenoter.{TypeDenoter}
+use Rattle.syntax_tree.specs.declared.TypeDenoter.TheVariants as denoter
+use Rattle.syntax_tree.specs.declared.VariableGroup.{VariableGroup}
+use Rattle.syntax_tree.specs.declared.Block.{Block}
+use Rattle.syntax_tree.specs.declared.Program.{Program}
+use Rattle.syntax_tree.specs.declared.Expr.{Expr}
+use Rattle.syntax_tree.specs.declared.Link.{Link}
+use Rattle.syntax_tree.specs.declared.Actual.{Actual}
+use Rattle.syntax_tree.specs.declared.Expr.TheOpen.{Expr-F, Link-F, Actual-F}
+use Rattle.syntax_tree.specs.declared.Expr.TheOpen as expr
+use Rattle.syntax_tree.specs.declared.Expr.TheFolds.{fold-Expr, fold-Link, fold-Actual}
+use Rattle.syntax_tree.specs.declared.Stmt.{Stmt}
+use Rattle.syntax_tree.specs.declared.Stmt.TheOpen.{Stmt-F}
+use Rattle.syntax_tree.specs.declared.Stmt.TheOpen as stmt
+use Rattle.syntax_tree.specs.declared.Stmt.TheFolds.{fold-Stmt}
+
+-- what a tree says of a token: its kind, and where the tree keeps them its text and its place
+pub record Lexeme : Type 0 where
+  pub kind : Kind
+  pub text : Option (List ℕ)
+  pub place : Option Place
+
+abbrev pub Spelling : Type 0
+Spelling = List Lexeme
+
+-- the token is this one
+pub record IsSpelledBy (lexeme : Lexeme) (token : Token) : Type 0 where
+  pub kind : token.kind ≡ lexeme.kind
+  pub text : IfSome lexeme.text (λ text. token.text.now ≡ text)
+  pub place : IfSome lexeme.place (λ place. token.place ≡ place)
+
+-- the tokens begin with the spelling, and then these are left
+abbrev pub Reads : List Token → Spelling → List Token → Type 0
+Reads tokens [] others = tokens ≡ others
+Reads tokens (lexeme ∷ lexemes) others =
+    (token : Token) × (behind : List Token) × (tokens ≡ token ∷ behind) × IsSpelledBy lexeme token
+    × Reads behind lexemes others
+
+-- the tokens are the spelling
+abbrev pub Spells : List Token → Spelling → Type 0
+Spells tokens spelling = Reads tokens spelling []
+
+-- a token of which the tree keeps the kind alone, or the place too
+abbrev pub of_kind : Kind → Lexeme
+of_kind k = record { kind = k; text = None; place = None }
+
+abbrev pub of_kind_at : Kind → Place → Lexeme
+of_kind_at k place = record { kind = k; text = None; place = Some place }
+
+abbrev pub word_symbol : Word → Lexeme
+word_symbol w = of_kind (kind.Word w)
+
+abbrev pub mark : Symbol → Lexeme
+mark s = of_kind (kind.Symbol s)
+
+-- an identifier (6.1.3)
+abbrev pub identifier : Name → Lexeme
+identifier name = record { kind = kind.Identifier; text = Some name.text.now; place = Some name.place }
+
+-- a sign
+abbrev pub sign : Sign → Place → Lexeme
+sign Plus place = of_kind_at (kind.Symbol symbol.Plus) place
+sign Minus place = of_kind_at (kind.Symbol symbol.Minus) place
+
+-- the token of an operator (6.7.2.1)
+abbrev pub operator_kind : Operator → Kind
+operator_kind op.Plus = kind.Symbol symbol.Plus
+operator_kind op.Minus = kind.Symbol symbol.Minus
+operator_kind op.Or = kind.Word word.Or
+operator_kind op.Times = kind.Symbol symbol.Times
+operator_kind op.Div = kind.Word word.Div
+operator_kind op.Mod = kind.Word word.Mod
+operator_kind op.And = kind.Word word.And
+operator_kind op.Equal = kind.Symbol symbol.Equal
+operator_kind op.NotEqual = kind.Symbol symbol.NotEqual
+operator_kind op.Less = kind.Symbol symbol.Less
+operator_kind op.Greater = kind.Symbol symbol.Greater
+operator_kind op.LessOrEqual = kind.Symbol symbol.LessOrEqual
+operator_kind op.GreaterOrEqual = kind.Symbol symbol.GreaterOrEqual
+
+abbrev pub operator : Operator → Place → Lexeme
+operator o place = of_kind_at (operator_kind o) place
+
+-- spellings one behind another
+abbrev pub joined : List Spelling → Spelling
+joined [] = []
+joined (one ∷ others) = one ++ joined others
+
+-- spellings with a symbol between each two
+abbrev pub separated : Symbol → List Spelling → Spelling
+separated s [] = []
+separated s (one ∷ []) = one
+separated s (one ∷ two ∷ others) = one ++ mark s ∷ separated s (two ∷ others)
+
+-- a list in parentheses, which are left out with it where it is empty
+abbrev pub in_parentheses : List Spelling → Spelling
+in_parentheses [] = []
+in_parentheses (one ∷ others) =
+    mark symbol.OpenParenthesis ∷ separated symbol.Comma (one ∷ others) ++ mark symbol.CloseParenthesis ∷ []
+
+-- each identifier of a list
+abbrev pub identifiers : List Name → List Spelling
+identifiers = map (λ name. identifier name ∷ [])
+
+-- a width behind its colon, where there is one
+abbrev pub width_spelling : Option Spelling → Spelling
+width_spelling None = []
+width_spelling (Some width) = mark symbol.Colon ∷ width
+
+-- one layer of an expression, its parts spelled
+abbrev pub expr_step : Expr-F Spelling Spelling Spelling → Spelling
+expr_step (expr.Number value place) = of_kind_at (kind.Number value) place ∷ []
+expr_step (expr.Name name) = identifier name ∷ []
+expr_step (expr.Call name actuals) = identifier name ∷ in_parentheses actuals.items
+expr_step (expr.Parenthesized place inner) =
+    of_kind_at (kind.Symbol symbol.OpenParenthesis) place ∷ inner.value ++ mark symbol.CloseParenthesis ∷ []
+expr_step (expr.Not place operand) = of_kind_at (kind.Word word.Not) place ∷ operand.value
+expr_step (expr.Signed s place term) = sign s place ∷ term.value
+expr_step (expr.Chain first rest) = first.value ++ joined rest.items
+
+-- an operator and the operand behind it
+abbrev pub link_step : Link-F Spelling Spelling Spelling → Spelling
+link_step link = operator link.operator link.place ∷ link.operand
+
+-- an actual and its width
+abbrev pub actual_step : Actual-F Spelling Spelling Spelling → Spelling
+actual_step actual = actual.value ++ width_spelling actual.width
+
+-- an expression (6.7.1)
+abbrev pub expr_spelling : Expr → Spelling
+expr_spelling = fold-Expr Spelling Spelling Spelling expr_step actual_step link_step
+
+-- an operator and its operand
+abbrev pub link_spelling : Link → Spelling
+link_spelling = fold-Link Spelling Spelling Spelling expr_step actual_step link_step
+
+-- an actual parameter (6.7.3, 6.9.3)
+abbrev pub actual_spelling : Actual → Spelling
+actual_spelling = fold-Actual Spelling Spelling Spelling expr_step actual_step link_step
+
+-- one layer of a statement, its parts spelled
+abbrev pub stmt_step : Stmt-F Spelling → Spelling
+stmt_step stmt.Empty = []
+stmt_step (stmt.Assign name becomes value) =
+    identifier name ∷ of_kind_at (kind.Symbol symbol.Becomes) becomes ∷ expr_spelling value
+stmt_step (stmt.Call name actuals) = identifier name ∷ in_parentheses (map actual_spelling actuals.items)
+stmt_step (stmt.Compound statements) =
+    word_symbol word.Begin ∷ separated symbol.Semicolon statements.items ++ word_symbol word.End ∷ []
+
+-- a statement (6.8)
+abbrev pub stmt_spelling : Stmt → Spelling
+stmt_spelling = fold-Stmt Spelling stmt_step
+
+-- a type denoter (6.4.1)
+abbrev pub denoter_spelling : TypeDenoter → Spelling
+denoter_spelling (denoter.Name name) = identifier name ∷ []
+
+-- variables declared together, with their semicolon (6.5.1)
+abbrev pub group_spelling : VariableGroup → Spelling
+group_spelling g =
+    separated symbol.Comma (identifiers g.names.items) ++ mark symbol.Colon ∷ denoter_spelling g.denoter
+    ++ mark symbol.Semicolon ∷ []
+
+-- a variable declaration part, which is left out where no variable is declared (6.2.1)
+abbrev pub variables_spelling : List VariableGroup → Spelling
+variables_spelling [] = []
+variables_spelling (one ∷ others) = word_symbol word.Var ∷ joined (map group_spelling (one ∷ others))
+
+-- a block (6.2.1)
+abbrev pub block_spelling : Block → Spelling
+block_spelling b =
+    variables_spelling b.variables.items
+    ++ word_symbol word.Begin ∷ separated symbol.Semicolon (map stmt_spelling b.statements.items)
+    ++ of_kind_at (kind.Word word.End) b.end ∷ []
+
+-- a program (6.10)
+abbrev pub program_spelling : Program → Spelling
+program_spelling p =
+    word_symbol word.Program ∷ identifier p.name ∷ in_parentheses (identifiers p.parameters.items)
+    ++ mark symbol.Semicolon ∷ block_spelling p.block
+    ++ mark symbol.Period ∷ []

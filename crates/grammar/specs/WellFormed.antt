@@ -1,0 +1,162 @@
+-- Which trees there may be: operators nest by precedence (ISO 7185:1990, 6.7.1, 6.7.2.1), a sign stands at the first
+-- term of a sum or alone, a relation has one operator, and lists that the grammar wants nonempty are nonempty.
+-- This says nothing of names and types.
+use Rattle.std.specs.Prelude.{ℕ, ◌+◌, if◌then◌else◌, List, [], ◌∷◌, length, Bool, true, false, ◌&&◌, ◌||◌, Option, Some, None, nat_eq, nat_lt, nat_le}
+use Rattle.std.specs.List.{list_all}
+use Rattle.syntax_tree.specs.declared.VariableGroup.{VariableGroup}
+use Rattle.syntax_tree.specs.declared.Block.{Block}
+use Rattle.syntax_tree.specs.declared.Program.{Program}
+use Rattle.syntax_tree.specs.declared.Expr.{Expr}
+use Rattle.syntax_tree.specs.declared.Link.{Link}
+use Rattle.syntax_tree.specs.declared.Actual.{Actual}
+use Rattle.syntax_tree.specs.declared.Operator.{Operator}
+use Rattle.syntax_tree.specs.declared.Operator.TheVariants as op
+use Rattle.syntax_tree.specs.declared.Expr.TheOpen.{Expr-F, Link-F, Actual-F}
+use Rattle.syntax_tree.specs.declared.Expr.TheOpen as expr
+use Rattle.syntax_tree.specs.declared.Expr.TheFolds.{fold-Expr, fold-Link, fold-Actual}
+use Rattle.syntax_tree.specs.declared.Stmt.{Stmt}
+use Rattle.syntax_tree.specs.declared.Stmt.TheOpen.{Stmt-F}
+use Rattle.syntax_tree.specs.declared.Stmt.TheOpen as stmt
+use Rattle.syntax_tree.specs.declared.Stmt.TheFolds.{fold-Stmt}
+
+-- how tightly an expression's outermost form binds, and whether it is well formed
+pub record Form : Type 0 where
+  pub level : ℕ
+  pub well : Bool
+
+-- the levels: a relation, a sum, a signed term, a product, a factor
+abbrev pub relation_level : ℕ
+relation_level = 0
+
+abbrev pub sum_level : ℕ
+sum_level = 1
+
+abbrev pub signed_level : ℕ
+signed_level = 2
+
+abbrev pub product_level : ℕ
+product_level = 3
+
+abbrev pub factor_level : ℕ
+factor_level = 4
+
+-- the level of the chains of an operator (6.7.2.1)
+abbrev pub operator_level : Operator → ℕ
+operator_level op.Equal = relation_level
+operator_level op.NotEqual = relation_level
+operator_level op.Less = relation_level
+operator_level op.Greater = relation_level
+operator_level op.LessOrEqual = relation_level
+operator_level op.GreaterOrEqual = relation_level
+operator_level op.Plus = sum_level
+operator_level op.Minus = sum_level
+operator_level op.Or = sum_level
+operator_level op.Times = product_level
+operator_level op.Div = product_level
+operator_level op.Mod = product_level
+operator_level op.And = product_level
+
+-- the level of the first operand of a chain, and of the operands behind its operators: both bind more tightly
+abbrev pub first_level : ℕ → ℕ
+first_level level = level + 1
+
+abbrev pub operand_level : ℕ → ℕ
+operand_level level = if nat_eq level sum_level then product_level else level + 1
+
+-- the form may stand where a level is wanted
+abbrev pub fits : ℕ → Form → Bool
+fits level form = nat_le level form.level && form.well
+
+-- the list is not empty
+abbrev pub has_items : {A : Type 0} → List A → Bool
+has_items xs = nat_lt 0 (length xs)
+
+-- an operator with its operand: the level of the operator's chains, and the form of the operand
+pub record LinkForm : Type 0 where
+  pub level : ℕ
+  pub operand : Form
+
+-- an operator of this level, with an operand that binds tightly enough
+abbrev pub is_link : ℕ → LinkForm → Bool
+is_link level link = nat_eq link.level level && fits (operand_level level) link.operand
+
+-- a chain has operators of one level, and a relation has one alone
+abbrev pub chain_form : Form → List LinkForm → Form
+chain_form first [] = record { level = factor_level; well = false }
+chain_form first (link ∷ links) = record {
+  level = link.level;
+  well =
+      fits (first_level link.level) first
+      && (list_all (is_link link.level) (link ∷ links)
+      && (nat_lt relation_level link.level || nat_eq (length links) 0));
+}
+
+-- a width, where there is one
+abbrev pub is_width : Option Form → Bool
+is_width None = true
+is_width (Some width) = fits relation_level width
+
+-- one layer of an expression
+abbrev pub expr_step : Expr-F Form Bool LinkForm → Form
+expr_step (expr.Number value place) = record { level = factor_level; well = true }
+expr_step (expr.Name name) = record { level = factor_level; well = true }
+expr_step (expr.Call name actuals) =
+    record { level = factor_level; well = has_items actuals.items && list_all (λ well. well) actuals.items }
+expr_step (expr.Parenthesized place inner) = record { level = factor_level; well = fits relation_level inner.value }
+expr_step (expr.Not place operand) = record { level = factor_level; well = fits factor_level operand.value }
+expr_step (expr.Signed s place operand) = record { level = signed_level; well = fits product_level operand.value }
+expr_step (expr.Chain first rest) = chain_form first.value rest.items
+
+abbrev pub link_step : Link-F Form Bool LinkForm → LinkForm
+link_step link = record { level = operator_level link.operator; operand = link.operand }
+
+abbrev pub actual_step : Actual-F Form Bool LinkForm → Bool
+actual_step actual = fits relation_level actual.value && is_width actual.width
+
+-- the form of an expression, and of an operator with its operand
+abbrev pub expr_form : Expr → Form
+expr_form = fold-Expr Form Bool LinkForm expr_step actual_step link_step
+
+abbrev pub link_form : Link → LinkForm
+link_form = fold-Link Form Bool LinkForm expr_step actual_step link_step
+
+-- an actual is well formed
+abbrev pub is_actual : Actual → Bool
+is_actual = fold-Actual Form Bool LinkForm expr_step actual_step link_step
+
+abbrev pub is_expression : Expr → Bool
+is_expression e = fits relation_level (expr_form e)
+
+-- whether a statement is well formed, and whether it ends in an if without else
+pub record StmtForm : Type 0 where
+  pub well : Bool
+  pub ends_open : Bool
+
+-- a form that doesn't end in an if without else
+abbrev pub closed : Bool → StmtForm
+closed well = record { well = well; ends_open = false }
+
+-- one layer of a statement
+abbrev pub stmt_step : Stmt-F StmtForm → StmtForm
+stmt_step stmt.Empty = closed true
+stmt_step (stmt.Assign name becomes value) = closed (is_expression value)
+stmt_step (stmt.Call name actuals) = closed (list_all is_actual actuals.items)
+stmt_step (stmt.Compound statements) =
+    closed (has_items statements.items && list_all (λ statement. statement.well) statements.items)
+
+-- the form of a statement
+abbrev pub stmt_form : Stmt → StmtForm
+stmt_form = fold-Stmt StmtForm stmt_step
+
+abbrev pub is_statement : Stmt → Bool
+is_statement s = (stmt_form s).well
+
+abbrev pub is_group : VariableGroup → Bool
+is_group g = has_items g.names.items
+
+abbrev pub is_block : Block → Bool
+is_block b =
+    list_all is_group b.variables.items && (has_items b.statements.items && list_all is_statement b.statements.items)
+
+abbrev pub is_program : Program → Bool
+is_program p = is_block p.block

@@ -1,2 +1,0 @@
-pub mod Notation
-pub mod Laws

@@ -1,0 +1,4 @@
+pub mod Cursor
+pub mod LeftOut
+pub mod Level
+pub mod ParseFault

@@ -1,0 +1,249 @@
+ghost use Rattle.std.specs.Prelude.{◌≡◌, [], ◌∷◌, IfSome, IfOk, ℕ, ◌↔◌, IsTrue, IfErr, IfNone, MatchBool, MatchResult};
+ghost use Rattle.token_cursor.specs.Cursor.{end_of};
+
+use crate::fault::ParseFault;
+use crate::operator::{Level, level_of, operator_of};
+use lexer::token::{Kind, Symbol, Token, Word};
+use place::Place;
+use syntax_tree::{Name, Operator, Sign};
+
+/// The tokens that are left to read.
+#[derive(Clone, Copy)]
+pub struct Cursor<'t, 'a> {
+    pub rest: &'t [Token<'a>],
+    /// Just past the last token of all.
+    pub end: Place,
+}
+
+impl<'t, 'a> Cursor<'t, 'a> {
+    ghost use Rattle.grammar.specs.Spelling.{of_kind_at, identifier, sign, operator};
+    ghost use Rattle.grammar.specs.WellFormed.{operator_level};
+    ghost use Rattle.token_cursor.specs.Level.{level_number};
+    ghost use Rattle.token_cursor.specs.Cursor.{place_of_next, Took};
+    ghost use Rattle.grammar.specs.Begins.{Stop};
+    ghost use Rattle.grammar.specs.Following.{next_kind, NoSign, NoOperator};
+
+    pub fn new(tokens: &'t [Token<'a>]) -> Self
+        ensures rest { result.rest.now ≡ tokens.now }
+        ensures end { result.end ≡ end_of tokens.now }
+    {
+        Cursor {
+            rest: tokens,
+            end: end_of(tokens),
+        }
+    }
+
+    /// The kind of the next token.
+    pub fn peek(&self) -> Option<Kind>
+        ensures { result ≡ next_kind self.now.rest.now }
+    {
+        match self.rest {
+            [] => None,
+            [token, ..] => Some(token.kind),
+        }
+    }
+
+    /// Where the next token stands, or the end.
+    pub fn place(&self) -> Place
+        ensures { result ≡ place_of_next self.now }
+    {
+        match self.rest {
+            [] => self.end,
+            [token, ..] => token.place,
+        }
+    }
+
+    /// P1, at the next token.
+    pub fn no_program(&self) -> ParseFault
+        ensures { result ≡ ParseFault.NoProgram (place_of_next self.now) }
+    {
+        ParseFault::NoProgram(self.place())
+    }
+
+    /// Takes the next token if it is of this kind, and answers its place.
+    pub fn take(&mut self, kind: Kind) -> Option<Place>
+        ensures kept { IfNone result (self.new ≡ self.old) }
+        ensures missed { IfNone result (¬ (next_kind self.old.rest.now ≡ Some kind)) }
+        ensures spelled { IfSome result
+            (λ place. Took self.old self.new (of_kind_at kind place ∷ [])) }
+    {
+        match self.rest {
+            [token, rest @ ..] if is_of_kind(token, kind) => {
+                let place = token.place;
+                self.rest = rest;
+                Some(place)
+            }
+            _ => None,
+        }
+    }
+
+    pub fn take_word(&mut self, word: Word) -> Option<Place>
+        ensures kept { IfNone result (self.new ≡ self.old) }
+        ensures missed { IfNone result (¬ (next_kind self.old.rest.now ≡ Some (Kind.Word word))) }
+        ensures spelled { IfSome result
+            (λ place. Took self.old self.new (of_kind_at (Kind.Word word) place ∷ [])) }
+    {
+        self.take(Kind::Word(word))
+    }
+
+    pub fn take_symbol(&mut self, symbol: Symbol) -> Option<Place>
+        ensures kept { IfNone result (self.new ≡ self.old) }
+        ensures missed { IfNone result (¬ (next_kind self.old.rest.now ≡ Some (Kind.Symbol symbol))) }
+        ensures spelled { IfSome result
+            (λ place. Took self.old self.new (of_kind_at (Kind.Symbol symbol) place ∷ [])) }
+    {
+        self.take(Kind::Symbol(symbol))
+    }
+
+    pub fn expect_word(&mut self, word: Word) -> Result<Place, ParseFault>
+        ensures kept { IfErr result
+            (λ fault. (self.new ≡ self.old) × (fault ≡ ParseFault.NoProgram (place_of_next self.old))) }
+        ensures missed { IfErr result (λ _. ¬ (next_kind self.old.rest.now ≡ Some (Kind.Word word))) }
+        ensures spelled { IfOk result
+            (λ place. Took self.old self.new (of_kind_at (Kind.Word word) place ∷ [])) }
+    {
+        self.take_word(word).ok_or(self.no_program())
+    }
+
+    pub fn expect_symbol(&mut self, symbol: Symbol) -> Result<Place, ParseFault>
+        ensures kept { IfErr result
+            (λ fault. (self.new ≡ self.old) × (fault ≡ ParseFault.NoProgram (place_of_next self.old))) }
+        ensures missed { IfErr result (λ _. ¬ (next_kind self.old.rest.now ≡ Some (Kind.Symbol symbol))) }
+        ensures spelled { IfOk result
+            (λ place. Took self.old self.new (of_kind_at (Kind.Symbol symbol) place ∷ [])) }
+    {
+        self.take_symbol(symbol).ok_or(self.no_program())
+    }
+
+    /// Takes an identifier, if one is next.
+    pub fn take_name(&mut self) -> Option<Name<'a>>
+        ensures kept { IfNone result (self.new ≡ self.old) }
+        ensures missed { IfNone result (¬ (next_kind self.old.rest.now ≡ Some Kind.Identifier)) }
+        ensures spelled { IfSome result (λ name. Took self.old self.new (identifier name ∷ [])) }
+    {
+        match self.rest {
+            [
+                Token {
+                    kind: Kind::Identifier,
+                    text,
+                    place,
+                },
+                rest @ ..,
+            ] => {
+                self.rest = rest;
+                Some(Name {
+                    text,
+                    place: *place,
+                })
+            }
+            _ => None,
+        }
+    }
+
+    pub fn expect_name(&mut self) -> Result<Name<'a>, ParseFault>
+        ensures kept { IfErr result
+            (λ fault. (self.new ≡ self.old) × (fault ≡ ParseFault.NoProgram (place_of_next self.old))) }
+        ensures missed { IfErr result (λ _. ¬ (next_kind self.old.rest.now ≡ Some Kind.Identifier)) }
+        ensures spelled { IfOk result (λ name. Took self.old self.new (identifier name ∷ [])) }
+    {
+        self.take_name().ok_or(self.no_program())
+    }
+
+    /// Takes a number, if one is next.
+    pub fn take_number(&mut self) -> Option<(u32, Place)>
+        ensures kept { IfNone result (self.new ≡ self.old) }
+        ensures missed { IfNone result ((v : ℕ) → ¬ (next_kind self.old.rest.now ≡ Some (Kind.Number v))) }
+        ensures spelled { IfSome result
+            (λ number. Took self.old self.new (of_kind_at (Kind.Number number.0) number.1 ∷ [])) }
+    {
+        match self.rest {
+            [token, rest @ ..] => match token.kind {
+                Kind::Number(value) => {
+                    self.rest = rest;
+                    Some((value, token.place))
+                }
+                _ => None,
+            },
+            _ => None,
+        }
+    }
+
+    /// Takes a sign, if one is next.
+    pub fn take_sign(&mut self) -> Option<(Sign, Place)>
+        ensures kept { IfNone result (self.new ≡ self.old) }
+        ensures missed { IfNone result (NoSign self.old.rest.now) }
+        ensures spelled { IfSome result
+            (λ found. Took self.old self.new (sign found.0 found.1 ∷ [])) }
+    {
+        if let Some(place) = self.take_symbol(Symbol::Plus) {
+            return Some((Sign::Plus, place));
+        }
+        let place = self.take_symbol(Symbol::Minus)?;
+        Some((Sign::Minus, place))
+    }
+
+    /// Whether an operator of this level is next.
+    pub fn has_operator(&self, level: Level) -> bool
+        ensures { MatchBool result (¬ NoOperator (level_number level) self.now.rest.now)
+            (NoOperator (level_number level) self.now.rest.now) }
+    {
+        let mut ahead = *self;
+        ahead.take_operator(level).is_some()
+    }
+
+    /// Takes an operator of this level, if one is next.
+    pub fn take_operator(&mut self, level: Level) -> Option<(Operator, Place)>
+        ensures kept { IfNone result (self.new ≡ self.old) }
+        ensures missed { IfNone result (NoOperator (level_number level) self.old.rest.now) }
+        ensures level { IfSome result (λ found. operator_level found.0 ≡ level_number level) }
+        ensures spelled { IfSome result
+            (λ found. Took self.old self.new (operator found.0 found.1 ∷ [])) }
+    {
+        match self.rest {
+            [token, rest @ ..] => match operator_of(token.kind) {
+                Some(operator) if level_of(operator) == level => {
+                    let place = token.place;
+                    self.rest = rest;
+                    Some((operator, place))
+                }
+                _ => None,
+            },
+            _ => None,
+        }
+    }
+
+    /// Takes the period of a program, behind which nothing may stand.
+    pub fn stop(&mut self) -> Result<(), ParseFault>
+        ensures given { MatchResult result (λ _. Stop self.old.rest.now)
+            (λ fault. fault ≡ ParseFault.NoProgram (place_of_next self.new)) }
+        ensures missed { IfErr result (λ _. ¬ Stop self.old.rest.now) }
+    {
+        self.expect_symbol(Symbol::Period)?;
+        match self.peek() {
+            None => Ok(()),
+            Some(_) => Err(self.no_program()),
+        }
+    }
+}
+
+fn is_of_kind(token: &Token<'_>, kind: Kind) -> bool
+    ensures { IsTrue result ↔ (token.now.kind ≡ kind) }
+{
+    token.kind == kind
+}
+
+/// Just past the last token, or where a text begins if there is none.
+fn end_of(tokens: &[Token<'_>]) -> Place
+    ensures { result ≡ end_of tokens.now }
+{
+    match tokens.last() {
+        None => Place::START,
+        Some(token) => {
+            let length = u32::try_from(token.text.len()).unwrap_or(u32::MAX);
+            Place {
+                line: token.place.line,
+                column: token.place.column.saturating_add(length),
+            }
+        }
+    }
+}

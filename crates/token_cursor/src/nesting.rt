@@ -1,0 +1,18 @@
+ghost use Rattle.std.specs.Prelude.{◌≡◌, ◌+◌, IfErr, MatchResult};
+ghost use Rattle.token_cursor.specs.Cursor.{IsOfRules};
+
+use crate::fault::ParseFault;
+use place::Place;
+
+/// How deep a program may nest. Its own compound statement is the first level; each statement in a
+/// compound statement, each actual with its width, each expression in parentheses and each operand
+/// of `not` is one level below what it stands in.
+pub const MAX_NESTING: u32 = 128;
+
+/// The levels that are left inside the next one, which begins at `place`, or P2.
+pub fn inside(levels: u32, place: Place) -> Result<u32, ParseFault>
+    ensures left { MatchResult result (λ left. left + 1 ≡ levels) IsOfRules }
+    ensures spent { IfErr result (λ fault. (levels ≡ 0) × (fault ≡ ParseFault.TooDeep place)) }
+{
+    levels.checked_sub(1).ok_or(ParseFault::TooDeep(place))
+}

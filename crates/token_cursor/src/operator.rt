@@ -1,0 +1,55 @@
+ghost use Rattle.std.specs.Prelude.{◌≡◌, IfSome, IfNone};
+ghost use Rattle.syntax_tree.specs.declared.Operator.{Operator};
+ghost use Rattle.grammar.specs.Spelling.{operator_kind};
+ghost use Rattle.grammar.specs.WellFormed.{operator_level};
+ghost use Rattle.token_cursor.specs.Level.{level_number};
+
+use lexer::token::{Kind, Symbol, Word};
+use syntax_tree::Operator;
+
+/// The operators of one precedence (6.7.2.1).
+#[derive(Clone, Copy, PartialEq, Eq)]
+pub enum Level {
+    Relation,
+    Sum,
+    Product,
+}
+
+/// The operator that a token of this kind is, if it is one.
+pub fn operator_of(kind: Kind) -> Option<Operator>
+    ensures given { IfSome result (λ operator. operator_kind operator ≡ kind) }
+    ensures missed { IfNone result ((operator : Operator) → ¬ (operator_kind operator ≡ kind)) }
+{
+    match kind {
+        Kind::Symbol(Symbol::Plus) => Some(Operator::Plus),
+        Kind::Symbol(Symbol::Minus) => Some(Operator::Minus),
+        Kind::Word(Word::Or) => Some(Operator::Or),
+        Kind::Symbol(Symbol::Times) => Some(Operator::Times),
+        Kind::Word(Word::Div) => Some(Operator::Div),
+        Kind::Word(Word::Mod) => Some(Operator::Mod),
+        Kind::Word(Word::And) => Some(Operator::And),
+        Kind::Symbol(Symbol::Equal) => Some(Operator::Equal),
+        Kind::Symbol(Symbol::NotEqual) => Some(Operator::NotEqual),
+        Kind::Symbol(Symbol::Less) => Some(Operator::Less),
+        Kind::Symbol(Symbol::Greater) => Some(Operator::Greater),
+        Kind::Symbol(Symbol::LessOrEqual) => Some(Operator::LessOrEqual),
+        Kind::Symbol(Symbol::GreaterOrEqual) => Some(Operator::GreaterOrEqual),
+        _ => None,
+    }
+}
+
+/// The level of an operator.
+pub fn level_of(operator: Operator) -> Level
+    ensures { level_number result ≡ operator_level operator }
+{
+    match operator {
+        Operator::Plus | Operator::Minus | Operator::Or => Level::Sum,
+        Operator::Times | Operator::Div | Operator::Mod | Operator::And => Level::Product,
+        Operator::Equal
+        | Operator::NotEqual
+        | Operator::Less
+        | Operator::Greater
+        | Operator::LessOrEqual
+        | Operator::GreaterOrEqual => Level::Relation,
+    }
+}
