@@ -10,9 +10,10 @@ use Rattle.token_cursor.specs.declared.fault.ParseFault.TheVariants as parse
 use Rattle.syntax_tree.specs.declared.Program.{Program}
 use Rattle.parser.specs.Syntax.{IsFaultOf}
 use Rattle.typed_tree.specs.declared.tree.Tree.{Tree}
-use Rattle.resolver.specs.Typing.{HasTyping}
+use Rattle.typing.specs.Typing.{typing}
+use Rattle.typing.specs.Outcomes.{IsFault}
 use Rattle.typed_tree.specs.declared.fault.TypeFault.{TypeFault}
-use Rattle.typed_tree.specs.declared.fault.TypeFault.TheVariants as typing
+use Rattle.typed_tree.specs.declared.fault.TypeFault.TheVariants as untyped
 use Rattle.certificate.specs.declared.fault.ReadFault.{ReadFault}
 use Rattle.certificate.specs.declared.fault.ReadFault.TheVariants as read
 use Rattle.certificate.specs.Text.{first_fault}
@@ -45,10 +46,10 @@ pub parsing-refusal : (source text : List ℕ) (fault : ParseFault) (tokens : Li
 parsing-refusal source text parse.Memory tokens list h = tt
 parsing-refusal source text fault tokens list h = (tokens, list, h)
 
--- names and types are refused of a source that is written as a program without a typing
-pub typing-refusal : (source text : List ℕ) (fault : TypeFault) (program : Program) → IsWrittenAs source program → (fault ≡ typing.Memory) ⊎ (¬ HasTyping program) → IsRefusal source text (typing_fault fault)
-typing-refusal source text typing.Memory program written h = tt
-typing-refusal source text fault program written h = (program, written, ⊎_elim (λ e. cc) (λ none. none) h)
+-- names and types are refused of a source that is written as a program, whose typing tells just that
+pub typing-refusal : (source text : List ℕ) (fault : TypeFault) (program : Program) → IsWrittenAs source program → IsFault (typing program) fault → IsRefusal source text (typing_fault fault)
+typing-refusal source text untyped.Memory program written h = tt
+typing-refusal source text fault program written h = (program, written, ⊎_elim (λ e. cc) (λ told. told) h)
 
 -- code is refused where there is too much of it
 pub generation-refusal : (source text : List ℕ) (tree : Tree) (fault : GenFault) → IsTypedTreeOf tree source → IsCertificate text → (fault ≡ generate.TooLarge → 1000000 < length (program_code tree)) → IsRefusal source text (generator_fault fault)

@@ -8,7 +8,7 @@ use Rattle.syntax_tree.specs.declared.Program.{Program}
 use Rattle.parser.specs.Syntax.{IsTreeOf}
 use Rattle.typed_tree.specs.declared.tree.Tree.{Tree}
 use Rattle.typed_tree.specs.declared.site.Site.{Site}
-use Rattle.resolver.specs.Typing.{IsTyped}
+use Rattle.typing.specs.Sound.{IsTyped}
 use Rattle.cert_checker.specs.Promise.{ClosedNeverErr}
 use Rattle.pcode_assembler.specs.declared.code.Code.{Code}
 use Rattle.code_generator.specs.Follows.{Follows}

@@ -1,6 +1,6 @@
--- Why a source is refused: the fault of the first layer that refuses, for nothing else but memory.
--- It does not say which of several broken rules is told.
-use Rattle.std.specs.Prelude.{◌≡◌, ℕ, ◌<◌, List, Option, Some, None, map, length, codes}
+-- Why a source is refused: the fault of the first layer that refuses, for nothing else but memory. Of names and types it
+-- is the first rule that the program breaks, with its place; of syntax it isn't said at which token P1 and P2 are told.
+use Rattle.std.specs.Prelude.{◌≡◌, ℕ, ◌<◌, List, Option, Some, None, Err, map, length, codes}
 use denote.Ref.{Bor}
 use Rattle.lexer.specs.declared.token.Token.{Token}
 use Rattle.lexer.specs.Tokens.{IsTokenList, IsFirstFault, lexeme_of}
@@ -8,8 +8,8 @@ use Rattle.syntax_tree.specs.declared.Program.{Program}
 use Rattle.token_cursor.specs.declared.fault.ParseFault.TheVariants as parse
 use Rattle.parser.specs.Syntax.{IsFaultOf}
 use Rattle.typed_tree.specs.declared.tree.Tree.{Tree}
-use Rattle.typed_tree.specs.declared.fault.TypeFault.TheVariants as typing
-use Rattle.resolver.specs.Typing.{HasTyping}
+use Rattle.typed_tree.specs.declared.fault.TypeFault.TheVariants as untyped
+use Rattle.typing.specs.Typing.{typing}
 use Rattle.certificate.specs.declared.Certificate.{Certificate as CertificateRead}
 use Rattle.certificate.specs.Text.{spelling, first_fault}
 use Rattle.code_generator.specs.declared.fault.GenFault.TheVariants as generate
@@ -35,8 +35,8 @@ IsRefusal source text (Lex fault) = IsFirstFault source fault
 IsRefusal source text (Parse parse.Memory) = ⊥
 IsRefusal source text (Parse fault) =
     (tokens : List Token) × IsTokenList source (map lexeme_of tokens) × IsFaultOf fault tokens
-IsRefusal source text (Typing typing.Memory) = ⊥
-IsRefusal source text (Typing fault) = (program : Program) × IsWrittenAs source program × (¬ HasTyping program)
+IsRefusal source text (Typing untyped.Memory) = ⊥
+IsRefusal source text (Typing fault) = (program : Program) × IsWrittenAs source program × (typing program ≡ Err fault)
 IsRefusal source text (Certificate fault) = (tree : Tree) × IsTypedTreeOf tree source × (first_fault text ≡ Some fault)
 IsRefusal source text (Check fault) = ⊥
 IsRefusal source text (Generate generate.Memory) = ⊥

@@ -1,4 +1,4 @@
-ghost use Rattle.std.specs.Prelude.{◌≡◌, ◌≤◌, ◌<◌, ◌+◌, ◌-◌, ◌^◌, ℕ, List, length, IfOk, IfErr, MatchResult, OnErr};
+ghost use Rattle.std.specs.Prelude.{◌≡◌, ◌≤◌, ◌<◌, ◌+◌, ◌-◌, ◌^◌, ℕ, List, length, map, IfOk, IfErr, MatchResult, OnErr};
 ghost use Rattle.certificate.specs.Text.{spelling};
 ghost use Rattle.cert_checker.specs.Promise.{Valid, StatesHold};
 ghost use Rattle.code_generator.specs.Code.{program_code};
@@ -9,6 +9,8 @@ ghost use Rattle.report.specs.Refusals.{IsRefusal, text_of};
 ghost use Rattle.report.specs.Typed.{IsSoundTreeOf};
 ghost use Rattle.stack_machine.specs.Failures.{write_failures_of};
 ghost use Rattle.typed_tree.specs.Entries.{entries_of};
+ghost use Rattle.typed_tree.specs.Ids.{AreByPlace};
+ghost use Rattle.typing.specs.Sound.{stands};
 ghost use Rattle.report.specs.Whole.{IsStripped, RunsStripped};
 
 use crate::fault::Fault;
@@ -50,6 +52,9 @@ pub fn compile(alloc: Global, source: &[u8], certificate: Option<&[u8]>) -> Resu
     // The tree is the typed tree of the source, and the certificate is the one that the text spells.
     ensures typed { IfOk result (λ c. IsTypedTreeOf c.tree source.now) }
     ensures certificate { IfOk result (λ c. text_of certificate.entry ≡ spelling c.certificate) }
+
+    // Its sites stand in the table by place and then by kind.
+    ensures by_place { IfOk result (λ c. AreByPlace (map stands c.tree.sites.items)) }
 
     // A source is refused for what the first layer that refuses it says, and for nothing else but memory.
     ensures refused { IfErr result (IsRefusal source.now (text_of certificate.entry)) }

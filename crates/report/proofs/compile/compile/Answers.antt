@@ -78,3 +78,6 @@ returns-clause-visits c = c.in_ok-verdict.ensures.visits
 
 pub returns-clause-states_hold : goal.returns-clause-states_hold
 returns-clause-states_hold c = c.in_ok-verdict.ensures.states_hold
+
+pub returns-clause-by_place : goal.returns-clause-by_place
+returns-clause-by_place c = c.in_ok-tree.ensures.by_place

@@ -1,5 +1,6 @@
-use Rattle.std.proofs.Common.{subst}
+use Rattle.std.proofs.Common.{map, sym, subst}
 use Rattle.std.proofs.lemmas.Result.{err_from_is_err_and}
+use Rattle.place.specs.Place.{ArePlacesInOrder}
 use Rattle.parser.specs.Syntax.{IsTreeOf, IsFaultOf}
 use Rattle.report.proofs.RefusalLemmas.{untyped_by, lexing-refusal, parsing-refusal, typing-refusal}
 use Rattle.report.proofs.compile.typed.Goals as goal
@@ -10,6 +11,9 @@ returns c =
     record {
       well_formed = c.in_ok-tree.ensures.well_formed;
       in_order = c.in_ok-tree.ensures.in_order;
+      by_place =
+          c.in_ok-tree.ensures.by_place
+          (c.in_ok-program.ensures.in_order (subst (λ l. ArePlacesInOrder (map (λ token. token.place) l)) (sym c.deref.ensures.value) c.in_ok-tokens.ensures.in_order));
       typed = (program, (c.in_ok-tokens.tokens.items, c.in_ok-tokens.ensures.list, subst (IsTreeOf program) c.deref.ensures.value c.in_ok-program.ensures.exact), c.in_ok-tree.ensures.typed);
     }
 
