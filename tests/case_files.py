@@ -23,9 +23,9 @@ r"""Reads the cases of tests/cases, for `tests/run` and `tests/refuse_memory`. A
     status N       the status, 0 where none is given
 
 Behind `source`, `input`, `writes` and `tells` stand the lines of the text. `|TEXT` is a line with its end, and without
-its end where the last character is `\`. `N|TEXT` is TEXT N times, without a line end. `\xHH` is a byte, `\\` is a
-backslash, and a blank at the end of a line is `\x20`. An empty line or a comment ends a text. Comments begin with `#`
-and may stand between all lines."""
+its end where the last character is `\`. `N|TEXT` is TEXT N times, without a line end, and `\#` in it is the number of
+the copy: `3|x\#+` is `x1+x2+x3+`. `\xHH` is a byte, `\\` is a backslash, and a blank at the end of a line is `\x20`. An
+empty line or a comment ends a text. Comments begin with `#` and may stand between all lines."""
 
 import os
 import re
@@ -38,6 +38,8 @@ TEXTS = ("source", "input", "writes", "tells")
 NAME = re.compile(r"[A-Za-z0-9_]+")
 TEXT_LINE = re.compile(r"(|[1-9][0-9]*)\|(.*)")
 ESCAPE = re.compile(r"\\(x[0-9A-Fa-f]{2}|.|$)")
+# Stands for the number of a copy while a text is read; it is no character of a file, since those are bytes.
+NUMBER = "\uffff"
 
 
 class Fault(Exception):
@@ -163,19 +165,37 @@ def text_of(place, count, text):
         raise Fault(place, "a text that is repeated has no line end that \\ could leave out")
     line = unescaped(place, text[:-1] if open_ended else text)
     if count:
-        return line * int(count)
-    return line if open_ended else line + b"\n"
+        return copies(line, int(count))
+    if NUMBER in line:
+        raise Fault(place, "`\\#` in a text that isn't repeated")
+    return encoded(line) if open_ended else encoded(line) + b"\n"
+
+
+def copies(line, count):
+    """So many copies of a text, each with its number."""
+    if NUMBER not in line:
+        return encoded(line) * count
+    pieces = [encoded(piece) for piece in line.split(NUMBER)]
+    return b"".join((b"%d" % number).join(pieces) for number in range(1, count + 1))
+
+
+def encoded(line):
+    return line.encode("latin-1")
 
 
 def unescaped(place, text):
+    """The characters of a text, with `NUMBER` for the number of a copy."""
+
     def character(found):
         if found[1] == "\\":
             return "\\"
+        if found[1] == "#":
+            return NUMBER
         if len(found[1]) == 3:
             return chr(int(found[1][1:], 16))
         raise Fault(place, f"`{found[0]}` is no byte; \\xHH is one, and \\\\ is a backslash")
 
-    return ESCAPE.sub(character, text).encode("latin-1")
+    return ESCAPE.sub(character, text)
 
 
 def checked(place, case, parts):
