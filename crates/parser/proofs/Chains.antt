@@ -9,7 +9,6 @@ use Rattle.syntax_tree.specs.declared.Operator.{Operator}
 use Rattle.syntax_tree.specs.declared.Expr.{Expr}
 use Rattle.syntax_tree.specs.declared.Link.{Link}
 use Rattle.syntax_tree.specs.declared.Expr.TheViews.{roll-Link}
-use Rattle.token_cursor.specs.Cursor.{IsOfRules}
 use Rattle.token_cursor.specs.Level.{level_number}
 use Rattle.grammar.specs.WellFormed.{first_level, operand_level}
 use Rattle.grammar.specs.Following.{Ends, NoOperator}
@@ -101,10 +100,10 @@ first_alone level levels a b first reads none depth e others h ends =
     (level_is level) reads h ends)
 
 -- the answer of the first operand is the chain's
-pub alone_given : (level levels : ℕ) (a b : Cursor) (found : Result Expr ParseFault)
-    → MatchResult found (Read (BeginsExpr (first_level level) levels) a b) IsOfRules → MatchResult found (Read (BeginsExpr level levels) a b) IsOfRules
-alone_given level levels a b (Ok first) h = gives-Alone level levels a b first h
-alone_given level levels a b (Err fault) h = h
+pub alone_given : (P : ParseFault → Type 0) (level levels : ℕ) (a b : Cursor) (found : Result Expr ParseFault)
+    → MatchResult found (Read (BeginsExpr (first_level level) levels) a b) P → MatchResult found (Read (BeginsExpr level levels) a b) P
+alone_given P level levels a b (Ok first) h = gives-Alone level levels a b first h
+alone_given P level levels a b (Err fault) h = h
 
 pub alone_exact : (level : Level) (levels : ℕ) (a b : Cursor) (found : Result Expr ParseFault)
     → ReadsDeep levels (BeginsExpr (first_level (level_number level))) (Ends (first_level (level_number level))) a b found

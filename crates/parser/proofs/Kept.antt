@@ -5,7 +5,8 @@ use Rattle.token_cursor.specs.declared.fault.ParseFault.{ParseFault}
 use Rattle.token_cursor.specs.declared.fault.ParseFault.TheVariants.{Memory, NoProgram}
 use Rattle.token_cursor.specs.declared.cursor.Cursor.{Cursor}
 use Rattle.syntax_tree.specs.declared.Name.{Name}
-use Rattle.token_cursor.specs.Cursor.{IsOfRules, Took}
+use Rattle.token_cursor.specs.Cursor.{Took}
+use Rattle.parser.specs.Refusing.{IsPlain}
 use Rattle.parser.specs.Kept.{Added, NotKept}
 use Rattle.grammar.specs.Spelling.{identifier}
 
@@ -31,9 +32,9 @@ not_kept Q P (Ok item) fault memory h same = subst P (sym same) memory
 not_kept Q P (Err why) fault memory h same = subst P (sym same) h
 
 pub rules_of : {A : Type 0} (X : Type 0) (place : Place) (found : Result A ParseFault) (fault : ParseFault) → IfErr found (λ why. X × (why ≡ NoProgram place))
-    → NotKept found fault → IsOfRules fault
-rules_of X place (Ok item) fault h same = subst IsOfRules (sym same) tt
-rules_of X place (Err why) fault h same = subst IsOfRules (sym (same ∙ h.1)) tt
+    → NotKept found fault → IsPlain fault
+rules_of X place (Ok item) fault h same = subst IsPlain (sym same) tt
+rules_of X place (Err why) fault h same = subst IsPlain (sym (same ∙ h.1)) tt
 
 -- what comes next is read, or memory runs out
 pub memory_out : {A : Type 0} (N : Type 0) (found : Result A ParseFault) (fault : ParseFault) → IfErr found (λ _. ¬ N) → N → NotKept found fault

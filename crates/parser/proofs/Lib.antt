@@ -1,4 +1,5 @@
 pub mod Chains
+pub mod Deep
 pub mod Exact
 pub mod ExactActuals
 pub mod ExactChains

@@ -20,7 +20,8 @@ use Rattle.syntax_tree.specs.declared.Actual.{Actual}
 use Rattle.syntax_tree.specs.declared.Link.{Link}
 use Rattle.syntax_tree.specs.declared.Expr.TheVariants as tree
 use Rattle.syntax_tree.specs.declared.Expr.TheViews.{roll-Link, roll-Actual}
-use Rattle.token_cursor.specs.Cursor.{Took, IsOfRules}
+use Rattle.token_cursor.specs.Cursor.{Took}
+use Rattle.parser.specs.Refusing.{Refused}
 use Rattle.grammar.specs.Spelling.{expr_spelling, link_spelling, actual_spelling, joined, in_parentheses, of_kind_at, mark, identifier, operator, sign}
 use Rattle.grammar.specs.WellFormed.{LinkForm, expr_form, link_form, chain_form, is_actual, is_expression, has_items, is_link, fits, operator_level, first_level, operand_level, relation_level, signed_level, product_level, factor_level}
 use Rattle.grammar.specs.Nesting.{expr_levels, link_levels, deepest}
@@ -84,14 +85,15 @@ gives-Signed levels a b c s p box term taken given e = record {
 
 -- and one without
 pub gives-Unsigned : (levels : ℕ) (a b c : Cursor) (answer : Result Expr ParseFault) → b ≡ a
-    → MatchResult answer (Read (BeginsExpr product_level levels) b c) IsOfRules → MatchResult answer (Read (BeginsExpr signed_level levels) a c) IsOfRules
+    → MatchResult answer (Read (BeginsExpr product_level levels) b c) (Refused (levels + 1) b)
+    → MatchResult answer (Read (BeginsExpr signed_level levels) a c) (Refused (levels + 1) a)
 gives-Unsigned levels a b c (Ok e) same given = record {
   spelled = subst (λ k. Took k c (expr_spelling e)) same given.spelled;
   formed = let n = fits_level product_level (expr_form e) given.formed in fits_if signed_level (expr_form e) (omega arith)
       (fits_well product_level (expr_form e) given.formed);
   nests = given.nests;
 }
-gives-Unsigned levels a b c (Err fault) same given = given
+gives-Unsigned levels a b c (Err fault) same given = subst (λ k. Refused (levels + 1) k fault) same given
 
 -- a name with no actuals behind it
 pub gives-Name : (levels : ℕ) (a b c : Cursor) (n : Name) (actuals : List Actual) → Took a b (identifier n ∷ []) → Read (BeginsActuals levels) b c actuals

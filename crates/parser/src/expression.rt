@@ -1,5 +1,5 @@
-ghost use Rattle.std.specs.Prelude.{◌≡◌, MatchResult, IfSome, IfNone, Some};
-ghost use Rattle.token_cursor.specs.Cursor.{IsOfRules};
+ghost use Rattle.std.specs.Prelude.{◌≡◌, ◌+◌, MatchResult, IfSome, IfNone, Some};
+ghost use Rattle.parser.specs.Refusing.{Refused};
 ghost use Rattle.token_cursor.specs.Level.{level_number};
 ghost use Rattle.grammar.specs.Following.{next_kind, Ends, EndsActual, Closes, NoNext};
 ghost use Rattle.parser.specs.Reading.{ReadsDeep};
@@ -30,7 +30,7 @@ pub fn expression<'a>(
     level: Level,
 ) -> Result<Expr<'a>, ParseFault>
     ensures given { MatchResult result
-        (Read (BeginsExpr (level_number level) levels) cursor.old cursor.new) IsOfRules }
+        (Read (BeginsExpr (level_number level) levels) cursor.old cursor.new) (Refused (levels + 1) cursor.old) }
     ensures exact { ReadsDeep levels (BeginsExpr (level_number level)) (Ends (level_number level))
         cursor.old cursor.new result }
 {
@@ -52,7 +52,7 @@ fn links<'a>(
     level: Level,
 ) -> Result<Vec<Link<'a>>, ParseFault>
     ensures given { MatchResult result
-        (λ found. ReadLinks level levels cursor.old cursor.new found.items) IsOfRules }
+        (λ found. ReadLinks level levels cursor.old cursor.new found.items) (Refused (levels + 1) cursor.old) }
     ensures exact { ReadsDeep levels (BeginsLinks (level_number level)) (Ends (level_number level))
         cursor.old cursor.new result }
 {
@@ -77,7 +77,8 @@ fn first_operand<'a>(
     level: Level,
 ) -> Result<Expr<'a>, ParseFault>
     ensures given { MatchResult result
-        (Read (BeginsExpr (first_level (level_number level)) levels) cursor.old cursor.new) IsOfRules }
+        (Read (BeginsExpr (first_level (level_number level)) levels) cursor.old cursor.new)
+        (Refused (levels + 1) cursor.old) }
     ensures exact { ReadsDeep levels (BeginsExpr (first_level (level_number level)))
         (Ends (first_level (level_number level))) cursor.old cursor.new result }
 {
@@ -97,7 +98,8 @@ fn operand<'a>(
     level: Level,
 ) -> Result<Expr<'a>, ParseFault>
     ensures given { MatchResult result
-        (Read (BeginsExpr (operand_level (level_number level)) levels) cursor.old cursor.new) IsOfRules }
+        (Read (BeginsExpr (operand_level (level_number level)) levels) cursor.old cursor.new)
+        (Refused (levels + 1) cursor.old) }
     ensures exact { ReadsDeep levels (BeginsExpr (operand_level (level_number level)))
         (Ends (operand_level (level_number level))) cursor.old cursor.new result }
 {
@@ -116,7 +118,7 @@ fn signed<'a>(
     levels: u32,
 ) -> Result<Expr<'a>, ParseFault>
     ensures given { MatchResult result
-        (Read (BeginsExpr signed_level levels) cursor.old cursor.new) IsOfRules }
+        (Read (BeginsExpr signed_level levels) cursor.old cursor.new) (Refused (levels + 1) cursor.old) }
     ensures exact { ReadsDeep levels (BeginsExpr signed_level) (Ends signed_level)
         cursor.old cursor.new result }
 {
@@ -138,7 +140,7 @@ fn factor<'a>(
     levels: u32,
 ) -> Result<Expr<'a>, ParseFault>
     ensures given { MatchResult result
-        (Read (BeginsExpr factor_level levels) cursor.old cursor.new) IsOfRules }
+        (Read (BeginsExpr factor_level levels) cursor.old cursor.new) (Refused (levels + 1) cursor.old) }
     ensures exact { ReadsDeep levels (BeginsExpr factor_level) (Ends factor_level)
         cursor.old cursor.new result }
 {
@@ -165,7 +167,7 @@ fn named<'a>(
     levels: u32,
 ) -> Result<Expr<'a>, ParseFault>
     ensures given { MatchResult result
-        (Read (BeginsExpr factor_level levels) cursor.old cursor.new) IsOfRules }
+        (Read (BeginsExpr factor_level levels) cursor.old cursor.new) (Refused (levels + 1) cursor.old) }
     ensures exact { next_kind cursor.old.rest.now ≡ Some Kind.Identifier →
         ReadsDeep levels (BeginsExpr factor_level) (Ends factor_level)
         cursor.old cursor.new result }
@@ -186,7 +188,7 @@ fn parenthesized<'a>(
     levels: u32,
 ) -> Result<Expr<'a>, ParseFault>
     ensures given { MatchResult result
-        (Read (BeginsExpr factor_level levels) cursor.old cursor.new) IsOfRules }
+        (Read (BeginsExpr factor_level levels) cursor.old cursor.new) (Refused (levels + 1) cursor.old) }
     ensures exact { next_kind cursor.old.rest.now ≡ Some (Kind.Symbol Symbol.OpenParenthesis) →
         ReadsDeep levels (BeginsExpr factor_level) (Ends factor_level)
         cursor.old cursor.new result }
@@ -207,7 +209,7 @@ pub fn actuals<'a>(
     levels: u32,
 ) -> Result<Vec<Actual<'a>>, ParseFault>
     ensures given { MatchResult result
-        (λ found. Read (BeginsActuals levels) cursor.old cursor.new found.items) IsOfRules }
+        (λ found. Read (BeginsActuals levels) cursor.old cursor.new found.items) (Refused (levels + 1) cursor.old) }
     ensures exact { ReadsDeep levels BeginsActuals (NoNext (Kind.Symbol Symbol.OpenParenthesis))
         cursor.old cursor.new result }
 {
@@ -227,7 +229,7 @@ fn actual_list<'a>(
     levels: u32,
 ) -> Result<Vec<Actual<'a>>, ParseFault>
     ensures given { MatchResult result
-        (λ found. Read (BeginsActualList levels) cursor.old cursor.new found.items) IsOfRules }
+        (λ found. Read (BeginsActualList levels) cursor.old cursor.new found.items) (Refused levels cursor.old) }
     ensures exact { ReadsDeep levels BeginsActualList Closes cursor.old cursor.new result }
 {
     let mut actuals = Vec::new(alloc);
@@ -246,7 +248,7 @@ fn actual<'a>(
     cursor: &mut Cursor<'_, 'a>,
     levels: u32,
 ) -> Result<Actual<'a>, ParseFault>
-    ensures given { MatchResult result (Read (BeginsActual levels) cursor.old cursor.new) IsOfRules }
+    ensures given { MatchResult result (Read (BeginsActual levels) cursor.old cursor.new) (Refused levels cursor.old) }
     ensures exact { ReadsDeep levels BeginsActual EndsActual cursor.old cursor.new result }
 {
     let levels = inside(levels, cursor.place())?;

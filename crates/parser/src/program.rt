@@ -8,7 +8,9 @@ ghost use Rattle.grammar.specs.Begins.{BeginsList, BeginsNames, BeginsParameters
 ghost use Rattle.parser.specs.Reading.{ReadsEach, ReadsDeep};
 ghost use Rattle.grammar.specs.Following.{NoNext, BeginsStatementPart, Anything};
 ghost use Rattle.token_cursor.specs.LeftOut.{first_left_out};
-ghost use Rattle.parser.specs.Syntax.{IsTreeOf, IsRefused, Answers};
+ghost use Rattle.parser.specs.Deep.{IsDeep};
+ghost use Rattle.parser.specs.Refusing.{IsPlain, Refused};
+ghost use Rattle.parser.specs.Syntax.{most, IsTreeOf, IsRefused, Answers};
 
 use crate::memory::put;
 use crate::statement::compound;
@@ -23,9 +25,9 @@ use token_cursor::nesting::{MAX_NESTING, inside};
 /// The syntax tree that the tokens spell (6.2 to 6.10), its parentheses kept. P3 where a token
 /// stands that only forms left out have: the first of these, before all else. Otherwise P1 at the
 /// first token with which no program goes on, or just past the last, or P2 where the nesting passes
-/// `MAX_NESTING`; nesting alone is never P1. The clauses leave the places of P1 and P2 open, and let
-/// P2 stand where P1 might. No list of tokens has two trees, and where its places ascend, those of
-/// the tree do.
+/// `MAX_NESTING`; nesting alone is never P1. The clauses leave the place of P1 open, say of that of P2
+/// that the tokens up to it hold `MAX_NESTING` words or symbols that open a level, and let P2 stand
+/// where P1 might. No list of tokens has two trees, and where its places ascend, those of the tree do.
 #[tactic(auto, using(grammar::proofs::OneTreePrograms::one_tree))]
 pub fn parse<'a>(alloc: Global, tokens: &[Token<'a>]) -> Result<Program<'a>, ParseFault>
     ensures left_out { MatchOption (first_left_out tokens.now) (IfErr result IsOfRules)
@@ -34,6 +36,7 @@ pub fn parse<'a>(alloc: Global, tokens: &[Token<'a>]) -> Result<Program<'a>, Par
     ensures one_tree { HasOneTree tokens.now }
     ensures in_order { ArePlacesInOrder (map (λ token. token.place) tokens.now)
         → IfOk result (λ tree. ArePlacesInOrder (program_places tree)) }
+    ensures deep { IfErr result (IsDeep most tokens.now) }
 {
     match first_left_out(tokens) {
         Some(place) => Err(ParseFault::LeftOut(place)),
@@ -44,7 +47,7 @@ pub fn parse<'a>(alloc: Global, tokens: &[Token<'a>]) -> Result<Program<'a>, Par
 // program = "program" name parameters ";" block "."
 /// A program and nothing behind it.
 fn program<'a>(alloc: Global, cursor: &mut Cursor<'_, 'a>) -> Result<Program<'a>, ParseFault>
-    ensures given { MatchResult result (λ tree. IsTreeOf tree cursor.old.rest.now) IsOfRules }
+    ensures given { MatchResult result (λ tree. IsTreeOf tree cursor.old.rest.now) (Refused most cursor.old) }
     ensures refused { IfErr result (IsRefused cursor.old.rest.now) }
 {
     cursor.expect_word(Word::Program)?;
@@ -62,7 +65,7 @@ fn program<'a>(alloc: Global, cursor: &mut Cursor<'_, 'a>) -> Result<Program<'a>
 
 // parameters = ["(" names ")"]
 fn parameters<'a>(alloc: Global, cursor: &mut Cursor<'_, 'a>) -> Result<Vec<Name<'a>>, ParseFault>
-    ensures given { MatchResult result (λ found. Read BeginsParameters cursor.old cursor.new found.items) IsOfRules }
+    ensures given { MatchResult result (λ found. Read BeginsParameters cursor.old cursor.new found.items) IsPlain }
     ensures exact { ReadsEach BeginsParameters (NoNext (Kind.Symbol Symbol.OpenParenthesis))
         cursor.old cursor.new result }
 {
@@ -76,7 +79,7 @@ fn parameters<'a>(alloc: Global, cursor: &mut Cursor<'_, 'a>) -> Result<Vec<Name
 
 // names = name {"," name}
 fn names<'a>(alloc: Global, cursor: &mut Cursor<'_, 'a>) -> Result<Vec<Name<'a>>, ParseFault>
-    ensures given { MatchResult result (λ found. Read BeginsNames cursor.old cursor.new found.items) IsOfRules }
+    ensures given { MatchResult result (λ found. Read BeginsNames cursor.old cursor.new found.items) IsPlain }
     ensures exact { ReadsEach BeginsNames (NoNext (Kind.Symbol Symbol.Comma)) cursor.old cursor.new result }
 {
     let mut names = Vec::new(alloc);
@@ -95,7 +98,7 @@ fn block<'a>(
     cursor: &mut Cursor<'_, 'a>,
     levels: u32,
 ) -> Result<Block<'a>, ParseFault>
-    ensures given { MatchResult result (Read (BeginsBlock levels) cursor.old cursor.new) IsOfRules }
+    ensures given { MatchResult result (Read (BeginsBlock levels) cursor.old cursor.new) (Refused levels cursor.old) }
     ensures exact { ReadsDeep levels BeginsBlock Anything cursor.old cursor.new result }
 {
     let variables = variables(alloc, cursor)?;
@@ -113,7 +116,7 @@ fn variables<'a>(
     alloc: Global,
     cursor: &mut Cursor<'_, 'a>,
 ) -> Result<Vec<VariableGroup<'a>>, ParseFault>
-    ensures given { MatchResult result (λ found. Read BeginsVariables cursor.old cursor.new found.items) IsOfRules }
+    ensures given { MatchResult result (λ found. Read BeginsVariables cursor.old cursor.new found.items) IsPlain }
     ensures exact { ReadsEach BeginsVariables BeginsStatementPart cursor.old cursor.new result }
 {
     let Some(_) = cursor.take_word(Word::Var) else {
@@ -127,7 +130,7 @@ fn groups<'a>(
     alloc: Global,
     cursor: &mut Cursor<'_, 'a>,
 ) -> Result<Vec<VariableGroup<'a>>, ParseFault>
-    ensures given { MatchResult result (λ found. Read BeginsGroups cursor.old cursor.new found.items) IsOfRules }
+    ensures given { MatchResult result (λ found. Read BeginsGroups cursor.old cursor.new found.items) IsPlain }
     ensures exact { ReadsEach BeginsGroups (NoNext Kind.Identifier) cursor.old cursor.new result }
 {
     let mut groups = Vec::new(alloc);
@@ -141,7 +144,7 @@ fn groups<'a>(
 
 // group = names ":" name ";"
 fn group<'a>(alloc: Global, cursor: &mut Cursor<'_, 'a>) -> Result<VariableGroup<'a>, ParseFault>
-    ensures given { MatchResult result (Read BeginsGroup cursor.old cursor.new) IsOfRules }
+    ensures given { MatchResult result (Read BeginsGroup cursor.old cursor.new) IsPlain }
     ensures exact { ReadsEach BeginsGroup Anything cursor.old cursor.new result }
 {
     let names = names(alloc, cursor)?;

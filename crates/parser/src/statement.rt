@@ -1,5 +1,5 @@
 ghost use Rattle.std.specs.Prelude.{◌≡◌, ◌+◌, MatchResult, Some};
-ghost use Rattle.token_cursor.specs.Cursor.{IsOfRules};
+ghost use Rattle.parser.specs.Refusing.{Refused};
 ghost use Rattle.grammar.specs.Following.{next_kind, EndsStmt, EndsStatements, Anything};
 ghost use Rattle.parser.specs.Reading.{ReadsDeep};
 ghost use Rattle.parser.specs.Rules.{Read};
@@ -26,7 +26,8 @@ pub fn compound<'a>(
     levels: u32,
 ) -> Result<(Vec<Stmt<'a>>, Place), ParseFault>
     ensures given { MatchResult result
-        (λ found. Read (BeginsCompound levels) cursor.old cursor.new (found.0.items, found.1)) IsOfRules }
+        (λ found. Read (BeginsCompound levels) cursor.old cursor.new (found.0.items, found.1))
+        (Refused (levels + 1) cursor.old) }
     ensures exact { ReadsDeep levels BeginsCompound Anything cursor.old cursor.new result }
 {
     cursor.expect_word(Word::Begin)?;
@@ -43,7 +44,7 @@ fn statements<'a>(
     levels: u32,
 ) -> Result<Vec<Stmt<'a>>, ParseFault>
     ensures given { MatchResult result
-        (λ found. Read (BeginsStatements levels) cursor.old cursor.new found.items) IsOfRules }
+        (λ found. Read (BeginsStatements levels) cursor.old cursor.new found.items) (Refused levels cursor.old) }
     ensures exact { ReadsDeep levels BeginsStatements EndsStatements cursor.old cursor.new result }
 {
     let mut statements = Vec::new(alloc);
@@ -63,7 +64,7 @@ fn statement<'a>(
     cursor: &mut Cursor<'_, 'a>,
     levels: u32,
 ) -> Result<Stmt<'a>, ParseFault>
-    ensures given { MatchResult result (Read (BeginsStmt levels) cursor.old cursor.new) IsOfRules }
+    ensures given { MatchResult result (Read (BeginsStmt levels) cursor.old cursor.new) (Refused levels cursor.old) }
     ensures exact { ReadsDeep levels BeginsStmt EndsStmt cursor.old cursor.new result }
 {
     let levels = inside(levels, cursor.place())?;
@@ -85,7 +86,8 @@ fn simple<'a>(
     cursor: &mut Cursor<'_, 'a>,
     levels: u32,
 ) -> Result<Stmt<'a>, ParseFault>
-    ensures given { MatchResult result (Read (BeginsStmt (levels + 1)) cursor.old cursor.new) IsOfRules }
+    ensures given { MatchResult result (Read (BeginsStmt (levels + 1)) cursor.old cursor.new)
+        (Refused (levels + 1) cursor.old) }
     ensures exact { next_kind cursor.old.rest.now ≡ Some Kind.Identifier →
         ReadsDeep (levels + 1) BeginsStmt EndsStmt cursor.old cursor.new result }
 {

@@ -1,14 +1,17 @@
-use Rattle.std.proofs.Common.{rules, arith, ◌≡◌, refl, ap, ◌∙◌, sym, subst, [], ◌∷◌, length, Some, Ok, Err, MatchResult}
+use Rattle.std.proofs.Common.{rules, arith, ◌+◌, ◌≡◌, refl, ap, ◌∙◌, sym, subst, [], ◌∷◌, map, length, Some, Ok, Err, MatchResult}
 use Rattle.lexer.specs.declared.token.Kind.TheVariants as kind
 use Rattle.lexer.specs.declared.token.Symbol.TheVariants as symbol
 use Rattle.lexer.specs.declared.token.Word.TheVariants as word
 use Rattle.syntax_tree.specs.declared.Actual.{Actual}
 use Rattle.token_cursor.specs.declared.cursor.Cursor.{Cursor}
-use Rattle.token_cursor.specs.Cursor.{IsOfRules, Took}
+use Rattle.token_cursor.specs.Cursor.{Took}
+use Rattle.parser.specs.Refusing.{Refused}
+use Rattle.parser.proofs.Deep.{front_none, front_on, refused_behind_front, memory_refused, refused_behind, refused_behind_opening, refused_spent, refused_spent_at}
 use Rattle.token_cursor.specs.Level.{level_number}
 use Rattle.parser.specs.Rules.{Read, LinksEnd, LinksGoOn}
 use Rattle.grammar.specs.Begins.{BeginsExpr, BeginsActual, BeginsActualList}
-use Rattle.grammar.specs.Spelling.{Reads, mark, of_kind_at}
+use Rattle.token_cursor.specs.declared.fault.ParseFault.TheVariants.{TooDeep}
+use Rattle.grammar.specs.Spelling.{Reads, mark, of_kind_at, sign, operator, identifier, joined, expr_spelling, actual_spelling, link_spelling}
 use Rattle.grammar.specs.Following.{next_kind, NoOperator, NoSign, NoNext, Ends, EndsActual}
 use Rattle.parser.specs.Reading.{Stops, ReadsDeep}
 use Rattle.grammar.specs.WellFormed.{relation_level, product_level, factor_level, first_level, operand_level}
@@ -35,7 +38,8 @@ use Rattle.parser.proofs.expression.+expression.Goals.{factor-in-Some+in-Word-1,
 
 pub expression-returns-then-not-has_operator-clause-given : goal.expression-returns-then-not-has_operator-clause-given
 expression-returns-then-not-has_operator-clause-given t c =
-    alone_given (level_number c.args.level) c.args.levels c.args.cursor.now c.first_operand-found.new.cursor c.first_operand-found.result
+    alone_given (Refused (c.args.levels + 1) c.args.cursor.now) (level_number c.args.level) c.args.levels c.args.cursor.now c.first_operand-found.new.cursor
+    c.first_operand-found.result
     c.first_operand-found.ensures.given
 
 pub expression-returns-then-not-has_operator-clause-exact : goal.expression-returns-then-not-has_operator-clause-exact
@@ -46,8 +50,10 @@ expression-returns-then-not-has_operator-clause-exact t c =
 pub expression-returns-in_err-first-clause-given : goal.expression-returns-in_err-first-clause-given
 expression-returns-in_err-first-clause-given t c =
     handed_on _ _ c.from_residual.result c.in_err-first.field-0.0 c.from_residual.ensures
-    (not_kept (Read (BeginsExpr (first_level (level_number c.args.level)) c.args.levels) c.args.cursor.now c.first_operand-found.new.cursor) IsOfRules
-    c.first_operand-found.result c.in_err-first.field-0.0 tt c.first_operand-found.ensures.given c.in_err-first.ensures.given)
+    (not_kept (Read (BeginsExpr (first_level (level_number c.args.level)) c.args.levels) c.args.cursor.now c.first_operand-found.new.cursor)
+    (Refused (c.args.levels + 1) c.args.cursor.now)
+    c.first_operand-found.result c.in_err-first.field-0.0 (memory_refused (c.args.levels + 1) c.args.cursor.now) c.first_operand-found.ensures.given
+    c.in_err-first.ensures.given)
 
 pub expression-returns-in_err-first-clause-exact : goal.expression-returns-in_err-first-clause-exact
 expression-returns-in_err-first-clause-exact t c = λ depth e others h ends.
@@ -64,6 +70,15 @@ expression-returns-in_err-rest-clause-exact t c = λ depth e others h ends.
     handed_on _ _ c.from_residual-in_err-rest.result c.in_err-rest.field-0.0 c.from_residual-in_err-rest.ensures
     (c.in_err-rest.ensures.exact depth k.links others (links_of (level_number c.args.level) depth c.first_operand-found.new.cursor.rest.now others k) ends)
 
+pub expression-returns-in_err-rest-clause-given : goal.expression-returns-in_err-rest-clause-given
+expression-returns-in_err-rest-clause-given t c =
+    let n = c.args.levels + 1 in
+    let behind = c.first_operand-found.new.cursor in
+    let first = was_read (Read (BeginsExpr (first_level (level_number c.args.level)) c.args.levels) c.args.cursor.now behind) (Refused n c.args.cursor.now)
+    c.first_operand-found.result c.in_ok-first.first.value c.in_ok-first.ensures.given c.first_operand-found.ensures.given in
+    handed_on _ _ c.from_residual-in_err-rest.result c.in_err-rest.field-0.0 c.from_residual-in_err-rest.ensures
+    (refused_behind n c.args.cursor.now behind (expr_spelling c.in_ok-first.first.value) c.in_err-rest.field-0.0 first.spelled c.in_err-rest.ensures.given)
+
 pub expression-returns-clause-given : goal.expression-returns-clause-given
 expression-returns-clause-given t c =
     let first = c.in_ok-first.first in
@@ -71,7 +86,8 @@ expression-returns-clause-given t c =
     gives-Chain (level_number c.args.level) c.args.levels c.args.cursor.now c.first_operand-found.new.cursor c.links.new.cursor first.value first
     c.in_ok-rest.rest refl
     (λ e. some (c.in_ok-rest.ensures.given.none e))
-    (was_read (Read (BeginsExpr (first_level (level_number c.args.level)) c.args.levels) c.args.cursor.now c.first_operand-found.new.cursor) IsOfRules
+    (was_read (Read (BeginsExpr (first_level (level_number c.args.level)) c.args.levels) c.args.cursor.now c.first_operand-found.new.cursor)
+    (Refused (c.args.levels + 1) c.args.cursor.now)
     c.first_operand-found.result first.value c.in_ok-first.ensures.given c.first_operand-found.ensures.given)
     c.in_ok-rest.ensures.given.begun
 
@@ -108,6 +124,16 @@ links-returns-in_err-operand-clause-exact t c = λ depth links others h ends.
     (subst (λ xs. LinksGoOn c.args.level xs c.loop-operator.cursor c.next_operator.new.cursor c.in-Some.operator c.in-Some.place) c.deref.ensures.value
     c.in-Some.ensures.goes_on) c.in_err-operand.ensures.exact depth links others h ends)
 
+pub links-returns-in_err-operand-clause-given : goal.links-returns-in_err-operand-clause-given
+links-returns-in_err-operand-clause-given t c =
+    let n = c.args.levels + 1 in
+    let now = c.loop-operator.cursor in
+    let fault = c.in_err-operand.field-0.0 in
+    handed_on _ _ c.from_residual.result fault c.from_residual.ensures
+    (refused_behind n c.args.cursor.now now (joined (map link_spelling c.loop-operator.links.items)) fault c.loop-operator.invariant.so_far.spelled
+    (refused_behind n now c.next_operator.new.cursor (operator c.in-Some.operator c.in-Some.place ∷ []) fault c.in-Some.ensures.goes_on.spelled
+    c.in_err-operand.ensures.given))
+
 pub links-returns-clause-given : goal.links-returns-clause-given
 links-returns-clause-given t c = links_given c.args.level c.args.levels c.args.cursor.now c.loop-operator.cursor c.next_operator.new.cursor
     c.loop-operator.links.items c.loop-operator.invariant
@@ -123,7 +149,7 @@ links-returns-clause-exact t c = links_end c.args.level c.args.levels c.args.cur
 pub first_operand-returns-in-Relation-clause-given : goal.first_operand-returns-in-Relation-clause-given
 first_operand-returns-in-Relation-clause-given t c =
     subst (λ l. MatchResult c.expression.result (Read (BeginsExpr (first_level (level_number l)) c.args.levels) c.args.cursor.now c.expression.new.cursor)
-    IsOfRules) (sym c.in-Relation.is) c.expression.ensures.given
+    (Refused (c.args.levels + 1) c.args.cursor.now)) (sym c.in-Relation.is) c.expression.ensures.given
 
 pub first_operand-returns-in-Relation-clause-exact : goal.first_operand-returns-in-Relation-clause-exact
 first_operand-returns-in-Relation-clause-exact t c =
@@ -132,7 +158,8 @@ first_operand-returns-in-Relation-clause-exact t c =
 
 pub first_operand-returns-in-Sum-clause-given : goal.first_operand-returns-in-Sum-clause-given
 first_operand-returns-in-Sum-clause-given t c =
-    subst (λ l. MatchResult c.signed.result (Read (BeginsExpr (first_level (level_number l)) c.args.levels) c.args.cursor.now c.signed.new.cursor) IsOfRules)
+    subst (λ l. MatchResult c.signed.result (Read (BeginsExpr (first_level (level_number l)) c.args.levels) c.args.cursor.now c.signed.new.cursor)
+    (Refused (c.args.levels + 1) c.args.cursor.now))
     (sym c.in-Sum.is) c.signed.ensures.given
 
 pub first_operand-returns-in-Sum-clause-exact : goal.first_operand-returns-in-Sum-clause-exact
@@ -142,7 +169,8 @@ first_operand-returns-in-Sum-clause-exact t c =
 
 pub first_operand-returns-in-Product-clause-given : goal.first_operand-returns-in-Product-clause-given
 first_operand-returns-in-Product-clause-given t c =
-    subst (λ l. MatchResult c.factor.result (Read (BeginsExpr (first_level (level_number l)) c.args.levels) c.args.cursor.now c.factor.new.cursor) IsOfRules)
+    subst (λ l. MatchResult c.factor.result (Read (BeginsExpr (first_level (level_number l)) c.args.levels) c.args.cursor.now c.factor.new.cursor)
+    (Refused (c.args.levels + 1) c.args.cursor.now))
     (sym c.in-Product.is) c.factor.ensures.given
 
 pub first_operand-returns-in-Product-clause-exact : goal.first_operand-returns-in-Product-clause-exact
@@ -153,7 +181,7 @@ first_operand-returns-in-Product-clause-exact t c =
 pub operand-returns-in-Relation-clause-given : goal.operand-returns-in-Relation-clause-given
 operand-returns-in-Relation-clause-given t c =
     subst (λ l. MatchResult c.expression.result (Read (BeginsExpr (operand_level (level_number l)) c.args.levels) c.args.cursor.now c.expression.new.cursor)
-    IsOfRules) (sym c.in-Relation.is) c.expression.ensures.given
+    (Refused (c.args.levels + 1) c.args.cursor.now)) (sym c.in-Relation.is) c.expression.ensures.given
 
 pub operand-returns-in-Relation-clause-exact : goal.operand-returns-in-Relation-clause-exact
 operand-returns-in-Relation-clause-exact t c =
@@ -163,7 +191,7 @@ operand-returns-in-Relation-clause-exact t c =
 pub operand-returns-in-Sum-clause-given : goal.operand-returns-in-Sum-clause-given
 operand-returns-in-Sum-clause-given t c =
     subst (λ l. MatchResult c.expression-in-Sum.result (Read (BeginsExpr (operand_level (level_number l)) c.args.levels) c.args.cursor.now
-    c.expression-in-Sum.new.cursor) IsOfRules) (sym c.in-Sum.is) c.expression-in-Sum.ensures.given
+    c.expression-in-Sum.new.cursor) (Refused (c.args.levels + 1) c.args.cursor.now)) (sym c.in-Sum.is) c.expression-in-Sum.ensures.given
 
 pub operand-returns-in-Sum-clause-exact : goal.operand-returns-in-Sum-clause-exact
 operand-returns-in-Sum-clause-exact t c =
@@ -173,7 +201,8 @@ operand-returns-in-Sum-clause-exact t c =
 
 pub operand-returns-in-Product-clause-given : goal.operand-returns-in-Product-clause-given
 operand-returns-in-Product-clause-given t c =
-    subst (λ l. MatchResult c.factor.result (Read (BeginsExpr (operand_level (level_number l)) c.args.levels) c.args.cursor.now c.factor.new.cursor) IsOfRules)
+    subst (λ l. MatchResult c.factor.result (Read (BeginsExpr (operand_level (level_number l)) c.args.levels) c.args.cursor.now c.factor.new.cursor)
+    (Refused (c.args.levels + 1) c.args.cursor.now))
     (sym c.in-Product.is) c.factor.ensures.given
 
 pub operand-returns-in-Product-clause-exact : goal.operand-returns-in-Product-clause-exact
@@ -185,9 +214,13 @@ operand-returns-in-Product-clause-exact t c =
 
 pub signed-returns-in_err-boxed-in-Some-clause-given : goal.signed-returns-in_err-boxed-in-Some-clause-given
 signed-returns-in_err-boxed-in-Some-clause-given t c =
-    handed_on _ _ c.from_residual.result c.in_err-boxed-in-Some.field-0.0 c.from_residual.ensures
-    (not_kept (Read (BeginsExpr product_level c.args.levels) c.take_sign.new.self c.expression-in-Some.new.cursor) IsOfRules c.expression-in-Some.result
-    c.in_err-boxed-in-Some.field-0.0 tt c.expression-in-Some.ensures.given c.in_err-boxed-in-Some.ensures.given)
+    let n = c.args.levels + 1 in
+    let behind = c.take_sign.new.self in
+    let fault = c.in_err-boxed-in-Some.field-0.0 in
+    handed_on _ _ c.from_residual.result fault c.from_residual.ensures
+    (refused_behind n c.args.cursor.now behind (sign c.in-Some.sign c.in-Some.place ∷ []) fault c.in-Some.ensures.spelled
+    (not_kept (Read (BeginsExpr product_level c.args.levels) behind c.expression-in-Some.new.cursor) (Refused n behind) c.expression-in-Some.result fault
+    (memory_refused n behind) c.expression-in-Some.ensures.given c.in_err-boxed-in-Some.ensures.given))
 
 pub signed-returns-in_err-boxed-in-Some-clause-exact : goal.signed-returns-in_err-boxed-in-Some-clause-exact
 signed-returns-in_err-boxed-in-Some-clause-exact t c = λ depth e others h ends.
@@ -204,7 +237,8 @@ signed-returns-in_ok-boxed-in-Some-clause-given t c =
     let term = c.in_ok-boxed-in-Some.field-0 in
     gives-Signed c.args.levels c.args.cursor.now c.take_sign.new.self c.expression-in-Some.new.cursor c.in-Some.sign c.in-Some.place term term.value
     c.in-Some.ensures.spelled
-    (was_read (Read (BeginsExpr product_level c.args.levels) c.take_sign.new.self c.expression-in-Some.new.cursor) IsOfRules c.expression-in-Some.result
+    (was_read (Read (BeginsExpr product_level c.args.levels) c.take_sign.new.self c.expression-in-Some.new.cursor)
+    (Refused (c.args.levels + 1) c.take_sign.new.self) c.expression-in-Some.result
     term.value c.in_ok-boxed-in-Some.ensures.given c.expression-in-Some.ensures.given) refl
 
 pub signed-returns-in_ok-boxed-in-Some-clause-exact : goal.signed-returns-in_ok-boxed-in-Some-clause-exact
@@ -240,7 +274,8 @@ factor-returns-in-Some-clause-exact t c = λ depth e others h ends.
 
 pub factor-returns-in-Some-Identifier-clause-given : goal.factor-returns-in-Some-Identifier-clause-given
 factor-returns-in-Some-Identifier-clause-given t c =
-    subst (λ k. MatchResult c.named.result (Read (BeginsExpr factor_level c.args.levels) k c.named.new.cursor) IsOfRules) c.in_default.ensures.kept
+    subst (λ k. MatchResult c.named.result (Read (BeginsExpr factor_level c.args.levels) k c.named.new.cursor) (Refused (c.args.levels + 1) k))
+    c.in_default.ensures.kept
     c.named.ensures.given
 
 pub factor-returns-in-Some-Identifier-clause-exact : goal.factor-returns-in-Some-Identifier-clause-exact
@@ -251,7 +286,7 @@ factor-returns-in-Some-Identifier-clause-exact t c = λ depth e others h ends.
 
 pub factor-returns-in_default-take_word-clause-given : goal.factor-returns-in_default-take_word-clause-given
 factor-returns-in_default-take_word-clause-given t c =
-    subst (λ k. MatchResult c.parenthesized.result (Read (BeginsExpr factor_level c.args.levels) k c.parenthesized.new.cursor) IsOfRules)
+    subst (λ k. MatchResult c.parenthesized.result (Read (BeginsExpr factor_level c.args.levels) k c.parenthesized.new.cursor) (Refused (c.args.levels + 1) k))
     (c.in_default-take_word.ensures.kept ∙ c.in_default.ensures.kept) c.parenthesized.ensures.given
 
 pub factor-returns-in_default-take_word-clause-exact : goal.factor-returns-in_default-take_word-clause-exact
@@ -278,9 +313,25 @@ factor-returns-in_err-levels-clause-exact t c = λ depth e others h ends.
 
 pub factor-returns-in_err-operand-clause-given : goal.factor-returns-in_err-operand-clause-given
 factor-returns-in_err-operand-clause-given t c =
-    handed_on _ _ c.from_residual-in_err-operand.result c.in_err-operand.field-0.0 c.from_residual-in_err-operand.ensures
-    (not_kept (Read (BeginsExpr factor_level c.in_ok-levels.levels) c.take_word.new.self c.factor.new.cursor) IsOfRules c.factor.result
-    c.in_err-operand.field-0.0 tt c.factor.ensures.given c.in_err-operand.ensures.given)
+    let n = c.in_ok-levels.levels + 1 in
+    let behind = c.take_word.new.self in
+    let fault = c.in_err-operand.field-0.0 in
+    let left = c.in_ok-levels.ensures.left in
+    let refused : Refused n behind fault = not_kept (Read (BeginsExpr factor_level c.in_ok-levels.levels) behind c.factor.new.cursor) (Refused n behind)
+    c.factor.result fault (memory_refused n behind) c.factor.ensures.given c.in_err-operand.ensures.given in
+    let opening : Refused (c.args.levels + 1) c.take_number.new.self fault = refused_behind_opening n (c.args.levels + 1) c.take_number.new.self behind
+    (kind.Word word.Not) c.in-Some-take_word.place fault refl (omega arith) c.in-Some-take_word.ensures.spelled refused in
+    handed_on _ _ c.from_residual-in_err-operand.result fault c.from_residual-in_err-operand.ensures
+    (subst (λ k. Refused (c.args.levels + 1) k fault) c.in_default.ensures.kept opening)
+
+pub factor-returns-in_err-levels-clause-given : goal.factor-returns-in_err-levels-clause-given
+factor-returns-in_err-levels-clause-given t c =
+    let fault = c.in_err-levels.field-0.0 in
+    let here : Refused c.args.levels c.take_word.new.self fault = refused_spent c.args.levels c.take_word.new.self fault
+    (c.in_err-levels.ensures.spent.0, c.in_err-levels.ensures.spent.1 ∙ ap TooDeep c.place.ensures) in
+    let opening : Refused (c.args.levels + 1) c.take_number.new.self fault = refused_behind_opening c.args.levels (c.args.levels + 1) c.take_number.new.self
+    c.take_word.new.self (kind.Word word.Not) c.in-Some-take_word.place fault refl refl c.in-Some-take_word.ensures.spelled here in
+    handed_on _ _ c.from_residual.result fault c.from_residual.ensures (subst (λ k. Refused (c.args.levels + 1) k fault) c.in_default.ensures.kept opening)
 
 pub factor-returns-in_err-operand-clause-exact : goal.factor-returns-in_err-operand-clause-exact
 factor-returns-in_err-operand-clause-exact t c = λ depth e others h ends.
@@ -298,7 +349,8 @@ factor-returns-clause-given t c =
     gives-Not c.args.levels c.in_ok-levels.levels c.args.cursor.now c.take_word.new.self c.factor.new.cursor c.in-Some-take_word.place operand operand.value
     c.in_ok-levels.ensures.left (subst (λ k. Took k c.take_word.new.self (of_kind_at (kind.Word word.Not) c.in-Some-take_word.place ∷ []))
     c.in_default.ensures.kept c.in-Some-take_word.ensures.spelled)
-    (was_read (Read (BeginsExpr factor_level c.in_ok-levels.levels) c.take_word.new.self c.factor.new.cursor) IsOfRules c.factor.result operand.value
+    (was_read (Read (BeginsExpr factor_level c.in_ok-levels.levels) c.take_word.new.self c.factor.new.cursor)
+    (Refused (c.in_ok-levels.levels + 1) c.take_word.new.self) c.factor.result operand.value
     c.in_ok-operand.ensures.given c.factor.ensures.given) refl
 
 pub factor-returns-clause-exact : goal.factor-returns-clause-exact
@@ -322,6 +374,13 @@ named-returns-in_err-actuals-clause-exact t c = λ first depth e others h ends.
     (factor_parts depth c.args.cursor.now.rest.now others e h) in
     handed_on _ _ c.from_residual-in_err-actuals.result c.in_err-actuals.field-0.0 c.from_residual-in_err-actuals.ensures
     (c.in_err-actuals.ensures.exact depth n.actuals others n.begun ends.call)
+
+pub named-returns-in_err-actuals-clause-given : goal.named-returns-in_err-actuals-clause-given
+named-returns-in_err-actuals-clause-given t c =
+    let fault = c.in_err-actuals.field-0.0 in
+    handed_on _ _ c.from_residual-in_err-actuals.result fault c.from_residual-in_err-actuals.ensures
+    (refused_behind (c.args.levels + 1) c.args.cursor.now c.expect_name.new.self (identifier c.in_ok-name.name ∷ []) fault c.in_ok-name.ensures.spelled
+    c.in_err-actuals.ensures.given)
 
 pub named-returns-then-is_empty-clause-given : goal.named-returns-then-is_empty-clause-given
 named-returns-then-is_empty-clause-given t c =
@@ -360,11 +419,24 @@ parenthesized-returns-in_err-levels-clause-exact t c = λ first depth e others h
     handed_on _ _ c.from_residual-in_err-levels.result c.in_err-levels.field-0.0 c.from_residual-in_err-levels.ensures
     (stops_spent c.args.levels depth _ _ c.in_err-levels.ensures.spent (omega arith))
 
+pub parenthesized-returns-in_err-levels-clause-given : goal.parenthesized-returns-in_err-levels-clause-given
+parenthesized-returns-in_err-levels-clause-given t c =
+    let fault = c.in_err-levels.field-0.0 in
+    handed_on _ _ c.from_residual-in_err-levels.result fault c.from_residual-in_err-levels.ensures
+    (refused_spent_at c.args.levels (c.args.levels + 1) c.args.cursor.now c.expect_symbol.new.self (kind.Symbol symbol.OpenParenthesis) c.in_ok-open.open fault
+    refl refl c.in_ok-open.ensures.spelled c.in_err-levels.ensures.spent)
+
 pub parenthesized-returns-in_err-inner-clause-given : goal.parenthesized-returns-in_err-inner-clause-given
 parenthesized-returns-in_err-inner-clause-given t c =
-    handed_on _ _ c.from_residual-in_err-inner.result c.in_err-inner.field-0.0 c.from_residual-in_err-inner.ensures
-    (not_kept (Read (BeginsExpr relation_level c.in_ok-levels.levels) c.expect_symbol.new.self c.expression.new.cursor) IsOfRules c.expression.result
-    c.in_err-inner.field-0.0 tt c.expression.ensures.given c.in_err-inner.ensures.given)
+    let n = c.in_ok-levels.levels + 1 in
+    let behind = c.expect_symbol.new.self in
+    let fault = c.in_err-inner.field-0.0 in
+    let left = c.in_ok-levels.ensures.left in
+    let refused : Refused n behind fault = not_kept (Read (BeginsExpr relation_level c.in_ok-levels.levels) behind c.expression.new.cursor) (Refused n behind)
+    c.expression.result fault (memory_refused n behind) c.expression.ensures.given c.in_err-inner.ensures.given in
+    handed_on _ _ c.from_residual-in_err-inner.result fault c.from_residual-in_err-inner.ensures
+    (refused_behind_opening n (c.args.levels + 1) c.args.cursor.now behind (kind.Symbol symbol.OpenParenthesis) c.in_ok-open.open fault refl (omega arith)
+    c.in_ok-open.ensures.spelled refused)
 
 pub parenthesized-returns-in_err-inner-clause-exact : goal.parenthesized-returns-in_err-inner-clause-exact
 parenthesized-returns-in_err-inner-clause-exact t c = λ first depth e others h ends.
@@ -391,7 +463,8 @@ parenthesized-returns-clause-given t c =
     gives-Parenthesized c.args.levels c.in_ok-levels.levels c.args.cursor.now c.expect_symbol.new.self c.expression.new.cursor c.expect_symbol-2.new.self
     c.in_ok-open.open c.in_ok-expect_symbol.field-0 inner inner.value
     c.in_ok-levels.ensures.left c.in_ok-open.ensures.spelled
-    (was_read (Read (BeginsExpr relation_level c.in_ok-levels.levels) c.expect_symbol.new.self c.expression.new.cursor) IsOfRules c.expression.result
+    (was_read (Read (BeginsExpr relation_level c.in_ok-levels.levels) c.expect_symbol.new.self c.expression.new.cursor)
+    (Refused (c.in_ok-levels.levels + 1) c.expect_symbol.new.self) c.expression.result
     inner.value c.in_ok-inner.ensures.given c.expression.ensures.given) c.in_ok-expect_symbol.ensures.spelled refl
 
 pub parenthesized-returns-clause-exact : goal.parenthesized-returns-clause-exact
@@ -427,6 +500,13 @@ actuals-returns-in_err-actuals-clause-exact t c = λ depth actuals others h ends
     handed_on _ _ c.from_residual.result c.in_err-actuals.field-0.0 c.from_residual.ensures
     (c.in_err-actuals.ensures.exact depth actuals o.middle o.list o.closes)
 
+pub actuals-returns-in_err-actuals-clause-given : goal.actuals-returns-in_err-actuals-clause-given
+actuals-returns-in_err-actuals-clause-given t c =
+    let fault = c.in_err-actuals.field-0.0 in
+    handed_on _ _ c.from_residual.result fault c.from_residual.ensures
+    (refused_behind_opening c.args.levels (c.args.levels + 1) c.args.cursor.now c.take_symbol.new.self (kind.Symbol symbol.OpenParenthesis) c.in-Some.field-0
+    fault refl refl c.in-Some.ensures.spelled c.in_err-actuals.ensures.given)
+
 pub actuals-returns-in_err-expect_symbol-clause-exact : goal.actuals-returns-in_err-expect_symbol-clause-exact
 actuals-returns-in_err-expect_symbol-clause-exact t c = λ depth actuals others h ends.
     let o = opened_actuals depth c.in-Some.field-0 c.args.cursor.now.rest.now c.take_symbol.new.self.rest.now others actuals c.in-Some.ensures.spelled ends h in
@@ -448,6 +528,7 @@ actual_list-loop-actuals-init t c = (
   emptied (λ xs. ActualsGrow c.args.levels c.args.cursor.now c.args.cursor.now xs) c.new-actuals.result.items c.new-actuals.ensures.items
       (actuals_grow_first c.args.levels c.args.cursor.now),
   actual_list_begins c.args.cursor.now.rest.now,
+  front_none c.args.cursor.now.rest.now,
 )
 
 pub actual_list-loop-actuals-preserved : goal.actual_list-loop-actuals-preserved
@@ -456,29 +537,38 @@ actual_list-loop-actuals-preserved t c =
     let now = last c.loop-actuals.actuals.items c.put.new.list.items c.actual.result c.in_ok-put.ensures.given in
     let list = pushed (λ xs. Read (BeginsActualList c.args.levels) start c.actual.new.cursor xs) c.loop-actuals.actuals.items c.put.new.list.items now.item
     now.grown
-    (c.loop-actuals.invariant.0 c.actual.new.cursor now.item (was_read (Read (BeginsActual c.args.levels) c.loop-actuals.cursor c.actual.new.cursor) IsOfRules
+    (c.loop-actuals.invariant.0 c.actual.new.cursor now.item (was_read (Read (BeginsActual c.args.levels) c.loop-actuals.cursor c.actual.new.cursor)
+    (Refused c.args.levels c.loop-actuals.cursor)
     c.actual.result now.item now.is c.actual.ensures.given)) in (
       actuals_grow c.args.levels start c.actual.new.cursor c.take_symbol.new.self c.put.new.list.items c.in-Some.field-0 list c.in-Some.ensures.spelled,
       actual_list_goes_on c.in-Some.field-0 start.rest.now c.actual.new.cursor.rest.now c.take_symbol.new.self.rest.now c.in-Some.ensures.spelled
           (actual_list_left c.args.levels start.rest.now c.loop-actuals.cursor c.actual.new.cursor now.item
           (subst (λ r. ReadsDeep c.args.levels BeginsActual EndsActual c.loop-actuals.cursor c.actual.new.cursor r) now.is c.actual.ensures.exact)
           c.loop-actuals.invariant.1),
+      front_on (of_kind_at (kind.Symbol symbol.Comma) c.in-Some.field-0 ∷ []) start.rest.now c.actual.new.cursor.rest.now c.take_symbol.new.self.rest.now
+          (front_on (actual_spelling now.item) start.rest.now c.loop-actuals.cursor.rest.now c.actual.new.cursor.rest.now c.loop-actuals.invariant.2
+          (was_read (Read (BeginsActual c.args.levels) c.loop-actuals.cursor c.actual.new.cursor) (Refused c.args.levels c.loop-actuals.cursor)
+          c.actual.result now.item now.is c.actual.ensures.given).spelled) c.in-Some.ensures.spelled,
     )
 
 pub actual_list-loop-actuals-smaller : goal.actual_list-loop-actuals-smaller
 actual_list-loop-actuals-smaller t c =
     let now = last c.loop-actuals.actuals.items c.put.new.list.items c.actual.result c.in_ok-put.ensures.given in
     let no_more = reads_no_more _ c.loop-actuals.cursor.rest.now c.actual.new.cursor.rest.now
-    (was_read (Read (BeginsActual c.args.levels) c.loop-actuals.cursor c.actual.new.cursor) IsOfRules c.actual.result now.item now.is
+    (was_read (Read (BeginsActual c.args.levels) c.loop-actuals.cursor c.actual.new.cursor)
+    (Refused c.args.levels c.loop-actuals.cursor) c.actual.result now.item now.is
     c.actual.ensures.given).spelled in
     let fewer = reads_fewer _ [] c.actual.new.cursor.rest.now c.take_symbol.new.self.rest.now c.in-Some.ensures.spelled in
     omega arith
 
 pub actual_list-returns-in_err-put-clause-given : goal.actual_list-returns-in_err-put-clause-given
 actual_list-returns-in_err-put-clause-given t c =
-    handed_on _ _ c.from_residual.result c.in_err-put.field-0.0 c.from_residual.ensures
-    (not_kept (Read (BeginsActual c.args.levels) c.loop-actuals.cursor c.actual.new.cursor) IsOfRules c.actual.result c.in_err-put.field-0.0 tt
-    c.actual.ensures.given c.in_err-put.ensures.given)
+    let start = c.loop-actuals.cursor in
+    let fault = c.in_err-put.field-0.0 in
+    let refused : Refused c.args.levels start fault = not_kept (Read (BeginsActual c.args.levels) start c.actual.new.cursor) (Refused c.args.levels start)
+    c.actual.result fault (memory_refused c.args.levels start) c.actual.ensures.given c.in_err-put.ensures.given in
+    handed_on _ _ c.from_residual.result fault c.from_residual.ensures
+    (refused_behind_front c.args.levels c.args.cursor.now start fault c.loop-actuals.invariant.2 refused)
 
 pub actual_list-returns-in_err-put-clause-exact : goal.actual_list-returns-in_err-put-clause-exact
 actual_list-returns-in_err-put-clause-exact t c = λ depth actuals others h ends.
@@ -494,7 +584,8 @@ actual_list-returns-in_default-clause-given t c =
     let now = last c.loop-actuals.actuals.items c.put.new.list.items c.actual.result c.in_ok-put.ensures.given in
     let list = pushed (λ xs. Read (BeginsActualList c.args.levels) start c.actual.new.cursor xs) c.loop-actuals.actuals.items c.put.new.list.items now.item
     now.grown
-    (c.loop-actuals.invariant.0 c.actual.new.cursor now.item (was_read (Read (BeginsActual c.args.levels) c.loop-actuals.cursor c.actual.new.cursor) IsOfRules
+    (c.loop-actuals.invariant.0 c.actual.new.cursor now.item (was_read (Read (BeginsActual c.args.levels) c.loop-actuals.cursor c.actual.new.cursor)
+    (Refused c.args.levels c.loop-actuals.cursor)
     c.actual.result now.item now.is c.actual.ensures.given)) in
     unchanged (λ k. Read (BeginsActualList c.args.levels) start k c.put.new.list.items) c.actual.new.cursor c.take_symbol.new.self c.in_default.ensures.kept
     list
@@ -516,6 +607,12 @@ actual-returns-in_err-levels-clause-exact t c = λ depth x others h ends.
     let n = v.nests in
     handed_on _ _ c.from_residual.result c.in_err-levels.field-0.0 c.from_residual.ensures
     (stops_spent c.args.levels depth _ _ c.in_err-levels.ensures.spent (omega arith))
+
+pub actual-returns-in_err-levels-clause-given : goal.actual-returns-in_err-levels-clause-given
+actual-returns-in_err-levels-clause-given t c =
+    let fault = c.in_err-levels.field-0.0 in
+    handed_on _ _ c.from_residual.result fault c.from_residual.ensures
+    (refused_spent c.args.levels c.args.cursor.now fault (c.in_err-levels.ensures.spent.0, c.in_err-levels.ensures.spent.1 ∙ ap TooDeep c.place.ensures))
 
 pub actual-returns-in_err-value-clause-exact : goal.actual-returns-in_err-value-clause-exact
 actual-returns-in_err-value-clause-exact t c = λ depth x others h ends.
@@ -543,6 +640,18 @@ actual-returns-in_err-width-clause-exact t c = λ depth x others h ends.
     handed_on _ _ c.from_residual-in_err-width.result c.in_err-width.field-0.0 c.from_residual-in_err-width.ensures
     (width_answer c.args.levels c.in_ok-levels.levels depth c.take_symbol.new.self c.expression-2.new.cursor others
     (Err c.in_err-width.field-0.0) c.in_ok-levels.ensures.left ends b c.in_err-width.ensures.exact)
+
+pub actual-returns-in_err-width-clause-given : goal.actual-returns-in_err-width-clause-given
+actual-returns-in_err-width-clause-given t c =
+    let n = c.in_ok-levels.levels + 1 in
+    let value = c.expression.new.cursor in
+    let fault = c.in_err-width.field-0.0 in
+    let refused : Refused n c.args.cursor.now fault = refused_behind n c.args.cursor.now value (expr_spelling c.in_ok-value.value) fault
+    c.in_ok-value.ensures.given.spelled
+    (refused_behind n value c.take_symbol.new.self (of_kind_at (kind.Symbol symbol.Colon) c.in-Some.field-0 ∷ []) fault c.in-Some.ensures.spelled
+    c.in_err-width.ensures.given) in
+    handed_on _ _ c.from_residual-in_err-width.result fault c.from_residual-in_err-width.ensures
+    (subst (λ m. Refused m c.args.cursor.now fault) c.in_ok-levels.ensures.left refused)
 
 pub actual-returns-clause-given : goal.actual-returns-clause-given
 actual-returns-clause-given t c =

@@ -3,6 +3,7 @@ use Rattle.token_cursor.specs.Cursor.{left}
 use Rattle.token_cursor.specs.Level.{level_number}
 use Rattle.parser.proofs.Chains.{LinksRead}
 use Rattle.grammar.proofs.Actuals.{ActualNext}
+use Rattle.parser.proofs.Deep.{Front}
 use Rattle.parser.proofs.Statements.{ActualsGrow}
 use Rattle.parser.proofs.expression.+expression.Given as goal
 
@@ -46,7 +47,9 @@ abbrev pub decreases-links-loop-operator : goal.decreases-links-loop-operator
 decreases-links-loop-operator l = left l.cursor
 
 abbrev pub invariant-actual_list-loop-actuals : goal.invariant-actual_list-loop-actuals
-invariant-actual_list-loop-actuals l = ActualsGrow l.levels l.fn.cursor l.cursor l.actuals.items × ActualNext l.fn.cursor.rest.now l.cursor.rest.now
+invariant-actual_list-loop-actuals l =
+    ActualsGrow l.levels l.fn.cursor l.cursor l.actuals.items × ActualNext l.fn.cursor.rest.now l.cursor.rest.now
+    × Front l.fn.cursor.rest.now l.cursor.rest.now
 
 abbrev pub decreases-actual_list-loop-actuals : goal.decreases-actual_list-loop-actuals
 decreases-actual_list-loop-actuals l = left l.cursor

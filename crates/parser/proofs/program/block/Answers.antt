@@ -1,5 +1,8 @@
-use Rattle.std.proofs.Common.{rules, ◌≡◌}
-use Rattle.token_cursor.specs.declared.fault.ParseFault.TheVariants.{Memory}
+use Rattle.std.proofs.Common.{rules, ◌≡◌, ap, ◌∙◌, subst}
+use Rattle.grammar.specs.Spelling.{variables_spelling}
+use Rattle.parser.specs.Refusing.{Refused}
+use Rattle.parser.proofs.Deep.{refused_behind, refused_spent}
+use Rattle.token_cursor.specs.declared.fault.ParseFault.TheVariants.{Memory, TooDeep}
 use Rattle.parser.specs.Reading.{Stops}
 use Rattle.parser.proofs.Exact.{stops_above}
 use Rattle.grammar.proofs.Programs.{block_parts}
@@ -17,6 +20,25 @@ pub returns-in_err-variables-clause-exact : goal.returns-in_err-variables-clause
 returns-in_err-variables-clause-exact c = λ depth b others h _.
     let p = block_parts depth c.args.cursor.now.rest.now others b h in
     let m : c.in_err-variables.field-0.0 ≡ Memory = c.in_err-variables.ensures.exact p.groups p.middle p.declared p.begins in
+    search rules
+
+pub returns-in_err-levels-clause-given : goal.returns-in_err-levels-clause-given
+returns-in_err-levels-clause-given c =
+    let n = c.args.levels in
+    let behind = c.variables.new.cursor in
+    let fault = c.in_err-levels.field-0.0 in
+    let refused : Refused n c.args.cursor.now fault = refused_behind n c.args.cursor.now behind (variables_spelling c.in_ok-variables.variables.items) fault
+    c.in_ok-variables.ensures.given.spelled
+    (refused_spent n behind fault (c.in_err-levels.ensures.spent.0, c.in_err-levels.ensures.spent.1 ∙ ap TooDeep c.place.ensures)) in
+    search rules
+
+pub returns-in_err-statements-clause-given : goal.returns-in_err-statements-clause-given
+returns-in_err-statements-clause-given c =
+    let n = c.args.levels in
+    let behind = c.variables.new.cursor in
+    let fault = c.in_err-statements.field-0.0 in
+    let refused : Refused n c.args.cursor.now fault = refused_behind n c.args.cursor.now behind (variables_spelling c.in_ok-variables.variables.items) fault
+    c.in_ok-variables.ensures.given.spelled (subst (λ m. Refused m behind fault) c.in_ok-levels.ensures.left c.in_err-statements.ensures.given) in
     search rules
 
 pub returns-in_err-statements-clause-exact : goal.returns-in_err-statements-clause-exact

@@ -1,7 +1,7 @@
 use Rattle.std.proofs.Common.{rules, ◌≡◌, refl, subst}
 use Rattle.lexer.specs.declared.token.Kind.TheVariants as kind
 use Rattle.token_cursor.specs.declared.fault.ParseFault.TheVariants.{Memory}
-use Rattle.token_cursor.specs.Cursor.{IsOfRules}
+use Rattle.parser.specs.Refusing.{IsPlain}
 use Rattle.grammar.specs.Following.{Next, NoNext, Anything}
 use Rattle.parser.specs.Reading.{ReadsEach}
 use Rattle.parser.specs.Rules.{Read}
@@ -26,7 +26,7 @@ loop-groups-preserved c =
     let next : Next kind.Identifier c.group.new.cursor.rest.now = search rules in
     let now = last c.loop-groups.groups.items c.put.new.list.items c.group.result c.in_ok-put.ensures.given in
     let list = pushed (λ xs. Read BeginsGroups start c.group.new.cursor xs) c.loop-groups.groups.items c.put.new.list.items now.item now.grown
-    (c.loop-groups.invariant.0 c.group.new.cursor now.item (was_read (Read BeginsGroup c.loop-groups.cursor c.group.new.cursor) IsOfRules c.group.result
+    (c.loop-groups.invariant.0 c.group.new.cursor now.item (was_read (Read BeginsGroup c.loop-groups.cursor c.group.new.cursor) IsPlain c.group.result
     now.item now.is c.group.ensures.given)) in (
       groups_grow start c.group.new.cursor c.put.new.list.items list,
       groups_go_on_with start.rest.now c.group.new.cursor.rest.now
@@ -39,12 +39,12 @@ pub loop-groups-smaller : goal.loop-groups-smaller
 loop-groups-smaller c =
     let now = last c.loop-groups.groups.items c.put.new.list.items c.group.result c.in_ok-put.ensures.given in
     group_fewer c.loop-groups.cursor.rest.now c.group.new.cursor.rest.now now.item
-    (was_read (Read BeginsGroup c.loop-groups.cursor c.group.new.cursor) IsOfRules c.group.result now.item now.is c.group.ensures.given)
+    (was_read (Read BeginsGroup c.loop-groups.cursor c.group.new.cursor) IsPlain c.group.result now.item now.is c.group.ensures.given)
 
 pub returns-in_err-put-clause-given : goal.returns-in_err-put-clause-given
 returns-in_err-put-clause-given c =
     handed_on _ _ c.from_residual.result c.in_err-put.field-0.0 c.from_residual.ensures
-    (not_kept (Read BeginsGroup c.loop-groups.cursor c.group.new.cursor) IsOfRules c.group.result c.in_err-put.field-0.0 tt c.group.ensures.given
+    (not_kept (Read BeginsGroup c.loop-groups.cursor c.group.new.cursor) IsPlain c.group.result c.in_err-put.field-0.0 tt c.group.ensures.given
     c.in_err-put.ensures.given)
 
 pub returns-in_err-put-clause-exact : goal.returns-in_err-put-clause-exact
@@ -58,7 +58,7 @@ pub returns-in_default-clause-given : goal.returns-in_default-clause-given
 returns-in_default-clause-given c =
     let now = last c.loop-groups.groups.items c.put.new.list.items c.group.result c.in_ok-put.ensures.given in
     pushed (λ xs. Read BeginsGroups c.args.cursor.now c.group.new.cursor xs) c.loop-groups.groups.items c.put.new.list.items now.item now.grown
-    (c.loop-groups.invariant.0 c.group.new.cursor now.item (was_read (Read BeginsGroup c.loop-groups.cursor c.group.new.cursor) IsOfRules c.group.result
+    (c.loop-groups.invariant.0 c.group.new.cursor now.item (was_read (Read BeginsGroup c.loop-groups.cursor c.group.new.cursor) IsPlain c.group.result
     now.item now.is c.group.ensures.given))
 
 pub returns-in_default-clause-exact : goal.returns-in_default-clause-exact

@@ -1,8 +1,12 @@
-use Rattle.std.proofs.Common.{rules, ◌≡◌, [], subst, sym}
+use Rattle.std.proofs.Common.{rules, ◌≡◌, [], ◌∷◌, subst, sym}
 use Rattle.lexer.specs.declared.token.Symbol.TheVariants as symbol
 use Rattle.token_cursor.specs.declared.fault.ParseFault.TheVariants.{Memory}
 use Rattle.parser.specs.Reading.{Stops}
-use Rattle.grammar.specs.Spelling.{mark}
+use Rattle.lexer.specs.declared.token.Kind.TheVariants as kind
+use Rattle.lexer.specs.declared.token.Word.TheVariants as word
+use Rattle.grammar.specs.Spelling.{mark, of_kind_at, identifier, identifiers, in_parentheses}
+use Rattle.parser.specs.Refusing.{Refused}
+use Rattle.parser.proofs.Deep.{refused_behind}
 use Rattle.parser.specs.Syntax.{most, IsRefused}
 use Rattle.grammar.proofs.Rows.{begins}
 use Rattle.grammar.proofs.Programs.{program_first, program_named, program_behind_name, program_parameters_end, program_behind_semicolon}
@@ -62,6 +66,19 @@ returns-in_err-block-clause-refused c =
     let s = program_behind_semicolon depth c.in_ok-expect_symbol.field-0 c.parameters.new.cursor.rest.now c.expect_symbol.new.self.rest.now []
     c.in_ok-expect_symbol.ensures.spelled p in
     c.in_err-block.ensures.exact depth s.block s.middle s.begun tt) in
+    search rules
+
+pub returns-in_err-block-clause-given : goal.returns-in_err-block-clause-given
+returns-in_err-block-clause-given c =
+    let fault = c.in_err-block.field-0.0 in
+    let refused : Refused most c.args.cursor.now fault =
+    refused_behind most c.args.cursor.now c.expect_word.new.self (of_kind_at (kind.Word word.Program) c.in_ok-expect_word.field-0 ∷ []) fault
+    c.in_ok-expect_word.ensures.spelled
+    (refused_behind most c.expect_word.new.self c.expect_name.new.self (identifier c.in_ok-name.name ∷ []) fault c.in_ok-name.ensures.spelled
+    (refused_behind most c.expect_name.new.self c.parameters.new.cursor (in_parentheses (identifiers c.in_ok-parameters.parameters.items)) fault
+    c.in_ok-parameters.ensures.given
+    (refused_behind most c.parameters.new.cursor c.expect_symbol.new.self (of_kind_at (kind.Symbol symbol.Semicolon) c.in_ok-expect_symbol.field-0 ∷ []) fault
+    c.in_ok-expect_symbol.ensures.spelled c.in_err-block.ensures.given))) in
     search rules
 
 pub returns-in_err-stop-clause-refused : goal.returns-in_err-stop-clause-refused

@@ -1,11 +1,14 @@
-use Rattle.std.proofs.Common.{rules, arith, ◌≡◌, ap, sym, subst, ◌∙◌, [], ◌∷◌, Some, MatchResult}
+use Rattle.std.proofs.Common.{rules, arith, ◌+◌, refl, ◌≡◌, ap, sym, subst, ◌∙◌, [], ◌∷◌, Some, MatchResult}
 use Rattle.lexer.specs.declared.token.Kind.TheVariants as kind
 use Rattle.lexer.specs.declared.token.Word.TheVariants as word
 use Rattle.syntax_tree.specs.declared.Stmt.{Stmt}
-use Rattle.grammar.specs.Spelling.{Reads, of_kind_at, word_symbol}
+use Rattle.lexer.specs.declared.token.Symbol.TheVariants as symbol
+use Rattle.token_cursor.specs.declared.fault.ParseFault.TheVariants.{TooDeep}
+use Rattle.grammar.specs.Spelling.{Reads, of_kind_at, word_symbol, stmt_spelling}
 use Rattle.grammar.specs.Following.{next_kind, EndsStmt}
 use Rattle.parser.specs.Reading.{Stops, ReadWithin, ReadsDeep}
-use Rattle.token_cursor.specs.Cursor.{IsOfRules}
+use Rattle.parser.specs.Refusing.{Refused}
+use Rattle.parser.proofs.Deep.{front_none, front_on, refused_behind_front, memory_refused, refused_behind_opening, refused_spent}
 use Rattle.parser.specs.Rules.{Read}
 use Rattle.grammar.specs.Begins.{BeginsStatements, BeginsStmt}
 use Rattle.grammar.proofs.Lists.{pushed, emptied}
@@ -36,6 +39,19 @@ compound-returns-in_err-statements-clause-exact t c = λ depth found others h _.
     c.in_ok-expect_word.ensures.spelled h in
     handed_on _ _ c.from_residual-in_err-statements.result c.in_err-statements.field-0.0 c.from_residual-in_err-statements.ensures
     (c.in_err-statements.ensures.exact depth found.0 o.middle o.list o.ends)
+
+pub compound-returns-in_err-statements-clause-given : goal.compound-returns-in_err-statements-clause-given
+compound-returns-in_err-statements-clause-given t c =
+    let fault = c.in_err-statements.field-0.0 in
+    handed_on _ _ c.from_residual-in_err-statements.result fault c.from_residual-in_err-statements.ensures
+    (refused_behind_opening c.args.levels (c.args.levels + 1) c.args.cursor.now c.expect_word.new.self (kind.Word word.Begin) c.in_ok-expect_word.field-0 fault
+    refl refl c.in_ok-expect_word.ensures.spelled c.in_err-statements.ensures.given)
+
+pub statement-returns-in_err-levels-clause-given : goal.statement-returns-in_err-levels-clause-given
+statement-returns-in_err-levels-clause-given t c =
+    let fault = c.in_err-levels.field-0.0 in
+    handed_on _ _ c.from_residual.result fault c.from_residual.ensures
+    (refused_spent c.args.levels c.args.cursor.now fault (c.in_err-levels.ensures.spent.0, c.in_err-levels.ensures.spent.1 ∙ ap TooDeep c.place.ensures))
 
 pub compound-returns-in_err-end-clause-exact : goal.compound-returns-in_err-end-clause-exact
 compound-returns-in_err-end-clause-exact t c = λ depth found others h _.
@@ -79,7 +95,8 @@ statement-returns-in_default-clause-given t c = gives-Empty c.args.levels c.in_o
 
 pub statement-returns-in-Some-Identifier-clause-given : goal.statement-returns-in-Some-Identifier-clause-given
 statement-returns-in-Some-Identifier-clause-given t c =
-    subst (λ n. MatchResult c.simple.result (Read (BeginsStmt n) c.args.cursor.now c.simple.new.cursor) IsOfRules) c.in_ok-levels.ensures.left
+    subst (λ n. MatchResult c.simple.result (Read (BeginsStmt n) c.args.cursor.now c.simple.new.cursor) (Refused n c.args.cursor.now))
+    c.in_ok-levels.ensures.left
     c.simple.ensures.given
 
 pub statement-returns-in-Some-Identifier-clause-exact : goal.statement-returns-in-Some-Identifier-clause-exact
@@ -92,6 +109,7 @@ statements-loop-statements-init t c = (
   emptied (λ xs. StatementsGrow c.args.levels c.args.cursor.now c.args.cursor.now xs) c.new-statements.result.items c.new-statements.ensures.items
       (statements_grow_first c.args.levels c.args.cursor.now),
   statement_list_begins c.args.cursor.now.rest.now,
+  front_none c.args.cursor.now.rest.now,
 )
 
 pub statements-loop-statements-preserved : goal.statements-loop-statements-preserved
@@ -101,28 +119,36 @@ statements-loop-statements-preserved t c =
     let list = pushed (λ xs. Read (BeginsStatements c.args.levels) start c.statement.new.cursor xs) c.loop-statements.statements.items c.put.new.list.items
     now.item now.grown
     (c.loop-statements.invariant.0 c.statement.new.cursor now.item (was_read (Read (BeginsStmt c.args.levels) c.loop-statements.cursor c.statement.new.cursor)
-    IsOfRules c.statement.result now.item now.is c.statement.ensures.given)) in (
+    (Refused c.args.levels c.loop-statements.cursor) c.statement.result now.item now.is c.statement.ensures.given)) in (
       statements_grow c.args.levels start c.statement.new.cursor c.take_symbol.new.self c.put.new.list.items c.in-Some.field-0 list c.in-Some.ensures.spelled,
       statement_list_goes_on c.in-Some.field-0 start.rest.now c.statement.new.cursor.rest.now c.take_symbol.new.self.rest.now c.in-Some.ensures.spelled
           (statement_list_left c.args.levels start.rest.now c.loop-statements.cursor c.statement.new.cursor now.item
           (subst (λ r. ReadsDeep c.args.levels BeginsStmt EndsStmt c.loop-statements.cursor c.statement.new.cursor r) now.is c.statement.ensures.exact)
           c.loop-statements.invariant.1),
+      front_on (of_kind_at (kind.Symbol symbol.Semicolon) c.in-Some.field-0 ∷ []) start.rest.now c.statement.new.cursor.rest.now c.take_symbol.new.self.rest.now
+          (front_on (stmt_spelling now.item) start.rest.now c.loop-statements.cursor.rest.now c.statement.new.cursor.rest.now c.loop-statements.invariant.2
+          (was_read (Read (BeginsStmt c.args.levels) c.loop-statements.cursor c.statement.new.cursor) (Refused c.args.levels c.loop-statements.cursor)
+          c.statement.result now.item now.is c.statement.ensures.given).spelled) c.in-Some.ensures.spelled,
     )
 
 pub statements-loop-statements-smaller : goal.statements-loop-statements-smaller
 statements-loop-statements-smaller t c =
     let now = last c.loop-statements.statements.items c.put.new.list.items c.statement.result c.in_ok-put.ensures.given in
     let no_more = reads_no_more _ c.loop-statements.cursor.rest.now c.statement.new.cursor.rest.now
-    (was_read (Read (BeginsStmt c.args.levels) c.loop-statements.cursor c.statement.new.cursor) IsOfRules c.statement.result now.item now.is
+    (was_read (Read (BeginsStmt c.args.levels) c.loop-statements.cursor c.statement.new.cursor)
+    (Refused c.args.levels c.loop-statements.cursor) c.statement.result now.item now.is
     c.statement.ensures.given).spelled in
     let fewer = reads_fewer _ [] c.statement.new.cursor.rest.now c.take_symbol.new.self.rest.now c.in-Some.ensures.spelled in
     omega arith
 
 pub statements-returns-in_err-put-clause-given : goal.statements-returns-in_err-put-clause-given
 statements-returns-in_err-put-clause-given t c =
-    handed_on _ _ c.from_residual.result c.in_err-put.field-0.0 c.from_residual.ensures
-    (not_kept (Read (BeginsStmt c.args.levels) c.loop-statements.cursor c.statement.new.cursor) IsOfRules c.statement.result c.in_err-put.field-0.0 tt
-    c.statement.ensures.given c.in_err-put.ensures.given)
+    let start = c.loop-statements.cursor in
+    let fault = c.in_err-put.field-0.0 in
+    let refused : Refused c.args.levels start fault = not_kept (Read (BeginsStmt c.args.levels) start c.statement.new.cursor) (Refused c.args.levels start)
+    c.statement.result fault (memory_refused c.args.levels start) c.statement.ensures.given c.in_err-put.ensures.given in
+    handed_on _ _ c.from_residual.result fault c.from_residual.ensures
+    (refused_behind_front c.args.levels c.args.cursor.now start fault c.loop-statements.invariant.2 refused)
 
 pub statements-returns-in_err-put-clause-exact : goal.statements-returns-in_err-put-clause-exact
 statements-returns-in_err-put-clause-exact t c = λ depth statements others h ends.
@@ -139,7 +165,7 @@ statements-returns-in_default-clause-given t c =
     let list = pushed (λ xs. Read (BeginsStatements c.args.levels) start c.statement.new.cursor xs) c.loop-statements.statements.items c.put.new.list.items
     now.item now.grown
     (c.loop-statements.invariant.0 c.statement.new.cursor now.item (was_read (Read (BeginsStmt c.args.levels) c.loop-statements.cursor c.statement.new.cursor)
-    IsOfRules c.statement.result now.item now.is c.statement.ensures.given)) in
+    (Refused c.args.levels c.loop-statements.cursor) c.statement.result now.item now.is c.statement.ensures.given)) in
     unchanged (λ k. Read (BeginsStatements c.args.levels) start k c.put.new.list.items) c.statement.new.cursor c.take_symbol.new.self c.in_default.ensures.kept
     list
 

@@ -1,6 +1,7 @@
 use Rattle.std.proofs.Common.{◌+◌, ◌*◌}
 use Rattle.token_cursor.specs.Cursor.{left}
 use Rattle.grammar.proofs.Statements.{StatementNext}
+use Rattle.parser.proofs.Deep.{Front}
 use Rattle.parser.proofs.Statements.{StatementsGrow}
 use Rattle.parser.proofs.statement.+statement.Given as goal
 
@@ -16,6 +17,7 @@ decreases-statement l = 3 * l.levels
 abbrev pub invariant-statements-loop-statements : goal.invariant-statements-loop-statements
 invariant-statements-loop-statements l =
     StatementsGrow l.levels l.fn.cursor l.cursor l.statements.items × StatementNext l.fn.cursor.rest.now l.cursor.rest.now
+    × Front l.fn.cursor.rest.now l.cursor.rest.now
 
 abbrev pub decreases-statements-loop-statements : goal.decreases-statements-loop-statements
 decreases-statements-loop-statements l = left l.cursor

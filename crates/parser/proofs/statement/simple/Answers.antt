@@ -1,4 +1,7 @@
-use Rattle.std.proofs.Common.{◌≡◌, ◌+◌, refl}
+use Rattle.std.proofs.Common.{◌≡◌, ◌+◌, [], ◌∷◌, refl, subst}
+use Rattle.grammar.specs.Spelling.{identifier, of_kind_at}
+use Rattle.parser.specs.Refusing.{Refused}
+use Rattle.parser.proofs.Deep.{refused_behind}
 use Rattle.lexer.specs.declared.token.Kind.TheVariants as kind
 use Rattle.lexer.specs.declared.token.Symbol.TheVariants as symbol
 use Rattle.grammar.specs.Following.{NoNext}
@@ -31,6 +34,25 @@ returns-in_err-expression-in-Some-clause-exact c = λ first depth s others h end
     handed_on _ _ c.from_residual-in_err-expression-in-Some.result c.in_err-expression-in-Some.field-0.0 c.from_residual-in_err-expression-in-Some.ensures
     (stops_above (c.args.levels + 1) c.args.levels depth v.below c.in_err-expression-in-Some.field-0.0 refl v.less
     (c.in_err-expression-in-Some.ensures.exact v.below v.value others v.begun (ends_value others ends)))
+
+pub returns-in_err-expression-in-Some-clause-given : goal.returns-in_err-expression-in-Some-clause-given
+returns-in_err-expression-in-Some-clause-given c =
+    let n = c.args.levels + 1 in
+    let name = c.expect_name.new.self in
+    let fault = c.in_err-expression-in-Some.field-0.0 in
+    handed_on _ _ c.from_residual-in_err-expression-in-Some.result fault c.from_residual-in_err-expression-in-Some.ensures
+    (refused_behind n c.args.cursor.now name (identifier c.in_ok-name.name ∷ []) fault c.in_ok-name.ensures.spelled
+    (refused_behind n name c.take_symbol.new.self (of_kind_at (kind.Symbol symbol.Becomes) c.in-Some.becomes ∷ []) fault c.in-Some.ensures.spelled
+    c.in_err-expression-in-Some.ensures.given))
+
+pub returns-in_err-actuals-in-None-clause-given : goal.returns-in_err-actuals-in-None-clause-given
+returns-in_err-actuals-in-None-clause-given c =
+    let n = c.args.levels + 1 in
+    let name = c.expect_name.new.self in
+    let fault = c.in_err-actuals-in-None.field-0.0 in
+    handed_on _ _ c.from_residual-in_err-actuals-in-None.result fault c.from_residual-in_err-actuals-in-None.ensures
+    (refused_behind n c.args.cursor.now name (identifier c.in_ok-name.name ∷ []) fault c.in_ok-name.ensures.spelled
+    (subst (λ k. Refused n k fault) c.in-None.ensures.kept c.in_err-actuals-in-None.ensures.given))
 
 pub returns-in_ok-expression-in-Some-clause-exact : goal.returns-in_ok-expression-in-Some-clause-exact
 returns-in_ok-expression-in-Some-clause-exact c = λ first depth s others h ends.
