@@ -1,5 +1,5 @@
--- Why a source is refused: the fault of the first layer that refuses, for nothing else but memory. Of names and types it
--- is the first rule that the program breaks, with its place; of syntax it isn't said at which token P1 and P2 are told.
+-- Why a source is refused: the fault of the first layer that refuses, for nothing else but memory. Of names and types
+-- it is the first rule that the program breaks, with its place. It does not say at which token P1 and P2 are told.
 use Rattle.std.specs.Prelude.{◌≡◌, ℕ, ◌<◌, List, Option, Some, None, Err, map, length, codes}
 use denote.Ref.{Bor}
 use Rattle.lexer.specs.declared.token.Token.{Token}

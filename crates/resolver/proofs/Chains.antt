@@ -1,5 +1,5 @@
 -- Chains of operators, and the one actual of a function: how their typing goes on from that of their parts.
-use Rattle.std.proofs.Common.{◌≡◌, ◌⊎◌, ℕ, List, [], ◌∷◌, ◌++◌, length, map, get_or, Option, None, Some, option_map, Result, Ok, Err, Box, Vec, inl, inr, refl, sym, ap, ◌∙◌, arith}
+use Rattle.std.proofs.Common.{◌≡◌, List, [], ◌∷◌, ◌++◌, length, map, get_or, Option, option_map, Ok, Err, Box, Vec, inl, inr, refl, sym, ap, ◌∙◌, arith}
 use Rattle.std.specs.declared.alloc.Global.{Global}
 use Rattle.place.specs.declared.Place.{Place}
 use Rattle.syntax_tree.specs.declared.Expr.{Expr}
@@ -12,7 +12,7 @@ use Rattle.typed_tree.specs.declared.fault.TypeFault.{TypeFault}
 use Rattle.typed_tree.specs.declared.fault.TypeFault.TheVariants as fault
 use Rattle.typed_tree.specs.declared.site.SiteKind.{SiteKind}
 use Rattle.typed_tree.specs.Look.{Look, Begins, Ends}
-use Rattle.typing.specs.Passing.{Passed, Checked, After, Passing, after, and_then, behind_marks, pure, mark, ◌>>=◌, ◌>>◌}
+use Rattle.typing.specs.Passing.{Passed, Passing, after, and_then, behind_marks, pure, mark, ◌>>=◌, ◌>>◌}
 use Rattle.typing.specs.Outcomes.{IsFault}
 use Rattle.typing.specs.Expressions.{Typed, typed, Written, WrittenLink, expression, written_link, written_actual, chain, links, only, without_width}
 use Rattle.typing.proofs.Written.{typing_chain, typing_actual}
@@ -32,6 +32,9 @@ pub not_one : (place : Place) (actuals : List Actual) → ¬ (length actuals ≡
 not_one place [] several = refl
 not_one place (first ∷ []) several = absurd (several refl)
 not_one place (first ∷ second ∷ rest) several = refl
+
+-- all of these
+pub ruleset only_one = (one_alone, only_is, not_one)
 
 -- ---- chains
 

@@ -1,6 +1,6 @@
 -- Programs: their typing goes on from that of their declarations and of their statements; and what the typed tree of one
 -- has by the laws of typing.
-use Rattle.std.proofs.Common.{◌≡◌, ◌⊎◌, ℕ, ◌<◌, ◌≤◌, true, List, [], ◌∷◌, ◌++◌, length, map, Ok, Err, inl, inr, refl, sym, ap, subst, ◌∙◌, append-nil, arith}
+use Rattle.std.proofs.Common.{◌≡◌, ◌<◌, ◌≤◌, [], ◌∷◌, ◌++◌, length, map, Ok, inl, inr, sym, ap, subst, ◌∙◌, append-nil, arith}
 use Rattle.std.specs.List.{list_all, range_with_len, flat_map}
 use Rattle.std.proofs.lemmas.List.{length-map}
 use Rattle.place.specs.Place.{ArePlacesInOrder}
@@ -12,13 +12,13 @@ use Rattle.typed_tree.specs.declared.tree.Tree.{Tree}
 use Rattle.typed_tree.specs.declared.tree.Block.{Block}
 use Rattle.typed_tree.specs.Entries.{entries_of}
 use Rattle.typed_tree.specs.Ids.{AreInOrder, AreByPlace}
-use Rattle.typed_tree.specs.Look.{Look, BlockEnds, look_stmt, look_block, tree_look, entries_of_look, is_formed_mark}
-use Rattle.typed_tree.specs.WellFormed.{IsWellFormed, is_well_formed_block}
+use Rattle.typed_tree.specs.Look.{Look, BlockEnds, look_stmt, look_block, tree_look, is_formed_mark}
+use Rattle.typed_tree.specs.WellFormed.{IsWellFormed}
 use Rattle.typed_tree.proofs.Looks.{entries_are, formed_are}
-use Rattle.typing.specs.Passing.{Passed, after, and_then, behind_marks, mark, ◌>>=◌, ◌>>◌}
+use Rattle.typing.specs.Passing.{Passed, after, and_then, behind_marks, mark}
 use Rattle.typing.specs.Outcomes.{IsFault}
 use Rattle.typing.specs.Statements.{statement, compound}
-use Rattle.typing.specs.Typing.{typing, declarations, statement_part}
+use Rattle.typing.specs.Typing.{typing, statement_part}
 use Rattle.typing.specs.Sound.{IsTyped, IsLeft, stands}
 use Rattle.typing_laws.specs.Lawful.{Lawful}
 use Rattle.typing_laws.proofs.Programs.{typing_is_lawful}
@@ -118,3 +118,7 @@ module _ (program : Program) (tree : Tree) (resolved : IsResolved program tree) 
         ∙ ap (λ n. list_all (is_formed_mark (length passed.variables) n) (tree_look tree)) as_many_sites
         ∙ lawful.formed;
   }
+
+-- all of these
+pub ruleset has_it_all =
+    (is_typed, ids_in_order, has_no_points, has_required_types, has_one_block, has_few_sites, is_numbered, sites_by_place, is_well_formed)

@@ -19,7 +19,7 @@ use typing::rules::{as_function, function_type, sign_operation};
 
 /// An expression, by the kind of its leading site.
 #[cycle(expressions)]
-#[tactic(auto, using(typing::proofs::Written::typing_number, typing::proofs::Written::typing_name, typing::proofs::Written::typing_call, typing::proofs::Written::typing_parenthesized, typing::proofs::Written::typing_not, typing::proofs::Written::typing_signed, typing::proofs::Written::typing_chain))]
+#[tactic(auto, using(typing::proofs::Written::written_expressions))]
 pub(crate) fn expression(
     typer: &mut Typer,
     written: &syntax::Expr,
@@ -67,11 +67,7 @@ fn number(
 
 // A name as an expression.
 #[tactic(auto, unfolding(typing::specs::Expressions::named))]
-fn named(
-    typer: &mut Typer,
-    name: &syntax::Name,
-    lead: Option<SiteKind>,
-) -> Result<Typed, TypeFault>
+fn named(typer: &mut Typer, name: &syntax::Name, lead: Option<SiteKind>) -> Result<Typed, TypeFault>
     ensures { MakesTyped (spec.named name.now lead typer.old) result typer.new }
 {
     let denotation = typer.find(name)?;
@@ -202,11 +198,7 @@ fn chain(alloc: Global, first: Typed, rest: TypedLinks) -> Result<Typed, TypeFau
 
 // The operators of a chain, whose value so far is of type `left`.
 #[cycle(expressions)]
-fn links(
-    typer: &mut Typer,
-    left: TypeId,
-    rest: &[syntax::Link],
-) -> Result<TypedLinks, TypeFault>
+fn links(typer: &mut Typer, left: TypeId, rest: &[syntax::Link]) -> Result<TypedLinks, TypeFault>
     ensures { MakesLinks (spec.links left (map spec.written_link rest.now) typer.old) result typer.new }
 {
     let mut links = Vec::new(typer.alloc);
@@ -268,13 +260,15 @@ fn call(
 }
 
 // The one actual of a function, which has no width.
-#[tactic(auto, using(crate::proofs::Chains::one_alone, crate::proofs::Chains::only_is, crate::proofs::Chains::not_one))]
+#[tactic(auto, using(crate::proofs::Chains::only_one))]
 fn only<'e, 'a>(
     place: Place,
     actuals: &'e [syntax::Actual<'a>],
 ) -> Result<&'e syntax::Expr<'a>, TypeFault>
     ensures one { IfOk result (λ value. IsOnly actuals.now value.now) }
-    ensures only { MatchResult result (λ value. spec.only place (map spec.written_actual actuals.now) ≡ Ok (spec.expression value.now)) (λ why. spec.only place (map spec.written_actual actuals.now) ≡ Err why) }
+    ensures only { MatchResult result
+        (λ value. spec.only place (map spec.written_actual actuals.now) ≡ Ok (spec.expression value.now))
+        (λ why. spec.only place (map spec.written_actual actuals.now) ≡ Err why) }
 {
     let [actual] = actuals else {
         return Err(TypeFault::WrongParameters(place));
@@ -287,13 +281,10 @@ fn only<'e, 'a>(
 
 // An operation on an operand.
 #[tactic(auto, using(typed_tree::proofs::Looks::look_monadic))]
-fn monadic(
-    alloc: Global,
-    number: u32,
-    operation: Monadic,
-    operand: Expr,
-) -> Result<Expr, TypeFault>
-    ensures { MatchResult result (λ made. look_expr made ≡ Operation number operation ∷ look_expr operand) (λ why. why ≡ Memory) }
+fn monadic(alloc: Global, number: u32, operation: Monadic, operand: Expr) -> Result<Expr, TypeFault>
+    ensures { MatchResult result
+        (λ made. look_expr made ≡ Operation number operation ∷ look_expr operand)
+        (λ why. why ≡ Memory) }
 {
     Ok(Expr::Monadic {
         number,
@@ -303,7 +294,7 @@ fn monadic(
 }
 
 /// Where an expression begins.
-#[tactic(auto, using(typing::proofs::Written::typing_number, typing::proofs::Written::typing_name, typing::proofs::Written::typing_call, typing::proofs::Written::typing_parenthesized, typing::proofs::Written::typing_not, typing::proofs::Written::typing_signed, typing::proofs::Written::typing_chain))]
+#[tactic(auto, using(typing::proofs::Written::written_expressions))]
 pub(crate) fn first_place(written: &syntax::Expr) -> Place
     ensures { result ≡ (spec.expression written.now).first }
 {

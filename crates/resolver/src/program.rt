@@ -20,7 +20,7 @@ use typed_tree::fault::TypeFault;
 use typed_tree::tree::{Block, Tree};
 
 /// The typed tree of a program, or the first rule of names and types that it breaks, with its place.
-#[tactic(auto, using(crate::proofs::Programs::is_typed, crate::proofs::Programs::ids_in_order, crate::proofs::Programs::has_few_sites, crate::proofs::Programs::has_no_points, crate::proofs::Programs::has_required_types, crate::proofs::Programs::has_one_block, crate::proofs::Programs::is_well_formed, crate::proofs::Programs::is_numbered, crate::proofs::Programs::sites_by_place))]
+#[tactic(auto, using(crate::proofs::Programs::has_it_all))]
 pub fn resolve(alloc: Global, program: &Program) -> Result<Tree, TypeFault>
     // It is the typed tree of the program, which breaks no rule of names and types.
     ensures typed { IfOk result (IsTyped program.now) }
@@ -33,7 +33,8 @@ pub fn resolve(alloc: Global, program: &Program) -> Result<Tree, TypeFault>
 
     // Sites have their places in the table as ids, and stand there by place and then by kind.
     ensures in_order { IfOk result (λ tree. AreInOrder tree.sites.items) }
-    ensures by_place { ArePlacesInOrder (program_places program.now) → IfOk result (λ tree. AreByPlace (map stands tree.sites.items)) }
+    ensures by_place { ArePlacesInOrder (program_places program.now)
+        → IfOk result (λ tree. AreByPlace (map stands tree.sites.items)) }
     ensures few_sites { IfOk result (λ tree. vec_len tree.sites ≤ MOST_SITES) }
 
     // Each variable and each site that the tree names is in its table.
@@ -46,7 +47,6 @@ pub fn resolve(alloc: Global, program: &Program) -> Result<Tree, TypeFault>
 }
 
 // Its declarations, and then the statements of its block.
-#[tactic(auto, using(crate::proofs::Programs::is_resolved, crate::proofs::Programs::stops_in_declarations, crate::proofs::Programs::stops_in_statements))]
 fn typed_program(alloc: Global, program: &Program) -> Result<Tree, TypeFault>
     ensures { MatchResult result (IsResolved program.now) (IsFault (typing program.now)) }
 {

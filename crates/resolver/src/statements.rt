@@ -18,7 +18,7 @@ use typing::rules::{as_procedure, as_variable, ends_line, is_output};
 
 /// A statement.
 #[cycle(statements)]
-#[tactic(auto, using(typing::proofs::Written::typing_empty, typing::proofs::Written::typing_assign, typing::proofs::Written::typing_procedure_call, typing::proofs::Written::typing_compound, typed_tree::proofs::Looks::look_empty), unfolding(typing::specs::Steps::enter_as))]
+#[tactic(auto, using(typing::proofs::Written::written_statements, typed_tree::proofs::Looks::look_empty), unfolding(typing::specs::Steps::enter_as))]
 pub(crate) fn statement(typer: &mut Typer, written: &syntax::Stmt) -> Result<Stmt, TypeFault>
     ensures { MakesStmt (spec.statement written.now typer.old) result typer.new }
 {

@@ -1,12 +1,11 @@
 -- Of regions: what one says after a definition, and that a name that is known stays known.
-use Rattle.std.proofs.Common.{◌≡◌, ℕ, Bool, true, false, cond, if◌then◌else◌, List, [], ◌∷◌, ◌++◌, Option, Some, None, IsSome, Result, Ok, Err, IfOk, nat_eq, fold, refl, sym, ap, subst, ◌∙◌, true≢false}
+use Rattle.std.proofs.Common.{◌≡◌, ℕ, Bool, true, false, cond, if◌then◌else◌, List, [], ◌∷◌, ◌++◌, Option, Some, None, IsSome, Ok, Err, IfOk, nat_eq, fold, refl, sym, subst, true≢false}
 use Rattle.std.specs.Map.{lookup}
 use Rattle.std.specs.Cmp.Lexicographic.{pointwise}
 use Rattle.std.proofs.lemmas.Slice.Eq.{bytes_eq-Decides}
 use Rattle.scopes.specs.declared.denotation.Denotation.{Denotation}
-use Rattle.scopes.specs.declared.fault.ScopeFault.{ScopeFault}
 use Rattle.scopes.specs.declared.fault.ScopeFault.TheVariants as fault
-use Rattle.scopes.specs.Scopes.{Region, said, put, opened, Knows, define, is_defined}
+use Rattle.scopes.specs.Scopes.{Region, said, put, Knows, define, is_defined}
 
 pub same_self : (a : List ℕ) → pointwise nat_eq a a ≡ true
 same_self a = (bytes_eq-Decides a a).1 refl

@@ -70,12 +70,13 @@ impl Scopes {
         let _ = self.blocks.pop();
     }
 
-    /// Passes the definition of a name that the innermost region lists: once, or it is `DeclaredTwice`. A refusal leaves
-    /// all regions as they were.
+    /// Passes the definition of a name that the innermost region lists: once, or it is `DeclaredTwice`. A refusal
+    /// leaves all regions as they were.
     pub fn declare(&mut self, name: Vec<u8>, denotation: Denotation) -> Result<(), ScopeFault>
         requires known { Knows self.old name.items }
         ensures defined { OnOk result (define name.items denotation self.old ≡ Ok self.new) }
-        ensures refused { IfErr result (λ fault. (fault ≡ Memory) ⊎ (define name.items denotation self.old ≡ Err fault)) }
+        ensures refused { IfErr result
+            (λ fault. (fault ≡ Memory) ⊎ (define name.items denotation self.old ≡ Err fault)) }
         ensures unchanged { OnErr result (self.new ≡ self.old) }
     {
         let Some(region) = self.blocks.last_mut() else {
@@ -102,7 +103,9 @@ impl Scopes {
 
 // The region of a block that defines these names.
 fn region(alloc: Global, names: &[Vec<u8>]) -> Result<Region, ScopeFault>
-    ensures { MatchResult result (λ region. region_of region ≡ opened (map (λ name. name.items) names.now)) (λ fault. fault ≡ Memory) }
+    ensures { MatchResult result
+        (λ region. region_of region ≡ opened (map (λ name. name.items) names.now))
+        (λ fault. fault ≡ Memory) }
 {
     let mut region = IndexMap::new(alloc);
     for name in names {
@@ -112,11 +115,10 @@ fn region(alloc: Global, names: &[Vec<u8>]) -> Result<Region, ScopeFault>
 }
 
 // A region whose names are all defined.
-fn defined_region(
-    alloc: Global,
-    definitions: &[(&[u8], Denotation)],
-) -> Result<Region, ScopeFault>
-    ensures { MatchResult result (λ region. region_of region ≡ opened_with (map (λ d. (d.0.now, d.1)) definitions.now)) (λ fault. fault ≡ Memory) }
+fn defined_region(alloc: Global, definitions: &[(&[u8], Denotation)]) -> Result<Region, ScopeFault>
+    ensures { MatchResult result
+        (λ region. region_of region ≡ opened_with (map (λ d. (d.0.now, d.1)) definitions.now))
+        (λ fault. fault ≡ Memory) }
 {
     let mut region = IndexMap::new(alloc);
     for definition in definitions {

@@ -1,6 +1,6 @@
 -- Well formed trees: each constant and each range of a test lies in that of integer (ISO 7185:1990, 6.4.2.2), each
--- variable is one of the program's (6.2.2), each test names a site of the table, there is a block, and the program has no
--- more variables than a block has cells. It does not say that a tree is that of a program.
+-- variable is one of the program's (6.2.2), each test names a site of the table, there is a block, and the program has
+-- no more variables than a block has cells. It does not say that a tree is that of a program.
 use Rattle.std.specs.Prelude.{◌≡◌, ℕ, ℤ, ◌<◌, ◌≤◌, pos, neg_ℤ, ◌&&◌, Bool, true, List, Option, Some, None, int_le, nat_lt, length, map}
 use Rattle.std.specs.List.{list_all}
 use Rattle.typed_tree.specs.declared.tree.Tree.{Tree}
@@ -79,7 +79,8 @@ module _ (variables sites : ℕ) where
   stmt_is_well_formed (Empty number) = true
   stmt_is_well_formed (Assign number becomes target fits value) =
       nat_lt target.root variables && (is_well_formed_test fits && is_well_formed_expr value)
-  stmt_is_well_formed (Write number name parameters ends_line) = all_hold (map is_well_formed_parameter parameters.items)
+  stmt_is_well_formed (Write number name parameters ends_line) =
+      all_hold (map is_well_formed_parameter parameters.items)
   stmt_is_well_formed (Compound number statements) = all_hold statements.items
 
   -- a statement is well formed
@@ -96,4 +97,5 @@ pub record IsWellFormed (tree : Tree) : Type 0 where
   pub few_variables : length tree.variables.items ≤ 65536
   -- the program's block is there
   pub a_block : 0 < length tree.blocks.items
-  pub blocks : list_all (is_well_formed_block (length tree.variables.items) (length tree.sites.items)) tree.blocks.items ≡ true
+  pub blocks :
+      list_all (is_well_formed_block (length tree.variables.items) (length tree.sites.items)) tree.blocks.items ≡ true

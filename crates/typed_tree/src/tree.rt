@@ -66,8 +66,8 @@ pub enum Stmt {
         fits: RangeTest,
         value: Expr,
     },
-    /// A write or writeln, with the place of its name: each parameter is written before the next is evaluated; a writeln
-    /// ends the line behind them.
+    /// A write or writeln, with the place of its name: each parameter is written before the next is evaluated; a
+    /// writeln ends the line behind them.
     Write {
         number: u32,
         name: Place,

@@ -1,7 +1,7 @@
 -- The rules of types (ISO 7185:1990, 6.4.2, 6.4.5, 6.4.6) over a table of types and their numbers there: the same type,
 -- compatible and assignment compatible types, the values of an ordinal type, and the cells that a variable takes.
 -- They say nothing of which type a denoter denotes.
-use Rattle.std.specs.Prelude.{ℕ, ℤ, List, [], ◌∷◌, pos, neg_ℤ, Bool, Option, Some, None, nat_eq, slice_get}
+use Rattle.std.specs.Prelude.{ℕ, List, [], ◌∷◌, pos, neg_ℤ, Bool, Option, Some, None, nat_eq, slice_get}
 use Rattle.types.specs.declared.form.TypeForm.{TypeForm}
 use Rattle.types.specs.declared.form.TypeForm.TheVariants.{Integer, Boolean}
 use Rattle.types.specs.declared.form.TypeId.{TypeId}

@@ -1,5 +1,5 @@
 -- The folds of typing over syntax trees, form by form.
-use Rattle.std.proofs.Common.{◌≡◌, ℕ, List, map, Option, None, Some, option_map, refl, Box, Vec, sym, ap, ◌∙◌}
+use Rattle.std.proofs.Common.{◌≡◌, ℕ, map, Option, None, Some, option_map, refl, Box, Vec, sym, ap, ◌∙◌}
 use Rattle.std.specs.declared.alloc.Global.{Global}
 use Rattle.place.specs.declared.Place.{Place}
 use Rattle.syntax_tree.specs.declared.Name.{Name}
@@ -33,16 +33,19 @@ typing_number value place = rolled (syntax.Number value place) (layer.Number val
 pub typing_name : (name : Name) → expression (syntax.Name name) ≡ written name.place (named name)
 typing_name name = rolled (syntax.Name name) (layer.Name name) (syntax.rolls-Name name)
 
-pub typing_call : (name : Name) (actuals : Vec Actual Global) → expression (syntax.Call name actuals) ≡ written name.place (call name (map written_actual actuals.items))
+pub typing_call : (name : Name) (actuals : Vec Actual Global)
+    → expression (syntax.Call name actuals) ≡ written name.place (call name (map written_actual actuals.items))
 typing_call name actuals = rolled (syntax.Call name actuals) (layer.Call name actuals) (syntax.rolls-Call name actuals)
 
-pub typing_parenthesized : (place : Place) (inner : Box Expr Global) → expression (syntax.Parenthesized place inner) ≡ written place (parenthesized place (expression inner.value))
+pub typing_parenthesized : (place : Place) (inner : Box Expr Global)
+    → expression (syntax.Parenthesized place inner) ≡ written place (parenthesized place (expression inner.value))
 typing_parenthesized place inner = rolled (syntax.Parenthesized place inner) (layer.Parenthesized place inner) (syntax.rolls-Parenthesized place inner)
 
 pub typing_not : (place : Place) (operand : Box Expr Global) → expression (syntax.Not place operand) ≡ written place (negation place (expression operand.value))
 typing_not place operand = rolled (syntax.Not place operand) (layer.Not place operand) (syntax.rolls-Not place operand)
 
-pub typing_signed : (sign : Sign) (place : Place) (term : Box Expr Global) → expression (syntax.Signed sign place term) ≡ written place (signed sign place (expression term.value))
+pub typing_signed : (sign : Sign) (place : Place) (term : Box Expr Global)
+    → expression (syntax.Signed sign place term) ≡ written place (signed sign place (expression term.value))
 typing_signed sign place term = rolled (syntax.Signed sign place term) (layer.Signed sign place term) (syntax.rolls-Signed sign place term)
 
 pub typing_chain : (first : Box Expr Global) (rest : Vec Link Global)
@@ -55,13 +58,19 @@ typing_link l = fold_out-Link Written WrittenActual WrittenLink expression_step 
 
 -- an actual, as it is read
 pub typing_actual : (a : Actual) → written_actual a ≡ record { value = expression (out-Actual a).value; width = option_map expression (out-Actual a).width }
-typing_actual a = fold_out-Actual Written WrittenActual WrittenLink expression_step actual_step link_step a ∙ mapped (out-Actual a).value (out-Actual a).width
+typing_actual a =
+    fold_out-Actual Written WrittenActual WrittenLink expression_step actual_step link_step a
+    ∙ mapped (out-Actual a).value (out-Actual a).width
   where
     mapped : (value : Expr) (width : Option Expr)
         → actual_step (map-Actual Expr Actual Link Written WrittenActual WrittenLink expression written_actual written_link (record { value = value; width = width }))
         ≡ record { value = expression value; width = option_map expression width }
     mapped value None = refl
     mapped value (Some width) = refl
+
+-- those of all expressions
+pub ruleset written_expressions =
+    (typing_number, typing_name, typing_call, typing_parenthesized, typing_not, typing_signed, typing_chain)
 
 -- ---- statements
 
@@ -79,3 +88,6 @@ typing_procedure_call name actuals =
 pub typing_compound : (statements : Vec Stmt Global) → statement (stmt.Compound statements) ≡ compound (map statement statements.items)
 typing_compound statements =
     ap statement (sym (stmt.rolls-Compound statements)) ∙ fold-roll-Stmt (Passing (Unit {0})) statement_step (stmt_layer.Compound statements)
+
+-- those of all statements
+pub ruleset written_statements = (typing_empty, typing_assign, typing_procedure_call, typing_compound)

@@ -1,8 +1,7 @@
--- The typing of expressions (ISO 7185:1990, 6.7): of each form the first rule that it breaks, or its type, how its typed
--- form looks, and its sites. What asks for a site of its own at an expression's first token (a width) hands its kind in,
--- as the leading kind: that site stands behind the token's own, and before all others.
--- It says nothing of what a program does.
-use Rattle.std.specs.Prelude.{ℕ, ◌&&◌, Bool, true, false, List, [], ◌∷◌, Option, Some, None, Result, Ok, Err, pos, if◌then◌else◌, nat_le, map}
+-- The typing of expressions (ISO 7185:1990, 6.7): of each form the first rule that it breaks, or its type, how its
+-- typed form looks, and its sites. What asks for a site of its own at an expression's first token (a width) hands its
+-- kind in, as the leading kind: that site stands behind the token's own, and before all others. It says nothing of what a program does.
+use Rattle.std.specs.Prelude.{ℕ, ◌&&◌, Bool, true, false, List, [], ◌∷◌, Option, Some, None, Ok, Err, pos, if◌then◌else◌, nat_le}
 use Rattle.place.specs.declared.Place.{Place}
 use Rattle.syntax_tree.specs.declared.Name.{Name}
 use Rattle.syntax_tree.specs.declared.Sign.{Sign}
@@ -31,8 +30,8 @@ use Rattle.typed_tree.specs.declared.tree.Dyadic.{Dyadic}
 use Rattle.typed_tree.specs.declared.tree.Dyadic.TheVariants as dyadic
 use Rattle.typed_tree.specs.declared.tree.Relation.TheVariants as relation
 use Rattle.typed_tree.specs.Look.{Constant, Variable, Operation, Begins, Operator as OperatorMark, Ends}
-use Rattle.typing.specs.Passing.{Passed, Checked, Passing, and_then, after, pure, fail, given, mark, ◌>>=◌, ◌>>◌, ◌>>?◌}
-use Rattle.typing.specs.Steps.{pass, enter, enter_as, site, find}
+use Rattle.typing.specs.Passing.{Checked, Passing, pure, fail, given, mark, ◌>>=◌, ◌>>◌, ◌>>?◌}
+use Rattle.typing.specs.Steps.{pass, enter_as, site, find}
 
 -- the type of an expression, and the id of its leading site
 pub record Typed : Type 0 where

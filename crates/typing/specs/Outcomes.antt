@@ -1,6 +1,6 @@
 -- How calls answer that compute a typing: what it answers, or exactly its fault; or want of memory, which comes from
 -- refused growths alone. It says nothing of what a typing answers.
-use Rattle.std.specs.Prelude.{◌≡◌, ◌⊎◌, List, [], Result, Ok, Err}
+use Rattle.std.specs.Prelude.{◌≡◌, ◌⊎◌, [], Result, Ok, Err}
 use Rattle.typed_tree.specs.declared.fault.TypeFault.{TypeFault}
 use Rattle.typed_tree.specs.declared.fault.TypeFault.TheVariants.{Memory}
 use Rattle.typed_tree.specs.Look.{Look}

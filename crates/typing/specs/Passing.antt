@@ -26,7 +26,7 @@ pub record Passed : Type 0 where
   pub sites : List Stands
   -- how many statements and expressions were entered
   pub entries : ℕ
-  -- the latest token that the syntax tree tells
+  -- the latest token that was passed
   pub latest : Place
 
 -- an answer, or the first broken rule

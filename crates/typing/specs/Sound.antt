@@ -1,7 +1,6 @@
 -- What a typed tree has of what is known behind its program, and whether it is the program's typed tree.
 -- It says nothing of what typing answers.
-use Rattle.std.specs.Prelude.{◌≡◌, List, [], ◌∷◌, Ok, map, length}
-use Rattle.std.specs.List.{range_with_len}
+use Rattle.std.specs.Prelude.{◌≡◌, [], Ok, map}
 use Rattle.syntax_tree.specs.declared.Program.{Program}
 use Rattle.typed_tree.specs.declared.site.Site.{Site}
 use Rattle.typed_tree.specs.declared.tree.Tree.{Tree}

@@ -1,11 +1,11 @@
 -- The typing of statements (ISO 7185:1990, 6.8, 6.9): of each form the first rule that it breaks, or how its typed form
 -- looks, and its sites. It says nothing of what a program does.
-use Rattle.std.specs.Prelude.{ℕ, Bool, true, false, not, List, [], ◌∷◌, Option, Some, None, Result, Ok, Err, if◌then◌else◌, map}
+use Rattle.std.specs.Prelude.{ℕ, Bool, true, false, List, [], ◌∷◌, Option, Some, None, Ok, Err, if◌then◌else◌, map}
 use Rattle.place.specs.declared.Place.{Place}
 use Rattle.syntax_tree.specs.declared.Name.{Name}
 use Rattle.syntax_tree.specs.declared.Expr.{Expr}
 use Rattle.syntax_tree.specs.declared.Actual.{Actual}
-use Rattle.syntax_tree.specs.declared.Expr.TheOpen.{Expr-F, Actual-F}
+use Rattle.syntax_tree.specs.declared.Expr.TheOpen.{Expr-F}
 use Rattle.syntax_tree.specs.declared.Expr.TheOpen.Expr-F.{Number as NumberOf, Name as NameOf, Call as FunctionOf, Parenthesized as ParenthesizedOf, Not as NotOf, Signed as SignedOf, Chain as ChainOf}
 use Rattle.syntax_tree.specs.declared.Expr.TheViews.{out-Expr, out-Actual}
 use Rattle.syntax_tree.specs.declared.Link.{Link}
@@ -27,7 +27,7 @@ use Rattle.typed_tree.specs.declared.site.SiteKind.TheVariants as kind
 use Rattle.typed_tree.specs.declared.tree.Representation.{Representation}
 use Rattle.typed_tree.specs.declared.tree.Representation.TheVariants as representation
 use Rattle.typed_tree.specs.Look.{Assign, Target, Fits, Write, Written as WrittenMark, Width, Empty, Compound, Ends}
-use Rattle.typing.specs.Passing.{Passed, Checked, Passing, and_then, after, pure, given, mark, each, ◌>>=◌, ◌>>◌, ◌>>?◌}
+use Rattle.typing.specs.Passing.{Checked, Passing, and_then, pure, given, mark, each, ◌>>=◌, ◌>>◌, ◌>>?◌}
 use Rattle.typing.specs.Steps.{enter_as, site, find, wants_output}
 use Rattle.typing.specs.Expressions.{Typed, Written, WrittenActual, fits, or_mismatch, expression, written_actual}
 

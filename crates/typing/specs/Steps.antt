@@ -1,6 +1,6 @@
 -- The steps of typing: a token that is passed, a form that is entered, a site, a name that is found, a region, a
 -- definition, a variable. It says nothing of the forms that take them.
-use Rattle.std.specs.Prelude.{ℕ, ◌+◌, ◌++◌, Bool, true, false, List, [], ◌∷◌, Result, Ok, Err, if◌then◌else◌, nat_le, nat_lt, length}
+use Rattle.std.specs.Prelude.{ℕ, ◌+◌, ◌++◌, true, false, List, [], ◌∷◌, Result, Ok, Err, if◌then◌else◌, nat_le, nat_lt, length}
 use Rattle.place.specs.declared.Place.{Place}
 use Rattle.syntax_tree.specs.declared.Name.{Name}
 use Rattle.types.specs.declared.form.TypeId.{TypeId}
@@ -31,15 +31,15 @@ most_cells = 65536
 -- what is known before a program, which begins here
 abbrev pub begins : Place → Passed
 begins start = record {
-    regions = [];
-    types = required_forms;
-    variables = [];
-    cells = 0;
-    has_output = false;
-    sites = [];
-    entries = 0;
-    latest = start;
-  }
+  regions = [];
+  types = required_forms;
+  variables = [];
+  cells = 0;
+  has_output = false;
+  sites = [];
+  entries = 0;
+  latest = start;
+}
 
 -- a token is passed
 unfoldable pub pass : Place → Passing (Unit {0})

@@ -1,9 +1,8 @@
 -- The typing of a program (ISO 7185:1990, 6.2, 6.4.1, 6.5.1, 6.10): its declarations in the order of the text, and then
 -- its statements. It answers the first broken rule, with its place, or how the program's typed tree looks and what the
 -- program has: its variables and its sites. It says nothing of what a program does.
-use Rattle.std.specs.Prelude.{ℕ, Bool, true, false, List, [], ◌∷◌, Result, Ok, Err, if◌then◌else◌, map, nat_eq, codes}
+use Rattle.std.specs.Prelude.{List, [], Result, Ok, Err, if◌then◌else◌, map, nat_eq, codes}
 use Rattle.std.specs.Cmp.Lexicographic.{pointwise}
-use Rattle.place.specs.declared.Place.{Place}
 use Rattle.syntax_tree.specs.declared.Program.{Program}
 use Rattle.syntax_tree.specs.declared.Block.{Block}
 use Rattle.syntax_tree.specs.declared.Name.{Name}
@@ -19,8 +18,8 @@ use Rattle.scopes.specs.declared.fault.ScopeFault.TheVariants as scope
 use Rattle.typed_tree.specs.declared.fault.TypeFault.TheVariants as fault
 use Rattle.typed_tree.specs.Look.{BlockEnds}
 use Rattle.typing.specs.Names.{folded, all_folded, is_among, defined_names}
-use Rattle.typing.specs.Passing.{Passed, Checked, After, Passing, and_then, after, pure, fail, mark, each, ◌>>=◌, ◌>>◌}
-use Rattle.typing.specs.Steps.{begins, placed, open_required, open_block, declare, give_output, next_root, reserve}
+use Rattle.typing.specs.Passing.{Checked, After, Passing, and_then, after, fail, mark, each, ◌>>=◌, ◌>>◌}
+use Rattle.typing.specs.Steps.{begins, open_required, open_block, declare, give_output, next_root, reserve}
 use Rattle.typing.specs.Statements.{statement, compound}
 
 -- a program parameter: no other than output may be one

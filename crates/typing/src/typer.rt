@@ -51,14 +51,14 @@ impl Model for Typer {
     ghost Value = { Passed };
 
     ghost view = { λ t. record {
-        regions = t.scopes;
-        types = t.types;
-        variables = t.variables.items;
-        cells = t.cells;
-        has_output = t.has_output;
-        sites = map stands t.sites.items;
-        entries = t.entries;
-        latest = t.latest;
+      regions = t.scopes;
+      types = t.types;
+      variables = t.variables.items;
+      cells = t.cells;
+      has_output = t.has_output;
+      sites = map stands t.sites.items;
+      entries = t.entries;
+      latest = t.latest;
     } };
 }
 

@@ -5,8 +5,8 @@ ghost use Rattle.typing.specs.Typing.{named_type};
 
 use crate::names::{folded, is_among};
 use crate::typer::{MOST_CELLS, Typer};
-use scopes::{Denotation, ScopeFault};
 use place::Place;
+use scopes::{Denotation, ScopeFault};
 use syntax_tree::{Name, TypeDenoter};
 use typed_tree::fault::TypeFault;
 use typed_tree::tree::Variable;
@@ -20,7 +20,11 @@ impl Typer {
     /// The type that a denoter denotes, where variables of these names get it. One of them is no type (K1), wherever it
     /// stands.
     #[tactic(auto, unfolding(crate::specs::Typing::denoted_type))]
-    pub fn denoted_type(&mut self, names: &[Name], denoter: &TypeDenoter) -> Result<TypeId, TypeFault>
+    pub fn denoted_type(
+        &mut self,
+        names: &[Name],
+        denoter: &TypeDenoter,
+    ) -> Result<TypeId, TypeFault>
         ensures { Takes (spec.denoted_type names.now denoter.now self.old) result self.new }
     {
         let TypeDenoter::Name(name) = denoter;

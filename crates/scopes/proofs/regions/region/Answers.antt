@@ -1,4 +1,3 @@
-use Rattle.std.proofs.Common.{◌≡◌}
 use Rattle.std.proofs.lemmas.List.Elements.{same_from_all_zip}
 use Rattle.scopes.proofs.Inserts.{opens_more}
 use Rattle.scopes.proofs.regions.region.Goals as goal

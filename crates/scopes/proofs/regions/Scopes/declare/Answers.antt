@@ -1,4 +1,4 @@
-use Rattle.std.proofs.Common.{rules, ◌≡◌, ◌<◌, ◌-◌, true, false, inl, inr, map, reverse, vec_len, slice_set, refl, sym, ap, subst, ◌∙◌, Result, Ok, Err, OnErr}
+use Rattle.std.proofs.Common.{rules, ◌≡◌, ◌<◌, ◌-◌, true, false, inr, map, reverse, vec_len, slice_set, sym, ap, subst, ◌∙◌, Result, Ok, Err, OnErr}
 use Rattle.std.specs.HashMap.{get, get_by}
 use Rattle.scopes.specs.Scopes.{region_of, is_defined, define}
 use Rattle.scopes.specs.declared.fault.ScopeFault.TheVariants as fault

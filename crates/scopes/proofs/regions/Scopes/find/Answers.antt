@@ -1,4 +1,4 @@
-use Rattle.std.proofs.Common.{◌≡◌, ◌<◌, length, get_or, ap, ◌∙◌, arith}
+use Rattle.std.proofs.Common.{◌<◌, length, ◌∙◌}
 use Rattle.scopes.proofs.Inserts.{decides_more}
 use Rattle.scopes.proofs.regions.Scopes.find.Goals as goal
 

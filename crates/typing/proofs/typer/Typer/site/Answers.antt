@@ -7,7 +7,8 @@ use Rattle.typing.proofs.typer.Typer.site.Goals as goal
 pub invariant_of-self-inside-2 : goal.invariant_of-self-inside-2
 invariant_of-self-inside-2 c =
     let before = c.self.inside.sites.items in
-    let next : c.len-id.result ≡ length before = omega (arith, c.self.inside.sites.ok.0) in
-    (subst AreInOrder (sym c.push.ensures.items)
-    (in_order_kept (is_ok c.push.result) before (record { id = c.len-id.result; kind = c.args.kind; place = c.args.place }) c.self.inside.in_order next),
-    (omega arith, (c.self.inside.few_entries, (c.self.inside.room, (c.self.inside.few_cells, tt)))))
+    let next : c.len-id.result ≡ length before = omega (arith, c.self.inside.sites.ok.0) in (
+      subst AreInOrder (sym c.push.ensures.items)
+          (in_order_kept (is_ok c.push.result) before (record { id = c.len-id.result; kind = c.args.kind; place = c.args.place }) c.self.inside.in_order next),
+      (omega arith, (c.self.inside.few_entries, (c.self.inside.room, (c.self.inside.few_cells, tt)))),
+    )
