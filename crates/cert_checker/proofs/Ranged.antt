@@ -5,7 +5,8 @@ use Rattle.std.proofs.lemmas.Bool.{and_parts, and_from}
 use Rattle.types.specs.declared.form.OrdinalRange.{OrdinalRange}
 use Rattle.domain.specs.Interval as domain
 use Rattle.domain.specs.Interval.{Interval, HasMember, has_number, is_vacant, common, truth_values}
-use Rattle.domain.specs.Ranges.{included-has, common-has, common-has_left, common-has_right, has-present}
+use Rattle.domain.specs.Ranges.{common-has_left, common-has_right, has-present}
+use Rattle.domain.specs.contracts.interval.IntervalDomain.TheImpl.Laws.{leq_includes-law, meet_has_common-law}
 use Rattle.meaning.specs.declared.store.Value.{Value}
 use Rattle.meaning.specs.declared.store.Value.TheVariants.{Number}
 use Rattle.meaning.specs.Effect.{is_in}
@@ -53,7 +54,7 @@ is_in-integer range (Number n) passes =
 pub is_in-limits : (range : OrdinalRange) (v : Value) → is_in range v ≡ true → IsIn (limits_of range) v
 is_in-limits range (Number n) passes =
     let each = and_parts (is_integer_number n) (is_within range.first range.last n) passes in
-    common-has integer (record { first = range.first; last = range.last }) n
+    meet_has_common-law integer (record { first = range.first; last = range.last }) n
     (is_within-has integer.first integer.last n each.0) (is_within-has range.first range.last n each.1)
 
 pub limits-is_in : (range : OrdinalRange) (v : Value) → IsIn (limits_of range) v → is_in range v ≡ true
@@ -64,10 +65,10 @@ limits-is_in range (Number n) inside =
     (has-is_within range.first range.last n (common-has_right integer own n inside))
 
 pub included-in : (range limits : Interval) (v : Value) → domain.is_included range limits ≡ true → IsIn range v → IsIn limits v
-included-in range limits (Number n) included inside = included-has range limits n included inside
+included-in range limits (Number n) included inside = leq_includes-law range limits n included inside
 
 pub common-in : (a b : Interval) (v : Value) → IsIn a v → IsIn b v → IsIn (common a b) v
-common-in a b (Number n) left right = common-has a b n left right
+common-in a b (Number n) left right = meet_has_common-law a b n left right
 
 -- each number of a range whose first is at least 1 is
 pub first-positive : (range : Interval) (n : ℤ) → int_le (pos 1) range.first ≡ true → HasMember range n → int_le (pos 1) n ≡ true

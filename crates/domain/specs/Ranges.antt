@@ -213,6 +213,15 @@ quotient-has a b x y left right present =
 between-has : (first last z : ℤ) → first ≤ℤ z → z ≤ℤ last → HasMember (between first last) z
 between-has first last z low high = (grind (arith, ints), grind (arith, ints))
 
+-- the numbers from a first to a last one are those between them
+pub between-members : (first last z : ℤ) → HasMember (between first last) z ↔ ((first ≤ℤ z) × (z ≤ℤ last))
+between-members first last z =
+    (λ has. (grind (arith, ints), grind (arith, ints)), λ bounds. between-has first last z bounds.0 bounds.1)
+
+-- one number
+pub between-same : (n : ℤ) → between n n ≡ record { first = n; last = n }
+between-same n = grind (arith, ints)
+
 -- a remainder below the divisor, and at most the last dividend where none is negative
 below-greatest : (nonnegative : Bool) (z divisor last : ℤ) → z <ℤ divisor → (nonnegative ≡ true → z ≤ℤ last)
     → z ≤ℤ cond nonnegative (int_min (divisor -ℤ pos 1) last) (divisor -ℤ pos 1)
@@ -348,6 +357,15 @@ min-near last high near below = omega (arith, ints, clamps)
 
 vacant-between : (first last : ℤ) → last <ℤ first → between first last ≡ vacant
 vacant-between first last below = grind (arith, ints)
+
+-- what a range has in common with the numbers from a first to a last one
+pub common-between : (a : Interval) (first last : ℤ) → common a (between first last) ≡ common a (record { first = first; last = last })
+common-between a first last =
+    by_lt_z last first
+    (λ below. ap (common a) (vacant-between first last below)
+    ∙ vacant-between (int_max a.first (pos 1)) (int_min a.last (pos 0)) (omega (arith, ints, clamps))
+    ∙ sym (vacant-between (int_max a.first first) (int_min a.last last) (omega (arith, ints, clamps))))
+    (λ above. ap (common a) (grind (arith, ints)))
 
 -- held ends make no difference within limits that are nearer
 pub held-common : (a limits : Interval) → IsInner limits → common (held a) limits ≡ common a limits

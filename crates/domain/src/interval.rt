@@ -1,5 +1,5 @@
-ghost use Rattle.std.specs.Prelude.{◌≡◌, ◌↔◌, ℤ, pos, ◌+ℤ◌, ◌-ℤ◌, neg_ℤ, IsTrue};
-ghost use Rattle.domain.specs.Interval.{Interval as Range, IsEnd, HasMember, Includes, has_number, is_vacant, is_included, joined, common, sum, difference, negated, held, nearest_end};
+ghost use Rattle.std.specs.Prelude.{◌≡◌, ◌↔◌, ℤ, pos, ◌+ℤ◌, ◌-ℤ◌, neg_ℤ, ◌≤ℤ◌, IsTrue};
+ghost use Rattle.domain.specs.Interval.{Interval as Range, IsEnd, HasMember, Includes, has_number, is_vacant, is_included, joined, common, between, sum, difference, negated, held, nearest_end};
 ghost use Rattle.domain.specs.Ranges.{included-has, joined-has_left, joined-has_right, common-has};
 
 use crate::Domain;
@@ -42,14 +42,12 @@ impl Interval {
     /// The ordinal numbers of the values of the required type Boolean (ISO 7185:1990, 6.4.2.2).
     pub const TRUTH_VALUES: Interval = Interval { first: 0, last: 1 };
 
-    /// The numbers from a first to a last one.
+    /// The numbers from a first to a last one: the empty range, 1..0, where the first is above the last.
     pub fn between(first: i32, last: i32) -> Interval
-        ensures { result ≡ record { first = first; last = last } }
+        ensures ends { result ≡ between first last }
+        ensures members { (z : ℤ) → HasMember result z ↔ ((first ≤ℤ z) × (z ≤ℤ last)) }
     {
-        Interval {
-            first: i64::from(first),
-            last: i64::from(last),
-        }
+        Interval::between_ends(i64::from(first), i64::from(last))
     }
 
     /// The first number of a range that isn't empty.
@@ -122,6 +120,18 @@ impl Interval {
         }
     }
 
+    /// The numbers from a first to a last one.
+    fn between_ends(first: i64, last: i64) -> Interval
+        requires first_end { IsEnd first }
+        requires last_end { IsEnd last }
+        ensures { result ≡ between first last }
+    {
+        if last < first {
+            return Interval::EMPTY;
+        }
+        Interval { first, last }
+    }
+
     /// The range from a first to a last number, an end beyond the greatest or the least held there.
     fn held(first: i64, last: i64) -> Interval
         ensures { result ≡ held (record { first = first; last = last }) }
@@ -132,6 +142,12 @@ impl Interval {
         }
     }
 }
+
+// The ends of integer: the negative of maxint and maxint.
+const _: () = prove!(Interval::INTEGER.first == -2147483647 && Interval::INTEGER.last == 2147483647);
+
+// The ends of Boolean: the ordinal numbers of false and true.
+const _: () = prove!(Interval::TRUTH_VALUES.first == 0 && Interval::TRUTH_VALUES.last == 1);
 
 impl Domain for Interval {
     ghost Member = { ℤ };

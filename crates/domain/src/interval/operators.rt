@@ -2,7 +2,7 @@ ghost use Rattle.std.specs.Prelude.{◌≡◌, if◌then◌else◌, true, ℤ, p
 ghost use Rattle.std.specs.Int.{int_rem_euclid};
 ghost use Rattle.std.specs.Ordering.{int_eq};
 ghost use Rattle.domain.specs.Order.{span};
-ghost use Rattle.domain.specs.Interval.{IsEnd, HasMember, held, nearest_end, between, hull, product, squared, magnitude, size, absolute, without_zero_end, at_least, quotient, remainder, is_true};
+ghost use Rattle.domain.specs.Interval.{IsEnd, HasMember, held, nearest_end, hull, product, squared, magnitude, size, absolute, without_zero_end, at_least, quotient, remainder, is_true};
 
 use crate::Domain;
 use crate::interval::{Interval, LIMIT};
@@ -138,18 +138,6 @@ impl Interval {
             first: p.min(q),
             last: p.max(q),
         }
-    }
-
-    /// The range from a first to a last number.
-    fn between_ends(first: i64, last: i64) -> Interval
-        requires first_end { IsEnd first }
-        requires last_end { IsEnd last }
-        ensures { result ≡ between first last }
-    {
-        if last < first {
-            return Interval::EMPTY;
-        }
-        Interval { first, last }
     }
 
     /// The greatest magnitude of a number of the range.
