@@ -1,5 +1,5 @@
 -- The fault of a layer, as the whole compiler tells it, is a refusal of the source.
-use Rattle.std.proofs.Common.{◌≡◌, ◌≢◌, ◌⊎◌, ⊎_elim, ℕ, ◌<◌, List, Some, Result, Err, IfErr, map, length, refl, sym, subst}
+use Rattle.std.proofs.Common.{◌≡◌, ◌≢◌, ⊎_elim, ℕ, ◌<◌, List, Some, Result, Err, IfErr, map, length, refl, sym, subst}
 use Rattle.std.specs.Prelude.{MatchResult}
 use Rattle.lexer.specs.declared.token.Token.{Token}
 use Rattle.lexer.specs.declared.fault.LexFault.{LexFault}
