@@ -4,20 +4,21 @@ ghost use Rattle.certificate.specs.declared.fault.ReadFault.TheVariants.{Memory}
 use std::alloc::{AllocError, AllocFailed};
 use thiserror::Error;
 
-/// Why a text is no certificate. Lines are numbered from 1, and F1, F2 and F5 are the codes that a user is told.
+/// Why a text is no certificate. Lines are numbered from 1, in 64 bits since a text has no greatest length. F1, F2 and
+/// F5 are the codes that a user is told.
 #[derive(Clone, Copy, Debug, Error)]
 pub enum ReadFault {
     #[error("no memory")]
     Memory,
     /// F1, a first line that names no version; at line 1 of a text without lines.
     #[error("{line}: no certificate")]
-    FirstLine { line: u32 },
+    FirstLine { line: u64 },
     /// F2, a line that no certificate has.
     #[error("{line}: no line of a certificate")]
-    NotInGrammar { line: u32 },
+    NotInGrammar { line: u64 },
     /// F5, a last line without its line end.
     #[error("{line}: a line without its end")]
-    Unended { line: u32 },
+    Unended { line: u64 },
 }
 
 impl From<AllocError> for ReadFault {

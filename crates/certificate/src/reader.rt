@@ -16,7 +16,7 @@ struct Line<'a> {
     ended: bool,
 }
 
-/// Reads a certificate text. Version 1 has no lines to keep, so no memory is taken.
+/// Reads a certificate text of any length. Version 1 has no lines to keep, so no memory is taken.
 ///
 /// # Errors
 /// The first faulty line: F5 where it lacks its end, F1 where it is the first and no heading, F2 where it stands

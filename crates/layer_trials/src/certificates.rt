@@ -4,7 +4,7 @@ use std::alloc::Global;
 use std::test::Fail;
 
 /// The number behind the letter F of a text's fault, and the line of the fault; zeros where the text is read.
-fn fault_of(alloc: Global, text: &str) -> (u8, u32) {
+fn fault_of(alloc: Global, text: &str) -> (u8, u64) {
     match read(alloc, text.as_bytes()).err() {
         None => (0, 0),
         Some(ReadFault::FirstLine { line }) => (1, line),
@@ -15,7 +15,7 @@ fn fault_of(alloc: Global, text: &str) -> (u8, u32) {
 }
 
 /// Texts, and their faults.
-static TEXTS: [(&str, (u8, u32)); 9] = [
+static TEXTS: [(&str, (u8, u64)); 9] = [
     ("pcert 1\n", (0, 0)),
     ("", (1, 1)),
     ("\n", (1, 1)),

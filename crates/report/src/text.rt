@@ -94,7 +94,7 @@ pub enum Refusal {
     /// At a place of the source.
     At { place: Place, code: Code },
     /// At a line of the certificate.
-    Certificate { line: u32, code: Code },
+    Certificate { line: u64, code: Code },
     /// Of the program as a whole.
     Whole(Code),
 }
@@ -243,17 +243,18 @@ fn open_site(alloc: Global, site: Site) -> Line
 fn placed(alloc: Global, line: u32, column: u32) -> Line
     ensures text { result.items ≡ place_text line column }
     ensures capacity { result.capacity ≡ 96 }
-    ensures short { length result.items ≤ 21 }
+    ensures short { length result.items ≤ 41 }
 {
-    numbered(append(numbered(Line::new(alloc), line), ":"), column)
+    let start = numbered(Line::new(alloc), u64::from(line));
+    numbered(append(start, ":"), u64::from(column))
 }
 
-fn numbered(line: Line, number: u32) -> Line
+fn numbered(line: Line, number: u64) -> Line
     requires capacity { line.capacity ≡ 96 }
-    requires short { length line.items ≤ 40 }
+    requires short { length line.items ≤ 60 }
     ensures text { result.items ≡ line.items ++ decimal number }
     ensures capacity { result.capacity ≡ 96 }
-    ensures short { length result.items ≤ length line.items + 10 }
+    ensures short { length result.items ≤ length line.items + 20 }
 {
     let mut buffer = Buffer::new();
     append(line, buffer.format(number))
@@ -281,12 +282,12 @@ fn sentence(line: Line, words: &str, name: &str) -> Line
 // The code and the line end.
 fn refused(line: Line, code: Code) -> Line
     requires capacity { line.capacity ≡ 96 }
-    requires short { length line.items ≤ 39 }
+    requires short { length line.items ≤ 59 }
     ensures { result.items ≡ line.items ++ code_text code ++ 10 ∷ [] }
 {
     let mut line = line;
     line.push_reserved(code.letter);
-    append(numbered(line, u32::from(code.number)), "\n")
+    append(numbered(line, u64::from(code.number)), "\n")
 }
 
 fn append(mut line: Line, text: &str) -> Line

@@ -1,4 +1,5 @@
-use crate::shown::{refusal, stop_told, visits};
+use crate::shown::{refusal, refusal_told, stop_told, visits};
+use certificate::fault::ReadFault;
 use pcode_assembler::code::{Point, Site};
 use report::fault::Fault;
 use report::text::fault_text;
@@ -26,6 +27,31 @@ fn certificate_refusal(alloc: Global, certificate: &&str) -> Result<String, Fail
 #[test]
 fn certificates_are_read(rt: HostRuntime) -> Result<(), Fail> {
     all_hold(rt.alloc(), &CERTIFICATES, certificate_refusal)
+}
+
+// Faults in certificates too long to stand here, and the line of their refusal. Line 4294967296 takes 33 bits.
+static LATE_LINES: [(Fault, &str); 3] = [
+    (
+        Fault::Certificate(ReadFault::NotInGrammar {
+            line: 4_294_967_295,
+        }),
+        "certificate:4294967295: refused F2\n",
+    ),
+    (
+        Fault::Certificate(ReadFault::NotInGrammar {
+            line: 4_294_967_296,
+        }),
+        "certificate:4294967296: refused F2\n",
+    ),
+    (
+        Fault::Certificate(ReadFault::Unended { line: u64::MAX }),
+        "certificate:18446744073709551615: refused F5\n",
+    ),
+];
+
+#[test]
+fn late_lines_are_numbered(rt: HostRuntime) -> Result<(), Fail> {
+    all_hold(rt.alloc(), &LATE_LINES, refusal_told)
 }
 
 // Sources and certificates, and the sentence of the fault.

@@ -142,7 +142,8 @@ pub(crate) fn refusal(
     }
 }
 
-fn refusal_told(alloc: Global, fault: &Fault) -> Result<String, Fail> {
+// The line of a fault, which isn't want of memory.
+pub(crate) fn refusal_told(alloc: Global, fault: &Fault) -> Result<String, Fail> {
     let (line, status) = fault_text(alloc, fault);
     let told = text_of(line.as_slice());
     if status == 2 && told.ends_with("\n") {
