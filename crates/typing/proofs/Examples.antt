@@ -1,11 +1,12 @@
 -- Worked rows of the definitions of names and types.
-use Rattle.std.proofs.Common.{◌≡◌, ◌∷◌, [], true, false, List, Some, None, Ok, Err, refl}
+use Rattle.std.proofs.Common.{◌≡◌, ◌∷◌, [], List, Some, None, Ok, Err, refl}
 use Rattle.std.specs.Prelude.{codes, pos}
 use Rattle.scopes.specs.declared.denotation.Denotation.TheVariants as denotes
 use Rattle.syntax_tree.specs.declared.Operator.TheVariants as op
-use Rattle.types.specs.Types.{required_forms, integer, boolean}
+use Rattle.types.specs.Types.{required_forms, integer, boolean, range_of}
 use Rattle.typing.specs.Names.{folded, required_region}
 use Rattle.typing.specs.Expressions.{result_type}
+use Rattle.typing.specs.Statements.{fitting}
 use Rattle.typing.specs.Typing.{named_type}
 use Rattle.syntax_tree.specs.declared.Name.{Name}
 use Rattle.typed_tree.specs.declared.fault.TypeFault.TheVariants as fault
@@ -41,6 +42,14 @@ maxint_is_constant = refl
 pub output_is_none : found (required_region ∷ []) (codes "output") ≡ Err scope.NotDeclared
 unfolding required_region
 output_is_none = refl
+
+-- an integer may be assigned an integer, within the range of the type
+pub integer_fits : fitting required_forms integer integer ≡ range_of required_forms integer
+integer_fits = refl
+
+-- an integer may not be assigned a truth value
+pub boolean_does_not_fit : fitting required_forms integer boolean ≡ None
+boolean_does_not_fit = refl
 
 module _ (names : List Name) (name : Name) where
   -- a name of a type denotes that type
