@@ -1,0 +1,65 @@
+-- Worked rows of the definitions of names and types.
+use Rattle.std.proofs.Common.{◌≡◌, ◌∷◌, [], List, Some, None, Ok, Err, refl}
+use Rattle.std.specs.Prelude.{codes, pos}
+use Rattle.scopes.specs.declared.denotation.Denotation.TheVariants as denotes
+use Rattle.syntax_tree.specs.declared.Operator.TheVariants as op
+use Rattle.types.specs.Types.{required_forms, integer, boolean, range_of}
+use Rattle.typing.specs.Names.{folded, required_region}
+use Rattle.typing.specs.Expressions.{result_type}
+use Rattle.typing.specs.Statements.{fitting}
+use Rattle.typing.specs.Typing.{named_type}
+use Rattle.syntax_tree.specs.declared.Name.{Name}
+use Rattle.typed_tree.specs.declared.fault.TypeFault.TheVariants as fault
+use Rattle.scopes.specs.declared.fault.ScopeFault.TheVariants as scope
+use Rattle.scopes.specs.Scopes.{found}
+
+-- small and capital letters are alike, and digits stay
+pub small_letters : folded (codes "WriteLn2") ≡ codes "writeln2"
+small_letters = refl
+
+-- a sum of integers is an integer
+pub sum_of_integers : result_type required_forms op.Plus integer integer ≡ Some integer
+sum_of_integers = refl
+
+-- a truth value can't be added
+pub sum_with_boolean : result_type required_forms op.Plus integer boolean ≡ None
+sum_with_boolean = refl
+
+-- truth values are compared with each other
+pub less_of_booleans : result_type required_forms op.Less boolean boolean ≡ Some boolean
+less_of_booleans = refl
+
+-- an integer is not compared with a truth value
+pub equal_of_both : result_type required_forms op.Equal integer boolean ≡ None
+equal_of_both = refl
+
+-- maxint is a constant of type integer
+pub maxint_is_constant : found (required_region ∷ []) (codes "maxint") ≡ Ok (denotes.Constant (pos 2147483647) integer)
+unfolding required_region
+maxint_is_constant = refl
+
+-- output is no required identifier
+pub output_is_none : found (required_region ∷ []) (codes "output") ≡ Err scope.NotDeclared
+unfolding required_region
+output_is_none = refl
+
+-- an integer may be assigned an integer, within the range of the type
+pub integer_fits : fitting required_forms integer integer ≡ range_of required_forms integer
+integer_fits = refl
+
+-- an integer may not be assigned a truth value
+pub boolean_does_not_fit : fitting required_forms integer boolean ≡ None
+boolean_does_not_fit = refl
+
+module _ (names : List Name) (name : Name) where
+  -- a name of a type denotes that type
+  pub integer_is_type : named_type names name (Ok (denotes.TypeName integer)) ≡ Ok integer
+  integer_is_type = refl
+
+  -- a constant is no type
+  pub maxint_is_no_type : named_type names name (Ok (denotes.Constant (pos 2147483647) integer)) ≡ Err (fault.Mismatch name.place)
+  maxint_is_no_type = refl
+
+  -- a type that is defined nowhere
+  pub unknown_type : named_type names name (Err scope.NotDeclared) ≡ Err (fault.NotDeclared name.place)
+  unknown_type = refl
