@@ -144,7 +144,9 @@ impl Interval {
 }
 
 // The ends of integer: the negative of maxint and maxint.
-const _: () = prove!(Interval::INTEGER.first == -2147483647 && Interval::INTEGER.last == 2147483647);
+const _: () = prove!(
+    Interval::INTEGER.first == -2147483647 && Interval::INTEGER.last == 2147483647
+);
 
 // The ends of Boolean: the ordinal numbers of false and true.
 const _: () = prove!(Interval::TRUTH_VALUES.first == 0 && Interval::TRUTH_VALUES.last == 1);
