@@ -29,4 +29,4 @@ mod sources;
 #[cfg(test)]
 mod syntax;
 #[cfg(test)]
-mod typing;
+mod resolving;
