@@ -21,6 +21,8 @@ mod ranges;
 #[cfg(test)]
 mod removal;
 #[cfg(test)]
+mod resolving;
+#[cfg(test)]
 mod running;
 #[cfg(test)]
 mod scoping;
@@ -28,5 +30,3 @@ mod scoping;
 mod sources;
 #[cfg(test)]
 mod syntax;
-#[cfg(test)]
-mod resolving;
