@@ -3,7 +3,7 @@ pub mod Held
 pub mod Among
 pub mod Entered
 pub mod Ranged
-pub mod Known
+pub mod Knows
 pub mod Sound
 pub mod SoundOperations
 pub mod SoundForms

@@ -14,7 +14,7 @@ use Rattle.cert_checker.specs.Walk as walk
 use Rattle.cert_checker.specs.Walk.{Entry, Walked, Walking, followed, left_open}
 use Rattle.cert_checker.specs.Holds.{IsIn}
 use Rattle.cert_checker.specs.Promise.{HoldsAt}
-use Rattle.cert_checker.proofs.Known.{Apart, Knows, known-holds, read-in, defined-stored, made-known, used-known, assigned-known}
+use Rattle.cert_checker.proofs.Knows.{Apart, Knows, known-holds, read-in, defined-stored, made-known, used-known, assigned-known}
 
 -- each visit that was added in an environment meets its linked entry
 abbrev pub New : Environment → List Entry → List Visit → List Visit → Type 0

@@ -26,7 +26,7 @@ use Rattle.cert_checker.specs.Walk as walk
 use Rattle.cert_checker.specs.Walk.{Walking, value_walk, link_walk, parameter_walk, width_walk, limits_of, statement_walk}
 use Rattle.cert_checker.specs.Holds.{IsIn}
 use Rattle.cert_checker.proofs.Ranged.{constant-in, is_in-integer}
-use Rattle.cert_checker.proofs.Known.{Apart}
+use Rattle.cert_checker.proofs.Knows.{Apart}
 use Rattle.cert_checker.proofs.Sound.{Sound, Any_value, Passes, sound-then, sound-given, sound-written, sound-give, sound-enter, sound-use, sound-assign}
 use Rattle.cert_checker.proofs.SoundOperations.{operated-sound, combined-sound, positive-sound, limits-sound}
 

@@ -18,7 +18,7 @@ use Rattle.cert_checker.specs.State.{Dead, start}
 use Rattle.cert_checker.specs.Walk.{Entry, Walked, block_walk, all_of, statement_walk, program_walk}
 use Rattle.cert_checker.specs.Holds.{Separate}
 use Rattle.cert_checker.specs.Promise.{open_in, ClosedNeverErr, StatesHold, visits_of}
-use Rattle.cert_checker.proofs.Known.{Apart, known-start}
+use Rattle.cert_checker.proofs.Knows.{Apart, known-start}
 use Rattle.cert_checker.proofs.Sound.{New, ErrsAmong, Good, Any_value, new-left}
 use Rattle.cert_checker.proofs.SoundForms.{statement-sound}
 

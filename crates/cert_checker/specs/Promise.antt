@@ -1,46 +1,61 @@
--- What a verdict promises of the runs of a program: they err at its open sites alone (ISO 7185:1990, 3.1), and at each
--- entry the state of the walk holds. It does not say that an open site can err.
-use Rattle.std.specs.Prelude.{◌≡◌, ℕ, List, [], ◌==◌, Contains, filter}
-use Rattle.std.specs.List.{list_any}
+-- What a verdict promises: the list of open sites, and of the runs of a program that they err at its open sites alone
+-- (ISO 7185:1990, 3.1), and that at each entry the states of the walk hold. It does not say that an open site can err.
+use Rattle.std.specs.Prelude.{◌≡◌, ℕ, List, [], ◌==◌, Contains, filter, length}
+use Rattle.std.specs.List.{list_any, range_with_len}
 use Rattle.certificate.specs.declared.Certificate.{Certificate}
 use Rattle.typed_tree.specs.declared.tree.Tree.{Tree}
+use Rattle.typed_tree.specs.declared.tree.Block.{Block}
 use Rattle.typed_tree.specs.declared.site.Site.{Site}
+use Rattle.typed_tree.specs.Entries.{entries_of, entries_of_statement}
 use Rattle.meaning.specs.declared.outcome.Ending.TheVariants.{Error}
 use Rattle.meaning.specs.Effect.{Reply, Gives, Stops, Visit}
 use Rattle.meaning.specs.Meaning.{run, meaning}
-use Rattle.cert_checker.specs.Walk.{Entry, program_walk}
-use Rattle.cert_checker.specs.Holds.{StateHolds, Separate}
+use Rattle.cert_checker.specs.State.{State}
+use Rattle.cert_checker.specs.Walk.{Context, Linked, block_walk, program_walk, numbers_of}
+use Rattle.cert_checker.specs.Holds.{Moment, StateHolds, Separate}
 
 -- the sites of the table that the walk leaves open, in the order of the table
 abbrev pub open_in : List ℕ → List Site → List Site
 open_in ids sites = filter (λ site. list_any (λ id. id == site.id) ids) sites
 
--- A certificate is valid for a program, and these sites are open. A certificate of version 1 claims nothing, so it
--- breaks no rule, and no field speaks of it.
+-- a certificate is valid for a program, and these sites are open: the walk by it breaks no rule
 pub record Valid (tree : Tree) (certificate : Certificate) (open_sites : List Site) : Type 0 where
-  pub unbroken : (program_walk tree).broken ≡ []
-  pub open_are : open_sites ≡ open_in (program_walk tree).open_ids tree.sites.items
+  pub unbroken : (program_walk tree certificate).broken ≡ []
+  pub open_are : open_sites ≡ open_in (program_walk tree certificate).open_ids tree.sites.items
 
--- in no run does an error come at a site of the table that isn't open
+-- each error of a run is at a site of the table that is open
 abbrev pub ClosedNeverErr : Tree → List Site → Type 0
 ClosedNeverErr tree open_sites =
-    (input : List ℕ) (turns : ℕ) (site : Site)
-    → Contains tree.sites.items site → (meaning tree input turns).ending ≡ Error site.id → Contains open_sites site
+    (input : List ℕ) (turns id : ℕ) → (meaning tree input turns).ending ≡ Error id
+    → (site : Site) × Contains tree.sites.items site × Contains open_sites site × (site.id ≡ id)
+
+-- the walk over a block links a state to each of its entries, once and in their order, and so does that over the blocks
+pub record LinksEntries (tree : Tree) (certificate : Certificate) : Type 0 where
+  pub of_block : (block : Block) (context : Context) (state : State)
+      → numbers_of (block_walk block context state).linked ≡ entries_of_statement block.body
+  pub of_program : numbers_of (program_walk tree certificate).linked ≡ entries_of tree
+
+-- the entries of a program are numbered from 0, in the order of the text
+abbrev pub AreNumbered : Tree → Type 0
+AreNumbered tree = entries_of tree ≡ range_with_len 0 (length (entries_of tree))
 
 -- the entries of a run
-abbrev pub visits_of : Reply (Unit {0}) → List Visit
+abbrev pub visits_of : {A : Type 0} → Reply A → List Visit
 visits_of (Gives done state) = state.visited
 visits_of (Stops ending state) = state.visited
 
--- the walk links to the number of an entry a state that holds there
-abbrev pub HoldsAt : List Entry → Visit → Type 0
-HoldsAt linked visit =
-    (entry : Entry) × Contains linked entry × (entry.number ≡ visit.number)
-    × StateHolds entry.state visit.environment visit.store
+-- the moment of an entry
+abbrev pub moment_of : Visit → Moment
+moment_of visit = record { environment = visit.environment; store = visit.store }
 
--- whenever a run enters a statement or expression, the state that is linked to it holds, and no two variables share a
+-- a state is linked to the number of an entry, and each that is linked to it holds there
+pub record HoldsAt (linked : List Linked) (visit : Visit) : Type 0 where
+  pub is_linked : (one : Linked) × Contains linked one × (one.number ≡ visit.number)
+  pub holds : (one : Linked) → Contains linked one → one.number ≡ visit.number → StateHolds one.state (moment_of visit)
+
+-- whenever a run enters a statement or expression, the states that are linked to it hold, and no two variables share a
 -- place
-abbrev pub StatesHold : Tree → Type 0
-StatesHold tree =
+abbrev pub StatesHold : Tree → Certificate → Type 0
+StatesHold tree certificate =
     (input : List ℕ) (turns : ℕ) (visit : Visit) → Contains (visits_of (run tree input turns)) visit
-    → HoldsAt (program_walk tree).linked visit × Separate visit.environment []
+    → HoldsAt (program_walk tree certificate).linked visit × Separate visit.environment []

@@ -1,21 +1,66 @@
 -- The checker's own values as the definitions see them, and that the checker has walked over a piece of a program.
 -- It does not say what a walk is.
-use Rattle.std.specs.Prelude.{◌≡◌, ◌+◌, [], ◌++◌, length}
+use Rattle.std.specs.Prelude.{◌≡◌, ℕ, ◌+◌, suc, Bool, ◌&&◌, List, [], ◌∷◌, ◌++◌, Option, Some, None, Result, Ok, Err, if◌then◌else◌, map, nat_eq}
+use Rattle.domain.specs.Facts.{Fact, Defined, entire}
+use Rattle.cert_checker.specs.declared.fault.CheckFault.{CheckFault}
+use Rattle.cert_checker.specs.declared.fault.CheckFault.TheVariants.{Memory, Broken}
+use Rattle.cert_checker.specs.declared.state.Row.{Row}
 use Rattle.cert_checker.specs.declared.state.State.{State as Kept}
 use Rattle.cert_checker.specs.declared.state.State.TheVariants as kept
+use Rattle.cert_checker.specs.declared.visits.Visits.{Visits}
 use Rattle.cert_checker.specs.declared.walk.Walk.{Walk}
 use Rattle.cert_checker.specs.State.{State, Dead, Live}
-use Rattle.cert_checker.specs.Walk.{Walking}
+use Rattle.cert_checker.specs.Walk.{Breach, Context, Walked, Walking, numbers_of}
+
+-- the facts that rows say: that variables are defined, the first row being that of a root number
+abbrev pub defined_from : ℕ → List Row → List Fact
+defined_from root [] = []
+defined_from root (row ∷ rows) =
+    if row.is_defined then Defined (entire root) ∷ defined_from (suc root) rows else defined_from (suc root) rows
 
 -- what a state of the checker says
 abbrev pub viewed : Kept → State
 viewed kept.Dead = Dead
-viewed (kept.Live facts) = Live (record { ranges = facts.ranges.items; defined = facts.defined.items })
+viewed (kept.Live rows) =
+    Live (record { ranges = map (λ row. row.range) rows.items; facts = defined_from 0 rows.items })
 
--- the checker came from an old to a new point as the walk of a piece does, and has its value; the piece breaks no rule
-pub record Walks {A : Type 0} (walk : Walking A) (old new : Walk) (value : A) : Type 0 where
-  pub value_is : value ≡ (walk (viewed old.state)).value
-  pub state_is : viewed new.state ≡ (walk (viewed old.state)).after
-  pub open_is : new.open_ids.items ≡ old.open_ids.items ++ (walk (viewed old.state)).open_ids
-  pub visits_are : new.visits ≡ old.visits + length (walk (viewed old.state)).linked
-  pub unbroken : (walk (viewed old.state)).broken ≡ []
+-- the counter after an entry of a number
+abbrev pub counted : ℕ → Visits → Visits
+counted number visits =
+    record { entries = visits.entries + 1; are_in_order = visits.are_in_order && nat_eq number visits.entries }
+
+-- the counter after entries of these numbers, one after another
+abbrev pub all_counted : List ℕ → Visits → Visits
+all_counted [] visits = visits
+all_counted (number ∷ numbers) visits = all_counted numbers (counted number visits)
+
+-- what a walk of the checker goes by
+abbrev pub context_of : Walk → Context
+context_of walk = record { tree = walk.tree.now; certificate = walk.certificate.now }
+
+-- the checker came from an old to a new point as the walk of a piece does, and has its value; it counted the entries of
+-- the piece; the piece breaks no rule
+pub record Walks {A : Type 0} (walking : Walking A) (old : Walk) (before : Visits) (new : Walk) (after : Visits) (value : A)
+    : Type 0 where
+  pub context_is : context_of new ≡ context_of old
+  pub value_is : value ≡ (walking (context_of old) (viewed old.state)).value
+  pub state_is : viewed new.state ≡ (walking (context_of old) (viewed old.state)).after
+  pub open_is : new.open_ids.items ≡ old.open_ids.items ++ (walking (context_of old) (viewed old.state)).open_ids
+  pub visits_are : after ≡ all_counted (numbers_of (walking (context_of old) (viewed old.state)).linked) before
+  pub unbroken : (walking (context_of old) (viewed old.state)).broken ≡ []
+
+-- the first breach of a list, if there is one
+abbrev pub first_breach : List Breach → Option Breach
+first_breach [] = None
+first_breach (breach ∷ breaches) = Some breach
+
+-- why a walk is given up: for the first rule that it breaks, or for want of memory
+abbrev pub IsBreachOf : {A : Type 0} → Walked A → CheckFault → Type 0
+IsBreachOf walked Memory = Unit {0}
+IsBreachOf walked (Broken rule place) = first_breach walked.broken ≡ Some (record { rule = rule; place = place })
+
+-- the checker went over a piece of a program: it walked over it, or it tells the first rule that the piece breaks, or it
+-- found no memory
+abbrev pub Goes : {A : Type 0} → Walking A → Walk → Visits → Result A CheckFault → Walk → Visits → Type 0
+Goes walking old before (Ok value) new after = Walks walking old before new after value
+Goes walking old before (Err fault) new after = IsBreachOf (walking (context_of old) (viewed old.state)) fault

@@ -3,6 +3,7 @@
 -- It does not say that a program does what the walk says of it.
 use Rattle.std.specs.Prelude.{ℕ, pos, Bool, not, ◌||◌, int_le, List, [], ◌∷◌, ◌++◌, Option, Some, None, if◌then◌else◌, map, length}
 use Rattle.place.specs.declared.Place.{Place}
+use Rattle.certificate.specs.declared.Certificate.{Certificate}
 use Rattle.typed_tree.specs.declared.tree.Tree.{Tree}
 use Rattle.typed_tree.specs.declared.tree.Block.{Block}
 use Rattle.typed_tree.specs.declared.tree.Access.{Access}
@@ -24,30 +25,38 @@ use Rattle.typed_tree.specs.declared.tree.Stmt.TheOpen.{Stmt-F}
 use Rattle.typed_tree.specs.declared.tree.Stmt.TheOpen.Stmt-F.{Empty, Assign, Write, Compound}
 use Rattle.typed_tree.specs.declared.tree.Stmt.TheFolds.{fold-Stmt}
 use Rattle.domain.specs.Interval.{Interval, is_included, has_number, common, sum, difference, negated, product, squared, absolute, quotient, remainder, without_zero_end, at_least, both, either, complement, truth_values}
-use Rattle.cert_checker.specs.State.{State, Dead, start, integer, is_dead, is_defined, range_of, with_defined, with_value, with_made}
+use Rattle.cert_checker.specs.declared.fault.Rule.{Rule}
+use Rattle.cert_checker.specs.declared.known.Known.{Known}
+use Rattle.cert_checker.specs.declared.known.Known.TheVariants.{Ordinal}
+use Rattle.cert_checker.specs.State.{State, Dead, start, integer, is_dead, is_defined, range_of, with_defined, with_value, unless_empty}
 
--- a rule of certificates that is broken at a place, by the number of its refusal (C1 is 1)
+-- what a walk goes by: the program and its certificate
+pub record Context : Type 0 where
+  pub tree : Tree
+  pub certificate : Certificate
+
+-- a rule of certificates that is broken at a place
 pub record Breach : Type 0 where
-  pub rule : ℕ
+  pub rule : Rule
   pub place : Place
 
--- the state at the entry into the statement or expression of a number
-pub record Entry : Type 0 where
+-- a state that is linked to a number, that of the statement or expression which is entered with it
+pub record Linked : Type 0 where
   pub number : ℕ
   pub state : State
 
 -- what a piece of a walk gives: a value, the state after it, the ids of the sites that aren't closed, the rules that
--- are broken, and the entries
+-- are broken, and the states that are linked
 pub record Walked (A : Type 0) : Type 0 where
   pub value : A
   pub after : State
   pub open_ids : List ℕ
   pub broken : List Breach
-  pub linked : List Entry
+  pub linked : List Linked
 
--- a piece of a walk, from the state before it
+-- a piece of a walk, in its context and from the state before it
 abbrev pub Walking : Type 0 → Type 0
-Walking A = State → Walked A
+Walking A = Context → State → Walked A
 
 -- goes on from what was walked
 abbrev pub followed : {A B : Type 0} → Walked A → Walked B → Walked B
@@ -62,27 +71,32 @@ followed first second = record {
 -- one after the other
 infixl 10 ◌>>=◌
 abbrev pub ◌>>=◌ : {A B : Type 0} → Walking A → (A → Walking B) → Walking B
-(first >>= next) state = followed (first state) (next (first state).value (first state).after)
+(first >>= next) context state =
+    followed (first context state) (next (first context state).value context (first context state).after)
 
 -- a value, and nothing changes
 abbrev pub give : {A : Type 0} → A → Walking A
-give value state = record { value = value; after = state; open_ids = []; broken = []; linked = [] }
+give value context state = record { value = value; after = state; open_ids = []; broken = []; linked = [] }
 
 -- the entry into a statement or an expression
 abbrev pub enter : ℕ → Walking (Unit {0})
-enter number state =
+enter number context state =
     record
     { value = tt; after = state; open_ids = []; broken = []; linked = record { number = number; state = state } ∷ [] }
+
+-- another state from here on
+abbrev pub with_state : State → Walking (Unit {0})
+with_state after context state = record { value = tt; after = after; open_ids = []; broken = []; linked = [] }
 
 -- a site is left open unless it is closed
 abbrev pub left_open : Bool → ℕ → List ℕ
 left_open closed site = if closed then [] else site ∷ []
 
 -- the use of a variable: closed where the variable is defined, which it is afterwards
-abbrev pub use_of : ℕ → ℕ → Walking Interval
-use_of root site state = record {
-  value = range_of state root;
-  after = with_made (range_of state root) (with_defined root state);
+abbrev pub use_of : ℕ → ℕ → Walking Known
+use_of root site context state = record {
+  value = Ordinal (range_of state root);
+  after = unless_empty (range_of state root) (with_defined root state);
   open_ids = left_open (is_defined state root) site;
   broken = [];
   linked = [];
@@ -90,9 +104,9 @@ use_of root site state = record {
 
 -- the test of a value at a site: closed where it surely passes; afterwards the value lies in the range that passes
 abbrev pub tested : Bool → ℕ → Interval → Walking Interval
-tested closed site passed state = record {
+tested closed site passed context state = record {
   value = passed;
-  after = with_made passed state;
+  after = unless_empty passed state;
   open_ids = left_open (is_dead state || closed) site;
   broken = [];
   linked = [];
@@ -110,51 +124,60 @@ positive site range = tested (int_le (pos 1) range.first) site (at_least (pos 1)
 abbrev pub divisor : ℕ → Interval → Walking Interval
 divisor site range = tested (not (has_number range (pos 0))) site (without_zero_end range)
 
--- the assignment of a value of a range to a variable
-abbrev pub assign : ℕ → Interval → Walking (Unit {0})
-assign root range state =
-    record { value = tt; after = with_value root range state; open_ids = []; broken = []; linked = [] }
+-- the assignment of a value to a variable
+abbrev pub assign : ℕ → Known → Walking (Unit {0})
+assign root (Ordinal range) context state = with_state (with_value root range state) context state
 
--- the start of a block of so many variables
-abbrev pub begin : ℕ → Walking (Unit {0})
-begin variables state = record { value = tt; after = start variables; open_ids = []; broken = []; linked = [] }
+-- the start of a block: each variable of the program is one of its own
+abbrev pub begin : Block → Walking (Unit {0})
+begin block context = with_state (start (length context.tree.variables.items)) context
 
--- an operation on one operand, by the range of the operand
-abbrev pub operated : Monadic → Interval → Walking Interval
-operated monadic.Plus range = give range
-operated monadic.Minus range = give (negated range)
-operated monadic.Not range = give (complement range)
-operated monadic.Abs range = give (absolute range)
-operated (monadic.Sqr overflow) range = within integer overflow (squared range)
-operated monadic.Odd range = give truth_values
+-- an ordinal of a range
+abbrev pub ordinal : Interval → Walking Known
+ordinal range = give (Ordinal range)
 
--- an operation on two operands, by their ranges
-abbrev pub combined : Dyadic → Interval → Interval → Walking Interval
-combined (dyadic.Plus overflow) left right = within integer overflow (sum left right)
-combined (dyadic.Minus overflow) left right = within integer overflow (difference left right)
-combined (dyadic.Times overflow) left right = within integer overflow (product left right)
-combined (dyadic.Div by_zero) left right = do
-  range ← divisor by_zero right
-  give (quotient left range)
-combined (dyadic.Mod by_zero_or_less) left right = do
-  range ← positive by_zero_or_less right
-  give (remainder left range)
-combined dyadic.And left right = give (both left right)
-combined dyadic.Or left right = give (either left right)
-combined (dyadic.Relation relation) left right = give truth_values
+-- a result that has to be an integer
+abbrev pub whole : ℕ → Interval → Walking Known
+whole overflow range = do
+  passed ← within integer overflow range
+  ordinal passed
 
--- a variable in an expression
-abbrev pub variable_walk : Access → ℕ → Walking Interval
+-- an operation on one operand, by what is known of the operand
+abbrev pub operated : Monadic → Known → Walking Known
+operated monadic.Plus (Ordinal range) = ordinal range
+operated monadic.Minus (Ordinal range) = ordinal (negated range)
+operated monadic.Not (Ordinal range) = ordinal (complement range)
+operated monadic.Abs (Ordinal range) = ordinal (absolute range)
+operated (monadic.Sqr overflow) (Ordinal range) = whole overflow (squared range)
+operated monadic.Odd (Ordinal range) = ordinal truth_values
+
+-- an operation on two operands, by what is known of them
+abbrev pub combined : Dyadic → Known → Known → Walking Known
+combined (dyadic.Plus overflow) (Ordinal left) (Ordinal right) = whole overflow (sum left right)
+combined (dyadic.Minus overflow) (Ordinal left) (Ordinal right) = whole overflow (difference left right)
+combined (dyadic.Times overflow) (Ordinal left) (Ordinal right) = whole overflow (product left right)
+combined (dyadic.Div by_zero) (Ordinal left) (Ordinal right) = do
+  passed ← divisor by_zero right
+  ordinal (quotient left passed)
+combined (dyadic.Mod by_zero_or_less) (Ordinal left) (Ordinal right) = do
+  passed ← positive by_zero_or_less right
+  ordinal (remainder left passed)
+combined dyadic.And (Ordinal left) (Ordinal right) = ordinal (both left right)
+combined dyadic.Or (Ordinal left) (Ordinal right) = ordinal (either left right)
+combined (dyadic.Relation relation) (Ordinal left) (Ordinal right) = ordinal truth_values
+
+-- the use of a variable, which is entered first
+abbrev pub variable_walk : Access → ℕ → Walking Known
 variable_walk access site = do
   _ ← enter access.number
   use_of access.root site
 
--- what the walk does with an operator and its right operand, by the range to its left
+-- what the walk does with an operator and its right operand, by what is known of the value to its left
 abbrev pub Combination : Type 0
-Combination = Interval → Walking Interval
+Combination = Known → Walking Known
 
 -- the right operand, and then the operation
-abbrev pub link_step : Link-F (Walking Interval) Combination → Combination
+abbrev pub link_step : Link-F (Walking Known) Combination → Combination
 link_step link left = do
   _ ← enter link.number
   right ← link.operand
@@ -162,32 +185,32 @@ link_step link left = do
 
 -- the operators of a chain, from left to right
 abbrev pub in_turn : List Combination → Combination
-in_turn [] range = give range
-in_turn (link ∷ links) range = do
-  result ← link range
+in_turn [] left = give left
+in_turn (link ∷ links) left = do
+  result ← link left
   in_turn links result
 
 -- one layer of an expression
-abbrev pub value_step : Expr-F (Walking Interval) Combination → Walking Interval
+abbrev pub value_step : Expr-F (Walking Known) Combination → Walking Known
 value_step (Constant number value) = do
   _ ← enter number
-  give (record { first = value; last = value })
+  ordinal (record { first = value; last = value })
 value_step (Variable access defined) = variable_walk access defined
 value_step (MonadicOf number operation operand) = do
   _ ← enter number
-  range ← operand.value
-  operated operation range
+  known ← operand.value
+  operated operation known
 value_step (Chain first rest) = do
-  range ← first.value
-  in_turn rest.items range
+  known ← first.value
+  in_turn rest.items known
 
 -- the walk over an operator and its right operand
 abbrev pub link_walk : Link → Combination
-link_walk = fold-Link (Walking Interval) Combination value_step link_step
+link_walk = fold-Link (Walking Known) Combination value_step link_step
 
--- the walk over an expression: the range of its value
-abbrev pub value_walk : Expr → Walking Interval
-value_walk = fold-Expr (Walking Interval) Combination value_step link_step
+-- the walk over an expression: what is known of its value
+abbrev pub value_walk : Expr → Walking Known
+value_walk = fold-Expr (Walking Known) Combination value_step link_step
 
 -- statements, or values that are written, one after another
 abbrev pub all_of : List (Walking (Unit {0})) → Walking (Unit {0})
@@ -196,13 +219,18 @@ all_of (statement ∷ statements) = do
   _ ← statement
   all_of statements
 
+-- a width has to be at least 1
+abbrev pub width_test : ℕ → Known → Walking (Unit {0})
+width_test site (Ordinal range) = do
+  _ ← positive site range
+  give tt
+
 -- the width of a value that is written
 abbrev pub width_walk : Option Width → Walking (Unit {0})
 width_walk None = give tt
 width_walk (Some width) = do
-  range ← value_walk width.value
-  _ ← positive width.site range
-  give tt
+  known ← value_walk width.value
+  width_test width.site known
 
 -- a value that is written, and then its width
 abbrev pub parameter_walk : WriteParameter → Walking (Unit {0})
@@ -214,13 +242,19 @@ parameter_walk parameter = do
 abbrev pub limits_of : OrdinalRange → Interval
 limits_of range = common integer (record { first = range.first; last = range.last })
 
+-- a value has to lie in the range of a type
+abbrev pub fitting : RangeTest → Known → Walking Known
+fitting fits (Ordinal range) = do
+  passed ← within (limits_of fits.range) fits.site range
+  ordinal passed
+
 -- an assignment: the target is entered, and then comes the value
 abbrev pub assignment : Access → RangeTest → Expr → Walking (Unit {0})
 assignment target fits value = do
   _ ← enter target.number
-  range ← value_walk value
-  fitting ← within (limits_of fits.range) fits.site range
-  assign target.root fitting
+  known ← value_walk value
+  passed ← fitting fits known
+  assign target.root passed
 
 -- one layer of a statement
 abbrev pub statement_step : Stmt-F (Walking (Unit {0})) → Walking (Unit {0})
@@ -239,12 +273,17 @@ statement_step (Compound number statements) = do
 abbrev pub statement_walk : Stmt → Walking (Unit {0})
 statement_walk = fold-Stmt (Walking (Unit {0})) statement_step
 
--- the walk over a block of so many variables
-abbrev pub block_walk : ℕ → Block → Walking (Unit {0})
-block_walk variables block = do
-  _ ← begin variables
+-- the walk over a block
+abbrev pub block_walk : Block → Walking (Unit {0})
+block_walk block = do
+  _ ← begin block
   statement_walk block.body
 
--- the walk over a program, block by block
-abbrev pub program_walk : Tree → Walked (Unit {0})
-program_walk tree = all_of (map (block_walk (length tree.variables.items)) tree.blocks.items) Dead
+-- the walk over a program by a certificate, block by block
+abbrev pub program_walk : Tree → Certificate → Walked (Unit {0})
+program_walk tree certificate =
+    all_of (map block_walk tree.blocks.items) (record { tree = tree; certificate = certificate }) Dead
+
+-- the numbers to which states are linked
+abbrev pub numbers_of : List Linked → List ℕ
+numbers_of = map (λ one. one.number)

@@ -1,23 +1,28 @@
 //! The checker: which sites of a program may err, told from a certificate in one walk over the typed tree.
 #![tactic(auto)]
 
-ghost use Rattle.std.specs.Prelude.{◌≡◌, IfOk, length};
+ghost use Rattle.std.specs.Prelude.{◌≡◌, IfErr, IfOk, length};
 ghost use Rattle.typed_tree.specs.Entries.{entries_of};
-ghost use Rattle.cert_checker.specs.Promise.{Valid, ClosedNeverErr, StatesHold};
+ghost use Rattle.typed_tree.specs.Ids.{AreInOrder};
+ghost use Rattle.typed_tree.specs.WellFormed.{IsWellFormed};
+ghost use Rattle.cert_checker.specs.Promise.{AreNumbered, ClosedNeverErr, LinksEntries, StatesHold, Valid};
+ghost use Rattle.cert_checker.specs.View.{IsBreachOf};
+ghost use Rattle.cert_checker.specs.Walk.{program_walk};
 
 pub mod fault;
+mod known;
 mod open_sites;
 mod state;
-pub mod visits;
+mod visits;
 mod walk;
 
-use certificate::{Certificate, Version};
+use certificate::Certificate;
 use fault::CheckFault;
 use open_sites::open_sites;
 use std::alloc::Global;
 use typed_tree::site::Site;
 use typed_tree::tree::Tree;
-use walk::Walk;
+use visits::Visits;
 
 /// What the checker found out of a program.
 #[derive(Drop)]
@@ -30,22 +35,31 @@ pub struct Verdict {
 
 /// Checks a program by a certificate.
 ///
-/// No run of the program commits an error at a site of the tree that isn't among the open ones (ISO 7185:1990, 3.1).
-/// Whenever a run enters a statement or an expression, what the walk knows there holds, and no two variables share a
-/// place. Both hold for every input and every number of turns.
+/// Each error of a run of the program is at an open site (ISO 7185:1990, 3.1), for every input and every number of
+/// turns. Whenever a run enters a statement or an expression, what the walk knows there holds, and no two variables
+/// share a place.
 ///
 /// # Errors
-/// `Memory` alone: a certificate without claims is right for every program.
+/// The first rule that the certificate breaks, with its place; a certificate without claims breaks none. Or `Memory`.
 pub fn check(alloc: Global, tree: &Tree, certificate: &Certificate) -> Result<Verdict, CheckFault>
     ensures valid { IfOk result (λ verdict. Valid tree.now certificate.now verdict.open_sites.items) }
-    ensures closed_never_err { IfOk result (λ verdict. ClosedNeverErr tree.now verdict.open_sites.items) }
-    ensures states_hold { IfOk result (λ _. StatesHold tree.now) }
+    ensures refused { IfErr result (IsBreachOf (program_walk tree.now certificate.now)) }
+
+    // One pass: states are linked to the entries of the program, each once, and so many entries were counted.
+    ensures entries { LinksEntries tree.now certificate.now }
     ensures visits { IfOk result (λ verdict. verdict.visits ≡ length (entries_of tree.now)) }
+
+    // The runs of a well formed tree.
+    ensures closed_never_err { IfOk result (λ verdict. IsWellFormed tree.now → AreInOrder tree.now.sites.items
+        → ClosedNeverErr tree.now verdict.open_sites.items) }
+    ensures states_hold { IfOk result (λ _. IsWellFormed tree.now → AreNumbered tree.now
+        → StatesHold tree.now certificate.now) }
 {
-    let Version::One = certificate.version;
-    let (open_ids, visits) = Walk::over(alloc, tree)?.finish();
+    let mut visits = Visits::new();
+    let walked = walk::program(alloc, tree, certificate, &mut visits);
+    let entries = visits.finish(tree, &walked);
     Ok(Verdict {
-        open_sites: open_sites(alloc, &tree.sites, open_ids)?,
-        visits,
+        open_sites: open_sites(alloc, &tree.sites, walked?)?,
+        visits: entries,
     })
 }

@@ -1,18 +1,17 @@
 ghost use Rattle.std.specs.Prelude.{◌≡◌, IfOk};
-ghost use Rattle.cert_checker.specs.State.{start, is_dead, range_of, is_defined, with_defined, with_value, with_made};
+ghost use Rattle.cert_checker.specs.State.{start, is_dead, range_of, is_defined, with_defined, with_value, unless_empty};
 ghost use Rattle.cert_checker.specs.View.{viewed};
 
 use domain::interval::Interval;
 use std::alloc::{AllocError, Global};
 
-/// What is known of the variables at a point, by root number. A variable that isn't in the lists may hold any integer
-/// or be undefined.
-#[derive(Drop)]
-pub(crate) struct Facts {
-    /// Each defined value of the variable lies in its range.
-    ranges: Vec<Interval>,
-    /// `true`: the variable is defined.
-    defined: Vec<bool>,
+/// What is known of a variable.
+#[derive(Clone, Copy)]
+pub(crate) struct Row {
+    /// Its values lie there.
+    range: Interval,
+    /// `true`: it is defined.
+    is_defined: bool,
 }
 
 /// What the checker knows at a point of the program.
@@ -23,7 +22,8 @@ pub(crate) struct Facts {
 pub(crate) enum State {
     /// No run comes here.
     Dead,
-    Live(Facts),
+    /// A row for each variable, by root number.
+    Live(Vec<Row>),
 }
 
 impl State {
@@ -31,10 +31,11 @@ impl State {
     pub(crate) fn undefined(alloc: Global, variables: usize) -> Result<State, AllocError>
         ensures { IfOk result (λ state. viewed state ≡ start variables) }
     {
-        Ok(State::Live(Facts {
-            ranges: vec![in alloc; Interval::EMPTY; variables]?,
-            defined: vec![in alloc; false; variables]?,
-        }))
+        let row = Row {
+            range: Interval::EMPTY,
+            is_defined: false,
+        };
+        Ok(State::Live(vec![in alloc; row; variables]?))
     }
 
     pub(crate) fn is_dead(&self) -> bool
@@ -46,17 +47,16 @@ impl State {
         }
     }
 
-    /// The range of a variable's defined values.
+    /// The range of a variable's values.
     pub(crate) fn range(&self, root: u32) -> Interval
         ensures { result ≡ range_of (viewed self.now) root }
     {
         match self {
             State::Dead => Interval::EMPTY,
-            State::Live(facts) => facts
-                .ranges
-                .get(root as usize)
-                .copied()
-                .unwrap_or(Interval::INTEGER),
+            State::Live(rows) => match rows.get(root as usize) {
+                Some(row) => row.range,
+                None => Interval::EMPTY,
+            },
         }
     }
 
@@ -66,7 +66,10 @@ impl State {
     {
         match self {
             State::Dead => true,
-            State::Live(facts) => facts.defined.get(root as usize).copied().unwrap_or(false),
+            State::Live(rows) => match rows.get(root as usize) {
+                Some(row) => row.is_defined,
+                None => false,
+            },
         }
     }
 
@@ -74,9 +77,9 @@ impl State {
     pub(crate) fn define(&mut self, root: u32)
         ensures { viewed self.new ≡ with_defined root (viewed self.old) }
     {
-        if let State::Live(facts) = self {
-            if (root as usize) < facts.defined.len() {
-                facts.defined[root as usize] = true;
+        if let State::Live(rows) = self {
+            if (root as usize) < rows.len() {
+                rows[root as usize].is_defined = true;
             }
         }
     }
@@ -85,17 +88,17 @@ impl State {
     pub(crate) fn assign(&mut self, root: u32, range: Interval)
         ensures { viewed self.new ≡ with_value root range (viewed self.old) }
     {
-        if let State::Live(facts) = self {
-            if (root as usize) < facts.ranges.len() {
-                facts.ranges[root as usize] = range;
+        if let State::Live(rows) = self {
+            if (root as usize) < rows.len() {
+                rows[root as usize].range = range;
             }
         }
         self.define(root);
     }
 
-    /// A value of the range was made here: no run goes on from an empty one.
-    pub(crate) fn made(&mut self, range: Interval)
-        ensures { viewed self.new ≡ with_made range (viewed self.old) }
+    /// No run goes on from an empty range.
+    pub(crate) fn unless_empty(&mut self, range: Interval)
+        ensures { viewed self.new ≡ unless_empty range (viewed self.old) }
     {
         if range.is_empty() {
             *self = State::Dead;

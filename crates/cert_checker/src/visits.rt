@@ -1,46 +1,56 @@
-ghost use Rattle.std.specs.Prelude.{◌≡◌, ◌↔◌, ℕ, ◌+◌, ◌-◌, ◌^◌, ◌<◌, IsTrue};
+ghost use Rattle.std.specs.Prelude.{◌≡◌, ◌↔◌, ◌-◌, ◌^◌, ◌<◌, true, IfOk, IsTrue};
+ghost use Rattle.typed_tree.specs.Entries.{entries_of};
+ghost use Rattle.cert_checker.specs.View.{all_counted, counted};
 
-use std::marker::Model;
+use crate::fault::CheckFault;
+use typed_tree::tree::Tree;
 
-/// A count of entries into statements and expressions. It begins at 0, and `tick` alone changes it.
-#[derive(Drop)]
-pub struct Visits {
+/// A count of the entries into the statements and expressions of a program.
+///
+/// It can't be thrown away: only `finish` takes it, which asks for a walk over the whole program.
+pub(crate) struct Visits {
     entries: u64,
-}
-
-impl Model for Visits {
-    ghost Value = { ℕ };
-
-    ghost view = { λ v. v.entries };
+    // Whether each entry so far came at its own number: the first at 0, the next at 1, and so on.
+    are_in_order: bool,
 }
 
 impl Visits {
     /// No entry yet.
-    pub fn new() -> Visits
-        ensures { result ≡ 0 }
+    pub(crate) fn new() -> Visits
+        ensures { result ≡ record { entries = 0; are_in_order = true } }
     {
-        Visits { entries: 0 }
+        Visits {
+            entries: 0,
+            are_in_order: true,
+        }
     }
 
-    /// One entry more; for a count below 18446744073709551615.
-    pub fn tick(&mut self)
-        requires { self.old < 2 ^ 64 - 1 }
-        ensures { self.new ≡ self.old + 1 }
+    /// The entry into the statement or expression of a number; for less than 18446744073709551615 entries so far.
+    pub(crate) fn tick(&mut self, number: u32)
+        requires { self.old.entries < 2 ^ 64 - 1 }
+        ensures { self.new ≡ counted number self.old }
     {
+        self.are_in_order = self.are_in_order && u64::from(number) == self.entries;
         self.entries += 1;
     }
 
-    /// The entries so far.
-    pub fn count(&self) -> u64
-        ensures { result ≡ self.now }
-    {
-        self.entries
-    }
-
     /// Whether `tick` may be called.
-    pub fn has_room(&self) -> bool
-        ensures { IsTrue result ↔ (self.now < 2 ^ 64 - 1) }
+    pub(crate) fn has_room(&self) -> bool
+        ensures { IsTrue result ↔ (self.now.entries < 2 ^ 64 - 1) }
     {
         self.entries < u64::MAX
+    }
+
+    /// The entries that were counted, once the walk over the program ended. Where the walk was not refused, they are
+    /// those of the program, each once and in their order.
+    pub(crate) fn finish<T>(self, tree: &Tree, walked: &Result<T, CheckFault>) -> u64
+        requires { IfOk walked.now (λ _. self ≡ all_counted (entries_of tree.now) (record { entries = 0; are_in_order = true })) }
+        ensures { result ≡ self.entries }
+    {
+        let Visits {
+            entries,
+            are_in_order: _,
+        } = self;
+        entries
     }
 }

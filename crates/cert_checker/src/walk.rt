@@ -1,11 +1,13 @@
-ghost use Rattle.std.specs.Prelude.{◌≡◌, ℕ, [], map, length, IfOk};
-ghost use Rattle.cert_checker.specs.Walk.{enter, variable_walk, tested, within, positive, divisor, operated, combined, value_walk, link_walk, width_walk, parameter_walk, all_of, limits_of, assignment, statement_walk, block_walk, program_walk};
+ghost use Rattle.std.specs.Prelude.{◌≡◌, [], map, IfOk, MatchResult};
+ghost use Rattle.cert_checker.specs.Walk.{enter, variable_walk, tested, within, positive, divisor, whole, operated, combined, value_walk, link_walk, width_test, width_walk, parameter_walk, all_of, limits_of, fitting, assignment, statement_walk, block_walk, program_walk};
 ghost use Rattle.typed_tree.specs.Entries.{entries_of};
-ghost use Rattle.cert_checker.specs.View.{Walks};
+ghost use Rattle.cert_checker.specs.View.{Goes, IsBreachOf, all_counted};
 
 use crate::fault::CheckFault;
+use crate::known::Known;
 use crate::state::State;
 use crate::visits::Visits;
+use certificate::Certificate;
 use domain::Domain;
 use domain::interval::Interval;
 use std::alloc::Global;
@@ -14,72 +16,83 @@ use typed_tree::tree::{
 };
 use types::OrdinalRange;
 
-/// A walk over the statements of a program, in the order in which they are run.
+/// A walk over the statements of a program, in the order in which they are run. The counter of entries is lent to it.
 #[derive(Drop)]
-pub(crate) struct Walk {
+pub(crate) struct Walk<'a> {
+    alloc: Global,
+    tree: &'a Tree,
+    certificate: &'a Certificate,
     /// What is known where the walk is.
     state: State,
     /// The ids of the sites that the walk leaves open, in its order.
     open_ids: Vec<u32>,
-    /// The entries into statements and expressions.
-    visits: Visits,
 }
 
-impl Walk {
-    /// Walks over a program, block by block.
-    pub(crate) fn over(alloc: Global, tree: &Tree) -> Result<Walk, CheckFault>
-        ensures sites { IfOk result (λ walk. walk.open_ids.items ≡ (program_walk tree.now).open_ids) }
-        ensures unbroken { IfOk result (λ _. (program_walk tree.now).broken ≡ []) }
-        ensures entries { IfOk result (λ walk. walk.visits ≡ length (entries_of tree.now)) }
+/// Walks over a program, block by block; the ids of the sites that it leaves open.
+pub(crate) fn program(
+    alloc: Global,
+    tree: &Tree,
+    certificate: &Certificate,
+    visits: &mut Visits,
+) -> Result<Vec<u32>, CheckFault>
+    ensures sites { IfOk result (λ ids. ids.items ≡ (program_walk tree.now certificate.now).open_ids) }
+    ensures entries { IfOk result (λ _. visits.new ≡ all_counted (entries_of tree.now) visits.old) }
+    ensures rules { MatchResult result (λ _. (program_walk tree.now certificate.now).broken ≡ [])
+        (IsBreachOf (program_walk tree.now certificate.now)) }
+{
+    let mut walk = Walk {
+        alloc,
+        tree,
+        certificate,
+        state: State::Dead,
+        open_ids: Vec::new(alloc),
+    };
+    walk.blocks(visits)?;
+    Ok(walk.open_ids)
+}
+
+impl<'a> Walk<'a> {
+    fn blocks(&mut self, visits: &mut Visits) -> Result<(), CheckFault>
+        ensures { Goes (all_of (map block_walk self.old.tree.now.blocks.items)) self.old visits.old result self.new visits.new }
     {
-        let mut walk = Walk {
-            state: State::Dead,
-            open_ids: Vec::new(alloc),
-            visits: Visits::new(),
-        };
-        for block in &tree.blocks {
-            walk.block(alloc, tree.variables.len(), block)?;
+        for block in &self.tree.blocks {
+            self.block(block, visits)?;
         }
-        Ok(walk)
+        Ok(())
     }
 
-    /// The ids of the open sites, and the number of entries.
-    pub(crate) fn finish(self) -> (Vec<u32>, u64)
-        ensures sites { result.0 ≡ self.open_ids }
-        ensures entries { result.1 ≡ self.visits }
+    fn block(&mut self, block: &Block, visits: &mut Visits) -> Result<(), CheckFault>
+        ensures { Goes (block_walk block.now) self.old visits.old result self.new visits.new }
     {
-        let Walk {
-            open_ids,
-            visits,
-            ..
-        } = self;
-        (open_ids, visits.count())
+        self.state = State::undefined(self.alloc, self.tree.variables.len())?;
+        self.statement(&block.body, visits)
     }
 
-    /// Walks over a block, of a program of so many variables.
-    fn block(&mut self, alloc: Global, variables: usize, block: &Block) -> Result<(), CheckFault>
-        ensures { IfOk result (λ _. Walks (block_walk variables block.now) self.old self.new tt) }
+    fn statement(&mut self, statement: &Stmt, visits: &mut Visits) -> Result<(), CheckFault>
+        ensures { Goes (statement_walk statement.now) self.old visits.old result self.new visits.new }
     {
-        self.state = State::undefined(alloc, variables)?;
-        self.statement(&block.body)
-    }
-
-    fn statement(&mut self, statement: &Stmt) -> Result<(), CheckFault>
-        ensures { IfOk result (λ _. Walks (statement_walk statement.now) self.old self.new tt) }
-    {
-        self.enter()?;
         match statement {
-            Stmt::Empty { .. } => Ok(()),
+            Stmt::Empty { number } => self.enter(*number, visits),
             Stmt::Assign {
+                number,
                 target,
                 fits,
                 value,
                 ..
-            } => self.assignment(*target, *fits, value),
-            Stmt::Write { parameters, .. } => self.parameters(parameters),
-            Stmt::Compound { statements, .. } => {
+            } => {
+                self.enter(*number, visits)?;
+                self.assignment(*target, *fits, value, visits)
+            }
+            Stmt::Write {
+                number, parameters, ..
+            } => {
+                self.enter(*number, visits)?;
+                self.parameters(parameters, visits)
+            }
+            Stmt::Compound { number, statements } => {
+                self.enter(*number, visits)?;
                 for statement in statements {
-                    self.statement(statement)?;
+                    self.statement(statement, visits)?;
                 }
                 Ok(())
             }
@@ -92,192 +105,206 @@ impl Walk {
         target: Access,
         fits: RangeTest,
         value: &Expr,
+        visits: &mut Visits,
     ) -> Result<(), CheckFault>
-        ensures { IfOk result (λ _. Walks (assignment target fits value.now) self.old self.new tt) }
+        ensures { Goes (assignment target fits value.now) self.old visits.old result self.new visits.new }
     {
-        self.enter()?;
-        let range = self.expression(value)?;
-        let fitting = self.within(range, limits(fits.range), fits.site)?;
-        self.state.assign(target.root, fitting);
+        self.enter(target.number, visits)?;
+        let known = self.expression(value, visits)?;
+        let Known::Ordinal(range) = self.fitting(fits, known)?;
+        self.state.assign(target.root, range);
         Ok(())
     }
 
-    fn parameters(&mut self, parameters: &[WriteParameter]) -> Result<(), CheckFault>
-        ensures { IfOk result (λ _. Walks (all_of (map parameter_walk parameters.now)) self.old self.new tt) }
+    fn parameters(&mut self, parameters: &[WriteParameter], visits: &mut Visits) -> Result<(), CheckFault>
+        ensures { Goes (all_of (map parameter_walk parameters.now)) self.old visits.old result self.new visits.new }
     {
         for parameter in parameters {
-            self.parameter(parameter)?;
+            self.parameter(parameter, visits)?;
         }
         Ok(())
     }
 
     /// A value that is written, and then its width.
-    fn parameter(&mut self, parameter: &WriteParameter) -> Result<(), CheckFault>
-        ensures { IfOk result (λ _. Walks (parameter_walk parameter.now) self.old self.new tt) }
+    fn parameter(&mut self, parameter: &WriteParameter, visits: &mut Visits) -> Result<(), CheckFault>
+        ensures { Goes (parameter_walk parameter.now) self.old visits.old result self.new visits.new }
     {
-        self.expression(&parameter.value)?;
-        self.width(&parameter.width)
+        self.expression(&parameter.value, visits)?;
+        self.width(&parameter.width, visits)
     }
 
-    /// The width of a value that is written: it has to be at least 1.
-    fn width(&mut self, width: &Option<Width>) -> Result<(), CheckFault>
-        ensures { IfOk result (λ _. Walks (width_walk width.now) self.old self.new tt) }
+    /// The width of a value that is written.
+    fn width(&mut self, width: &Option<Width>, visits: &mut Visits) -> Result<(), CheckFault>
+        ensures { Goes (width_walk width.now) self.old visits.old result self.new visits.new }
     {
         match width {
             None => Ok(()),
             Some(width) => {
-                let range = self.expression(&width.value)?;
-                self.positive(range, width.site)?;
-                Ok(())
+                let known = self.expression(&width.value, visits)?;
+                self.width_test(width.site, known)
             }
         }
     }
 
-    /// The range of an expression's value.
+    /// What is known of an expression's value.
     #[cycle(expression)]
-    fn expression(&mut self, expression: &Expr) -> Result<Interval, CheckFault>
-        ensures { IfOk result (λ range. Walks (value_walk expression.now) self.old self.new range) }
+    fn expression(&mut self, expression: &Expr, visits: &mut Visits) -> Result<Known, CheckFault>
+        ensures { Goes (value_walk expression.now) self.old visits.old result self.new visits.new }
     {
         match expression {
-            Expr::Constant { value, .. } => {
-                self.enter()?;
-                Ok(Interval::between(*value, *value))
+            Expr::Constant { number, value } => {
+                self.enter(*number, visits)?;
+                Ok(Known::Ordinal(Interval::between(*value, *value)))
             }
-            Expr::Variable { access, defined } => self.variable(*access, *defined),
+            Expr::Variable { access, defined } => self.variable(*access, *defined, visits),
             Expr::Monadic {
+                number,
                 operation,
                 operand,
-                ..
             } => {
-                self.enter()?;
-                let range = self.expression(operand)?;
-                self.operated(*operation, range)
+                self.enter(*number, visits)?;
+                let known = self.expression(operand, visits)?;
+                self.operated(*operation, known)
             }
             Expr::Chain { first, rest } => {
-                let mut range = self.expression(first)?;
+                let mut known = self.expression(first, visits)?;
                 for link in rest {
-                    range = self.link(link, range)?;
+                    known = self.link(link, known, visits)?;
                 }
-                Ok(range)
+                Ok(known)
             }
         }
     }
 
-    /// An operator and its right operand, by the range to its left.
+    /// An operator and its right operand, by what is known to its left.
     #[cycle(expression)]
-    fn link(&mut self, link: &Link, left: Interval) -> Result<Interval, CheckFault>
-        ensures { IfOk result (λ range. Walks (link_walk link.now left) self.old self.new range) }
+    fn link(&mut self, link: &Link, left: Known, visits: &mut Visits) -> Result<Known, CheckFault>
+        ensures { Goes (link_walk link.now left) self.old visits.old result self.new visits.new }
     {
-        self.enter()?;
-        let right = self.expression(&link.operand)?;
+        self.enter(link.number, visits)?;
+        let right = self.expression(&link.operand, visits)?;
         self.combined(link.operation, left, right)
     }
 
     /// The use of a variable: it is defined afterwards.
-    fn variable(&mut self, access: Access, defined: u32) -> Result<Interval, CheckFault>
-        ensures { IfOk result (λ range. Walks (variable_walk access defined) self.old self.new range) }
+    fn variable(&mut self, access: Access, defined: u32, visits: &mut Visits) -> Result<Known, CheckFault>
+        ensures { Goes (variable_walk access defined) self.old visits.old result self.new visits.new }
     {
-        self.enter()?;
-        let closed = self.state.is_defined(access.root);
+        self.enter(access.number, visits)?;
+        let is_defined = self.state.is_defined(access.root);
         let range = self.state.range(access.root);
         self.state.define(access.root);
-        self.test(closed, defined, range)
+        Ok(Known::Ordinal(self.test(is_defined, defined, range)?))
     }
 
-    /// The range of what an operation gives for a number of a range.
-    fn operated(&mut self, operation: Monadic, range: Interval) -> Result<Interval, CheckFault>
-        ensures { IfOk result (λ given. Walks (operated operation range) self.old self.new given) }
+    /// Counts the entry into a statement or an expression.
+    fn enter(&mut self, number: u32, visits: &mut Visits) -> Result<(), CheckFault>
+        ensures { Goes (enter number) self.old visits.old result self.new visits.new }
     {
+        // A tree of so many entries fits no memory, so this never comes: it spares the callers a bound on the tree.
+        if !visits.has_room() {
+            return Err(CheckFault::Memory);
+        }
+        visits.tick(number);
+        Ok(())
+    }
+}
+
+// Operations and tests, which enter nothing.
+impl<'a> Walk<'a> {
+    /// What an operation gives for a value.
+    fn operated(&mut self, operation: Monadic, known: Known) -> Result<Known, CheckFault>
+        ensures { (visits : Visits) → Goes (operated operation known) self.old visits result self.new visits }
+    {
+        let Known::Ordinal(range) = known;
         match operation {
-            Monadic::Plus => Ok(range),
-            Monadic::Minus => Ok(range.negate()),
-            Monadic::Not => Ok(range.complement()),
-            Monadic::Abs => Ok(range.absolute()),
-            Monadic::Sqr { overflow } => self.within(range.square(), Interval::INTEGER, overflow),
-            Monadic::Odd => Ok(Interval::TRUTH_VALUES),
+            Monadic::Plus => Ok(Known::Ordinal(range)),
+            Monadic::Minus => Ok(Known::Ordinal(range.negate())),
+            Monadic::Not => Ok(Known::Ordinal(range.complement())),
+            Monadic::Abs => Ok(Known::Ordinal(range.absolute())),
+            Monadic::Sqr { overflow } => self.whole(overflow, range.square()),
+            Monadic::Odd => Ok(Known::Ordinal(Interval::TRUTH_VALUES)),
         }
     }
 
-    /// The range of what an operation gives for a number of each of two ranges.
-    fn combined(
-        &mut self,
-        operation: Dyadic,
-        left: Interval,
-        right: Interval,
-    ) -> Result<Interval, CheckFault>
-        ensures { IfOk result (λ given. Walks (combined operation left right) self.old self.new given) }
+    /// What an operation gives for two values.
+    fn combined(&mut self, operation: Dyadic, left: Known, right: Known) -> Result<Known, CheckFault>
+        ensures { (visits : Visits) → Goes (combined operation left right) self.old visits result self.new visits }
     {
+        let Known::Ordinal(left) = left;
+        let Known::Ordinal(right) = right;
         match operation {
-            Dyadic::Plus { overflow } => {
-                self.within(left.add(&right), Interval::INTEGER, overflow)
-            }
-            Dyadic::Minus { overflow } => {
-                self.within(left.subtract(&right), Interval::INTEGER, overflow)
-            }
-            Dyadic::Times { overflow } => {
-                self.within(left.multiply(&right), Interval::INTEGER, overflow)
-            }
+            Dyadic::Plus { overflow } => self.whole(overflow, left.add(&right)),
+            Dyadic::Minus { overflow } => self.whole(overflow, left.subtract(&right)),
+            Dyadic::Times { overflow } => self.whole(overflow, left.multiply(&right)),
             Dyadic::Div { by_zero } => {
-                let divisor = self.divisor(right, by_zero)?;
-                Ok(left.divide(&divisor))
+                let divisor = self.divisor(by_zero, right)?;
+                Ok(Known::Ordinal(left.divide(&divisor)))
             }
             Dyadic::Mod { by_zero_or_less } => {
-                let divisor = self.positive(right, by_zero_or_less)?;
-                Ok(left.remainder(&divisor))
+                let divisor = self.positive(by_zero_or_less, right)?;
+                Ok(Known::Ordinal(left.remainder(&divisor)))
             }
-            Dyadic::And => Ok(left.both(&right)),
-            Dyadic::Or => Ok(left.either(&right)),
-            Dyadic::Relation(_) => Ok(Interval::TRUTH_VALUES),
+            Dyadic::And => Ok(Known::Ordinal(left.both(&right))),
+            Dyadic::Or => Ok(Known::Ordinal(left.either(&right))),
+            Dyadic::Relation(_) => Ok(Known::Ordinal(Interval::TRUTH_VALUES)),
         }
+    }
+
+    /// A result that has to be an integer.
+    fn whole(&mut self, overflow: u32, range: Interval) -> Result<Known, CheckFault>
+        ensures { (visits : Visits) → Goes (whole overflow range) self.old visits result self.new visits }
+    {
+        Ok(Known::Ordinal(self.within(Interval::INTEGER, overflow, range)?))
+    }
+
+    /// A value that has to lie in the range of a type.
+    fn fitting(&mut self, fits: RangeTest, known: Known) -> Result<Known, CheckFault>
+        ensures { (visits : Visits) → Goes (fitting fits known) self.old visits result self.new visits }
+    {
+        let Known::Ordinal(range) = known;
+        Ok(Known::Ordinal(self.within(limits(fits.range), fits.site, range)?))
+    }
+
+    /// A width has to be at least 1.
+    fn width_test(&mut self, site: u32, known: Known) -> Result<(), CheckFault>
+        ensures { (visits : Visits) → Goes (width_test site known) self.old visits result self.new visits }
+    {
+        let Known::Ordinal(range) = known;
+        self.positive(site, range)?;
+        Ok(())
     }
 
     /// A value that has to lie in limits.
-    fn within(
-        &mut self,
-        range: Interval,
-        limits: Interval,
-        site: u32,
-    ) -> Result<Interval, CheckFault>
-        ensures { IfOk result (λ passed. Walks (within limits site range) self.old self.new passed) }
+    fn within(&mut self, limits: Interval, site: u32, range: Interval) -> Result<Interval, CheckFault>
+        ensures { (visits : Visits) → Goes (within limits site range) self.old visits result self.new visits }
     {
         self.test(range.leq(&limits), site, range.meet(&limits))
     }
 
     /// A number that has to be at least 1.
-    fn positive(&mut self, range: Interval, site: u32) -> Result<Interval, CheckFault>
-        ensures { IfOk result (λ passed. Walks (positive site range) self.old self.new passed) }
+    fn positive(&mut self, site: u32, range: Interval) -> Result<Interval, CheckFault>
+        ensures { (visits : Visits) → Goes (positive site range) self.old visits result self.new visits }
     {
         self.test(1 <= range.first(), site, range.at_least(1))
     }
 
     /// A divisor, which may not be 0.
-    fn divisor(&mut self, range: Interval, site: u32) -> Result<Interval, CheckFault>
-        ensures { IfOk result (λ passed. Walks (divisor site range) self.old self.new passed) }
+    fn divisor(&mut self, site: u32, range: Interval) -> Result<Interval, CheckFault>
+        ensures { (visits : Visits) → Goes (divisor site range) self.old visits result self.new visits }
     {
         self.test(!range.has(0), site, range.without_zero_end())
     }
 
     /// The test of a value at a site: what passes lies in a range, and it is closed where the value surely passes.
     fn test(&mut self, closed: bool, site: u32, passed: Interval) -> Result<Interval, CheckFault>
-        ensures { IfOk result (λ value. Walks (tested closed site passed) self.old self.new value) }
+        ensures { (visits : Visits) → Goes (tested closed site passed) self.old visits result self.new visits }
     {
         if !self.state.is_dead() && !closed {
             self.open_ids.push(site)?;
         }
-        self.state.made(passed);
+        self.state.unless_empty(passed);
         Ok(passed)
-    }
-
-    /// Counts the entry into a statement or an expression.
-    fn enter(&mut self) -> Result<(), CheckFault>
-        ensures { IfOk result (λ _. (number : ℕ) → Walks (enter number) self.old self.new tt) }
-    {
-        // A tree of so many entries fits no memory, so this never comes: it spares the callers a bound on the tree.
-        if !self.visits.has_room() {
-            return Err(CheckFault::Memory);
-        }
-        self.visits.tick();
-        Ok(())
     }
 }
 

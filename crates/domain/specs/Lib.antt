@@ -1,3 +1,4 @@
+pub mod Facts
 pub mod Interval
 pub mod Order
 pub mod Ranges

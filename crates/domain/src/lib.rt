@@ -1,12 +1,11 @@
-//! The domains of the checker's abstract values, and the facts of its states.
+//! The domains of the checker's abstract values, and (in `specs/Facts.antt`) the facts that it may know.
 //!
 //! `Domain` has the three operations that the checker's soundness stands on, with their laws; `Interval` is a
-//! domain, with the arithmetic of ranges. A `Fact` is what a state says of variables.
+//! domain, with the arithmetic of ranges.
 #![tactic(auto)]
 
 ghost use Rattle.std.specs.Prelude.{◌≡◌, Bool, true};
 
-pub mod fact;
 pub mod interval;
 
 /// A set of abstract values, each of which stands for the concrete values that are its members.

@@ -1,0 +1,91 @@
+-- Paths, bounds and facts: what may be said of the variables at a point of a program (ISO 7185:1990, 6.5.1: a variable
+-- is undefined or has a value), and the order in which facts are listed, each once. It does not say what a fact means
+-- of a run.
+use Rattle.std.specs.Prelude.{ℕ, ℤ, Bool, List, [], ◌∷◌}
+use Rattle.std.specs.List.{list_any}
+use Rattle.std.specs.Cmp.Lexicographic.{slice_cmp}
+use Rattle.std.specs.declared.cmp.Ordering.{Ordering}
+use Rattle.std.specs.declared.cmp.Ordering.TheVariants.{Less, Equal, Greater}
+use Rattle.std.specs.Ordering.{int_cmp, is_eq, nat_cmp, ordering_then}
+use Rattle.domain.specs.Interval.{Interval}
+
+-- a step of a path: to all elements of an array, or to the field of a name
+pub data Step : Type 0 where
+  Elements : Step
+  Field : (name : List ℕ) → Step
+
+-- a way to a part of a variable, by its root number, or to a part of each of its elements
+pub record Path : Type 0 where
+  pub root : ℕ
+  pub steps : List Step
+
+-- the path of an entire variable
+abbrev pub entire : ℕ → Path
+entire root = record { root = root; steps = [] }
+
+-- a number, or the value of a variable plus a number
+pub data Bound : Type 0 where
+  Number : ℤ → Bound
+  Plus : (root : ℕ) → ℤ → Bound
+
+-- what may be said of variables: each defined value at a path lies in a range; what lies at a path is defined; each
+-- element of an array from a first to a last index is; the value of a variable is at most that of another plus a number
+pub data Fact : Type 0 where
+  Range : Path → Interval → Fact
+  Defined : Path → Fact
+  Stretch : Path → (first last : Bound) → Fact
+  Order : (root other : ℕ) → ℤ → Fact
+
+-- ---- the order of facts
+
+-- elements before fields, and fields by their names
+abbrev pub step_order : Step → Step → Ordering
+step_order Elements Elements = Equal
+step_order Elements (Field name) = Less
+step_order (Field name) Elements = Greater
+step_order (Field a) (Field b) = slice_cmp nat_cmp a b
+
+-- by variables, and then step by step
+abbrev pub path_order : Path → Path → Ordering
+path_order p q = ordering_then (nat_cmp p.root q.root) (slice_cmp step_order p.steps q.steps)
+
+-- numbers before variables
+abbrev pub bound_order : Bound → Bound → Ordering
+bound_order (Number m) (Number n) = int_cmp m n
+bound_order (Number m) (Plus root n) = Less
+bound_order (Plus root m) (Number n) = Greater
+bound_order (Plus a m) (Plus b n) = ordering_then (nat_cmp a b) (int_cmp m n)
+
+-- the place of a fact's form among the forms
+abbrev pub rank : Fact → ℕ
+rank (Range path range) = 0
+rank (Defined path) = 1
+rank (Stretch path first last) = 2
+rank (Order root other number) = 3
+
+-- by forms, then by paths, then by bounds
+abbrev pub fact_order : Fact → Fact → Ordering
+fact_order (Range p a) (Range q b) =
+    ordering_then (path_order p q) (ordering_then (int_cmp a.first b.first) (int_cmp a.last b.last))
+fact_order (Defined p) (Defined q) = path_order p q
+fact_order (Stretch p a b) (Stretch q c d) =
+    ordering_then (path_order p q) (ordering_then (bound_order a c) (bound_order b d))
+fact_order (Order a b m) (Order c d n) = ordering_then (nat_cmp a c) (ordering_then (nat_cmp b d) (int_cmp m n))
+fact_order f g = nat_cmp (rank f) (rank g)
+
+-- ---- lists of facts
+
+-- a list has a fact
+abbrev pub has_fact : Fact → List Fact → Bool
+has_fact fact facts = list_any (λ other. is_eq (fact_order fact other)) facts
+
+-- a fact comes before, or is, or comes behind the first of a list
+abbrev pub put : Ordering → Fact → Fact → (rest longer : List Fact) → List Fact
+put Less fact first rest longer = fact ∷ first ∷ rest
+put Equal fact first rest longer = first ∷ rest
+put Greater fact first rest longer = first ∷ longer
+
+-- a list in order with a fact more, in its place, unless the list has it
+abbrev pub with_fact : Fact → List Fact → List Fact
+with_fact fact [] = fact ∷ []
+with_fact fact (first ∷ rest) = put (fact_order fact first) fact first rest (with_fact fact rest)
