@@ -1,11 +1,12 @@
 -- How a run begins.
-use Rattle.std.proofs.Common.{◌≡◌, ℕ, List, [], ◌∷◌, ◌++◌, Bool, true, false, Option, Some, None, Result, Ok, Err, IfOk, if◌then◌else◌, Bor, reverse, length, nat_lt, slice_get, unwrap_or, sym, ◌∙◌, ap, refl}
+use Rattle.std.proofs.Common.{◌≡◌, ℕ, List, [], ◌∷◌, ◌++◌, Bool, true, false, Option, Some, None, Result, Ok, Err, IfOk, if◌then◌else◌, Bor, reverse, nat_eq, slice_get, unwrap_or, sym, ◌∙◌, ap, refl}
 use Rattle.std.specs.BTreeMap.{is_at}
 use Rattle.std.specs.Map.{lookup}
 use Rattle.std.specs.declared.alloc.AllocError.{AllocError}
 use Rattle.std.specs.declared.cmp.Ordering.{Ordering}
 use Rattle.typed_tree.specs.declared.tree.Tree.{Tree}
 use Rattle.typed_tree.specs.declared.tree.Block.{Block}
+use Rattle.typed_tree.specs.declared.tree.Variable.{Variable}
 use Rattle.typed_tree.specs.declared.tree.Stmt.{Stmt}
 use Rattle.meaning.specs.declared.outcome.Ending.{Ending}
 use Rattle.meaning.specs.declared.store.Place.{Place as KeptPlace}
@@ -15,16 +16,21 @@ use Rattle.meaning.specs.declared.work.Work.{Work}
 use Rattle.meaning.specs.declared.work.Work.TheVariants as work
 use Rattle.meaning.specs.Store.{Environment, Place}
 use Rattle.meaning.specs.Effect.{State, Reply, Gives, Stops, and_then, give}
-use Rattle.meaning.specs.Meaning.{Meaning, ended, effect_of, run_of, meaning, program_environment, first_state}
+use Rattle.meaning.specs.Meaning.{Meaning, ended, effect_of, run_of, meaning, home_of, program_environment, first_state}
 use Rattle.meaning.specs.Pending.{Agrees, IsFlat, pending_of}
 
 either_way : (b : Bool) (p : Place) → unwrap_or (if b then Some p else None) p ≡ p
 either_way true p = refl
 either_way false p = refl
 
+-- a variable lies in the first activation
+home_is_flat : (root : ℕ) (o : Option Variable) → unwrap_or (home_of root o) (record { activation = 0; variable = root; steps = [] }) ≡ record { activation = 0; variable = root; steps = [] }
+home_is_flat root None = refl
+home_is_flat root (Some variable) = either_way (nat_eq variable.block 0) (record { activation = 0; variable = root; steps = [] })
+
 -- the variables of the program's block lie in the first activation
 flat_program : (tree : Tree) → IsFlat (program_environment tree)
-flat_program tree root = either_way (nat_lt root (length tree.variables.items)) (record { activation = 0; variable = root; steps = [] })
+flat_program tree root = home_is_flat root (slice_get tree.variables.items root)
 
 -- nothing follows
 and_then-nothing : (r : Reply (Unit {0})) → and_then r (λ _. give tt) ≡ r

@@ -2,9 +2,10 @@
 -- every value of an undefined variable an error, every result outside integer an error. A sign and a function come
 -- after their operand, an operator after its right one.
 -- It says nothing of code, of cells, or of what an implementation does where memory runs out.
-use Rattle.std.specs.Prelude.{ℕ, ℤ, pos, ◌+ℤ◌, ◌-ℤ◌, ◌*ℤ◌, neg_ℤ, int_div, int_le, int_lt, Bool, ◌&&◌, ◌||◌, not, List, [], ◌∷◌, Option, Some, None, if◌then◌else◌, length, map, nat_lt, nat_eq, slice_get}
+use Rattle.std.specs.Prelude.{ℕ, ℤ, pos, ◌+ℤ◌, ◌-ℤ◌, ◌*ℤ◌, neg_ℤ, int_div, int_le, int_lt, Bool, ◌&&◌, ◌||◌, not, List, [], ◌∷◌, Option, Some, None, if◌then◌else◌, map, nat_eq, slice_get}
 use Rattle.typed_tree.specs.declared.tree.Tree.{Tree}
 use Rattle.typed_tree.specs.declared.tree.Block.{Block}
+use Rattle.typed_tree.specs.declared.tree.Variable.{Variable as DeclaredVariable}
 use Rattle.std.specs.Int.{int_rem_euclid}
 use Rattle.std.specs.Ordering.{int_eq}
 use Rattle.typed_tree.specs.declared.tree.Monadic.{Monadic}
@@ -31,7 +32,7 @@ use Rattle.meaning.specs.declared.outcome.Ending.TheVariants as ending
 use Rattle.meaning.specs.declared.store.Value.{Value}
 use Rattle.meaning.specs.declared.store.Value.TheVariants.{Number}
 use Rattle.meaning.specs.Integers.{is_integer_number, truth, is_true, is_odd, magnitude}
-use Rattle.meaning.specs.Store.{Environment}
+use Rattle.meaning.specs.Store.{Environment, Place}
 use Rattle.meaning.specs.Effect.{State, Reply, Gives, Stops, Action, ◌>>=◌, give, require, enter, place_of, fetch, store, write, is_in, is_positive, text_of}
 
 -- what an expression does in an environment: it gives its value
@@ -188,11 +189,15 @@ abbrev pub first_state : List ℕ → ℕ → State
 first_state input turns =
     record { store = []; input = completed input; output = []; turns = turns; activations = 1; visited = [] }
 
+-- where a variable lies, if the program's block declares it
+abbrev pub home_of : ℕ → Option DeclaredVariable → Option Place
+home_of root None = None
+home_of root (Some variable) =
+    if nat_eq variable.block 0 then Some (record { activation = 0; variable = root; steps = [] }) else None
+
 -- the variables of the program's block lie in its activation
 abbrev pub program_environment : Tree → Environment
-program_environment tree root =
-    if nat_lt root (length tree.variables.items) then Some (record { activation = 0; variable = root; steps = [] })
-    else None
+program_environment tree root = home_of root (slice_get tree.variables.items root)
 
 -- what a program writes, and how it ends
 pub record Meaning : Type 0 where
