@@ -1,6 +1,6 @@
 -- Programs: their typing goes on from that of their declarations and of their statements; and what the typed tree of one
 -- has by the laws of typing.
-use Rattle.std.proofs.Common.{◌≡◌, ◌<◌, ◌≤◌, [], ◌∷◌, ◌++◌, length, map, Ok, inl, inr, sym, ap, subst, ◌∙◌, append-nil, arith}
+use Rattle.std.proofs.Common.{◌≡◌, ◌<◌, ◌≤◌, [], ◌∷◌, ◌++◌, length, map, nat_eq, Ok, inl, inr, sym, ap, subst, ◌∙◌, append-nil, arith}
 use Rattle.std.specs.List.{list_all, range_with_len, flat_map}
 use Rattle.std.proofs.lemmas.List.{length-map}
 use Rattle.place.specs.Place.{ArePlacesInOrder}
@@ -111,6 +111,7 @@ module _ (program : Program) (tree : Tree) (resolved : IsResolved program tree) 
   pub is_well_formed : IsWellFormed tree
   is_well_formed = record {
     few_variables = subst (λ n. n ≤ 65536) (sym (ap length is_left.variables)) lawful.few_variables;
+    declared = ap (list_all (λ variable. nat_eq variable.block 0)) is_left.variables ∙ lawful.declared;
     a_block = subst (λ n. 0 < n) (sym has_one_block) (omega arith);
     blocks =
         sym (formed_are (length tree.variables.items) (length tree.sites.items) tree)

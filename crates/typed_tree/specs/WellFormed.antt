@@ -1,7 +1,8 @@
 -- Well formed trees: each constant and each range of a test lies in that of integer (ISO 7185:1990, 6.4.2.2), each
--- variable is one of the program's (6.2.2), each test names a site of the table, there is a block, and the program has
--- no more variables than a block has cells. It does not say that a tree is that of a program.
-use Rattle.std.specs.Prelude.{◌≡◌, ℕ, ℤ, ◌<◌, ◌≤◌, pos, neg_ℤ, ◌&&◌, Bool, true, List, Option, Some, None, int_le, nat_lt, length, map}
+-- variable is one of the program's (6.2.2), which its block declares, each test names a site of the table, there is a
+-- block, and the program has no more variables than a block has cells. It does not say that a tree is that of a
+-- program.
+use Rattle.std.specs.Prelude.{◌≡◌, ℕ, ℤ, ◌<◌, ◌≤◌, pos, neg_ℤ, ◌&&◌, Bool, true, List, Option, Some, None, int_le, nat_lt, nat_eq, length, map}
 use Rattle.std.specs.List.{list_all}
 use Rattle.typed_tree.specs.declared.tree.Tree.{Tree}
 use Rattle.typed_tree.specs.declared.tree.Block.{Block}
@@ -95,6 +96,8 @@ module _ (variables sites : ℕ) where
 pub record IsWellFormed (tree : Tree) : Type 0 where
   -- each variable takes a cell, of which a block has that many
   pub few_variables : length tree.variables.items ≤ 65536
+  -- until routines declare others, each is one that the program's block declares
+  pub declared : list_all (λ variable. nat_eq variable.block 0) tree.variables.items ≡ true
   -- the program's block is there
   pub a_block : 0 < length tree.blocks.items
   pub blocks :

@@ -2,6 +2,8 @@
 use Rattle.std.proofs.Common.{◌≡◌, ℕ, ◌+◌, ◌≤◌, Bool, true, false, nat_eq, nat_lt, if◌then◌else◌, List, [], ◌∷◌, ◌++◌, length, Option, Some, None, Result, Ok}
 use Rattle.std.proofs.Common.{Err, codes, length-append, refl, sym, ap, subst, ◌∙◌, arith}
 use Rattle.std.proofs.lemmas.Bool.Decides.{nat_tests}
+use Rattle.std.proofs.lemmas.List.Folds.{list_all-append}
+use Rattle.std.specs.List.{list_all}
 use Rattle.std.specs.Cmp.Lexicographic.{pointwise}
 use Rattle.place.specs.declared.Place.{Place}
 use Rattle.syntax_tree.specs.declared.Program.{Program}
@@ -23,6 +25,7 @@ use Rattle.typing.specs.Names.{folded, all_folded, defined_names, required_regio
 use Rattle.typing.specs.Passing.{Passed, Checked, After, Passing, after, behind_marks, pure, fail, each, ◌>>=◌, ◌>>◌}
 use Rattle.typing.specs.Steps.{most_cells, told, open_required, open_block, declare, give_output, next_root, reserve}
 use Rattle.typing.specs.Typing.{parameter_of_program, named_type, denoted_type, variable, group, declarations}
+use Rattle.typing_laws.proofs.Grown.{both_true}
 use Rattle.typing_laws.proofs.Sound.{IsSound, AreSound, opened_sound, required_sound, define_sound, regions_more}
 use Rattle.typing_laws.proofs.Steps.{split, split_behind, split_unless}
 
@@ -32,6 +35,7 @@ pub record Ready (bound : ℕ) (s : Passed) : Type 0 where
   pub types : s.types ≡ required_forms
   pub sites : s.sites ≡ []
   pub entries : s.entries ≡ 0
+  pub by_program : list_all (λ variable. nat_eq variable.block 0) s.variables ≡ true
   pub declared : length s.variables ≤ s.cells
   pub room : s.cells ≤ most_cells
 
@@ -51,6 +55,7 @@ ready_as sound r types sites entries variables cells = record {
   types = types ∙ r.types;
   sites = sites ∙ r.sites;
   entries = entries ∙ r.entries;
+  by_program = ap (list_all (λ variable. nat_eq variable.block 0)) variables ∙ r.by_program;
   declared = omega (arith, ap length variables, cells, r.declared);
   room = omega (arith, cells, r.room);
 }
@@ -162,6 +167,7 @@ reserve_keeps place type_id = record {
         types = r.types;
         sites = r.sites;
         entries = r.entries;
+        by_program = list_all-append (λ (v : Variable). nat_eq v.block 0) s.variables (one ∷ []) ∙ both_true _ _ r.by_program refl;
         declared = omega (arith, counted, cell, r.declared);
         room = at_most most_cells taken x.0;
       } in

@@ -1,5 +1,5 @@
 -- The law of typing: what each typed program has.
-use Rattle.std.proofs.Common.{◌≡◌, ℕ, List, [], ◌∷◌, ◌++◌, length, map, Ok, refl, sym, ap, subst, ◌∙◌, arith}
+use Rattle.std.proofs.Common.{◌≡◌, ℕ, List, [], ◌∷◌, ◌++◌, length, map, nat_eq, Ok, refl, sym, ap, subst, ◌∙◌, arith}
 use Rattle.std.specs.List.{range_with_len, list_all, flat_map}
 use Rattle.syntax_tree.specs.declared.Program.{Program}
 use Rattle.syntax_tree.specs.declared.Block.{Block}
@@ -48,6 +48,7 @@ grown_lawful program s a r g = record {
   few_entries = omega (arith, g.entered, g.few_entries);
   formed = ap (λ n. list_all (is_formed_mark n (length a.passed.sites)) a.look) kept ∙ g.formed (length a.passed.sites) (omega arith);
   few_variables = omega (arith, kept, r.declared, r.room);
+  declared = ap (list_all (λ variable. nat_eq variable.block 0)) g.variables_kept ∙ r.by_program;
   few_sites = g.few_sites;
   types = g.types ∙ r.types;
   by_place = λ order.
@@ -65,7 +66,7 @@ typing_is_lawful program a is =
     let start = begins program.name.place in
     let x = split (declarations program start) (λ b. behind_marks b.look (statement_part program.block b.passed)) a is in
     let y = split_behind x.0.look (statement_part program.block x.0.passed) a x.2 in
-    let ready : IsReady start = record { sound = tt; types = refl; sites = refl; entries = refl; declared = omega arith; room = omega arith } in
+    let ready : IsReady start = record { sound = tt; types = refl; sites = refl; entries = refl; by_program = refl; declared = omega arith; room = omega arith } in
     let declared = (declarations_keep program).keeps start x.0 x.1 ready in
     let grown = (statement_part_does (length x.0.passed.variables) program.block).does x.0.passed y.0 y.1 (fine_ready x.0.passed declared.1) (omega arith) in
     let same : after y.0.answer y.0.look y.0.passed ≡ a = ap (λ l. after y.0.answer (l ++ y.0.look) y.0.passed) (sym declared.0) ∙ y.2 in

@@ -1,6 +1,6 @@
 -- What a typed program has: by how its typed tree looks, and by what is known behind it. It says nothing of what the
 -- program does.
-use Rattle.std.specs.Prelude.{◌≡◌, ◌≤◌, true, length, Ok}
+use Rattle.std.specs.Prelude.{◌≡◌, ◌≤◌, true, nat_eq, length, Ok}
 use Rattle.std.specs.List.{range_with_len, list_all}
 use Rattle.place.specs.Place.{ArePlacesInOrder}
 use Rattle.syntax_tree.specs.declared.Program.{Program}
@@ -20,6 +20,8 @@ pub record Lawful (program : Program) (a : After (Unit {0})) : Type 0 where
   -- each form is well formed, with the program's variables and sites
   pub formed : list_all (is_formed_mark (length a.passed.variables) (length a.passed.sites)) a.look ≡ true
   pub few_variables : length a.passed.variables ≤ most_cells
+  -- until routines declare others, the program's block declares each variable
+  pub declared : list_all (λ variable. nat_eq variable.block 0) a.passed.variables ≡ true
   pub few_sites : length a.passed.sites ≤ most_sites
   -- the program declares no types of its own
   pub types : a.passed.types ≡ required_forms
