@@ -1,5 +1,5 @@
 -- The code of a well formed tree follows its program.
-use Rattle.std.proofs.Common.{◌≡◌, ℕ, ◌+◌, ◌<◌, ◌≤◌, ◌⊎◌, List, [], ◌∷◌, ◌++◌, length, Option, Some, None, refl, sym, ap, ◌∙◌, subst, inl, inr, ⊎_elim, arith, length-append, Bool, true}
+use Rattle.std.proofs.Common.{◌≡◌, ℕ, zero, suc, nat_eq, ◌+◌, ◌<◌, ◌≤◌, ◌⊎◌, List, [], ◌∷◌, ◌++◌, length, Option, Some, None, refl, sym, ap, ◌∙◌, subst, inl, inr, ⊎_elim, arith, length-append, Bool, true}
 use Rattle.std.specs.Prelude.{slice_get, if◌then◌else◌}
 use Rattle.std.specs.List.{list_all}
 use Rattle.std.proofs.lemmas.Bool.{and_parts, cases_lt, lt-ltb, le-ltb, le-leb, lt-leb}
@@ -9,12 +9,13 @@ use Rattle.pcode_assembler.specs.declared.instr.Instr.{Instr}
 use Rattle.pcode_assembler.specs.declared.instr.Instr.TheVariants as instr
 use Rattle.typed_tree.specs.declared.tree.Tree.{Tree}
 use Rattle.typed_tree.specs.declared.tree.Block.{Block}
+use Rattle.typed_tree.specs.declared.tree.Variable.{Variable}
 use Rattle.meaning.specs.declared.outcome.Ending.{Ending}
 use Rattle.meaning.specs.declared.outcome.Ending.TheVariants as ending
 use Rattle.meaning.specs.Effect as effect
 use Rattle.meaning.specs.Effect.{Reply, Gives, place_of}
 use Rattle.meaning.specs.Meaning as meant
-use Rattle.meaning.specs.Meaning.{Meaning, meaning, ended, program_environment}
+use Rattle.meaning.specs.Meaning.{Meaning, meaning, ended, home_of, program_environment}
 use Rattle.stack_machine.specs.declared.stop.Stop.{Stop}
 use Rattle.stack_machine.specs.declared.stop.Stop.TheVariants as stop
 use Rattle.stack_machine.specs.Frames.{first_frames}
@@ -64,10 +65,22 @@ first_is_well_formed variables sites [] good = refl
 first_is_well_formed variables sites (block ∷ blocks) good =
     (and_parts (is_well_formed_block variables sites block) (list_all (is_well_formed_block variables sites) blocks) good).0
 
+-- a variable that the program's block declares has its place
+home_there : (root : ℕ) (variables : List Variable) (at : ℕ) → at < length variables
+    → list_all (λ variable. nat_eq variable.block 0) variables ≡ true
+    → home_of root (slice_get variables at) ≡ Some (record { activation = 0; variable = root; steps = [] })
+home_there root [] at h declared = absurd (omega arith)
+home_there root (variable ∷ variables) zero h declared =
+    ap (λ b. if b then Some (record { activation = 0; variable = root; steps = [] }) else None)
+    (and_parts (nat_eq variable.block 0) (list_all (λ (v : Variable). nat_eq v.block 0) variables) declared).0
+home_there root (variable ∷ variables) (suc at) h declared =
+    home_there root variables at (omega arith)
+    (and_parts (nat_eq variable.block 0) (list_all (λ (v : Variable). nat_eq v.block 0) variables) declared).1
+
 -- the environment of the program's block has its variables
-shown_in : (tree : Tree) → ShowsProgram (length tree.variables.items) (program_environment tree)
-shown_in tree =
-    shows_program (length tree.variables.items) (program_environment tree) (λ root h. ap (λ b. if b then Some (record { activation = 0; variable = root; steps = [] }) else None) (lt-ltb root (length tree.variables.items) h))
+shown_in : (tree : Tree) → IsWellFormed tree → ShowsProgram (length tree.variables.items) (program_environment tree)
+shown_in tree well =
+    shows_program (length tree.variables.items) (program_environment tree) λ root h. home_there root tree.variables.items root h well.declared
 
 -- a stop that is an end of the program
 abbrev IsEnd : Stop → Type 0
@@ -204,7 +217,7 @@ module _ (tree : Tree) (well : IsWellFormed tree) (short : length (program_code 
 
     -- the state behind the entry
     abbrev inside : State
-    inside = stmts.on tree whole count (4 + count + depth) cells input (program_environment tree) few (shown_in tree) (entered_cells count) 1 []
+    inside = stmts.on tree whole count (4 + count + depth) cells input (program_environment tree) few (shown_in tree well) (entered_cells count) 1 []
 
     enters : 4 + count + depth ≤ cells → Comes sites whole start inside
     enters h =
@@ -214,18 +227,18 @@ module _ (tree : Tree) (well : IsWellFormed tree) (short : length (program_code 
     refuses h =
         ap (λ b. runs.outcome_of (machines.with_frame (record start { place = 1 }) (if b then Some (record (first_frames cells) { cells = entered_cells count; limit = 4 + count + depth }) else None)) [] (steps sites whole 0)) (lt-leb (4 + count + depth) cells h)
 
-    body_runs : (o : Option Block) (place : ℕ) (s : effect.State) → HasAt whole place (body_instructions o) → is_well_formed_body count (length tree.sites.items) o ≡ true → Alike (program_world count) s.store (entered_cells count) → 4 + count + body_depth o ≤ 4 + count + depth → stmts.Executes tree whole count (4 + count + depth) cells input (program_environment tree) few (shown_in tree) (stmts.on tree whole count (4 + count + depth) cells input (program_environment tree) few (shown_in tree) (entered_cells count) place s.output) (place + length (body_instructions o)) (meant.run_of o (program_environment tree) s)
+    body_runs : (o : Option Block) (place : ℕ) (s : effect.State) → HasAt whole place (body_instructions o) → is_well_formed_body count (length tree.sites.items) o ≡ true → Alike (program_world count) s.store (entered_cells count) → 4 + count + body_depth o ≤ 4 + count + depth → stmts.Executes tree whole count (4 + count + depth) cells input (program_environment tree) few (shown_in tree well) (stmts.on tree whole count (4 + count + depth) cells input (program_environment tree) few (shown_in tree well) (entered_cells count) place s.output) (place + length (body_instructions o)) (meant.run_of o (program_environment tree) s)
     body_runs None place s has good alike deep =
         let e : place ≡ place + 0 = omega arith in
-        (entered_cells count, length_entered count, alike, subst (λ p. Comes sites whole (stmts.on tree whole count (4 + count + depth) cells input (program_environment tree) few (shown_in tree) (entered_cells count) place s.output) (stmts.on tree whole count (4 + count + depth) cells input (program_environment tree) few (shown_in tree) (entered_cells count) p s.output)) e (comes_nowhere sites whole _))
+        (entered_cells count, length_entered count, alike, subst (λ p. Comes sites whole (stmts.on tree whole count (4 + count + depth) cells input (program_environment tree) few (shown_in tree well) (entered_cells count) place s.output) (stmts.on tree whole count (4 + count + depth) cells input (program_environment tree) few (shown_in tree well) (entered_cells count) p s.output)) e (comes_nowhere sites whole _))
     body_runs (Some block) place s has good alike deep =
         let full = length_entered count in
-        stmt_runs tree whole count (4 + count + depth) cells input (program_environment tree) few (shown_in tree) block.body place (entered_cells count) s has good alike full (omega arith)
+        stmt_runs tree whole count (4 + count + depth) cells input (program_environment tree) few (shown_in tree well) block.body place (entered_cells count) s has good alike full (omega arith)
 
     -- the end of the body is the end of the run
-    finishes : (m : State) (place : ℕ) (r : Reply (Unit {0})) → slice_get whole place ≡ Some instr.Stop → Comes sites whole start m → stmts.Executes tree whole count (4 + count + depth) cells input (program_environment tree) few (shown_in tree) m place r → (j : ℕ) × DoesAll tree (ended r) (steps sites whole j start)
+    finishes : (m : State) (place : ℕ) (r : Reply (Unit {0})) → slice_get whole place ≡ Some instr.Stop → Comes sites whole start m → stmts.Executes tree whole count (4 + count + depth) cells input (program_environment tree) few (shown_in tree well) m place r → (j : ℕ) × DoesAll tree (ended r) (steps sites whole j start)
     finishes m place (Gives done s) has l e =
-        let t = stops_by sites whole instr.Stop (stmts.on tree whole count (4 + count + depth) cells input (program_environment tree) few (shown_in tree) e.0 place s.output) stop.Finished has refl in
+        let t = stops_by sites whole instr.Stop (stmts.on tree whole count (4 + count + depth) cells input (program_environment tree) few (shown_in tree well) e.0 place s.output) stop.Finished has refl in
         let u = stops_on sites whole start m _ l (stops_on sites whole m _ _ e.3 t) in
         (u.budget, (ap (λ o. o.output) u.so, ap (λ o. o.stop) u.so))
     finishes m place (effect.Stops end s) has l e =

@@ -24,7 +24,8 @@ either_way true p = refl
 either_way false p = refl
 
 -- a variable lies in the first activation
-home_is_flat : (root : ℕ) (o : Option Variable) → unwrap_or (home_of root o) (record { activation = 0; variable = root; steps = [] }) ≡ record { activation = 0; variable = root; steps = [] }
+home_is_flat : (root : ℕ) (o : Option Variable)
+    → unwrap_or (home_of root o) (record { activation = 0; variable = root; steps = [] }) ≡ record { activation = 0; variable = root; steps = [] }
 home_is_flat root None = refl
 home_is_flat root (Some variable) = either_way (nat_eq variable.block 0) (record { activation = 0; variable = root; steps = [] })
 

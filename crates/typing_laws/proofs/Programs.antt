@@ -66,7 +66,15 @@ typing_is_lawful program a is =
     let start = begins program.name.place in
     let x = split (declarations program start) (λ b. behind_marks b.look (statement_part program.block b.passed)) a is in
     let y = split_behind x.0.look (statement_part program.block x.0.passed) a x.2 in
-    let ready : IsReady start = record { sound = tt; types = refl; sites = refl; entries = refl; by_program = refl; declared = omega arith; room = omega arith } in
+    let ready : IsReady start = record {
+      sound = tt;
+      types = refl;
+      sites = refl;
+      entries = refl;
+      by_program = refl;
+      declared = omega arith;
+      room = omega arith;
+    } in
     let declared = (declarations_keep program).keeps start x.0 x.1 ready in
     let grown = (statement_part_does (length x.0.passed.variables) program.block).does x.0.passed y.0 y.1 (fine_ready x.0.passed declared.1) (omega arith) in
     let same : after y.0.answer y.0.look y.0.passed ≡ a = ap (λ l. after y.0.answer (l ++ y.0.look) y.0.passed) (sym declared.0) ∙ y.2 in
