@@ -57,7 +57,7 @@ impl<'t> Run<'t> {
     // Does the statement of the program's block.
     fn execute(&mut self, tree: &'t Tree) -> Result<Ending, AllocError>
         requires { self.old.pending.items ≡ [] }
-        ensures { Finishes ⟦<Place as Ord>⟧.cmp (run_of (slice_get tree.now.blocks.items 0)) self.old result self.new }
+        ensures { Finishes (run_of (slice_get tree.now.blocks.items 0)) self.old result self.new }
     {
         match tree.blocks.first() {
             Some(block) => {
@@ -70,7 +70,7 @@ impl<'t> Run<'t> {
 
     // Does the work that is left.
     fn finish(&mut self) -> Result<Ending, AllocError>
-        ensures { Finishes ⟦<Place as Ord>⟧.cmp (λ env. rest_of env self.old) self.old result self.new }
+        ensures { Finishes (λ env. rest_of env self.old) self.old result self.new }
     {
         while let Some(work) = self.pending.pop() {
             if let Some(ending) = self.step(work)? {
@@ -83,7 +83,7 @@ impl<'t> Run<'t> {
     fn step(&mut self, work: Work<'t>) -> Result<Option<Ending>, AllocError>
         ensures fewer { OnOk result (
             sum_by weight_of self.new.pending.items < sum_by weight_of self.old.pending.items + weight_of work.entry) }
-        ensures does { Does ⟦<Place as Ord>⟧.cmp (λ env. resumed env work.entry) self.old result self.new }
+        ensures does { Does (λ env. resumed env work.entry) self.old result self.new }
     {
         match work {
             Work::Statements(statements) => self.statements(statements),
@@ -108,7 +108,7 @@ impl<'t> Run<'t> {
     fn plan(&mut self, next: Work<'t>, later: Work<'t>) -> Result<Option<Ending>, AllocError>
         ensures weight { OnOk result (sum_by weight_of self.new.pending.items
             ≡ sum_by weight_of self.old.pending.items + weight_of later.entry + weight_of next.entry) }
-        ensures does { Does ⟦<Place as Ord>⟧.cmp (λ env rest. resumed env next.entry (resumed env later.entry rest))
+        ensures does { Does (λ env rest. resumed env next.entry (resumed env later.entry rest))
             self.old result self.new }
     {
         put(&mut self.pending, later)?;
@@ -123,7 +123,7 @@ impl<'t> Run<'t> {
         ensures fewer { OnOk result (
             sum_by weight_of self.new.pending.items
             < sum_by weight_of self.old.pending.items + weight_of (Work.Statements statements.entry)) }
-        ensures does { Does ⟦<Place as Ord>⟧.cmp (λ env. resumed env (Work.Statements statements.entry))
+        ensures does { Does (λ env. resumed env (Work.Statements statements.entry))
             self.old result self.new }
     {
         match statements.split_first() {
@@ -136,7 +136,7 @@ impl<'t> Run<'t> {
         ensures fewer { OnOk result (
             sum_by weight_of self.new.pending.items
             < sum_by weight_of self.old.pending.items + weight_of (Work.Statement statement.entry)) }
-        ensures does { Does ⟦<Place as Ord>⟧.cmp (λ env. resumed env (Work.Statement statement.entry))
+        ensures does { Does (λ env. resumed env (Work.Statement statement.entry))
             self.old result self.new }
     {
         match statement {
@@ -170,7 +170,7 @@ impl<'t> Run<'t> {
         ensures fewer { OnOk result (
             sum_by weight_of self.new.pending.items
             < sum_by weight_of self.old.pending.items + weight_of (Work.Parameters parameters.entry ends_line)) }
-        ensures does { Does ⟦<Place as Ord>⟧.cmp (λ env. resumed env (Work.Parameters parameters.entry ends_line))
+        ensures does { Does (λ env. resumed env (Work.Parameters parameters.entry ends_line))
             self.old result self.new }
     {
         match parameters.split_first() {
@@ -189,7 +189,7 @@ impl<'t> Run<'t> {
         ensures fewer { OnOk result (
             sum_by weight_of self.new.pending.items
             < sum_by weight_of self.old.pending.items + weight_of (Work.Parameter parameter.entry)) }
-        ensures does { Does ⟦<Place as Ord>⟧.cmp (λ env. resumed env (Work.Parameter parameter.entry))
+        ensures does { Does (λ env. resumed env (Work.Parameter parameter.entry))
             self.old result self.new }
     {
         put(&mut self.pending, Work::Write(parameter.representation))?;
@@ -200,7 +200,7 @@ impl<'t> Run<'t> {
         ensures fewer { OnOk result (
             sum_by weight_of self.new.pending.items
             < sum_by weight_of self.old.pending.items + weight_of (Work.Width parameter.entry)) }
-        ensures does { Does ⟦<Place as Ord>⟧.cmp (λ env. resumed env (Work.Width parameter.entry))
+        ensures does { Does (λ env. resumed env (Work.Width parameter.entry))
             self.old result self.new }
     {
         match &parameter.width {
@@ -214,7 +214,7 @@ impl<'t> Run<'t> {
 
     fn width_test(&mut self, site: u32) -> Result<Option<Ending>, AllocError>
         ensures same { self.new.pending.items ≡ self.old.pending.items }
-        ensures does { Does ⟦<Place as Ord>⟧.cmp (λ env. resumed env (Work.WidthTest site)) self.old result self.new }
+        ensures does { Does (λ env. resumed env (Work.WidthTest site)) self.old result self.new }
     {
         let width = self.popped();
         self.go_on(positive_width(width, site))
@@ -222,7 +222,7 @@ impl<'t> Run<'t> {
 
     fn write(&mut self, representation: Representation) -> Result<Option<Ending>, AllocError>
         ensures same { self.new.pending.items ≡ self.old.pending.items }
-        ensures does { Does ⟦<Place as Ord>⟧.cmp (λ env. resumed env (Work.Write representation))
+        ensures does { Does (λ env. resumed env (Work.Write representation))
             self.old result self.new }
     {
         let width = self.popped();
@@ -233,7 +233,7 @@ impl<'t> Run<'t> {
 
     fn line_end(&mut self, ends_line: bool) -> Result<Option<Ending>, AllocError>
         ensures same { self.new.pending.items ≡ self.old.pending.items }
-        ensures does { Does ⟦<Place as Ord>⟧.cmp (λ env. line_ending ends_line) self.old result self.new }
+        ensures does { Does (λ env. line_ending ends_line) self.old result self.new }
     {
         if ends_line {
             self.output.push(b'\n')?;
@@ -243,7 +243,7 @@ impl<'t> Run<'t> {
 
     fn store(&mut self, root: u32, fits: RangeTest) -> Result<Option<Ending>, AllocError>
         ensures same { self.new.pending.items ≡ self.old.pending.items }
-        ensures does { Does ⟦<Place as Ord>⟧.cmp (λ env. resumed env (Work.Store root fits)) self.old result self.new }
+        ensures does { Does (λ env. resumed env (Work.Store root fits)) self.old result self.new }
     {
         match value_in(fits.range, self.popped()) {
             Some(value) => {
@@ -262,7 +262,7 @@ impl<'t> Run<'t> {
         ensures fewer { OnOk result (
             sum_by weight_of self.new.pending.items
             < sum_by weight_of self.old.pending.items + weight_of (Work.Value expression.entry)) }
-        ensures does { Does ⟦<Place as Ord>⟧.cmp (λ env. resumed env (Work.Value expression.entry))
+        ensures does { Does (λ env. resumed env (Work.Value expression.entry))
             self.old result self.new }
     {
         match expression {
@@ -279,7 +279,7 @@ impl<'t> Run<'t> {
 
     fn variable(&mut self, root: u32, defined: u32) -> Result<Option<Ending>, AllocError>
         ensures same { self.new.pending.items ≡ self.old.pending.items }
-        ensures does { Does ⟦<Place as Ord>⟧.cmp (λ env. giving (fetch (place_of env root) defined))
+        ensures does { Does (λ env. giving (fetch (place_of env root) defined))
             self.old result self.new }
     {
         let value = self.store.get(&self.place(root)).copied();
@@ -288,7 +288,7 @@ impl<'t> Run<'t> {
 
     fn monadic(&mut self, operation: Monadic) -> Result<Option<Ending>, AllocError>
         ensures same { self.new.pending.items ≡ self.old.pending.items }
-        ensures does { Does ⟦<Place as Ord>⟧.cmp (λ env. resumed env (Work.Monadic operation))
+        ensures does { Does (λ env. resumed env (Work.Monadic operation))
             self.old result self.new }
     {
         let operand = self.popped();
@@ -299,7 +299,7 @@ impl<'t> Run<'t> {
         ensures fewer { OnOk result (
             sum_by weight_of self.new.pending.items
             < sum_by weight_of self.old.pending.items + weight_of (Work.Links links.entry)) }
-        ensures does { Does ⟦<Place as Ord>⟧.cmp (λ env. resumed env (Work.Links links.entry))
+        ensures does { Does (λ env. resumed env (Work.Links links.entry))
             self.old result self.new }
     {
         match links.split_first() {
@@ -313,7 +313,7 @@ impl<'t> Run<'t> {
 
     fn combine(&mut self, operation: Dyadic) -> Result<Option<Ending>, AllocError>
         ensures same { self.new.pending.items ≡ self.old.pending.items }
-        ensures does { Does ⟦<Place as Ord>⟧.cmp (λ env. resumed env (Work.Combine operation))
+        ensures does { Does (λ env. resumed env (Work.Combine operation))
             self.old result self.new }
     {
         let right = self.popped();
@@ -324,7 +324,7 @@ impl<'t> Run<'t> {
     // Goes on with a value, or stops at the site of its error.
     fn go_on(&mut self, value: Result<Value, u32>) -> Result<Option<Ending>, AllocError>
         ensures same { self.new.pending.items ≡ self.old.pending.items }
-        ensures does { Does ⟦<Place as Ord>⟧.cmp (λ env. giving (answered value)) self.old result self.new }
+        ensures does { Does (λ env. giving (answered value)) self.old result self.new }
     {
         match value {
             Ok(value) => {

@@ -3,7 +3,6 @@ use Rattle.meaning.specs.declared.interpreter.Run.{Run}
 use Rattle.meaning.specs.Store.{written}
 use Rattle.meaning.specs.Effect.{State, is_in, place_of}
 use Rattle.meaning.specs.Pending.{StoreAgrees, pending_of}
-use Rattle.meaning.specs.contracts.store.PlaceOrd.TheImpl.{ghosts}
 use Rattle.meaning.proofs.Places.{keeps_agreeing}
 use Rattle.meaning.proofs.Resuming.{stores, checked_some}
 use Rattle.meaning.proofs.interpreter.Run.store.Goals as goal
@@ -17,7 +16,7 @@ returns-in_ok-insert-in-Some-clause-does c = λ env flat s agrees.
     let there = place_of env c.args.root in
     let after : State = record s { store = written s.store there value } in
     let fine = checked_some c.args.fits.range c.popped.result value c.value_in.result c.value_in.ensures c.in-Some.is in
-    let kept : StoreAgrees ghosts.cmp popped.store s.store = subst (λ (r : Run). StoreAgrees ghosts.cmp r.store s.store) (sym same) agrees.store in (
+    let kept : StoreAgrees popped.store s.store = subst (λ (r : Run). StoreAgrees r.store s.store) (sym same) agrees.store in (
       after,
       record {
         store = λ p whole. keeps_agreeing c.place-place.result p there value popped.store c.insert.new.self s.store
