@@ -14,7 +14,7 @@ use Rattle.meaning.specs.declared.work.Work.TheVariants as work
 use Rattle.meaning.specs.Store.{Environment, Place, stored, written}
 use Rattle.meaning.specs.Effect.{State, Reply, Gives, Stops, Action, ◌>>=◌, and_then, fetched, fetch, place_of, is_in, require, store}
 use Rattle.meaning.specs.Meaning.{Meaning, ended}
-use Rattle.meaning.specs.Pending.{Resumption, Agrees, IsFlat, StoreAgrees, Continues, Does, pending_of, resumed, rest_of, answered, giving, top_of, below_top, checked}
+use Rattle.meaning.specs.Pending.{Resumption, Agrees, IsFlat, Continues, Does, pending_of, resumed, rest_of, answered, giving, top_of, below_top, checked}
 
 -- one more at the end of a stack is one more at its top
 pub reverse_push : {A : Type 0} (xs : List A) (x : A) → reverse (xs ++ x ∷ []) ≡ x ∷ reverse xs
@@ -86,12 +86,12 @@ module _ (old new : Run) where
 -- a calculation with operands that were taken from the stack
 pub goes_on_by : (old taken new : Run) (env : Environment) (s : State) (action : Action Value) (answer : Result Value ℕ) (below : List Value) (result : Result (Option Ending) AllocError) → taken ≡ record old { values = taken.values } → reverse taken.values.items ≡ below → action s ≡ answered answer s → IsFlat env → Agrees old s → Does (λ env. giving (answered answer)) taken result new → Continues env (giving action (pending_of env (reverse old.pending.items)) below s) result new
 goes_on_by old taken new env s action answer below result same left gives flat agrees does =
-    let kept : StoreAgrees taken.store s.store = subst (λ (r : Run). StoreAgrees r.store s.store) (sym same) agrees.store in
+    let kept : Agrees taken s = subst (λ (r : Run). Agrees r s) (sym same) agrees in
     continues_as env old new _ _ result
     (ap (λ (r : Reply Value). and_then r (λ v. pending_of env (reverse old.pending.items) (v ∷ below))) gives
     ∙ ap (λ (l : List Value). giving (answered answer) (pending_of env (reverse old.pending.items)) l s) (sym left)
     ∙ ap (λ (r : Run). giving (answered answer) (pending_of env (reverse r.pending.items)) (reverse taken.values.items) s) (sym same))
-    (does env flat s (record { store = kept; output = ap (λ (r : Run). r.output.items) same ∙ agrees.output }))
+    (does env flat s kept)
 
 -- the topmost piece of work is taken from the stack
 pub taken : (env : Environment) (run : Run) (left : List Work) (work : Work) (t : State) → run.pending.items ≡ left ++ work ∷ [] → rest_of env run t ≡ resumed env work (pending_of env (reverse left)) (reverse run.values.items) t

@@ -1,6 +1,6 @@
 -- What the work that an interpreter has still to do means: from its operands and the state, the topmost first.
 -- It says nothing of how many steps the work takes.
-use Rattle.std.specs.Prelude.{◌≡◌, ℕ, pos, Bool, List, [], ◌∷◌, Option, Some, None, Result, Ok, Err, IfOk, if◌then◌else◌, map, reverse}
+use Rattle.std.specs.Prelude.{◌≡◌, ℕ, pos, Bool, List, [], ◌∷◌, Option, Some, None, Result, Ok, Err, IfOk, if◌then◌else◌, drop, map, reverse}
 use Rattle.std.specs.BTreeMap.{BTreeMap, get}
 use Rattle.std.specs.declared.alloc.AllocError.{AllocError}
 use Rattle.types.specs.declared.form.OrdinalRange.{OrdinalRange}
@@ -15,7 +15,7 @@ use Rattle.meaning.specs.declared.interpreter.Run.{Run}
 use Rattle.meaning.specs.contracts.store.PlaceOrd.TheImpl.{ghosts as places}
 use Rattle.meaning.specs.Store.{Environment, Place, Store, stored}
 use Rattle.meaning.specs.Effect.{State, Reply, Stops, Action, ◌>>=◌, give, stop, require, place_of, store, write, is_in, is_positive, text_of}
-use Rattle.meaning.specs.Meaning.{Combination, ended, operated, combined, value_of, link_of, effect_of, all_of, width_of, parameter_of, line_ended}
+use Rattle.meaning.specs.Meaning.{Combination, completed, ended, operated, combined, value_of, link_of, effect_of, all_of, width_of, parameter_of, line_ended}
 
 -- what is done with the operands, the topmost first, and the state
 abbrev pub Resumption : Type 0
@@ -113,7 +113,13 @@ StoreAgrees kept store = (p : KeptPlace) → p.steps.items ≡ [] → get places
 
 -- the interpreter has what a state has, but for its entries
 abbrev pub Agrees : Run → State → Type 0
-Agrees run s = record { store : StoreAgrees run.store s.store; output : run.output.items ≡ s.output }
+Agrees run s = record {
+  store : StoreAgrees run.store s.store;
+  input : drop run.taken (completed run.input.now) ≡ s.input;
+  output : run.output.items ≡ s.output;
+  turns : run.turns ≡ s.turns;
+  activations : run.activations ≡ s.activations;
+}
 
 -- what a run has still to do, from a state
 abbrev pub rest_of : Environment → Run → State → Reply (Unit {0})

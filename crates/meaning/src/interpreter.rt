@@ -1,7 +1,8 @@
-ghost use Rattle.std.specs.Prelude.{◌≡◌, ◌+◌, ◌<◌, OnOk, IfOk, sum_by, [], ◌∷◌, ◌++◌, reverse, slice_get};
-ghost use Rattle.meaning.specs.Weight.{weight_of};
+ghost use Rattle.std.specs.Prelude.{◌≡◌, ◌+◌, OnOk, IfOk, [], ◌∷◌, ◌++◌, reverse, slice_get};
+ghost use Rattle.meaning.specs.Weight.{Lightens, pending_weight, weight_of};
 ghost use Rattle.meaning.specs.Effect.{fetch, place_of};
-ghost use Rattle.meaning.specs.Pending.{Does, Finishes, answered, giving, line_ending, resumed, rest_of, place_seen, top_of, below_top};
+ghost use Rattle.meaning.specs.Pending.{Does, Finishes, answered, giving, line_ending, resumed, rest_of, place_seen};
+ghost use Rattle.meaning.specs.Pending.{top_of, below_top};
 ghost use Rattle.meaning.specs.Meaning.{meaning, run_of};
 
 use crate::operations::{
@@ -32,7 +33,11 @@ pub fn interpret(
     let mut run = Run {
         alloc,
         store: BTreeMap::new(alloc),
+        input,
+        taken: 0,
         output: Vec::new(alloc),
+        turns,
+        activations: 1,
         values: Vec::new(alloc),
         pending: Vec::new(alloc),
     };
@@ -43,17 +48,24 @@ pub fn interpret(
     })
 }
 
-// A run: the store, what was written, the values of operands, and the work that is left, the next on top.
+// A run: what it has made so far, the values of operands, and the work that is left, the next on top.
 #[derive(Drop)]
-struct Run<'t> {
+struct Run<'t, 'i> {
     alloc: Global,
     store: BTreeMap<Place, Value>,
+    input: &'i [u8],
+    // How many bytes of the input were read, its last line end among them if it has to be supplied.
+    taken: usize,
     output: Vec<u8>,
+    // How many turns are left.
+    turns: u64,
+    // How many activations there were.
+    activations: u64,
     values: Vec<Value>,
     pending: Vec<Work<'t>>,
 }
 
-impl<'t> Run<'t> {
+impl<'t> Run<'t, '_> {
     // Does the statement of the program's block.
     fn execute(&mut self, tree: &'t Tree) -> Result<Ending, AllocError>
         requires { self.old.pending.items ≡ [] }
@@ -81,8 +93,7 @@ impl<'t> Run<'t> {
     }
 
     fn step(&mut self, work: Work<'t>) -> Result<Option<Ending>, AllocError>
-        ensures fewer { OnOk result (
-            sum_by weight_of self.new.pending.items < sum_by weight_of self.old.pending.items + weight_of work.entry) }
+        ensures fewer { Lightens work.entry self.old result self.new }
         ensures does { Does (λ env. resumed env work.entry) self.old result self.new }
     {
         match work {
@@ -106,10 +117,9 @@ impl<'t> Run<'t> {
 
     // What is done next, and what is done after it.
     fn plan(&mut self, next: Work<'t>, later: Work<'t>) -> Result<Option<Ending>, AllocError>
-        ensures weight { OnOk result (sum_by weight_of self.new.pending.items
-            ≡ sum_by weight_of self.old.pending.items + weight_of later.entry + weight_of next.entry) }
-        ensures does { Does (λ env rest. resumed env next.entry (resumed env later.entry rest))
-            self.old result self.new }
+        ensures weight { OnOk result (pending_weight self.new
+            ≡ pending_weight self.old + weight_of self.old.turns later.entry + weight_of self.old.turns next.entry) }
+        ensures does { Does (λ env rest. resumed env next.entry (resumed env later.entry rest)) self.old result self.new }
     {
         put(&mut self.pending, later)?;
         put(&mut self.pending, next)?;
@@ -118,13 +128,10 @@ impl<'t> Run<'t> {
 }
 
 // The steps of statements.
-impl<'t> Run<'t> {
+impl<'t> Run<'t, '_> {
     fn statements(&mut self, statements: &'t [Stmt]) -> Result<Option<Ending>, AllocError>
-        ensures fewer { OnOk result (
-            sum_by weight_of self.new.pending.items
-            < sum_by weight_of self.old.pending.items + weight_of (Work.Statements statements.entry)) }
-        ensures does { Does (λ env. resumed env (Work.Statements statements.entry))
-            self.old result self.new }
+        ensures fewer { Lightens (Work.Statements statements.entry) self.old result self.new }
+        ensures does { Does (λ env. resumed env (Work.Statements statements.entry)) self.old result self.new }
     {
         match statements.split_first() {
             Some((first, rest)) => self.plan(Work::Statement(first), Work::Statements(rest)),
@@ -133,11 +140,8 @@ impl<'t> Run<'t> {
     }
 
     fn statement(&mut self, statement: &'t Stmt) -> Result<Option<Ending>, AllocError>
-        ensures fewer { OnOk result (
-            sum_by weight_of self.new.pending.items
-            < sum_by weight_of self.old.pending.items + weight_of (Work.Statement statement.entry)) }
-        ensures does { Does (λ env. resumed env (Work.Statement statement.entry))
-            self.old result self.new }
+        ensures fewer { Lightens (Work.Statement statement.entry) self.old result self.new }
+        ensures does { Does (λ env. resumed env (Work.Statement statement.entry)) self.old result self.new }
     {
         match statement {
             Stmt::Empty { .. } => Ok(None),
@@ -167,11 +171,8 @@ impl<'t> Run<'t> {
         parameters: &'t [WriteParameter],
         ends_line: bool,
     ) -> Result<Option<Ending>, AllocError>
-        ensures fewer { OnOk result (
-            sum_by weight_of self.new.pending.items
-            < sum_by weight_of self.old.pending.items + weight_of (Work.Parameters parameters.entry ends_line)) }
-        ensures does { Does (λ env. resumed env (Work.Parameters parameters.entry ends_line))
-            self.old result self.new }
+        ensures fewer { Lightens (Work.Parameters parameters.entry ends_line) self.old result self.new }
+        ensures does { Does (λ env. resumed env (Work.Parameters parameters.entry ends_line)) self.old result self.new }
     {
         match parameters.split_first() {
             Some((first, rest)) => self.plan(
@@ -186,22 +187,16 @@ impl<'t> Run<'t> {
     }
 
     fn parameter(&mut self, parameter: &'t WriteParameter) -> Result<Option<Ending>, AllocError>
-        ensures fewer { OnOk result (
-            sum_by weight_of self.new.pending.items
-            < sum_by weight_of self.old.pending.items + weight_of (Work.Parameter parameter.entry)) }
-        ensures does { Does (λ env. resumed env (Work.Parameter parameter.entry))
-            self.old result self.new }
+        ensures fewer { Lightens (Work.Parameter parameter.entry) self.old result self.new }
+        ensures does { Does (λ env. resumed env (Work.Parameter parameter.entry)) self.old result self.new }
     {
         put(&mut self.pending, Work::Write(parameter.representation))?;
         self.plan(Work::Value(&parameter.value), Work::Width(parameter))
     }
 
     fn width(&mut self, parameter: &'t WriteParameter) -> Result<Option<Ending>, AllocError>
-        ensures fewer { OnOk result (
-            sum_by weight_of self.new.pending.items
-            < sum_by weight_of self.old.pending.items + weight_of (Work.Width parameter.entry)) }
-        ensures does { Does (λ env. resumed env (Work.Width parameter.entry))
-            self.old result self.new }
+        ensures fewer { Lightens (Work.Width parameter.entry) self.old result self.new }
+        ensures does { Does (λ env. resumed env (Work.Width parameter.entry)) self.old result self.new }
     {
         match &parameter.width {
             Some(width) => self.plan(
@@ -213,7 +208,7 @@ impl<'t> Run<'t> {
     }
 
     fn width_test(&mut self, site: u32) -> Result<Option<Ending>, AllocError>
-        ensures same { self.new.pending.items ≡ self.old.pending.items }
+        ensures weight { pending_weight self.new ≡ pending_weight self.old }
         ensures does { Does (λ env. resumed env (Work.WidthTest site)) self.old result self.new }
     {
         let width = self.popped();
@@ -221,9 +216,8 @@ impl<'t> Run<'t> {
     }
 
     fn write(&mut self, representation: Representation) -> Result<Option<Ending>, AllocError>
-        ensures same { self.new.pending.items ≡ self.old.pending.items }
-        ensures does { Does (λ env. resumed env (Work.Write representation))
-            self.old result self.new }
+        ensures weight { pending_weight self.new ≡ pending_weight self.old }
+        ensures does { Does (λ env. resumed env (Work.Write representation)) self.old result self.new }
     {
         let width = self.popped();
         let value = self.popped();
@@ -232,7 +226,7 @@ impl<'t> Run<'t> {
     }
 
     fn line_end(&mut self, ends_line: bool) -> Result<Option<Ending>, AllocError>
-        ensures same { self.new.pending.items ≡ self.old.pending.items }
+        ensures weight { pending_weight self.new ≡ pending_weight self.old }
         ensures does { Does (λ env. line_ending ends_line) self.old result self.new }
     {
         if ends_line {
@@ -242,7 +236,7 @@ impl<'t> Run<'t> {
     }
 
     fn store(&mut self, root: u32, fits: RangeTest) -> Result<Option<Ending>, AllocError>
-        ensures same { self.new.pending.items ≡ self.old.pending.items }
+        ensures weight { pending_weight self.new ≡ pending_weight self.old }
         ensures does { Does (λ env. resumed env (Work.Store root fits)) self.old result self.new }
     {
         match value_in(fits.range, self.popped()) {
@@ -257,13 +251,10 @@ impl<'t> Run<'t> {
 }
 
 // The steps of expressions.
-impl<'t> Run<'t> {
+impl<'t> Run<'t, '_> {
     fn value(&mut self, expression: &'t Expr) -> Result<Option<Ending>, AllocError>
-        ensures fewer { OnOk result (
-            sum_by weight_of self.new.pending.items
-            < sum_by weight_of self.old.pending.items + weight_of (Work.Value expression.entry)) }
-        ensures does { Does (λ env. resumed env (Work.Value expression.entry))
-            self.old result self.new }
+        ensures fewer { Lightens (Work.Value expression.entry) self.old result self.new }
+        ensures does { Does (λ env. resumed env (Work.Value expression.entry)) self.old result self.new }
     {
         match expression {
             Expr::Constant { value, .. } => self.go_on(Ok(Value::Number(Ordinal::new(*value)))),
@@ -278,29 +269,24 @@ impl<'t> Run<'t> {
     }
 
     fn variable(&mut self, root: u32, defined: u32) -> Result<Option<Ending>, AllocError>
-        ensures same { self.new.pending.items ≡ self.old.pending.items }
-        ensures does { Does (λ env. giving (fetch (place_of env root) defined))
-            self.old result self.new }
+        ensures weight { pending_weight self.new ≡ pending_weight self.old }
+        ensures does { Does (λ env. giving (fetch (place_of env root) defined)) self.old result self.new }
     {
         let value = self.store.get(&self.place(root)).copied();
         self.go_on(value.ok_or(defined))
     }
 
     fn monadic(&mut self, operation: Monadic) -> Result<Option<Ending>, AllocError>
-        ensures same { self.new.pending.items ≡ self.old.pending.items }
-        ensures does { Does (λ env. resumed env (Work.Monadic operation))
-            self.old result self.new }
+        ensures weight { pending_weight self.new ≡ pending_weight self.old }
+        ensures does { Does (λ env. resumed env (Work.Monadic operation)) self.old result self.new }
     {
         let operand = self.popped();
         self.go_on(operated_value(operation, operand))
     }
 
     fn links(&mut self, links: &'t [Link]) -> Result<Option<Ending>, AllocError>
-        ensures fewer { OnOk result (
-            sum_by weight_of self.new.pending.items
-            < sum_by weight_of self.old.pending.items + weight_of (Work.Links links.entry)) }
-        ensures does { Does (λ env. resumed env (Work.Links links.entry))
-            self.old result self.new }
+        ensures fewer { Lightens (Work.Links links.entry) self.old result self.new }
+        ensures does { Does (λ env. resumed env (Work.Links links.entry)) self.old result self.new }
     {
         match links.split_first() {
             Some((first, rest)) => {
@@ -312,9 +298,8 @@ impl<'t> Run<'t> {
     }
 
     fn combine(&mut self, operation: Dyadic) -> Result<Option<Ending>, AllocError>
-        ensures same { self.new.pending.items ≡ self.old.pending.items }
-        ensures does { Does (λ env. resumed env (Work.Combine operation))
-            self.old result self.new }
+        ensures weight { pending_weight self.new ≡ pending_weight self.old }
+        ensures does { Does (λ env. resumed env (Work.Combine operation)) self.old result self.new }
     {
         let right = self.popped();
         let left = self.popped();
@@ -323,7 +308,7 @@ impl<'t> Run<'t> {
 
     // Goes on with a value, or stops at the site of its error.
     fn go_on(&mut self, value: Result<Value, u32>) -> Result<Option<Ending>, AllocError>
-        ensures same { self.new.pending.items ≡ self.old.pending.items }
+        ensures weight { pending_weight self.new ≡ pending_weight self.old }
         ensures does { Does (λ env. giving (answered value)) self.old result self.new }
     {
         match value {
