@@ -1,9 +1,9 @@
--- More turns only extend a run. For each action two facts: the output only grows, and with more turns the action goes
--- on from where it was with fewer. A loop's body and a routine's block will need both.
+-- More turns only extend a run. For each action three facts: the output only grows, the turns only fall, and with more
+-- turns the action goes on from where it was with fewer. A loop's body and a routine's block will need them all.
 use Rattle.std.specs.Prelude.{int_div, int_le, not}
 use Rattle.std.specs.Int.{int_rem_euclid}
 use Rattle.std.specs.Ordering.{int_eq}
-use Rattle.std.proofs.Common.{◌≡◌, ◌≢◌, inl, inr, ℕ, zero, suc, ◌+◌, ℤ, pos, ◌+ℤ◌, ◌-ℤ◌, ◌*ℤ◌, arith}
+use Rattle.std.proofs.Common.{◌≡◌, ◌≢◌, inl, inr, ℕ, zero, suc, ◌+◌, ◌≤◌, ℤ, pos, ◌+ℤ◌, ◌-ℤ◌, ◌*ℤ◌, arith}
 use Rattle.std.proofs.Common.{List, [], ◌∷◌, ◌++◌, append-nil, append_assoc, Bool, true, false, Option, Some, None, map, slice_get}
 use Rattle.std.proofs.Common.{sym, ◌∙◌, ap, subst, refl}
 use Rattle.typed_tree.specs.declared.tree.Block.{Block}
@@ -45,57 +45,75 @@ further : (first second third : List ℕ) → Begins first second → Begins sec
 further first second third begun more =
     (begun.0 ++ more.0, more.1 ∙ ap (λ written. written ++ more.0) begun.1 ∙ append_assoc first begun.0 more.0)
 
--- an action that more turns only extend
+-- an action that more turns only extend, and that gives no turns back: a loop's turns are then enough for its rounds
 record Extended {A : Type 0} (action : Action A) : Type 0 where
   grows : (s : State) → Begins s.output (state_after (action s)).output
+  falls : (s : State) → (state_after (action s)).turns ≤ s.turns
   extends : (more : ℕ) (s : State) → Extends more (action s) (action (longer more s))
 
 -- what comes after a reply only adds to its output
-grown_rest : {A B : Type 0} (output : List ℕ) (reply : Reply A) (rest : A → Action B) →
-    Begins output (state_after reply).output → ((a : A) → Extended (rest a)) → Begins output (state_after (and_then reply rest)).output
-grown_rest output (Gives a s) rest begun each = further output s.output _ begun ((each a).grows s)
+grown_rest : {A B : Type 0} (output : List ℕ) (reply : Reply A) (rest : A → Action B) → Begins output (state_after reply).output →
+    ((a : A) (s : State) → Begins s.output (state_after (rest a s)).output) → Begins output (state_after (and_then reply rest)).output
+grown_rest output (Gives a s) rest begun each = further output s.output _ begun (each a s)
 grown_rest output (Stops e s) rest begun each = begun
 
--- the same reply with more turns, and then the same rest
-same_rest : {A B : Type 0} (more : ℕ) (reply : Reply A) (rest : A → Action B) → ((a : A) → Extended (rest a)) →
-    Extends more (and_then reply rest) (and_then (longer_reply more reply) rest)
-same_rest more (Gives a s) rest each = (each a).extends more s
-same_rest more (Stops e s) rest each = inl refl
+-- what comes after a reply gives no turns back
+fallen_rest : {A B : Type 0} (turns : ℕ) (reply : Reply A) (rest : A → Action B) → (state_after reply).turns ≤ turns →
+    ((a : A) (s : State) → (state_after (rest a s)).turns ≤ s.turns) → (state_after (and_then reply rest)).turns ≤ turns
+fallen_rest turns (Gives a s) rest fewer each = omega (arith, fewer, each a s)
+fallen_rest turns (Stops e s) rest fewer each = fewer
 
--- a reply for want of turns stays so, whatever comes after it; where the longer run went on, the rest adds to its output
-extended_rest : {A B : Type 0} (more : ℕ) (first second : Reply A) (rest : A → Action B) → Extends more first second →
-    ((a : A) → Extended (rest a)) → Extends more (and_then first rest) (and_then second rest)
-extended_rest more first second rest (inl same) each =
-    subst (λ (reply : Reply _). Extends more (and_then first rest) (and_then reply rest)) (sym same) (same_rest more first rest each)
-extended_rest more first second rest (inr stopped) each =
-    inr (stopped.0, ap (λ reply. and_then reply rest) stopped.1, grown_rest stopped.0.output second rest stopped.2 each)
+-- the same reply with more turns, and then a rest that more turns extend
+same_rest : {A B : Type 0} (more : ℕ) (reply : Reply A) (rest longer_rest : A → Action B) →
+    ((a : A) (s : State) → Extends more (rest a s) (longer_rest a (longer more s))) →
+    Extends more (and_then reply rest) (and_then (longer_reply more reply) longer_rest)
+same_rest more (Gives a s) rest longer_rest each = each a s
+same_rest more (Stops e s) rest longer_rest each = inl refl
+
+-- a reply for want of turns stays so, whatever comes after it; where the run with more went on, its rest adds to the output
+extended_rest : {A B : Type 0} (more : ℕ) (first second : Reply A) (rest longer_rest : A → Action B) → Extends more first second →
+    ((a : A) (s : State) → Extends more (rest a s) (longer_rest a (longer more s))) →
+    ((a : A) (s : State) → Begins s.output (state_after (longer_rest a s)).output) →
+    Extends more (and_then first rest) (and_then second longer_rest)
+extended_rest {A} {B} more first second rest longer_rest (inl same) each grows =
+    subst (λ (reply : Reply A). Extends more (and_then first rest) (and_then reply longer_rest)) (sym same)
+    (same_rest more first rest longer_rest each)
+extended_rest more first second rest longer_rest (inr stopped) each grows =
+    inr (stopped.0, ap (λ reply. and_then reply rest) stopped.1, grown_rest stopped.0.output second longer_rest stopped.2 grows)
 
 extended_then : {A B : Type 0} (action : Action A) (rest : A → Action B) → Extended action → ((a : A) → Extended (rest a)) →
     Extended (action >>= rest)
 extended_then action rest first each = record {
-  grows = λ s. grown_rest s.output (action s) rest (first.grows s) each;
-  extends = λ more s. extended_rest more (action s) (action (longer more s)) rest (first.extends more s) each;
+  grows = λ s. grown_rest s.output (action s) rest (first.grows s) (λ a t. (each a).grows t);
+  falls = λ s. fallen_rest s.turns (action s) rest (first.falls s) (λ a t. (each a).falls t);
+  extends = λ more s. extended_rest more (action s) (action (longer more s)) rest rest (first.extends more s)
+      (λ a t. (each a).extends more t) (λ a t. (each a).grows t);
 }
 
 extended_give : {A : Type 0} (a : A) → Extended (give a)
-extended_give a = record { grows = λ s. nothing s.output; extends = λ more s. inl refl }
+extended_give a = record { grows = λ s. nothing s.output; falls = λ s. omega arith; extends = λ more s. inl refl }
 
 extended_stop : {A : Type 0} (e : Ending) → Extended (stop {A = A} e)
-extended_stop e = record { grows = λ s. nothing s.output; extends = λ more s. inl refl }
+extended_stop e = record { grows = λ s. nothing s.output; falls = λ s. omega arith; extends = λ more s. inl refl }
 
 extended_enter : (number : ℕ) (env : Environment) → Extended (enter number env)
-extended_enter number env = record { grows = λ s. nothing s.output; extends = λ more s. inl refl }
+extended_enter number env = record { grows = λ s. nothing s.output; falls = λ s. omega arith; extends = λ more s. inl refl }
 
 extended_store : (p : Place) (v : Value) → Extended (store p v)
-extended_store p v = record { grows = λ s. nothing s.output; extends = λ more s. inl refl }
+extended_store p v = record { grows = λ s. nothing s.output; falls = λ s. omega arith; extends = λ more s. inl refl }
 
 extended_write : (bytes : List ℕ) → Extended (write bytes)
-extended_write bytes = record { grows = λ s. (bytes, refl); extends = λ more s. inl refl }
+extended_write bytes = record { grows = λ s. (bytes, refl); falls = λ s. omega arith; extends = λ more s. inl refl }
 
 -- a turn writes nothing
 turn_grows : (turns : ℕ) (s : State) → Begins s.output (state_after (take_turn turns s)).output
 turn_grows zero s = nothing s.output
 turn_grows (suc left) s = nothing s.output
+
+-- after a turn there are fewer
+turn_falls : (turns : ℕ) (s : State) → turns ≤ s.turns → (state_after (take_turn turns s)).turns ≤ s.turns
+turn_falls zero s there = omega arith
+turn_falls (suc left) s there = omega (arith, there)
 
 -- where no turn was left, more of them may go on
 turn_extends : (turns more : ℕ) (s : State) → Extends more (take_turn turns s) (take_turn (turns + more) (longer more s))
@@ -106,7 +124,11 @@ turn_extends (suc left) more s =
 
 -- no form uses a turn yet; this is what the start of a loop's body and of a routine's block will cite
 extended_use_turn : Extended use_turn
-extended_use_turn = record { grows = λ s. turn_grows s.turns s; extends = λ more s. turn_extends s.turns more s }
+extended_use_turn = record {
+  grows = λ s. turn_grows s.turns s;
+  falls = λ s. turn_falls s.turns s (omega arith);
+  extends = λ more s. turn_extends s.turns more s;
+}
 
 extended_require : (b : Bool) (site : ℕ) → Extended (require b site)
 extended_require true site = extended_give tt
@@ -119,6 +141,7 @@ extended_fetched (Some v) site = extended_give v
 extended_fetch : (p : Place) (site : ℕ) → Extended (fetch p site)
 extended_fetch p site = record {
   grows = λ s. (extended_fetched (stored s.store p) site).grows s;
+  falls = λ s. (extended_fetched (stored s.store p) site).falls s;
   extends = λ more s. (extended_fetched (stored s.store p) site).extends more s;
 }
 

@@ -53,7 +53,8 @@ weight_of_parameter parameter turns =
 abbrev pub statement_weight : Stmt-F Weight → Weight
 statement_weight (Empty n) turns = 1
 statement_weight (Assign n becomes target fits value) turns = 2 + weight_of_expression value turns
-statement_weight (Write n name parameters ends_line) turns = row_weight 1 (map weight_of_parameter parameters.items) turns
+statement_weight (Write n name parameters ends_line) turns =
+    row_weight 1 (map weight_of_parameter parameters.items) turns
 statement_weight (Compound n statements) turns = row_weight 1 statements.items turns
 
 abbrev pub weight_of_statement : Stmt → Weight

@@ -119,7 +119,8 @@ impl<'t> Run<'t, '_> {
     fn plan(&mut self, next: Work<'t>, later: Work<'t>) -> Result<Option<Ending>, AllocError>
         ensures weight { OnOk result (pending_weight self.new
             ≡ pending_weight self.old + weight_of self.old.turns later.entry + weight_of self.old.turns next.entry) }
-        ensures does { Does (λ env rest. resumed env next.entry (resumed env later.entry rest)) self.old result self.new }
+        ensures does { Does (λ env rest. resumed env next.entry (resumed env later.entry rest))
+            self.old result self.new }
     {
         put(&mut self.pending, later)?;
         put(&mut self.pending, next)?;
