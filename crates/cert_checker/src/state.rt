@@ -90,10 +90,12 @@ impl State {
     {
         if let State::Live(rows) = self {
             if (root as usize) < rows.len() {
-                rows[root as usize].range = range;
+                rows[root as usize] = Row {
+                    range,
+                    is_defined: true,
+                };
             }
         }
-        self.define(root);
     }
 
     /// No run goes on from an empty range.

@@ -1,19 +1,36 @@
-use Rattle.std.proofs.Common.{◌≡◌, ◌∙◌, ap}
+use Rattle.std.proofs.Common.{rules, arith, ◌≡◌, ◌∙◌, ap, List, [], length, ◌+◌}
+use Rattle.typed_tree.specs.declared.tree.Tree.{Tree}
+use Rattle.typed_tree.specs.declared.site.Site.{Site}
+use Rattle.certificate.specs.declared.Certificate.{Certificate}
+use Rattle.typed_tree.specs.Entries.{entries_of}
 use Rattle.cert_checker.specs.Promise.{open_in}
+use Rattle.cert_checker.specs.View.{all_counted}
 use Rattle.cert_checker.specs.Walk.{program_walk}
+use Rattle.cert_checker.specs.declared.visits.Visits.{Visits}
+use Rattle.cert_checker.proofs.Entered.{counted-many, program-entered}
 use Rattle.cert_checker.proofs.SoundProgram.{closed-never_err, states-hold}
 use Rattle.cert_checker.proofs.check.Goals as goal
 
-pub returns : goal.returns
-returns c =
-    let tree = c.args.tree.now in
-    let sites = c.in_ok-open_sites.field-0.items in
-    let open_are : sites ≡ open_in (program_walk tree).open_ids tree.sites.items =
-    c.in_ok-open_sites.ensures ∙ ap (λ ids. open_in ids c.deref.result.now) (ap (λ ids. ids.items) c.finish-open_ids.ensures.sites ∙ c.in_ok-over.ensures.sites)
-    ∙ ap (open_in (program_walk tree).open_ids) c.deref.ensures.value in
-    record {
-      valid = record { unbroken = c.in_ok-over.ensures.unbroken; open_are = open_are };
-      closed_never_err = closed-never_err tree sites open_are;
-      states_hold = states-hold tree;
-      visits = c.finish-open_ids.ensures.entries ∙ c.in_ok-over.ensures.entries;
-    }
+pub returns-clause-visits : goal.returns-clause-visits
+returns-clause-visits c =
+    let tree : Tree = c.args.tree.now in
+    let counted : c.program-walked.new.visits ≡ all_counted (entries_of tree) c.new-visits.result = search rules in
+    let none : c.new-visits.result.entries ≡ 0 = ap (λ (visits : Visits). visits.entries) c.new-visits.ensures in
+    let many = counted-many (entries_of tree) c.new-visits.result in
+    c.finish-entries.ensures ∙ ap (λ (visits : Visits). visits.entries) counted ∙ many ∙ omega (arith, none)
+
+pub returns-clause-closed_never_err : goal.returns-clause-closed_never_err
+returns-clause-closed_never_err c =
+    let tree : Tree = c.args.tree.now in
+    let certificate : Certificate = c.args.certificate.now in
+    let unbroken : (program_walk tree certificate).broken ≡ [] = search rules in
+    let open_sites : List Site = c.in_ok-open_sites.field-0.items in
+    let open_are : open_sites ≡ open_in (program_walk tree certificate).open_ids tree.sites.items = search rules in
+    closed-never_err tree certificate open_sites unbroken open_are
+
+pub returns-clause-states_hold : goal.returns-clause-states_hold
+returns-clause-states_hold c =
+    let tree : Tree = c.args.tree.now in
+    let certificate : Certificate = c.args.certificate.now in
+    let unbroken : (program_walk tree certificate).broken ≡ [] = search rules in
+    states-hold tree certificate unbroken (program-entered tree certificate)
