@@ -1,5 +1,5 @@
 -- The fault of a layer, as the whole compiler tells it, is a refusal of the source.
-use Rattle.std.proofs.Common.{◌≡◌, ◌≢◌, ⊎_elim, ℕ, ◌<◌, List, Some, Result, Err, IfErr, map, length, refl, sym, subst}
+use Rattle.std.proofs.Common.{◌≡◌, ◌≢◌, ⊎_elim, ℕ, ◌<◌, List, [], Some, Result, Err, IfErr, map, length, refl, sym, subst}
 use Rattle.std.specs.Prelude.{MatchResult}
 use Rattle.lexer.specs.declared.token.Token.{Token}
 use Rattle.lexer.specs.declared.fault.LexFault.{LexFault}
@@ -21,10 +21,15 @@ use Rattle.code_generator.specs.declared.fault.GenFault.{GenFault}
 use Rattle.code_generator.specs.declared.fault.GenFault.TheVariants as generate
 use Rattle.code_generator.specs.Code.{program_code}
 use Rattle.report.specs.declared.fault.Fault.{Fault}
-use Rattle.report.specs.Faults.{lexer_fault, parser_fault, typing_fault, certificate_fault, generator_fault}
+use Rattle.report.specs.Faults.{lexer_fault, parser_fault, typing_fault, certificate_fault, checker_fault, generator_fault}
+use Rattle.certificate.specs.declared.Certificate.{Certificate as CertificateRead}
+use Rattle.cert_checker.specs.declared.fault.CheckFault.{CheckFault}
+use Rattle.cert_checker.specs.declared.fault.CheckFault.TheVariants as check
+use Rattle.cert_checker.specs.View.{IsBreachOf}
+use Rattle.cert_checker.specs.Walk.{program_walk}
 use Rattle.report.specs.Headline.{IsWrittenAs, IsTypedTreeOf}
 use Rattle.report.specs.Typed.{IsSoundTreeOf}
-use Rattle.report.specs.Refusals.{IsRefusal, IsCertificate}
+use Rattle.report.specs.Refusals.{AreOf, IsRefusal}
 
 -- an answer that is this fault
 pub refused_by : {A : Type 0} (source text : List ℕ) (answer : Result A Fault) (y fault : Fault) → answer ≡ Err y → y ≡ fault → IsRefusal source text fault → IfErr answer (IsRefusal source text)
@@ -51,10 +56,17 @@ pub typing-refusal : (source text : List ℕ) (fault : TypeFault) (program : Pro
 typing-refusal source text untyped.Memory program written h = tt
 typing-refusal source text fault program written h = (program, written, ⊎_elim (λ e. cc) (λ told. told) h)
 
+-- a certificate is refused for the first rule that it breaks
+pub checking-refusal : (source text : List ℕ) (tree : Tree) (certificate : CertificateRead) (fault : CheckFault) → AreOf source text tree certificate
+    → IsBreachOf (program_walk tree certificate) fault → IsRefusal source text (checker_fault fault)
+checking-refusal source text tree certificate check.Memory are h = tt
+checking-refusal source text tree certificate (check.Broken rule place) are h = (tree, certificate, are, h)
+
 -- code is refused where there is too much of it
-pub generation-refusal : (source text : List ℕ) (tree : Tree) (fault : GenFault) → IsTypedTreeOf tree source → IsCertificate text → (fault ≡ generate.TooLarge → 1000000 < length (program_code tree)) → IsRefusal source text (generator_fault fault)
-generation-refusal source text tree generate.Memory typed spelled h = tt
-generation-refusal source text tree generate.TooLarge typed spelled h = (tree, typed, spelled, h refl)
+pub generation-refusal : (source text : List ℕ) (tree : Tree) (certificate : CertificateRead) (fault : GenFault) → AreOf source text tree certificate
+    → (program_walk tree certificate).broken ≡ [] → (fault ≡ generate.TooLarge → 1000000 < length (program_code tree)) → IsRefusal source text (generator_fault fault)
+generation-refusal source text tree certificate generate.Memory are unbroken h = tt
+generation-refusal source text tree certificate generate.TooLarge are unbroken h = (tree, certificate, are, unbroken, h refl)
 
 -- a certificate is refused for its first faulty line
 pub certificate-refusal : (source text : List ℕ) (tree : Tree) (fault : ReadFault) → IsTypedTreeOf tree source → first_fault text ≡ Some fault → IsRefusal source text (certificate_fault fault)

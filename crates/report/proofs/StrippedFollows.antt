@@ -76,8 +76,9 @@ no-closed_error tree open_sites ids never input cells run k closed (Some at) fou
     let turns = explained.0 in
     let ends : StopsAs tree (meaning tree input turns).ending (stop.Error at) = subst (StopsAs tree (meaning tree input turns).ending) stops explained.1.1 in
     let errs = errs-as tree ids (meaning tree input turns).ending at ends in
-    let id : errs.0.id ≡ k = errs.3 ∙ table-id tree.sites.items ids k at found (slice_get tree.sites.items k) refl in
-    let inside = among-open open_sites errs.0 (never input turns errs.0 errs.1 errs.2) in
+    let at_site = never input turns errs.0.id errs.2 in
+    let id : at_site.0.id ≡ k = at_site.3 ∙ errs.3 ∙ table-id tree.sites.items ids k at found (slice_get tree.sites.items k) refl in
+    let inside = among-open open_sites at_site.0 at_site.2 in
     let is : is_among (site_table open_sites) k ≡ true = ap (is_among (site_table open_sites)) (sym id) ∙ inside in
     absurd (cc (sym closed ∙ is))
 

@@ -13,7 +13,7 @@ use Rattle.cert_checker.specs.declared.fault.CheckFault.TheVariants as check
 use Rattle.code_generator.specs.declared.fault.GenFault.{GenFault}
 use Rattle.code_generator.specs.declared.fault.GenFault.TheVariants as generate
 use Rattle.report.specs.declared.fault.Fault.{Fault}
-use Rattle.report.specs.declared.fault.Fault.TheVariants.{Memory, Lex, Parse, Typing, Certificate, Generate}
+use Rattle.report.specs.declared.fault.Fault.TheVariants.{Memory, Lex, Parse, Typing, Certificate, Check, Generate}
 
 abbrev pub lexer_fault : LexFault → Fault
 lexer_fault lex.Memory = Memory
@@ -33,6 +33,7 @@ certificate_fault fault = Certificate fault
 
 abbrev pub checker_fault : CheckFault → Fault
 checker_fault check.Memory = Memory
+checker_fault fault = Check fault
 
 abbrev pub generator_fault : GenFault → Fault
 generator_fault generate.Memory = Memory

@@ -1,6 +1,7 @@
 -- Why a source is refused: the fault of the first layer that refuses, for nothing else but memory. Of names and types
--- it is the first rule that the program breaks, with its place. It does not say at which token P1 and P2 are told.
-use Rattle.std.specs.Prelude.{◌≡◌, ℕ, ◌<◌, List, Option, Some, None, Err, map, length, codes}
+-- it is the first rule that the program breaks, with its place, and so it is of a certificate. It does not say at which
+-- token P1 and P2 are told.
+use Rattle.std.specs.Prelude.{◌≡◌, ℕ, ◌<◌, List, [], Option, Some, None, Err, map, length, codes}
 use denote.Ref.{Bor}
 use Rattle.lexer.specs.declared.token.Token.{Token}
 use Rattle.lexer.specs.Tokens.{IsTokenList, IsFirstFault, lexeme_of}
@@ -12,6 +13,9 @@ use Rattle.typed_tree.specs.declared.fault.TypeFault.TheVariants as untyped
 use Rattle.typing.specs.Typing.{typing}
 use Rattle.certificate.specs.declared.Certificate.{Certificate as CertificateRead}
 use Rattle.certificate.specs.Text.{spelling, first_fault}
+use Rattle.cert_checker.specs.declared.fault.CheckFault.TheVariants as check
+use Rattle.cert_checker.specs.View.{IsBreachOf}
+use Rattle.cert_checker.specs.Walk.{program_walk}
 use Rattle.code_generator.specs.declared.fault.GenFault.TheVariants as generate
 use Rattle.code_generator.specs.Code.{program_code}
 use Rattle.report.specs.declared.fault.Fault.{Fault}
@@ -23,9 +27,10 @@ abbrev pub text_of : Option (Bor (List ℕ)) → List ℕ
 text_of None = codes "pcert 1\n"
 text_of (Some text) = text.now
 
--- a text is the spelling of a certificate
-abbrev pub IsCertificate : List ℕ → Type 0
-IsCertificate text = (certificate : CertificateRead) × (text ≡ spelling certificate)
+-- a source has this typed tree, and a text spells this certificate
+pub record AreOf (source text : List ℕ) (tree : Tree) (certificate : CertificateRead) : Type 0 where
+  pub typed : IsTypedTreeOf tree source
+  pub spelled : text ≡ spelling certificate
 
 -- why a source with a certificate is refused: each layer is told only where those before it had no fault, and the want
 -- of memory of each is told alike
@@ -38,7 +43,11 @@ IsRefusal source text (Parse fault) =
 IsRefusal source text (Typing untyped.Memory) = ⊥
 IsRefusal source text (Typing fault) = (program : Program) × IsWrittenAs source program × (typing program ≡ Err fault)
 IsRefusal source text (Certificate fault) = (tree : Tree) × IsTypedTreeOf tree source × (first_fault text ≡ Some fault)
-IsRefusal source text (Check fault) = ⊥
+IsRefusal source text (Check check.Memory) = ⊥
+IsRefusal source text (Check fault) =
+    (tree : Tree) × (certificate : CertificateRead) × AreOf source text tree certificate
+    × IsBreachOf (program_walk tree certificate) fault
 IsRefusal source text (Generate generate.Memory) = ⊥
 IsRefusal source text (Generate generate.TooLarge) =
-    (tree : Tree) × IsTypedTreeOf tree source × IsCertificate text × (1000000 < length (program_code tree))
+    (tree : Tree) × (certificate : CertificateRead) × AreOf source text tree certificate
+    × ((program_walk tree certificate).broken ≡ []) × (1000000 < length (program_code tree))

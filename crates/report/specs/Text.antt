@@ -13,6 +13,10 @@ use Rattle.typed_tree.specs.declared.site.SiteKind.{SiteKind}
 use Rattle.typed_tree.specs.Sites.{name_of, kind_of}
 use Rattle.certificate.specs.declared.fault.ReadFault.{ReadFault}
 use Rattle.certificate.specs.declared.fault.ReadFault.TheVariants as read
+use Rattle.cert_checker.specs.declared.fault.CheckFault.{CheckFault}
+use Rattle.cert_checker.specs.declared.fault.CheckFault.TheVariants as check
+use Rattle.cert_checker.specs.declared.fault.Rule.{Rule}
+use Rattle.cert_checker.specs.declared.fault.Rule.TheVariants as rule
 use Rattle.code_generator.specs.declared.fault.GenFault.{GenFault}
 use Rattle.code_generator.specs.declared.fault.GenFault.TheVariants as generate
 use Rattle.stack_machine.specs.declared.stop.Stop.{Stop}
@@ -79,6 +83,19 @@ certificate_refusal (read.FirstLine line) = Certificate line (record { letter = 
 certificate_refusal (read.NotInGrammar line) = Certificate line (record { letter = 70; number = 2 })
 certificate_refusal (read.Unended line) = Certificate line (record { letter = 70; number = 5 })
 
+-- the number of a rule of certificates
+abbrev pub rule_number : Rule → ℕ
+rule_number rule.LoopEntry = 2
+rule_number rule.LoopTurn = 3
+rule_number rule.Exit = 4
+rule_number rule.CallEntry = 5
+rule_number rule.Aliases = 6
+rule_number rule.Changes = 7
+
+abbrev pub checker_refusal : CheckFault → Refusal
+checker_refusal check.Memory = Memory
+checker_refusal (check.Broken rule place) = at place 67 (rule_number rule)
+
 abbrev pub generator_refusal : GenFault → Refusal
 generator_refusal generate.Memory = Memory
 generator_refusal generate.TooLarge = Whole (record { letter = 71; number = 1 })
@@ -90,7 +107,7 @@ refusal_of (fault.Lex f) = lexer_refusal f
 refusal_of (fault.Parse f) = parser_refusal f
 refusal_of (fault.Typing f) = typing_refusal f
 refusal_of (fault.Certificate f) = certificate_refusal f
-refusal_of (fault.Check f) = Memory
+refusal_of (fault.Check f) = checker_refusal f
 refusal_of (fault.Generate f) = generator_refusal f
 
 -- the line of a refusal

@@ -67,7 +67,7 @@ pub fn compile(alloc: Global, source: &[u8], certificate: Option<&[u8]>) -> Resu
     // The headline: for every input and every number of turns the program's meaning commits no error at another
     // site, and the stripped code writes what that meaning writes and stops as it stops.
     ensures headline { IfOk result (λ c. Headline c.tree c.verdict.open_sites.items c.stripped) }
-    ensures states_hold { IfOk result (λ c. StatesHold c.tree) }
+    ensures states_hold { IfOk result (λ c. StatesHold c.tree c.certificate) }
 
     // With all its checks the code follows the program too.
     ensures follows { IfOk result (λ c. Follows c.full c.tree) }

@@ -1,10 +1,11 @@
 ghost use Rattle.std.specs.Prelude.{◌≡◌, ℕ, ◌+◌, ◌<◌, ◌≤◌, ◌^◌, [], ◌∷◌, ◌++◌, length, decimal, codes, IfOk};
 ghost use Rattle.std.specs.List.{flat_map};
 ghost use Rattle.report.specs.Text.{place_text, open_line, refusal_of, refusal_line, refusal_status, stop_line, stop_status, error_name, input_name, machine_text, code_text};
-ghost use Rattle.report.specs.Text.{lexer_refusal, parser_refusal, typing_refusal, certificate_refusal, generator_refusal};
+ghost use Rattle.report.specs.Text.{lexer_refusal, parser_refusal, typing_refusal, certificate_refusal, checker_refusal, rule_number, generator_refusal};
 
 use crate::fault::Fault;
 use cert_checker::Verdict;
+use cert_checker::fault::{CheckFault, Rule};
 use certificate::fault::ReadFault;
 use code_generator::fault::GenFault;
 use itoa::Buffer;
@@ -109,7 +110,7 @@ pub fn refusal_told(fault: &Fault) -> Refusal
         Fault::Parse(fault) => parser_refusal(*fault),
         Fault::Typing(fault) => typing_refusal(*fault),
         Fault::Certificate(fault) => certificate_refusal(*fault),
-        Fault::Check(_) => Refusal::Memory,
+        Fault::Check(fault) => checker_refusal(*fault),
         Fault::Generate(fault) => generator_refusal(*fault),
     }
 }
@@ -182,6 +183,28 @@ fn certificate_refusal(fault: ReadFault) -> Refusal
             letter: b'F',
             number,
         },
+    }
+}
+
+fn checker_refusal(fault: CheckFault) -> Refusal
+    ensures { result ≡ checker_refusal fault }
+{
+    match fault {
+        CheckFault::Memory => Refusal::Memory,
+        CheckFault::Broken { rule, place } => at(place, b'C', rule_number(rule)),
+    }
+}
+
+fn rule_number(rule: Rule) -> u8
+    ensures { result ≡ rule_number rule }
+{
+    match rule {
+        Rule::LoopEntry => 2,
+        Rule::LoopTurn => 3,
+        Rule::Exit => 4,
+        Rule::CallEntry => 5,
+        Rule::Aliases => 6,
+        Rule::Changes => 7,
     }
 }
 

@@ -1,7 +1,7 @@
 use Rattle.std.proofs.Common.{rules, ◌∙◌, ap, Err}
 use Rattle.std.proofs.lemmas.Result.{err_from_is_err_and}
 use Rattle.report.specs.Refusals.{text_of}
-use Rattle.report.proofs.RefusalLemmas.{refused_by, certificate-refusal, generation-refusal}
+use Rattle.report.proofs.RefusalLemmas.{refused_by, certificate-refusal, checking-refusal, generation-refusal}
 use Rattle.check_remover.specs.Strip.{strip}
 use Rattle.report.proofs.StrippedFollows.{stripped-follows}
 use Rattle.report.proofs.compile.compile.Goals as goal
@@ -12,7 +12,7 @@ returns-clause-headline c =
     let full = c.in_ok-full.full in
     let stripped = c.in_ok-stripped.stripped in
     let open_sites = c.deref.ensures.value ∙ c.in_ok-open_sites.ensures in
-    let never = c.in_ok-verdict.ensures.closed_never_err in
+    let never = c.in_ok-verdict.ensures.closed_never_err c.in_ok-tree.ensures.well_formed c.in_ok-tree.ensures.in_order in
     record {
       closed_never_err = never;
       follows = stripped-follows c.in_ok-tree.tree c.in_ok-verdict.verdict.open_sites.items full stripped c.in_ok-tree.ensures.in_order never
@@ -38,7 +38,18 @@ returns-in_err-full-clause-refused c =
     let text = text_of c.args.certificate in
     let told = err_from_is_err_and c.from_residual-in_err-full.result c.from_residual-in_err-full.ensures.1 in
     refused_by source text c.from_residual-in_err-full.result told.0 _ told.1 told.2
-    (generation-refusal source text c.in_ok-tree.tree c.in_err-full.field-0.0 c.in_ok-tree.ensures.typed (c.in_ok-certificate.certificate, search rules) (λ same. c.generate.ensures.too_large.0 (c.in_err-full.was ∙ ap Err same)))
+    (generation-refusal source text c.in_ok-tree.tree c.in_ok-certificate.certificate c.in_err-full.field-0.0
+    (record { typed = c.in_ok-tree.ensures.typed; spelled = search rules }) c.in_ok-verdict.ensures.valid.unbroken
+    (λ same. c.generate.ensures.too_large.0 (c.in_err-full.was ∙ ap Err same)))
+
+pub returns-in_err-verdict-clause-refused : goal.returns-in_err-verdict-clause-refused
+returns-in_err-verdict-clause-refused c =
+    let source = c.args.source.now in
+    let text = text_of c.args.certificate in
+    let told = err_from_is_err_and c.from_residual-in_err-verdict.result c.from_residual-in_err-verdict.ensures.1 in
+    refused_by source text c.from_residual-in_err-verdict.result told.0 _ told.1 told.2
+    (checking-refusal source text c.in_ok-tree.tree c.in_ok-certificate.certificate c.in_err-verdict.field-0.0
+    (record { typed = c.in_ok-tree.ensures.typed; spelled = search rules }) c.in_err-verdict.ensures.refused)
 
 pub returns-clause-stripped : goal.returns-clause-stripped
 returns-clause-stripped c = record {
@@ -77,7 +88,7 @@ pub returns-clause-visits : goal.returns-clause-visits
 returns-clause-visits c = c.in_ok-verdict.ensures.visits
 
 pub returns-clause-states_hold : goal.returns-clause-states_hold
-returns-clause-states_hold c = c.in_ok-verdict.ensures.states_hold
+returns-clause-states_hold c = c.in_ok-verdict.ensures.states_hold c.in_ok-tree.ensures.well_formed c.in_ok-tree.ensures.numbered
 
 pub returns-clause-by_place : goal.returns-clause-by_place
 returns-clause-by_place c = c.in_ok-tree.ensures.by_place

@@ -11,6 +11,7 @@ returns c =
     record {
       well_formed = c.in_ok-tree.ensures.well_formed;
       in_order = c.in_ok-tree.ensures.in_order;
+      numbered = c.in_ok-tree.ensures.numbered;
       by_place =
           c.in_ok-tree.ensures.by_place
           (c.in_ok-program.ensures.in_order (subst (λ l. ArePlacesInOrder (map (λ token. token.place) l)) (sym c.deref.ensures.value) c.in_ok-tokens.ensures.in_order));
