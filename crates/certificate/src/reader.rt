@@ -1,7 +1,8 @@
-ghost use Rattle.std.specs.Prelude.{◌≡◌, ◌↔◌, ◌==◌, List, [], ◌∷◌, MatchOption, position};
+ghost use Rattle.std.specs.Prelude.{◌≡◌, ◌≢◌, ◌↔◌, ◌==◌, List, [], ◌∷◌, MatchOption, position};
 ghost use Rattle.std.specs.Result.{result_err};
 ghost use Rattle.certificate.specs.Text.{Line as TextLine, lines, line_fault, spelling, first_fault};
 ghost use Rattle.certificate.specs.declared.Certificate.{Certificate};
+ghost use Rattle.certificate.specs.declared.fault.ReadFault.TheVariants.{Memory};
 
 use crate::fault::ReadFault;
 use crate::{Certificate, Version};
@@ -16,14 +17,17 @@ struct Line<'a> {
     ended: bool,
 }
 
-/// Reads a certificate text of any length. Version 1 has no lines to keep, so no memory is taken.
+/// Reads a certificate text of any length.
 ///
 /// # Errors
 /// The first faulty line: F5 where it lacks its end, F1 where it is the first and no heading, F2 where it stands
-/// below the heading. A text without lines is F1 at line 1.
+/// below the heading. A text without lines is F1 at line 1. Or `Memory`, once certificates have lines to keep: version
+/// 1 has none.
 pub fn read(_alloc: Global, text: &[u8]) -> Result<Certificate, ReadFault>
     ensures exact { (c : Certificate) → (result ≡ Ok c) ↔ (text.now ≡ spelling c) }
-    ensures fault { result_err result ≡ first_fault text.now }
+    ensures fault { result_err result ≢ Some Memory → result_err result ≡ first_fault text.now }
+    // This holds as long as a certificate has no lines to keep.
+    ensures takes_no_memory { result_err result ≢ Some Memory }
 {
     let Some((first, below)) = next_line(text) else {
         return Err(ReadFault::FirstLine { line: 1 });

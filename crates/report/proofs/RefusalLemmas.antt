@@ -69,8 +69,9 @@ generation-refusal source text tree certificate generate.Memory are unbroken h =
 generation-refusal source text tree certificate generate.TooLarge are unbroken h = (tree, certificate, are, unbroken, h refl)
 
 -- a certificate is refused for its first faulty line
-pub certificate-refusal : (source text : List ℕ) (tree : Tree) (fault : ReadFault) → IsTypedTreeOf tree source → first_fault text ≡ Some fault → IsRefusal source text (certificate_fault fault)
+pub certificate-refusal : (source text : List ℕ) (tree : Tree) (fault : ReadFault) → IsTypedTreeOf tree source → (fault ≢ read.Memory → first_fault text ≡ Some fault)
+    → IsRefusal source text (certificate_fault fault)
 certificate-refusal source text tree read.Memory typed h = tt
-certificate-refusal source text tree (read.FirstLine line) typed h = (tree, typed, h)
-certificate-refusal source text tree (read.NotInGrammar line) typed h = (tree, typed, h)
-certificate-refusal source text tree (read.Unended line) typed h = (tree, typed, h)
+certificate-refusal source text tree (read.FirstLine line) typed h = (tree, typed, h (λ same. cc))
+certificate-refusal source text tree (read.NotInGrammar line) typed h = (tree, typed, h (λ same. cc))
+certificate-refusal source text tree (read.Unended line) typed h = (tree, typed, h (λ same. cc))

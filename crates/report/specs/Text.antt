@@ -94,7 +94,7 @@ rule_number rule.Changes = 7
 
 abbrev pub checker_refusal : CheckFault → Refusal
 checker_refusal check.Memory = Memory
-checker_refusal (check.Broken rule place) = at place 67 (rule_number rule)
+checker_refusal (check.Broken broken place) = at place 67 (rule_number broken)
 
 abbrev pub generator_refusal : GenFault → Refusal
 generator_refusal generate.Memory = Memory
