@@ -13,12 +13,10 @@ use types::{MAXINT, OrdinalRange};
 /// A range and statements that assign to b and x no value but of this range.
 type Row = (i32, i32, &'static str);
 
-/// The tree of such a program, in which u isn't in the table of variables: it may hold any integer, and each use of it
-/// is open.
+/// The tree of such a program. (What a mod makes of -1 may be any number below its divisor.)
 fn tree_of_row(alloc: Global, row: &Row) -> Result<Tree, TypeFault> {
     let (first, last, statements) = *row;
-    let mut tree = tree_of(alloc, "b: Boolean; x, y, u: integer", statements)?;
-    tree.variables.pop();
+    let mut tree = tree_of(alloc, "b: Boolean; x, y: integer", statements)?;
     for block in &mut tree.blocks {
         narrow(&mut block.body, OrdinalRange { first, last });
     }
@@ -45,6 +43,8 @@ fn checked(alloc: Global, tree: &Tree) -> Result<Verdict, TypeFault> {
     match check(alloc, tree, &certificate) {
         Ok(verdict) => Ok(verdict),
         Err(CheckFault::Memory) => Err(TypeFault::Memory),
+        // A certificate without claims breaks no rule, so no row has this.
+        Err(CheckFault::Broken { place, .. }) => Err(TypeFault::Mismatch(place)),
     }
 }
 
@@ -85,10 +85,7 @@ static ROWS: [(Row, &str); 30] = [
         "2:16 overflow; ",
     ),
     // abs of -5..5 is 0..5
-    (
-        (0, 5, "x := abs(u mod 11 - 5)"),
-        "2:10 undefined variable; ",
-    ),
+    ((0, 5, "x := abs((-1) mod 11 - 5)"), ""),
     // Squares and products overflow above 46340.
     ((-MAXINT, MAXINT, "x := sqr(46340)"), ""),
     ((-MAXINT, MAXINT, "x := sqr(46341)"), "2:6 overflow; "),
@@ -98,57 +95,40 @@ static ROWS: [(Row, &str); 30] = [
         "2:15 overflow; ",
     ),
     // sqr of -5..5 is 0..25
-    (
-        (0, 25, "x := sqr(u mod 11 - 5)"),
-        "2:10 undefined variable; ",
-    ),
+    ((0, 25, "x := sqr((-1) mod 11 - 5)"), ""),
     ((3, 3, "x := 10 div 3"), ""),
     // 0 isn't an end of -5..5
     (
-        (-10, 10, "x := 10 div (u mod 11 - 5)"),
-        "2:9 division by zero; 2:14 undefined variable; ",
+        (-10, 10, "x := 10 div ((-1) mod 11 - 5)"),
+        "2:9 division by zero; ",
     ),
     // y is undefined: no run comes to the division
     ((0, 0, "x := 10 div y"), "2:13 undefined variable; "),
     // the results are 10..100, and y keeps its range
     (
-        (10, 100, "y := u mod 11; x := 100 div y; x := 100 div y"),
-        "2:6 undefined variable; 2:25 division by zero; 2:41 division by zero; ",
+        (10, 100, "y := (-1) mod 11; x := 100 div y; x := 100 div y"),
+        "2:28 division by zero; 2:44 division by zero; ",
     ),
     // -7 mod 1..10 is 0..9
-    (
-        (0, 9, "x := (-7) mod (u mod 10 + 1)"),
-        "2:16 undefined variable; ",
-    ),
+    ((0, 9, "x := (-7) mod ((-1) mod 10 + 1)"), ""),
     // 7 mod 0..10 is 0..7
     (
-        (0, 7, "x := 7 mod (u mod 11)"),
-        "2:8 mod by zero or less; 2:13 undefined variable; ",
+        (0, 7, "x := 7 mod ((-1) mod 11)"),
+        "2:8 mod by zero or less; ",
     ),
     // 7 mod 0: no run comes to the assignment
     ((8, 8, "x := 7 mod 0"), "2:8 mod by zero or less; "),
-    ((0, 0, "b := odd(u) and false"), "2:10 undefined variable; "),
-    (
-        (1, 1, "b := odd(u) and true"),
-        "2:3 subrange; 2:10 undefined variable; ",
-    ),
-    ((1, 1, "b := odd(u) or true"), "2:10 undefined variable; "),
-    (
-        (1, 1, "b := odd(u) or false"),
-        "2:3 subrange; 2:10 undefined variable; ",
-    ),
+    // odd gives both truth values, whatever its operand
+    ((0, 0, "b := odd(3) and false"), ""),
+    ((1, 1, "b := odd(3) and true"), "2:3 subrange; "),
+    ((1, 1, "b := odd(3) or true"), ""),
+    ((1, 1, "b := odd(3) or false"), "2:3 subrange; "),
     ((1, 1, "b := not false"), ""),
     ((0, 1, "b := odd(3)"), ""),
     ((0, 1, "b := 1 < 2"), ""),
     // A width is at least 1.
-    (
-        (0, 0, "write(5: (u mod 10 + 1))"),
-        "2:11 undefined variable; ",
-    ),
-    (
-        (0, 0, "write(5: (u mod 11))"),
-        "2:10 width; 2:11 undefined variable; ",
-    ),
+    ((0, 0, "write(5: ((-1) mod 10 + 1))"), ""),
+    ((0, 0, "write(5: ((-1) mod 11))"), "2:10 width; "),
     ((0, 0, "write(5: 3); write(5)"), ""),
     // No run comes to the second statement.
     ((0, 0, "write(5: 0); write(y)"), "2:10 width; "),
@@ -187,7 +167,8 @@ fn counts_each_entry_once(rt: HostRuntime) -> Result<(), Fail> {
 
 /// The verdict of a program with a site that isn't in the table.
 fn verdict_of_fewer_sites(alloc: Global) -> Result<Verdict, TypeFault> {
-    let mut tree = tree_of_row(alloc, &(0, 0, "u := 1; write(u); write(y)"))?;
+    let statements = "x := 10 div ((-1) mod 11); x := 10 div ((-1) mod 11)";
+    let mut tree = tree_of_row(alloc, &(-MAXINT, MAXINT, statements))?;
     tree.sites.truncate(2);
     checked(alloc, &tree)
 }

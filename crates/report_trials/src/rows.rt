@@ -1,6 +1,8 @@
 use crate::shown::{refusal, refusal_told, stop_told, visits};
+use cert_checker::fault::{CheckFault, Rule};
 use certificate::fault::ReadFault;
 use pcode_assembler::code::{Point, Site};
+use place::Place;
 use report::fault::Fault;
 use report::text::fault_text;
 use stack_machine::stop::{InputFault, MachineFault, Stop};
@@ -52,6 +54,62 @@ static LATE_LINES: [(Fault, &str); 3] = [
 #[test]
 fn late_lines_are_numbered(rt: HostRuntime) -> Result<(), Fail> {
     all_hold(rt.alloc(), &LATE_LINES, refusal_told)
+}
+
+const PLACE: Place = Place {
+    line: 3,
+    column: 14,
+};
+
+// The line for each rule that a certificate may break.
+static BROKEN_RULES: [(Fault, &str); 6] = [
+    (
+        Fault::Check(CheckFault::Broken {
+            rule: Rule::LoopEntry,
+            place: PLACE,
+        }),
+        "3:14: refused C2\n",
+    ),
+    (
+        Fault::Check(CheckFault::Broken {
+            rule: Rule::LoopTurn,
+            place: PLACE,
+        }),
+        "3:14: refused C3\n",
+    ),
+    (
+        Fault::Check(CheckFault::Broken {
+            rule: Rule::Exit,
+            place: PLACE,
+        }),
+        "3:14: refused C4\n",
+    ),
+    (
+        Fault::Check(CheckFault::Broken {
+            rule: Rule::CallEntry,
+            place: PLACE,
+        }),
+        "3:14: refused C5\n",
+    ),
+    (
+        Fault::Check(CheckFault::Broken {
+            rule: Rule::Aliases,
+            place: PLACE,
+        }),
+        "3:14: refused C6\n",
+    ),
+    (
+        Fault::Check(CheckFault::Broken {
+            rule: Rule::Changes,
+            place: PLACE,
+        }),
+        "3:14: refused C7\n",
+    ),
+];
+
+#[test]
+fn broken_rules_are_told(rt: HostRuntime) -> Result<(), Fail> {
+    all_hold(rt.alloc(), &BROKEN_RULES, refusal_told)
 }
 
 // Sources and certificates, and the sentence of the fault.
