@@ -108,7 +108,8 @@ unfolding nowhere
 overflows = refl
 
 -- -7 div 2 is the sign of 7 div 2: -3; and (-7) div 2 is cut toward zero too
-sign_of_quotient : told ((link (dyadic.Div 3) (operand (Number (pos 2))) nowhere (Number (pos 7)) >>= operated monadic.Minus) (first_state [] 0)) ≡ Value_of (Number (negsuc 2))
+sign_of_quotient : told ((link (dyadic.Div 3) (operand (Number (pos 2))) nowhere (Number (pos 7)) >>= operated monadic.Minus) (first_state [] 0)) ≡
+    Value_of (Number (negsuc 2))
 unfolding nowhere
 sign_of_quotient = refl
 
@@ -155,7 +156,9 @@ negative_is_odd = refl
 
 -- 1 div 0 = 1, with the division's site 3
 abbrev quotient_is_one : Evaluation
-quotient_is_one environment = in_turn (link (dyadic.Div 3) (operand (Number (pos 0))) ∷ []) environment (Number (pos 1)) >>= link (dyadic.Relation Equal) (operand (Number (pos 1))) environment
+quotient_is_one environment =
+    in_turn (link (dyadic.Div 3) (operand (Number (pos 0))) ∷ []) environment (Number (pos 1))
+    >>= link (dyadic.Relation Equal) (operand (Number (pos 1))) environment
 
 -- in false and (1 div 0 = 1) the division is an error: both operands of `and` are evaluated
 both_evaluated : told (link dyadic.And quotient_is_one nowhere (Number (pos 0)) (first_state [] 0)) ≡ End_of (Error 3)
@@ -167,16 +170,20 @@ no_width : told (positive 6 (Number (pos 0)) (first_state [] 0)) ≡ End_of (Err
 no_width = refl
 
 -- where a value stops, its width isn't evaluated
-value_first : (parameter : WriteParameter) (environment : Environment) (s t : State) (end : Ending) → value_of parameter.value environment s ≡ Stops end t → parameter_of parameter environment s ≡ Stops end t
+value_first : (parameter : WriteParameter) (environment : Environment) (s t : State) (end : Ending) → value_of parameter.value environment s ≡ Stops end t →
+    parameter_of parameter environment s ≡ Stops end t
 value_first parameter environment s t end stopped =
-    ap (λ (r : Reply Value). and_then r (λ v. width_of parameter.width parameter.representation environment >>= λ w. write (text_of parameter.representation v w))) stopped
+    let width = width_of parameter.width parameter.representation environment in
+    ap (λ (r : Reply Value). and_then r (λ v. width >>= λ w. write (text_of parameter.representation v w))) stopped
 
 -- in maxint + 1 + x the overflow is told, and the undefined x isn't reached; in maxint + x + 1 it is
-left_first : told (in_turn (link (dyadic.Plus 3) (operand (Number (pos 1))) ∷ link (dyadic.Plus 4) nothing_there ∷ []) nowhere (Number (pos 2147483647)) (first_state [] 0)) ≡ End_of (Error 3)
+left_first : told (in_turn (link (dyadic.Plus 3) (operand (Number (pos 1))) ∷ link (dyadic.Plus 4) nothing_there ∷ []) nowhere (Number (pos 2147483647))
+    (first_state [] 0)) ≡ End_of (Error 3)
 unfolding nowhere
 left_first = refl
 
-right_reached : told (in_turn (link (dyadic.Plus 3) nothing_there ∷ link (dyadic.Plus 4) (operand (Number (pos 1))) ∷ []) nowhere (Number (pos 2147483647)) (first_state [] 0)) ≡ End_of (Error 7)
+right_reached : told (in_turn (link (dyadic.Plus 3) nothing_there ∷ link (dyadic.Plus 4) (operand (Number (pos 1))) ∷ []) nowhere (Number (pos 2147483647))
+    (first_state [] 0)) ≡ End_of (Error 7)
 unfolding nowhere
 right_reached = refl
 

@@ -34,7 +34,7 @@ use Rattle.meaning.specs.Effect.{fetched, fetch, store, write, is_in, is_positiv
 use Rattle.meaning.specs.Meaning.{Evaluation, Combination, Execution, value_step, link_step, effect_step, whole, operated, combined, in_turn, all_of}
 use Rattle.meaning.specs.Meaning.{width_of, parameter_of, line_ended, value_of, link_of, effect_of, Meaning, run_of, run, ended}
 use Rattle.meaning.specs.Meaning.{program_environment, first_state}
-use Rattle.meaning.specs.Laws.{longer, longer_reply, state_after, Begins, Extends, TurnsGoOn, TurnsExtendTheOutput, EndingsStay}
+use Rattle.meaning.specs.Laws.{with_turns, reply_with_turns, state_after, Begins, Extends, TurnsGoOn, TurnsExtendTheOutput, EndingsStay}
 
 -- nothing more was written
 nothing : (output : List ℕ) → Begins output output
@@ -49,7 +49,7 @@ further first second third begun more =
 record Extended {A : Type 0} (action : Action A) : Type 0 where
   grows : (s : State) → Begins s.output (state_after (action s)).output
   falls : (s : State) → (state_after (action s)).turns ≤ s.turns
-  extends : (more : ℕ) (s : State) → Extends more (action s) (action (longer more s))
+  extends : (more : ℕ) (s : State) → Extends more (action s) (action (with_turns more s))
 
 -- what comes after a reply only adds to its output
 grown_rest : {A B : Type 0} (output : List ℕ) (reply : Reply A) (rest : A → Action B) → Begins output (state_after reply).output →
@@ -65,14 +65,14 @@ fallen_rest turns (Stops e s) rest fewer each = fewer
 
 -- the same reply with more turns, and then a rest that more turns extend
 same_rest : {A B : Type 0} (more : ℕ) (reply : Reply A) (rest longer_rest : A → Action B) →
-    ((a : A) (s : State) → Extends more (rest a s) (longer_rest a (longer more s))) →
-    Extends more (and_then reply rest) (and_then (longer_reply more reply) longer_rest)
+    ((a : A) (s : State) → Extends more (rest a s) (longer_rest a (with_turns more s))) →
+    Extends more (and_then reply rest) (and_then (reply_with_turns more reply) longer_rest)
 same_rest more (Gives a s) rest longer_rest each = each a s
 same_rest more (Stops e s) rest longer_rest each = inl refl
 
 -- a reply for want of turns stays so, whatever comes after it; where the run with more went on, its rest adds to the output
 extended_rest : {A B : Type 0} (more : ℕ) (first second : Reply A) (rest longer_rest : A → Action B) → Extends more first second →
-    ((a : A) (s : State) → Extends more (rest a s) (longer_rest a (longer more s))) →
+    ((a : A) (s : State) → Extends more (rest a s) (longer_rest a (with_turns more s))) →
     ((a : A) (s : State) → Begins s.output (state_after (longer_rest a s)).output) →
     Extends more (and_then first rest) (and_then second longer_rest)
 extended_rest {A} {B} more first second rest longer_rest (inl same) each grows =
@@ -86,7 +86,7 @@ extended_then : {A B : Type 0} (action : Action A) (rest : A → Action B) → E
 extended_then action rest first each = record {
   grows = λ s. grown_rest s.output (action s) rest (first.grows s) (λ a t. (each a).grows t);
   falls = λ s. fallen_rest s.turns (action s) rest (first.falls s) (λ a t. (each a).falls t);
-  extends = λ more s. extended_rest more (action s) (action (longer more s)) rest rest (first.extends more s)
+  extends = λ more s. extended_rest more (action s) (action (with_turns more s)) rest rest (first.extends more s)
       (λ a t. (each a).extends more t) (λ a t. (each a).grows t);
 }
 
@@ -116,11 +116,11 @@ turn_falls zero s there = omega arith
 turn_falls (suc left) s there = omega (arith, there)
 
 -- where no turn was left, more of them may go on
-turn_extends : (turns more : ℕ) (s : State) → Extends more (take_turn turns s) (take_turn (turns + more) (longer more s))
-turn_extends zero more s = inr (s, refl, turn_grows (zero + more) (longer more s))
+turn_extends : (turns more : ℕ) (s : State) → Extends more (take_turn turns s) (take_turn (turns + more) (with_turns more s))
+turn_extends zero more s = inr (s, refl, turn_grows (zero + more) (with_turns more s))
 turn_extends (suc left) more s =
     let one_more : suc left + more ≡ suc (left + more) = omega arith in
-    inl (ap (λ turns. take_turn turns (longer more s)) one_more)
+    inl (ap (λ turns. take_turn turns (with_turns more s)) one_more)
 
 -- no form uses a turn yet; this is what the start of a loop's body and of a routine's block will cite
 extended_use_turn : Extended use_turn
@@ -304,7 +304,7 @@ output_after (Gives a s) = refl
 output_after (Stops e s) = refl
 
 -- turns that are left show neither in the output nor in the ending
-same_end : (more : ℕ) (reply : Reply (Unit {0})) → ended (longer_reply more reply) ≡ ended reply
+same_end : (more : ℕ) (reply : Reply (Unit {0})) → ended (reply_with_turns more reply) ≡ ended reply
 same_end more (Gives a s) = refl
 same_end more (Stops e s) = refl
 

@@ -16,13 +16,13 @@ use Rattle.meaning.specs.Effect.{State, Reply, Gives, Stops}
 use Rattle.meaning.specs.Meaning.{meaning, run, value_of}
 
 -- the same state with more turns left
-abbrev pub longer : ℕ → State → State
-longer more s = record s { turns = s.turns + more }
+abbrev pub with_turns : ℕ → State → State
+with_turns more s = record s { turns = s.turns + more }
 
 -- the same reply with more turns left
-abbrev pub longer_reply : {A : Type 0} → ℕ → Reply A → Reply A
-longer_reply more (Gives a s) = Gives a (longer more s)
-longer_reply more (Stops e s) = Stops e (longer more s)
+abbrev pub reply_with_turns : {A : Type 0} → ℕ → Reply A → Reply A
+reply_with_turns more (Gives a s) = Gives a (with_turns more s)
+reply_with_turns more (Stops e s) = Stops e (with_turns more s)
 
 -- the state after a reply
 abbrev pub state_after : {A : Type 0} → Reply A → State
@@ -37,7 +37,7 @@ Begins output whole = (rest : List ℕ) × (whole ≡ output ++ rest)
 -- for want of turns, with an output that begins the second's
 abbrev pub Extends : {A : Type 0} → ℕ → Reply A → Reply A → Type 0
 Extends more first second =
-    (second ≡ longer_reply more first)
+    (second ≡ reply_with_turns more first)
     ⊎ ((s : State) × (first ≡ Stops ending.More s) × Begins s.output (state_after second).output)
 
 -- a run with more turns goes on from where the run with fewer was

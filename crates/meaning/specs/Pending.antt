@@ -1,6 +1,7 @@
 -- What the work that an interpreter has still to do means: from its operands and the state, the topmost first.
 -- It says nothing of how many steps the work takes.
-use Rattle.std.specs.Prelude.{◌≡◌, ℕ, pos, Bool, List, [], ◌∷◌, Option, Some, None, Result, Ok, Err, IfOk, if◌then◌else◌, drop, map, reverse}
+use Rattle.std.specs.Prelude.{◌≡◌, ℕ, pos, Bool, List, [], ◌∷◌, Option, Some, None, Result, Ok, Err, IfOk}
+use Rattle.std.specs.Prelude.{if◌then◌else◌, drop, map, reverse}
 use Rattle.std.specs.BTreeMap.{BTreeMap, get}
 use Rattle.std.specs.declared.alloc.AllocError.{AllocError}
 use Rattle.types.specs.declared.form.OrdinalRange.{OrdinalRange}
@@ -14,8 +15,10 @@ use Rattle.meaning.specs.declared.work.Work.TheVariants as work
 use Rattle.meaning.specs.declared.interpreter.Run.{Run}
 use Rattle.meaning.specs.contracts.store.PlaceOrd.TheImpl.{ghosts as places}
 use Rattle.meaning.specs.Store.{Environment, Place, Store, stored}
-use Rattle.meaning.specs.Effect.{State, Reply, Stops, Action, ◌>>=◌, give, stop, require, place_of, store, write, is_in, is_positive, text_of}
-use Rattle.meaning.specs.Meaning.{Combination, completed, ended, operated, combined, value_of, link_of, effect_of, all_of, width_of, parameter_of, line_ended}
+use Rattle.meaning.specs.Effect.{State, Reply, Stops, Action, ◌>>=◌, give, stop, require, place_of, store, write}
+use Rattle.meaning.specs.Effect.{is_in, is_positive, text_of}
+use Rattle.meaning.specs.Meaning.{Combination, completed, ended, operated, combined, value_of, link_of, effect_of}
+use Rattle.meaning.specs.Meaning.{all_of, width_of, parameter_of, line_ended}
 
 -- what is done with the operands, the topmost first, and the state
 abbrev pub Resumption : Type 0
@@ -126,8 +129,7 @@ abbrev pub rest_of : Environment → Run → State → Reply (Unit {0})
 rest_of env run s = pending_of env (reverse run.pending.items) (reverse run.values.items) s
 
 -- a step answered: it goes on to what the reply goes on to, or the reply stops with this ending and this output
-abbrev pub Continues : Environment → Reply (Unit {0})
-    → Result (Option Ending) AllocError → Run → Type 0
+abbrev pub Continues : Environment → Reply (Unit {0}) → Result (Option Ending) AllocError → Run → Type 0
 Continues env reply (Err e) run = Unit {0}
 Continues env reply (Ok None) run = (s : State) × Agrees run s × (reply ≡ rest_of env run s)
 Continues env reply (Ok (Some ending)) run = (s : State) × (run.output.items ≡ s.output) × (reply ≡ Stops ending s)
@@ -137,15 +139,13 @@ abbrev pub IsFlat : Environment → Type 0
 IsFlat env = (root : ℕ) → place_of env root ≡ record { activation = 0; variable = root; steps = [] }
 
 -- a step does a piece of work: in each state that the run agrees with
-abbrev pub Does : (Environment → Resumption → Resumption) → Run
-    → Result (Option Ending) AllocError → Run → Type 0
+abbrev pub Does : (Environment → Resumption → Resumption) → Run → Result (Option Ending) AllocError → Run → Type 0
 Does piece old result new =
     (env : Environment) → IsFlat env → (s : State) → Agrees old s →
     Continues env (piece env (pending_of env (reverse old.pending.items)) (reverse old.values.items) s) result new
 
 -- a run is done: what it wrote and how it ended are those of all that it had to do
-abbrev pub Finishes : (Environment → Action (Unit {0})) → Run
-    → Result Ending AllocError → Run → Type 0
+abbrev pub Finishes : (Environment → Action (Unit {0})) → Run → Result Ending AllocError → Run → Type 0
 Finishes all old result new =
     (env : Environment) → IsFlat env → (s : State) → Agrees old s →
     IfOk result (λ ending. ended (all env s) ≡ record { output = new.output.items; ending = ending })

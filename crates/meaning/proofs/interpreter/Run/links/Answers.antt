@@ -17,7 +17,8 @@ returns-in_ok-put-in-Some-clause-does c = λ env flat s agrees.
     let all : c.args.links.now ≡ first ∷ c.in-Some.rest.now = c.in-Some.ensures.cases.0 in
     continues_as env old c.plan.new.self _ _ c.plan.result
     (does-Links first c.in-Some.rest c.args.links all env (reverse old.pending.items) (reverse old.values.items) s
-    ∙ ap (λ (works : List Work). evaluated env first.operand (work.Combine first.operation ∷ works) (reverse old.values.items) (entered first.number env s)) (sym (reverse_pushed _ _ _ _ c.in_ok-put-in-Some.ensures refl)))
+    ∙ ap (λ (works : List Work). evaluated env first.operand (work.Combine first.operation ∷ works) (reverse old.values.items) (entered first.number env s))
+    (sym (reverse_pushed _ _ _ _ c.in_ok-put-in-Some.ensures refl)))
     (c.plan.ensures.does env flat (entered first.number env s) agrees)
 
 -- what weighs as much as a sum below the bound weighs less than the bound

@@ -2,13 +2,15 @@ use Rattle.meaning.proofs.Resuming.{does_as}
 use Rattle.meaning.proofs.interpreter.Run.step.Goals as goal
 
 pub returns-in-Statements-clause-does : goal.returns-in-Statements-clause-does
-returns-in-Statements-clause-does c = does_as c.args.self.now c.statements.new.self c.args.work _ c.statements.result c.in-Statements.is c.statements.ensures.does
+returns-in-Statements-clause-does c =
+    does_as c.args.self.now c.statements.new.self c.args.work _ c.statements.result c.in-Statements.is c.statements.ensures.does
 
 pub returns-in-Statement-clause-does : goal.returns-in-Statement-clause-does
 returns-in-Statement-clause-does c = does_as c.args.self.now c.statement.new.self c.args.work _ c.statement.result c.in-Statement.is c.statement.ensures.does
 
 pub returns-in-Parameters-clause-does : goal.returns-in-Parameters-clause-does
-returns-in-Parameters-clause-does c = does_as c.args.self.now c.parameters.new.self c.args.work _ c.parameters.result c.in-Parameters.is c.parameters.ensures.does
+returns-in-Parameters-clause-does c =
+    does_as c.args.self.now c.parameters.new.self c.args.work _ c.parameters.result c.in-Parameters.is c.parameters.ensures.does
 
 pub returns-in-Parameter-clause-does : goal.returns-in-Parameter-clause-does
 returns-in-Parameter-clause-does c = does_as c.args.self.now c.parameter.new.self c.args.work _ c.parameter.result c.in-Parameter.is c.parameter.ensures.does

@@ -20,13 +20,15 @@ returns-in_ok-insert-in-Some-clause-does c = λ env flat s agrees.
       after,
       record {
         store = λ p whole. keeps_agreeing c.place-place.result p there value popped.store c.insert.new.self s.store
-            (c.place-place.ensures.seen ∙ sym (flat c.args.root)) c.place-place.ensures.whole whole (c.in_ok-insert-in-Some.ensures.updates.0 p) (kept.store p whole);
+            (c.place-place.ensures.seen ∙ sym (flat c.args.root)) c.place-place.ensures.whole whole (c.in_ok-insert-in-Some.ensures.updates.0 p)
+            (kept.store p whole);
         input = kept.input;
         output = kept.output;
         turns = kept.turns;
         activations = kept.activations;
       },
-      stores env c.args.root c.args.fits (pending_of env (reverse old.pending.items)) (reverse old.values.items) s value (sym fine.0 ∙ c.popped.ensures.top) (ap (is_in c.args.fits.range) (sym fine.0) ∙ fine.1)
+      stores env c.args.root c.args.fits (pending_of env (reverse old.pending.items)) (reverse old.values.items) s value (sym fine.0 ∙ c.popped.ensures.top)
+          (ap (is_in c.args.fits.range) (sym fine.0) ∙ fine.1)
           ∙ ap (λ l. pending_of env (reverse old.pending.items) l after) (sym c.popped.ensures.below)
           ∙ ap (λ (r : Run). pending_of env (reverse r.pending.items) (reverse popped.values.items) after) (sym same),
     )
