@@ -1,6 +1,7 @@
 -- What the checker did over a piece of a program, from what it did over the parts of the piece.
 use Rattle.std.proofs.Common.{rules, ◌≡◌, ◌≤◌, Bool, Option, Some, None, Result, Ok, Err, ℕ, ℤ, ◌+◌, List, [], ◌∷◌, ◌++◌, length, map, refl, sym, ap, ◌∙◌, subst, append_assoc, append-nil, ◌<◌, get_or, drop, drop-cons, add-one, suc}
 use Rattle.std.proofs.lemmas.List.{drop_all}
+use Rattle.std.specs.Result.{IsErr, IsErrAnd}
 use Rattle.place.specs.declared.Place.{Place as SourcePlace}
 use Rattle.typed_tree.specs.declared.tree.Access.{Access}
 use Rattle.typed_tree.specs.declared.tree.RangeTest.{RangeTest}
@@ -21,7 +22,11 @@ use Rattle.cert_checker.specs.declared.fault.CheckFault.TheVariants.{Memory, Bro
 use Rattle.cert_checker.specs.declared.known.Known.{Known}
 use Rattle.cert_checker.specs.declared.visits.Visits.{Visits}
 use Rattle.cert_checker.specs.declared.walk.Walk.{Walk}
-use Rattle.cert_checker.specs.Walk.{Breach, Linked, Walked, Walking, Combination, ◌>>=◌, give, ordinal, enter, variable_walk, operated, combined, in_turn, value_walk, link_walk, parameter_walk, statement_walk, all_of, assignment, numbers_of}
+use Rattle.domain.specs.Interval.{Interval}
+use Rattle.cert_checker.specs.declared.state.State.{State as Kept}
+use Rattle.cert_checker.specs.declared.known.Known.TheVariants.{Ordinal}
+use Rattle.cert_checker.specs.State.{State, Dead, Live, is_defined, range_of, with_defined, with_value}
+use Rattle.cert_checker.specs.Walk.{Breach, Context, Linked, Walked, Walking, use_of, tested, assign, fitting, ◌>>=◌, give, ordinal, enter, variable_walk, operated, combined, in_turn, value_walk, link_walk, parameter_walk, statement_walk, all_of, assignment, numbers_of}
 use Rattle.cert_checker.specs.View.{viewed, context_of, all_counted, counted, first_breach, IsBreachOf, Walks, Goes}
 
 -- ---- the walk, form by form
@@ -120,6 +125,13 @@ goes-stopped {A} {B} first next old new before after fault is =
 pub goes-as : {A : Type 0} (walk form : Walking A) (old new : Walk) (before after : Visits) (result : Result A CheckFault) → walk ≡ form → Goes form old before result new after → Goes walk old before result new after
 goes-as walk form old new before after result is goes = subst (λ w. Goes w old before result new after) (sym is) goes
 
+-- by the fault that is handed on
+pub given-up : {A : Type 0} (walk : Walking A) (old new : Walk) (before after : Visits) (fault : CheckFault) (result : Result A CheckFault) → IsErr result × IsErrAnd result (λ e. e ≡ fault)
+    → Goes walk old before (Err fault) new after → Goes walk old before result new after
+given-up walk old new before after fault (Ok a) is goes = absurd is.1
+given-up {A} walk old new before after fault (Err other) is goes =
+    subst (λ f. Goes walk old before (Err f) new after) (sym is.1) goes
+
 -- ---- a list of pieces, from one of them on
 
 item-cut : {X : Type 0} (items : List X) (i : ℕ) (x : X) → i < length items → x ≡ get_or items i x → drop i items ≡ x ∷ drop (i + 1) items
@@ -175,3 +187,74 @@ pub turn-end : (items : List Link) (i : ℕ) (left : Known) (old : Walk) (visits
     → Goes (in_turn (map link_walk (drop i items)) left) old visits (Ok left) old visits
 turn-end items i left old visits past =
     subst (λ links. Goes (in_turn (map link_walk links) left) old visits (Ok left) old visits) (sym (drop-past items i past)) (walks-give left old visits)
+
+-- ---- the use of a variable, and the assignment to one
+
+-- a use is a test of whether the variable is defined, in the state in which it is
+use-same : (root site : ℕ) (context : Context) (state : State)
+    → (use_of root site context state).open_ids ≡ (tested (is_defined state root) site (range_of state root) context (with_defined root state)).open_ids
+use-same root site context Dead = refl
+use-same root site context (Live facts) = search rules
+
+pub use-walks : (root site : ℕ) (closed : Bool) (range value : Interval) (old new : Walk) (state : Kept) (before after : Visits)
+    → closed ≡ is_defined (viewed old.state) root → range ≡ range_of (viewed old.state) root → viewed state ≡ with_defined root (viewed old.state)
+    → Walks (tested closed site range) (record old { state = state }) before new after value → Walks (use_of root site) old before new after (Ordinal value)
+use-walks root site closed range value old new state before after closed_is range_is state_is done =
+    let was : State = viewed old.state in
+    let same : tested closed site range (context_of old) (viewed state) ≡ tested (is_defined was root) site (range_of was root) (context_of old) (with_defined root was) =
+    ap (λ c. tested c site range (context_of old) (viewed state)) closed_is ∙ ap (λ r. tested (is_defined was root) site r (context_of old) (viewed state)) range_is
+    ∙ ap (tested (is_defined was root) site (range_of was root) (context_of old)) state_is in
+    record {
+      context_is = done.context_is;
+      value_is = ap Ordinal (done.value_is ∙ ap (λ w. w.value) same);
+      state_is = done.state_is ∙ ap (λ w. w.after) same;
+      open_is = done.open_is ∙ ap (λ w. old.open_ids.items ++ w.open_ids) same ∙ ap (λ ids. old.open_ids.items ++ ids) (sym (use-same root site (context_of old) was));
+      visits_are = done.visits_are;
+      unbroken = refl;
+    }
+
+-- an assignment changes nothing but the state
+pub assign-walks : (root : ℕ) (known : Known) (range : Interval) (old : Walk) (state : Kept) (visits : Visits) → known ≡ Ordinal range → viewed state ≡ with_value root range (viewed old.state)
+    → Walks (assign root known) old visits (record old { state = state }) visits tt
+assign-walks root known range old state visits known_is is =
+    subst (λ k. Walks (assign root k) old visits (record old { state = state }) visits tt) (sym known_is)
+    (record { context_is = refl; value_is = refl; state_is = is; open_is = sym (append-nil old.open_ids.items); visits_are = refl; unbroken = refl })
+
+-- an assignment from its target's entry on
+pub assignment-done : (target : Access) (fits : RangeTest) (value : Expr) (old entered valued : Walk) (before entries after : Visits) (known : Known) (result : Result (Unit {0}) CheckFault) (new : Walk)
+    → Walks (enter target.number) old before entered entries tt → Walks (value_walk value) entered entries valued after known
+    → Goes (fitting fits known >>= assign target.root) valued after result new after → Goes (assignment target fits value) old before result new after
+assignment-done target fits value old entered valued before entries after known result new one two three =
+    goes-then (enter target.number) (λ _. value_walk value >>= λ known. (fitting fits known >>= assign target.root)) old entered new before entries after tt result one
+    (goes-then (value_walk value) (λ known. fitting fits known >>= assign target.root) entered valued new entries after after known result two three)
+
+pub use-stopped : (root site : ℕ) (old new : Walk) (before after : Visits) (closed : Bool) (range : Interval) (state : Kept) (fault : CheckFault)
+    → IsBreachOf (tested closed site range (context_of old) (viewed state)) fault → Goes (use_of root site) old before (Err fault) new after
+use-stopped root site old new before after closed range state fault is =
+    breach-same (tested closed site range (context_of old) (viewed state)) (use_of root site (context_of old) (viewed old.state)) fault refl is
+
+-- ---- an expression that the checker has begun
+
+pub monadic-begun : (expression : Expr) (number : ℕ) (operation : Monadic) (operand : Box Expr Global) (inner : Expr) (old entered new : Walk) (before between after : Visits) (value : Unit {0}) (result : Result Known CheckFault)
+    → expression ≡ expr.Monadic number operation operand → inner ≡ operand.value → Walks (enter number) old before entered between value
+    → Goes (value_walk inner >>= operated operation) entered between result new after → Goes (value_walk expression) old before result new after
+monadic-begun expression number operation operand inner old entered new before between after value result is inner_is one two =
+    goes-as (value_walk expression) (enter number >>= λ _. (value_walk inner >>= operated operation)) old new before after result
+    (ap value_walk is ∙ value-Monadic number operation operand ∙ ap (λ e. enter number >>= λ _. (value_walk e >>= operated operation)) (sym inner_is))
+    (goes-then (enter number) (λ _. value_walk inner >>= operated operation) old entered new before between after value result one two)
+
+pub chain-begun : (expression : Expr) (first : Box Expr Global) (rest : Vec Link Global) (inner : Expr) (items : List Link) (left : Known) (old mid : Walk) (before between : Visits)
+    → expression ≡ expr.Chain first rest → inner ≡ first.value → items ≡ rest.items → Walks (value_walk inner) old before mid between left
+    → (result : Result Known CheckFault) (new : Walk) (after : Visits) → Goes (in_turn (map link_walk items) left) mid between result new after → Goes (value_walk expression) old before result new after
+chain-begun expression first rest inner items left old mid before between is inner_is items_are one result new after two =
+    goes-as (value_walk expression) (value_walk inner >>= in_turn (map link_walk items)) old new before after result
+    (ap value_walk is ∙ value-Chain first rest ∙ ap (λ e. value_walk e >>= in_turn (map link_walk rest.items)) (sym inner_is) ∙ ap (λ links. value_walk inner >>= in_turn (map link_walk links)) (sym items_are))
+    (goes-then (value_walk inner) (in_turn (map link_walk items)) old mid new before between after left result one two)
+
+pub link-done : (link : Link) (left right : Known) (old entered valued new : Walk) (before between after end : Visits) (value : Unit {0}) (result : Result Known CheckFault)
+    → Walks (enter link.number) old before entered between value → Walks (value_walk link.operand) entered between valued after right
+    → Goes (combined link.operation left right) valued after result new end → Goes (link_walk link left) old before result new end
+link-done link left right old entered valued new before between after end value result one two three =
+    goes-as (link_walk link left) (enter link.number >>= λ _. (value_walk link.operand >>= combined link.operation left)) old new before end result (ap (λ walk. walk left) (link-walks link))
+    (goes-then (enter link.number) (λ _. value_walk link.operand >>= combined link.operation left) old entered new before between end value result one
+    (goes-then (value_walk link.operand) (combined link.operation left) entered valued new between after end right result two three))
