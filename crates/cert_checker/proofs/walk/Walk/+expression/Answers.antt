@@ -1,4 +1,4 @@
-use Rattle.std.proofs.Common.{Err}
+use Rattle.std.proofs.Common.{Ok, Err}
 use Rattle.cert_checker.specs.Walk.{value_walk, operated}
 use Rattle.cert_checker.proofs.Steps.{given-up, goes-then, goes-stopped, monadic-begun, chain-begun, turn-step, turn-end, link-done}
 use Rattle.cert_checker.proofs.walk.Walk.+expression.Goals as goal
@@ -40,13 +40,13 @@ pub expression-loop-link-preserved : goal.expression-loop-link-preserved
 expression-loop-link-preserved t c = λ result new after goes.
     let here = c.loop-link in
     here.invariant result new after
-    (turn-step c.deref-link-items.result.now here.link-index c.link-item.result here.known c.in_ok-known-in-loop-link.known here.self c.link.new.self new here.visits c.link.new.visits after result
-    c.loop-link-test.true c.link-item.is c.in_ok-known-in-loop-link.ensures goes)
+    (turn-step c.deref-link-items.result.now here.link-index c.link-item.result here.known c.in_ok-known-in-Chain-2.known here.self c.link.new.self new here.visits c.link.new.visits after result
+    c.loop-link-test.true c.link-item.is c.in_ok-known-in-Chain-2.ensures goes)
 
 pub expression-returns-after-loop-link : goal.expression-returns-after-loop-link
 expression-returns-after-loop-link t c =
     let here = c.loop-link in
-    here.invariant _ here.self here.visits (turn-end c.deref-link-items.result.now here.link-index here.known here.self here.visits c.loop-link-test.false)
+    here.invariant (Ok here.known) here.self here.visits (turn-end c.deref-link-items.result.now here.link-index here.known here.self here.visits c.loop-link-test.false)
 
 pub link-returns : goal.link-returns
 link-returns t c =
