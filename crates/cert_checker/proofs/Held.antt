@@ -40,7 +40,7 @@ square-done operation known overflow range kept result old new kept_is known_is 
     (ap (λ o. operated o known) is ∙ ap (operated (monadic.Sqr overflow)) known_is) (squared-plain range) kept_is done
 
 -- an operation on the ranges of two ordinals
-combined-as : (operation same : Dyadic) (left right : Known) (one two : Interval) → operation ≡ same → left ≡ Ordinal one → right ≡ Ordinal two
+pub combined-as : (operation same : Dyadic) (left right : Known) (one two : Interval) → operation ≡ same → left ≡ Ordinal one → right ≡ Ordinal two
     → combined operation left right ≡ combined same (Ordinal one) (Ordinal two)
 combined-as operation same left right one two is left_is right_is =
     ap (λ o. combined o left right) is ∙ ap (λ l. combined same l right) left_is ∙ ap (combined same (Ordinal one)) right_is

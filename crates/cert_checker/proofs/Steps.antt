@@ -26,7 +26,7 @@ use Rattle.domain.specs.Interval.{Interval}
 use Rattle.cert_checker.specs.declared.state.State.{State as Kept}
 use Rattle.cert_checker.specs.declared.known.Known.TheVariants.{Ordinal}
 use Rattle.cert_checker.specs.State.{State, Dead, Live, is_defined, range_of, with_defined, with_value}
-use Rattle.cert_checker.specs.Walk.{Breach, Context, Linked, Walked, Walking, use_of, tested, assign, fitting, ◌>>=◌, give, ordinal, enter, variable_walk, operated, combined, in_turn, value_walk, link_walk, parameter_walk, statement_walk, all_of, assignment, numbers_of}
+use Rattle.cert_checker.specs.Walk.{Breach, Context, Linked, Walked, Walking, use_of, tested, positive, within, limits_of, width_test, assign, fitting, ◌>>=◌, give, ordinal, enter, variable_walk, operated, combined, in_turn, value_walk, link_walk, parameter_walk, statement_walk, all_of, assignment, numbers_of}
 use Rattle.cert_checker.specs.View.{viewed, context_of, all_counted, counted, first_breach, IsBreachOf, Walks, Goes}
 
 -- ---- the walk, form by form
@@ -258,3 +258,28 @@ link-done link left right old entered valued new before between after end value 
     goes-as (link_walk link left) (enter link.number >>= λ _. (value_walk link.operand >>= combined link.operation left)) old new before end result (ap (λ walk. walk left) (link-walks link))
     (goes-then (enter link.number) (λ _. value_walk link.operand >>= combined link.operation left) old entered new before between end value result one
     (goes-then (value_walk link.operand) (combined link.operation left) entered valued new between after end right result two three))
+
+-- ---- what is tested of a value by its range
+
+pub width-as : (site : ℕ) (known : Known) (range : Interval) → known ≡ Ordinal range → width_test site known ≡ (positive site range >>= λ _. give (tt {0}))
+width-as site known range is = ap (width_test site) is
+
+pub fitting-as : (fits : RangeTest) (known : Known) (limits range : Interval) → known ≡ Ordinal range → limits ≡ limits_of fits.range
+    → fitting fits known ≡ (within limits fits.site range >>= ordinal)
+fitting-as fits known limits range is limits_are = ap (fitting fits) is ∙ ap (λ l. within l fits.site range >>= ordinal) (sym limits_are)
+
+-- a value was tested, and what passed is given on
+pub tested-goes : {A B : Type 0} (walk : Walking B) (test : Walking A) (next : A → B) (passed : A) (result : B) (old new : Walk) (visits : Visits) → walk ≡ (test >>= λ x. give (next x))
+    → result ≡ next passed → Walks test old visits new visits passed → Goes walk old visits (Ok result) new visits
+tested-goes walk test next passed result old new visits is result_is tested =
+    goes-as walk (test >>= λ x. give (next x)) old new visits visits (Ok result) is
+    (subst (λ r. Walks (test >>= λ x. give (next x)) old visits new visits r) (sym result_is)
+    (walks-then test (λ x. give (next x)) old new new visits visits visits passed (next passed) tested (walks-give (next passed) new visits)))
+
+-- a value was tested, and the checker gave up there
+pub tested-stopped : {A B : Type 0} (walk : Walking B) (test : Walking A) (next : A → B) (old new : Walk) (visits : Visits) (fault : CheckFault) (result : Result B CheckFault)
+    → walk ≡ (test >>= λ x. give (next x)) → IsErr result × IsErrAnd result (λ e. e ≡ fault) → IsBreachOf (test (context_of old) (viewed old.state)) fault
+    → Goes walk old visits result new visits
+tested-stopped walk test next old new visits fault result is left stopped =
+    given-up walk old new visits visits fault result left
+    (goes-as walk (test >>= λ x. give (next x)) old new visits visits (Err fault) is (goes-stopped test (λ x. give (next x)) old new visits visits fault stopped))
