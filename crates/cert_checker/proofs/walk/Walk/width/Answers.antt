@@ -1,4 +1,4 @@
-use Rattle.std.proofs.Common.{rules, ap}
+use Rattle.std.proofs.Common.{ap}
 use Rattle.cert_checker.specs.Walk.{value_walk, width_walk, width_test}
 use Rattle.cert_checker.proofs.Steps.{goes-as, goes-then}
 use Rattle.cert_checker.proofs.walk.Walk.width.Goals as goal
