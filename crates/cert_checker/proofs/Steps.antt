@@ -1,9 +1,10 @@
-use Rattle.std.proofs.Common.{rules, arith, ◌≡◌, ◌≤◌, Bool, Option, Some, ℕ, ℤ, ◌+◌, List, [], ◌∷◌, ◌++◌, length, map, refl, sym, ap, ◌∙◌, subst, append_assoc, append-nil, ◌<◌, get_or, drop, drop-cons, add-one, suc, length-append}
+-- What the checker did over a piece of a program, from what it did over the parts of the piece.
+use Rattle.std.proofs.Common.{rules, ◌≡◌, ◌≤◌, Bool, Some, Result, Ok, Err, ℕ, ℤ, ◌+◌, List, [], ◌∷◌, ◌++◌, length, map, refl, sym, ap, ◌∙◌, subst, append_assoc, append-nil, ◌<◌, get_or, drop, drop-cons, add-one, suc}
 use Rattle.std.proofs.lemmas.List.{drop_all}
+use Rattle.std.specs.Result.{IsErr, IsErrAnd}
 use Rattle.place.specs.declared.Place.{Place as SourcePlace}
 use Rattle.typed_tree.specs.declared.tree.Access.{Access}
 use Rattle.typed_tree.specs.declared.tree.RangeTest.{RangeTest}
-use Rattle.typed_tree.specs.declared.tree.Width.{Width}
 use Rattle.typed_tree.specs.declared.tree.WriteParameter.{WriteParameter}
 use Rattle.typed_tree.specs.declared.tree.Monadic.{Monadic}
 use Rattle.typed_tree.specs.declared.tree.Expr.{Expr}
@@ -16,29 +17,34 @@ use Rattle.typed_tree.specs.declared.tree.Stmt.TheFolds.{the_lemmas as stmt_lemm
 use Rattle.std.specs.declared.boxed.Box.{Box}
 use Rattle.std.specs.declared.vec.Vec.{Vec}
 use Rattle.std.specs.declared.alloc.Global.{Global}
-use Rattle.domain.specs.Interval.{Interval}
+use Rattle.cert_checker.specs.declared.fault.CheckFault.{CheckFault}
+use Rattle.cert_checker.specs.declared.fault.CheckFault.TheVariants.{Memory, Broken}
+use Rattle.cert_checker.specs.declared.known.Known.{Known}
+use Rattle.cert_checker.specs.declared.visits.Visits.{Visits}
 use Rattle.cert_checker.specs.declared.walk.Walk.{Walk}
+use Rattle.domain.specs.Interval.{Interval}
 use Rattle.cert_checker.specs.declared.state.State.{State as Kept}
+use Rattle.cert_checker.specs.declared.known.Known.TheVariants.{Ordinal}
 use Rattle.cert_checker.specs.State.{State, Dead, Live, is_defined, range_of, with_defined, with_value}
-use Rattle.cert_checker.specs.Walk.{Walked, Walking, ◌>>=◌, give, enter, use_of, variable_walk, tested, within, positive, operated, combined, in_turn, value_walk, link_walk, width_walk, parameter_walk, statement_walk, all_of, assign, limits_of, assignment}
-use Rattle.cert_checker.specs.View.{viewed, Walks}
+use Rattle.cert_checker.specs.Walk.{Breach, Context, Linked, Walked, Walking, use_of, tested, positive, within, limits_of, width_test, assign, fitting, ◌>>=◌, give, ordinal, enter, variable_walk, operated, combined, in_turn, value_walk, link_walk, parameter_walk, statement_walk, all_of, assignment, numbers_of}
+use Rattle.cert_checker.specs.View.{viewed, context_of, all_counted, counted, first_breach, IsBreachOf, Walks, Goes}
 
 -- ---- the walk, form by form
 
-pub value-Constant : (number : ℕ) (value : ℤ) → value_walk (expr.Constant number value) ≡ (enter number >>= λ _. give (record { first = value; last = value }))
+pub value-Constant : (number : ℕ) (value : ℤ) → value_walk (expr.Constant number value) ≡ (enter number >>= λ _. ordinal (record { first = value; last = value }))
 value-Constant number value = search (rules, the_lemmas)
 
 pub value-Variable : (access : Access) (defined : ℕ) → value_walk (expr.Variable access defined) ≡ variable_walk access defined
 value-Variable access defined = search (rules, the_lemmas)
-
-pub link-walks : (link : Link) → link_walk link ≡ (λ (left : Interval). enter link.number >>= λ _. (value_walk link.operand >>= combined link.operation left))
-link-walks link = search (rules, the_lemmas)
 
 pub value-Monadic : (number : ℕ) (operation : Monadic) (operand : Box Expr Global) → value_walk (expr.Monadic number operation operand) ≡ (enter number >>= λ _. (value_walk operand.value >>= operated operation))
 value-Monadic number operation operand = search (rules, the_lemmas)
 
 pub value-Chain : (first : Box Expr Global) (rest : Vec Link Global) → value_walk (expr.Chain first rest) ≡ (value_walk first.value >>= in_turn (map link_walk rest.items))
 value-Chain first rest = search (rules, the_lemmas)
+
+pub link-walks : (link : Link) → link_walk link ≡ (λ (left : Known). enter link.number >>= λ _. (value_walk link.operand >>= combined link.operation left))
+link-walks link = search (rules, the_lemmas)
 
 pub statement-Empty : (number : ℕ) → statement_walk (stmt.Empty number) ≡ enter number
 statement-Empty number = search (rules, stmt_lemmas)
@@ -53,23 +59,80 @@ pub statement-Compound : (number : ℕ) (statements : Vec Stmt Global) → state
 statement-Compound number statements = search (rules, stmt_lemmas)
 
 -- ---- one piece of a walk after another
-pub walks-then : {A B : Type 0} (first : Walking A) (next : A → Walking B) (old mid new : Walk) (a : A) (b : B) → Walks first old mid a → Walks (next a) mid new b → Walks (first >>= next) old new b
-walks-then {A} {B} first next old mid new a b one two =
-    let was : Walked A = first (viewed old.state) in
-    let same : next a (viewed mid.state) ≡ next was.value was.after = ap (λ x. next x (viewed mid.state)) one.value_is ∙ ap (next was.value) one.state_is in
+
+-- entries that are counted in two parts
+counted-both : (one two : List Linked) (visits : Visits) → all_counted (numbers_of (one ++ two)) visits ≡ all_counted (numbers_of two) (all_counted (numbers_of one) visits)
+counted-both [] two visits = refl
+counted-both (linked ∷ one) two visits = counted-both one two (counted linked.number visits)
+
+pub walks-then : {A B : Type 0} (first : Walking A) (next : A → Walking B) (old mid new : Walk) (before between after : Visits) (a : A) (b : B)
+    → Walks first old before mid between a → Walks (next a) mid between new after b → Walks (first >>= next) old before new after b
+walks-then {A} {B} first next old mid new before between after a b one two =
+    let was : Walked A = first (context_of old) (viewed old.state) in
+    let then : Walked B = next a (context_of mid) (viewed mid.state) in
+    let same : then ≡ next was.value (context_of old) was.after =
+    ap (λ x. next x (context_of mid) (viewed mid.state)) one.value_is ∙ ap (λ x. next was.value x (viewed mid.state)) one.context_is ∙ ap (next was.value (context_of old)) one.state_is in
     record {
+      context_is = two.context_is ∙ one.context_is;
       value_is = two.value_is ∙ ap (λ w. w.value) same;
       state_is = two.state_is ∙ ap (λ w. w.after) same;
-      open_is = two.open_is ∙ ap (λ ids. ids ++ (next a (viewed mid.state)).open_ids) one.open_is ∙ ap (λ w. (old.open_ids.items ++ was.open_ids) ++ w.open_ids) same ∙ append_assoc old.open_ids.items was.open_ids (next was.value was.after).open_ids;
-      visits_are =
-          let same_length : length (next a (viewed mid.state)).linked ≡ length (next was.value was.after).linked = ap (λ w. length w.linked) same in
-          rw length-append (omega (arith, one.visits_are, two.visits_are, same_length));
-      unbroken = ap (λ w. was.broken ++ w.broken) (sym same) ∙ ap (λ b. b ++ (next a (viewed mid.state)).broken) one.unbroken ∙ two.unbroken;
+      open_is = two.open_is ∙ ap (λ ids. ids ++ then.open_ids) one.open_is ∙ ap (λ w. (old.open_ids.items ++ was.open_ids) ++ w.open_ids) same
+      ∙ append_assoc old.open_ids.items was.open_ids (next was.value (context_of old) was.after).open_ids;
+      visits_are = two.visits_are ∙ ap (all_counted (numbers_of then.linked)) one.visits_are ∙ ap (λ w. all_counted (numbers_of w.linked) (all_counted (numbers_of was.linked) before)) same
+      ∙ sym (counted-both was.linked (next was.value (context_of old) was.after).linked before);
+      unbroken = ap (λ w. was.broken ++ w.broken) (sym same) ∙ ap (λ b. b ++ then.broken) one.unbroken ∙ two.unbroken;
     }
 
 -- a piece that only gives its value
-pub walks-give : {A : Type 0} (value : A) (old : Walk) → Walks (give value) old old value
-walks-give value old = record { value_is = refl; state_is = refl; open_is = sym (append-nil old.open_ids.items); visits_are = omega arith; unbroken = refl }
+pub walks-give : {A : Type 0} (value : A) (old : Walk) (visits : Visits) → Walks (give value) old visits old visits value
+walks-give value old visits =
+    record { context_is = refl; value_is = refl; state_is = refl; open_is = sym (append-nil old.open_ids.items); visits_are = refl; unbroken = refl }
+
+-- a first breach stays the first
+first-stays : (one two : List Breach) (breach : Breach) → first_breach one ≡ Some breach → first_breach (one ++ two) ≡ Some breach
+first-stays [] two breach is = cc
+first-stays (first ∷ one) two breach is = is
+
+pub breach-stays : {A B : Type 0} (walked : Walked A) (more : Walked B) (fault : CheckFault) (both : Walked B) → both.broken ≡ walked.broken ++ more.broken → IsBreachOf walked fault → IsBreachOf both fault
+breach-stays walked more Memory both are is = tt
+breach-stays walked more (Broken rule place) both are is = ap first_breach are ∙ first-stays walked.broken more.broken (record { rule = rule; place = place }) is
+
+-- the rules that are broken are the same
+breach-same : {A B : Type 0} (walked : Walked A) (other : Walked B) (fault : CheckFault) → walked.broken ≡ other.broken → IsBreachOf walked fault → IsBreachOf other fault
+breach-same walked other Memory same is = tt
+breach-same walked other (Broken rule place) same is = ap first_breach (sym same) ∙ is
+
+-- the first piece was walked over: what the checker did over the next is what it did over both
+pub goes-then : {A B : Type 0} (first : Walking A) (next : A → Walking B) (old mid new : Walk) (before between after : Visits) (a : A) (result : Result B CheckFault)
+    → Walks first old before mid between a → Goes (next a) mid between result new after → Goes (first >>= next) old before result new after
+goes-then first next old mid new before between after a (Ok b) one two = walks-then first next old mid new before between after a b one two
+goes-then {A} {B} first next old mid new before between after a (Err fault) one two =
+    let was : Walked A = first (context_of old) (viewed old.state) in
+    let then : Walked B = next a (context_of mid) (viewed mid.state) in
+    let same : then ≡ next was.value (context_of old) was.after =
+    ap (λ x. next x (context_of mid) (viewed mid.state)) one.value_is ∙ ap (λ x. next was.value x (viewed mid.state)) one.context_is ∙ ap (next was.value (context_of old)) one.state_is in
+    breach-same then ((first >>= next) (context_of old) (viewed old.state)) fault
+    (sym (ap (λ w. was.broken ++ w.broken) (sym same) ∙ ap (λ b. b ++ then.broken) one.unbroken)) two
+
+-- the checker gave up over the first piece: so it does over both
+pub goes-stopped : {A B : Type 0} (first : Walking A) (next : A → Walking B) (old new : Walk) (before after : Visits) (fault : CheckFault)
+    → IsBreachOf (first (context_of old) (viewed old.state)) fault → Goes (first >>= next) old before (Err fault) new after
+goes-stopped {A} {B} first next old new before after fault is =
+    let was : Walked A = first (context_of old) (viewed old.state) in
+    breach-stays was (next was.value (context_of old) was.after) fault ((first >>= next) (context_of old) (viewed old.state)) refl is
+
+-- by what a walk is
+pub goes-as : {A : Type 0} (walk form : Walking A) (old new : Walk) (before after : Visits) (result : Result A CheckFault) → walk ≡ form → Goes form old before result new after → Goes walk old before result new after
+goes-as walk form old new before after result is goes = subst (λ w. Goes w old before result new after) (sym is) goes
+
+-- by the fault that is handed on
+pub given-up : {A : Type 0} (walk : Walking A) (old new : Walk) (before after : Visits) (fault : CheckFault) (result : Result A CheckFault) → IsErr result × IsErrAnd result (λ e. e ≡ fault)
+    → Goes walk old before (Err fault) new after → Goes walk old before result new after
+given-up walk old new before after fault (Ok a) is goes = absurd is.1
+given-up {A} walk old new before after fault (Err other) is goes =
+    subst (λ f. Goes walk old before (Err f) new after) (sym is.1) goes
+
+-- ---- a list of pieces, from one of them on
 
 item-cut : {X : Type 0} (items : List X) (i : ℕ) (x : X) → i < length items → x ≡ get_or items i x → drop i items ≡ x ∷ drop (i + 1) items
 item-cut items i x inside is = rw add-one (drop-cons items i x inside ∙ ap (λ y. y ∷ drop (suc i) items) (sym is))
@@ -77,121 +140,146 @@ item-cut items i x inside is = rw add-one (drop-cons items i x inside ∙ ap (λ
 drop-past : {X : Type 0} (items : List X) (i : ℕ) → length items ≤ i → drop i items ≡ []
 drop-past items i past = drop_all i items past
 
--- the operators, values and statements that are left from one of them on
-pub turn-step : (items : List Link) (i : ℕ) (link : Link) (range result : Interval) (old mid new : Walk) (value : Interval) → i < length items → link ≡ get_or items i link → Walks (link_walk link range) old mid result → Walks (in_turn (map link_walk (drop (i + 1) items)) result) mid new value → Walks (in_turn (map link_walk (drop i items)) range) old new value
-turn-step items i link range result old mid new value inside is one two =
-    subst (λ ls. Walks (in_turn (map link_walk ls) range) old new value) (sym (item-cut items i link inside is))
-    (walks-then (link_walk link range) (in_turn (map link_walk (drop (i + 1) items))) old mid new result value one two)
+all-cut : {X : Type 0} (walk : X → Walking (Unit {0})) (items : List X) (i : ℕ) (x : X) → i < length items → x ≡ get_or items i x
+    → all_of (map walk (drop i items)) ≡ (walk x >>= λ _. all_of (map walk (drop (i + 1) items)))
+all-cut walk items i x inside is = ap (λ xs. all_of (map walk xs)) (item-cut items i x inside is)
 
-pub all-step : {X : Type 0} (walk : X → Walking (Unit {0})) (items : List X) (i : ℕ) (item : X) (old mid new : Walk) → i < length items → item ≡ get_or items i item → Walks (walk item) old mid tt → Walks (all_of (map walk (drop (i + 1) items))) mid new tt → Walks (all_of (map walk (drop i items))) old new tt
-all-step {X} walk items i item old mid new inside is one two =
-    subst (λ (ls : List X). Walks (all_of (map walk ls)) old new tt) (sym (item-cut items i item inside is))
-    (walks-then (walk item) (λ _. all_of (map walk (drop (i + 1) items))) old mid new tt tt one two)
+pub all-step : {X : Type 0} (walk : X → Walking (Unit {0})) (items : List X) (i : ℕ) (item : X) (old mid new : Walk) (before between after : Visits) (value : Unit {0}) (result : Result (Unit {0}) CheckFault)
+    → i < length items → item ≡ get_or items i item → Walks (walk item) old before mid between value
+    → Goes (all_of (map walk (drop (i + 1) items))) mid between result new after → Goes (all_of (map walk (drop i items))) old before result new after
+all-step walk items i item old mid new before between after value result inside is one two =
+    goes-as (all_of (map walk (drop i items))) (walk item >>= λ _. all_of (map walk (drop (i + 1) items))) old new before after result (all-cut walk items i item inside is)
+    (goes-then (walk item) (λ _. all_of (map walk (drop (i + 1) items))) old mid new before between after value result one two)
 
--- an operator, its right operand and the operation
-pub link-step : (link : Link) (left right result : Interval) (old entered valued new : Walk) → Walks (enter link.number) old entered tt → Walks (value_walk link.operand) entered valued right → Walks (combined link.operation left right) valued new result → Walks (link_walk link left) old new result
-link-step link left right result old entered valued new one two three =
-    subst (λ (walk : Interval → Walking Interval). Walks (walk left) old new result) (sym (link-walks link))
-    (walks-then (enter link.number) (λ _. value_walk link.operand >>= combined link.operation left) old entered new tt result one
-    (walks-then (value_walk link.operand) (combined link.operation left) entered valued new right result two three))
+pub all-stopped : {X : Type 0} (walk : X → Walking (Unit {0})) (items : List X) (i : ℕ) (item : X) (old new : Walk) (before after : Visits) (fault : CheckFault)
+    → i < length items → item ≡ get_or items i item → IsBreachOf (walk item (context_of old) (viewed old.state)) fault
+    → Goes (all_of (map walk (drop i items))) old before (Err fault) new after
+all-stopped walk items i item old new before after fault inside is one =
+    goes-as (all_of (map walk (drop i items))) (walk item >>= λ _. all_of (map walk (drop (i + 1) items))) old new before after (Err fault) (all-cut walk items i item inside is)
+    (goes-stopped (walk item) (λ _. all_of (map walk (drop (i + 1) items))) old new before after fault one)
 
--- ---- the use of a variable
-use-same : (root site : ℕ) (state : State) → tested (is_defined state root) site (range_of state root) (with_defined root state) ≡ use_of root site state
-use-same root site Dead = refl
-use-same root site (Live facts) = refl
+-- no piece is left
+pub all-end : {X : Type 0} (walk : X → Walking (Unit {0})) (items : List X) (i : ℕ) (old : Walk) (visits : Visits) → length items ≤ i
+    → Goes (all_of (map walk (drop i items))) old visits (Ok tt) old visits
+all-end {X} walk items i old visits past =
+    subst (λ (ls : List X). Goes (all_of (map walk ls)) old visits (Ok tt) old visits) (sym (drop-past items i past)) (walks-give tt old visits)
+
+-- the operators of a chain, from one of them on
+turn-cut : (items : List Link) (i : ℕ) (link : Link) (left : Known) → i < length items → link ≡ get_or items i link
+    → in_turn (map link_walk (drop i items)) left ≡ (link_walk link left >>= in_turn (map link_walk (drop (i + 1) items)))
+turn-cut items i link left inside is = ap (λ links. in_turn (map link_walk links) left) (item-cut items i link inside is)
+
+pub turn-step : (items : List Link) (i : ℕ) (link : Link) (left value : Known) (old mid new : Walk) (before between after : Visits) (result : Result Known CheckFault)
+    → i < length items → link ≡ get_or items i link → Walks (link_walk link left) old before mid between value
+    → Goes (in_turn (map link_walk (drop (i + 1) items)) value) mid between result new after → Goes (in_turn (map link_walk (drop i items)) left) old before result new after
+turn-step items i link left value old mid new before between after result inside is one two =
+    goes-as (in_turn (map link_walk (drop i items)) left) (link_walk link left >>= in_turn (map link_walk (drop (i + 1) items))) old new before after result (turn-cut items i link left inside is)
+    (goes-then (link_walk link left) (in_turn (map link_walk (drop (i + 1) items))) old mid new before between after value result one two)
+
+pub turn-stopped : (items : List Link) (i : ℕ) (link : Link) (left : Known) (old new : Walk) (before after : Visits) (fault : CheckFault)
+    → i < length items → link ≡ get_or items i link → IsBreachOf (link_walk link left (context_of old) (viewed old.state)) fault
+    → Goes (in_turn (map link_walk (drop i items)) left) old before (Err fault) new after
+turn-stopped items i link left old new before after fault inside is one =
+    goes-as (in_turn (map link_walk (drop i items)) left) (link_walk link left >>= in_turn (map link_walk (drop (i + 1) items))) old new before after (Err fault) (turn-cut items i link left inside is)
+    (goes-stopped (link_walk link left) (in_turn (map link_walk (drop (i + 1) items))) old new before after fault one)
+
+pub turn-end : (items : List Link) (i : ℕ) (left : Known) (old : Walk) (visits : Visits) → length items ≤ i
+    → Goes (in_turn (map link_walk (drop i items)) left) old visits (Ok left) old visits
+turn-end items i left old visits past =
+    subst (λ links. Goes (in_turn (map link_walk links) left) old visits (Ok left) old visits) (sym (drop-past items i past)) (walks-give left old visits)
+
+-- ---- the use of a variable, and the assignment to one
 
 -- a use is a test of whether the variable is defined, in the state in which it is
-pub use-walks : (root site : ℕ) (closed : Bool) (range value : Interval) (old new : Walk) (state : Kept) → closed ≡ is_defined (viewed old.state) root → range ≡ range_of (viewed old.state) root → viewed state ≡ with_defined root (viewed old.state)
-    → Walks (tested closed site range) (record { state = state; open_ids = old.open_ids; visits = old.visits }) new value → Walks (use_of root site) old new value
-use-walks root site closed range value old new state closed_is range_is state_is done =
+use-same : (root site : ℕ) (context : Context) (state : State)
+    → (use_of root site context state).open_ids ≡ (tested (is_defined state root) site (range_of state root) context (with_defined root state)).open_ids
+use-same root site context Dead = refl
+use-same root site context (Live facts) = search rules
+
+pub use-walks : (root site : ℕ) (closed : Bool) (range value : Interval) (old new : Walk) (state : Kept) (before after : Visits)
+    → closed ≡ is_defined (viewed old.state) root → range ≡ range_of (viewed old.state) root → viewed state ≡ with_defined root (viewed old.state)
+    → Walks (tested closed site range) (record old { state = state }) before new after value → Walks (use_of root site) old before new after (Ordinal value)
+use-walks root site closed range value old new state before after closed_is range_is state_is done =
     let was : State = viewed old.state in
-    let same : tested closed site range (viewed state) ≡ use_of root site was =
-    ap (λ c. tested c site range (viewed state)) closed_is ∙ ap (λ r. tested (is_defined was root) site r (viewed state)) range_is ∙ ap (tested (is_defined was root) site (range_of was root)) state_is ∙ use-same root site was in
+    let same : tested closed site range (context_of old) (viewed state) ≡ tested (is_defined was root) site (range_of was root) (context_of old) (with_defined root was) =
+    ap (λ c. tested c site range (context_of old) (viewed state)) closed_is ∙ ap (λ r. tested (is_defined was root) site r (context_of old) (viewed state)) range_is
+    ∙ ap (tested (is_defined was root) site (range_of was root) (context_of old)) state_is in
     record {
-      value_is = done.value_is ∙ ap (λ w. w.value) same;
+      context_is = done.context_is;
+      value_is = ap Ordinal (done.value_is ∙ ap (λ w. w.value) same);
       state_is = done.state_is ∙ ap (λ w. w.after) same;
-      open_is = done.open_is ∙ ap (λ w. old.open_ids.items ++ w.open_ids) same;
+      open_is = done.open_is ∙ ap (λ w. old.open_ids.items ++ w.open_ids) same ∙ ap (λ ids. old.open_ids.items ++ ids) (sym (use-same root site (context_of old) was));
       visits_are = done.visits_are;
       unbroken = refl;
     }
 
--- ---- the walk over a form that the checker has gone through
-
--- by what an expression is
-along : {A : Type 0} (walk form : Walking A) (old new : Walk) (value : A) → walk ≡ form → Walks form old new value → Walks walk old new value
-along walk form old new value is done = subst (λ w. Walks w old new value) (sym is) done
-
-pub constant-done : (expression : Expr) (number : ℕ) (value : ℤ) (range : Interval) (old new : Walk) → expression ≡ expr.Constant number value → ◌≡◌ {A = Interval} range (record { first = value; last = value }) → Walks (enter number) old new tt → Walks (value_walk expression) old new range
-constant-done expression number value range old new is range_is entered =
-    let one : Interval = record { first = value; last = value } in
-    along (value_walk expression) (enter number >>= λ _. give one) old new range (ap value_walk is ∙ value-Constant number value)
-    (walks-then (enter number) (λ _. give one) old new new tt range entered
-    (subst (λ r. Walks (give one) new new r) (sym range_is) (walks-give one new)))
-
-pub variable-done : (expression : Expr) (access : Access) (defined : ℕ) (range : Interval) (old new : Walk) → expression ≡ expr.Variable access defined → Walks (variable_walk access defined) old new range → Walks (value_walk expression) old new range
-variable-done expression access defined range old new is used =
-    along (value_walk expression) (variable_walk access defined) old new range (ap value_walk is ∙ value-Variable access defined) used
-
-pub monadic-done : (expression : Expr) (number : ℕ) (operation : Monadic) (operand : Box Expr Global) (inner : Expr) (range result : Interval) (old entered valued new : Walk) → expression ≡ expr.Monadic number operation operand → inner ≡ operand.value → Walks (enter number) old entered tt → Walks (value_walk inner) entered valued range → Walks (operated operation range) valued new result → Walks (value_walk expression) old new result
-monadic-done expression number operation operand inner range result old entered valued new is inner_is one two three =
-    along (value_walk expression) (enter number >>= λ _. (value_walk operand.value >>= operated operation)) old new result (ap value_walk is ∙ value-Monadic number operation operand)
-    (walks-then (enter number) (λ _. value_walk operand.value >>= operated operation) old entered new tt result one
-    (walks-then (value_walk operand.value) (operated operation) entered valued new range result (subst (λ e. Walks (value_walk e) entered valued range) inner_is two) three))
-
-pub chain-begun : (expression : Expr) (first : Box Expr Global) (rest : Vec Link Global) (inner : Expr) (items : List Link) (range : Interval) (old mid : Walk) → expression ≡ expr.Chain first rest → inner ≡ first.value → items ≡ rest.items → Walks (value_walk inner) old mid range → (new : Walk) (value : Interval) → Walks (in_turn (map link_walk items) range) mid new value → Walks (value_walk expression) old new value
-chain-begun expression first rest inner items range old mid is inner_is items_are begun new value left =
-    along (value_walk expression) (value_walk first.value >>= in_turn (map link_walk rest.items)) old new value (ap value_walk is ∙ value-Chain first rest)
-    (walks-then (value_walk first.value) (in_turn (map link_walk rest.items)) old mid new range value (subst (λ e. Walks (value_walk e) old mid range) inner_is begun)
-    (subst (λ ls. Walks (in_turn (map link_walk ls) range) mid new value) items_are left))
-
--- the same values, statements or blocks
-pub all-same : {X : Type 0} (walk : X → Walking (Unit {0})) (items others : List X) (old new : Walk) → items ≡ others → Walks (all_of (map walk items)) old new tt → Walks (all_of (map walk others)) old new tt
-all-same {X} walk items others old new same done = subst (λ (xs : List X). Walks (all_of (map walk xs)) old new tt) same done
-
--- no operator, value or statement is left
-pub turn-end : (items : List Link) (i : ℕ) (range : Interval) (old : Walk) → length items ≤ i → Walks (in_turn (map link_walk (drop i items)) range) old old range
-turn-end items i range old past = subst (λ ls. Walks (in_turn (map link_walk ls) range) old old range) (sym (drop-past items i past)) (walks-give range old)
-
-pub all-end : {X : Type 0} (walk : X → Walking (Unit {0})) (items : List X) (i : ℕ) (old : Walk) → length items ≤ i → Walks (all_of (map walk (drop i items))) old old tt
-all-end {X} walk items i old past = subst (λ (ls : List X). Walks (all_of (map walk ls)) old old tt) (sym (drop-past items i past)) (walks-give tt old)
-
-pub assign-done : (statement : Stmt) (number : ℕ) (becomes : SourcePlace) (target : Access) (fits : RangeTest) (value : Expr) (old mid new : Walk) → statement ≡ stmt.Assign number becomes target fits value → Walks (enter number) old mid tt → Walks (assignment target fits value) mid new tt → Walks (statement_walk statement) old new tt
-assign-done statement number becomes target fits value old mid new is entered assigned =
-    along (statement_walk statement) (enter number >>= λ _. assignment target fits value) old new tt (ap statement_walk is ∙ statement-Assign number becomes target fits value)
-    (walks-then (enter number) (λ _. assignment target fits value) old mid new tt tt entered assigned)
-
-pub write-done : (statement : Stmt) (number : ℕ) (name : SourcePlace) (parameters : Vec WriteParameter Global) (ends_line : Bool) (items : List WriteParameter) (old mid new : Walk) → statement ≡ stmt.Write number name parameters ends_line → items ≡ parameters.items → Walks (enter number) old mid tt → Walks (all_of (map parameter_walk items)) mid new tt → Walks (statement_walk statement) old new tt
-write-done statement number name parameters ends_line items old mid new is items_are entered written =
-    along (statement_walk statement) (enter number >>= λ _. all_of (map parameter_walk parameters.items)) old new tt (ap statement_walk is ∙ statement-Write number name parameters ends_line)
-    (walks-then (enter number) (λ _. all_of (map parameter_walk parameters.items)) old mid new tt tt entered
-    (subst (λ vs. Walks (all_of (map parameter_walk vs)) mid new tt) items_are written))
-
-pub compound-begun : (statement : Stmt) (number : ℕ) (statements : Vec Stmt Global) (items : List Stmt) (old mid : Walk) → statement ≡ stmt.Compound number statements → items ≡ statements.items → Walks (enter number) old mid tt → (new : Walk) → Walks (all_of (map statement_walk items)) mid new tt → Walks (statement_walk statement) old new tt
-compound-begun statement number statements items old mid is items_are entered new left =
-    along (statement_walk statement) (enter number >>= λ _. all_of (map statement_walk statements.items)) old new tt (ap statement_walk is ∙ statement-Compound number statements)
-    (walks-then (enter number) (λ _. all_of (map statement_walk statements.items)) old mid new tt tt entered
-    (subst (λ ss. Walks (all_of (map statement_walk ss)) mid new tt) items_are left))
-
-pub empty-done : (statement : Stmt) (number : ℕ) (old new : Walk) → statement ≡ stmt.Empty number → Walks (enter number) old new tt → Walks (statement_walk statement) old new tt
-empty-done statement number old new is entered =
-    along (statement_walk statement) (enter number) old new tt (ap statement_walk is ∙ statement-Empty number) entered
-
 -- an assignment changes nothing but the state
-pub assign-walks : (root : ℕ) (range : Interval) (old : Walk) (state : Kept) → viewed state ≡ with_value root range (viewed old.state) → Walks (assign root range) old (record { state = state; open_ids = old.open_ids; visits = old.visits }) tt
-assign-walks root range old state is =
-    record { value_is = refl; state_is = is; open_is = sym (append-nil old.open_ids.items); visits_are = omega arith; unbroken = refl }
+pub assign-walks : (root : ℕ) (known : Known) (range : Interval) (old : Walk) (state : Kept) (visits : Visits) → known ≡ Ordinal range → viewed state ≡ with_value root range (viewed old.state)
+    → Walks (assign root known) old visits (record old { state = state }) visits tt
+assign-walks root known range old state visits known_is is =
+    subst (λ k. Walks (assign root k) old visits (record old { state = state }) visits tt) (sym known_is)
+    (record { context_is = refl; value_is = refl; state_is = is; open_is = sym (append-nil old.open_ids.items); visits_are = refl; unbroken = refl })
 
-pub assignment-done : (target : Access) (fits : RangeTest) (value : Expr) (limits range fitting : Interval) (old entered valued tested new : Walk) → limits ≡ limits_of fits.range → Walks (enter target.number) old entered tt → Walks (value_walk value) entered valued range → Walks (within limits fits.site range) valued tested fitting → Walks (assign target.root fitting) tested new tt → Walks (assignment target fits value) old new tt
-assignment-done target fits value limits range fitting old entered valued tested new is one two three four =
-    let test = within (limits_of fits.range) fits.site in
-    walks-then (enter target.number) (λ _. value_walk value >>= λ r. (test r >>= λ f. assign target.root f)) old entered new tt tt one
-    (walks-then (value_walk value) (λ r. test r >>= λ f. assign target.root f) entered valued new range tt two
-    (walks-then (test range) (λ f. assign target.root f) valued tested new fitting tt
-    (subst (λ l. Walks (within l fits.site range) valued tested fitting) is three) four))
+-- an assignment from its target's entry on
+pub assignment-done : (target : Access) (fits : RangeTest) (value : Expr) (old entered valued : Walk) (before entries after : Visits) (known : Known) (result : Result (Unit {0}) CheckFault) (new : Walk)
+    → Walks (enter target.number) old before entered entries tt → Walks (value_walk value) entered entries valued after known
+    → Goes (fitting fits known >>= assign target.root) valued after result new after → Goes (assignment target fits value) old before result new after
+assignment-done target fits value old entered valued before entries after known result new one two three =
+    goes-then (enter target.number) (λ _. value_walk value >>= λ known. (fitting fits known >>= assign target.root)) old entered new before entries after tt result one
+    (goes-then (value_walk value) (λ known. fitting fits known >>= assign target.root) entered valued new entries after after known result two three)
 
--- a width that is there
-pub width-done : (given : Option Width) (width : Width) (range passed : Interval) (old mid new : Walk) → given ≡ Some width → Walks (value_walk width.value) old mid range → Walks (positive width.site range) mid new passed → Walks (width_walk given) old new tt
-width-done given width range passed old mid new is one two =
-    along (width_walk given) (width_walk (Some width)) old new tt (ap width_walk is)
-    (walks-then (value_walk width.value) (λ r. positive width.site r >>= λ _. give tt) old mid new range tt one
-    (walks-then (positive width.site range) (λ _. give tt) mid new new passed tt two (walks-give tt new)))
+pub use-stopped : (root site : ℕ) (old new : Walk) (before after : Visits) (closed : Bool) (range : Interval) (state : Kept) (fault : CheckFault)
+    → IsBreachOf (tested closed site range (context_of old) (viewed state)) fault → Goes (use_of root site) old before (Err fault) new after
+use-stopped root site old new before after closed range state fault is =
+    breach-same (tested closed site range (context_of old) (viewed state)) (use_of root site (context_of old) (viewed old.state)) fault refl is
+
+-- ---- an expression that the checker has begun
+
+pub monadic-begun : (expression : Expr) (number : ℕ) (operation : Monadic) (operand : Box Expr Global) (inner : Expr) (old entered new : Walk) (before between after : Visits) (value : Unit {0}) (result : Result Known CheckFault)
+    → expression ≡ expr.Monadic number operation operand → inner ≡ operand.value → Walks (enter number) old before entered between value
+    → Goes (value_walk inner >>= operated operation) entered between result new after → Goes (value_walk expression) old before result new after
+monadic-begun expression number operation operand inner old entered new before between after value result is inner_is one two =
+    goes-as (value_walk expression) (enter number >>= λ _. (value_walk inner >>= operated operation)) old new before after result
+    (ap value_walk is ∙ value-Monadic number operation operand ∙ ap (λ e. enter number >>= λ _. (value_walk e >>= operated operation)) (sym inner_is))
+    (goes-then (enter number) (λ _. value_walk inner >>= operated operation) old entered new before between after value result one two)
+
+pub chain-begun : (expression : Expr) (first : Box Expr Global) (rest : Vec Link Global) (inner : Expr) (items : List Link) (left : Known) (old mid : Walk) (before between : Visits)
+    → expression ≡ expr.Chain first rest → inner ≡ first.value → items ≡ rest.items → Walks (value_walk inner) old before mid between left
+    → (result : Result Known CheckFault) (new : Walk) (after : Visits) → Goes (in_turn (map link_walk items) left) mid between result new after → Goes (value_walk expression) old before result new after
+chain-begun expression first rest inner items left old mid before between is inner_is items_are one result new after two =
+    goes-as (value_walk expression) (value_walk inner >>= in_turn (map link_walk items)) old new before after result
+    (ap value_walk is ∙ value-Chain first rest ∙ ap (λ e. value_walk e >>= in_turn (map link_walk rest.items)) (sym inner_is) ∙ ap (λ links. value_walk inner >>= in_turn (map link_walk links)) (sym items_are))
+    (goes-then (value_walk inner) (in_turn (map link_walk items)) old mid new before between after left result one two)
+
+pub link-done : (link : Link) (left right : Known) (old entered valued new : Walk) (before between after end : Visits) (value : Unit {0}) (result : Result Known CheckFault)
+    → Walks (enter link.number) old before entered between value → Walks (value_walk link.operand) entered between valued after right
+    → Goes (combined link.operation left right) valued after result new end → Goes (link_walk link left) old before result new end
+link-done link left right old entered valued new before between after end value result one two three =
+    goes-as (link_walk link left) (enter link.number >>= λ _. (value_walk link.operand >>= combined link.operation left)) old new before end result (ap (λ walk. walk left) (link-walks link))
+    (goes-then (enter link.number) (λ _. value_walk link.operand >>= combined link.operation left) old entered new before between end value result one
+    (goes-then (value_walk link.operand) (combined link.operation left) entered valued new between after end right result two three))
+
+-- ---- what is tested of a value by its range
+
+pub width-as : (site : ℕ) (known : Known) (range : Interval) → known ≡ Ordinal range → width_test site known ≡ (positive site range >>= λ _. give (tt {0}))
+width-as site known range is = ap (width_test site) is
+
+pub fitting-as : (fits : RangeTest) (known : Known) (limits range : Interval) → known ≡ Ordinal range → limits ≡ limits_of fits.range
+    → fitting fits known ≡ (within limits fits.site range >>= ordinal)
+fitting-as fits known limits range is limits_are = ap (fitting fits) is ∙ ap (λ l. within l fits.site range >>= ordinal) (sym limits_are)
+
+-- a value was tested, and what passed is given on
+pub tested-goes : {A B : Type 0} (walk : Walking B) (test : Walking A) (next : A → B) (passed : A) (result : B) (old new : Walk) (visits : Visits) → walk ≡ (test >>= λ x. give (next x))
+    → result ≡ next passed → Walks test old visits new visits passed → Goes walk old visits (Ok result) new visits
+tested-goes walk test next passed result old new visits is result_is tested =
+    goes-as walk (test >>= λ x. give (next x)) old new visits visits (Ok result) is
+    (subst (λ r. Walks (test >>= λ x. give (next x)) old visits new visits r) (sym result_is)
+    (walks-then test (λ x. give (next x)) old new new visits visits visits passed (next passed) tested (walks-give (next passed) new visits)))
+
+-- a value was tested, and the checker gave up there
+pub tested-stopped : {A B : Type 0} (walk : Walking B) (test : Walking A) (next : A → B) (old new : Walk) (visits : Visits) (fault : CheckFault) (result : Result B CheckFault)
+    → walk ≡ (test >>= λ x. give (next x)) → IsErr result × IsErrAnd result (λ e. e ≡ fault) → IsBreachOf (test (context_of old) (viewed old.state)) fault
+    → Goes walk old visits result new visits
+tested-stopped walk test next old new visits fault result is left stopped =
+    given-up walk old new visits visits fault result left
+    (goes-as walk (test >>= λ x. give (next x)) old new visits visits (Err fault) is (goes-stopped test (λ x. give (next x)) old new visits visits fault stopped))

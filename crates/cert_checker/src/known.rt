@@ -1,3 +1,6 @@
+ghost use Rattle.std.specs.Prelude.{◌≡◌};
+ghost use Rattle.cert_checker.specs.declared.known.Known.TheVariants.{Ordinal};
+
 use domain::interval::Interval;
 
 /// What the walk knows of a value.
@@ -5,4 +8,14 @@ use domain::interval::Interval;
 pub(crate) enum Known {
     /// An ordinal: the range of its number.
     Ordinal(Interval),
+}
+
+impl Known {
+    /// The range of an ordinal.
+    pub(crate) fn range(self) -> Interval
+        ensures { self ≡ Ordinal result }
+    {
+        let Known::Ordinal(range) = self;
+        range
+    }
 }

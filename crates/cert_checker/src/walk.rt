@@ -111,8 +111,8 @@ impl<'a> Walk<'a> {
     {
         self.enter(target.number, visits)?;
         let known = self.expression(value, visits)?;
-        let Known::Ordinal(range) = self.fitting(fits, known)?;
-        self.state.assign(target.root, range);
+        let passed = self.fitting(fits, known)?;
+        self.state.assign(target.root, passed.range());
         Ok(())
     }
 
@@ -216,7 +216,7 @@ impl<'a> Walk<'a> {
     fn operated(&mut self, operation: Monadic, known: Known) -> Result<Known, CheckFault>
         ensures { (visits : Visits) → Goes (operated operation known) self.old visits result self.new visits }
     {
-        let Known::Ordinal(range) = known;
+        let range = known.range();
         match operation {
             Monadic::Plus => Ok(Known::Ordinal(range)),
             Monadic::Minus => Ok(Known::Ordinal(range.negate())),
@@ -231,8 +231,8 @@ impl<'a> Walk<'a> {
     fn combined(&mut self, operation: Dyadic, left: Known, right: Known) -> Result<Known, CheckFault>
         ensures { (visits : Visits) → Goes (combined operation left right) self.old visits result self.new visits }
     {
-        let Known::Ordinal(left) = left;
-        let Known::Ordinal(right) = right;
+        let left = left.range();
+        let right = right.range();
         match operation {
             Dyadic::Plus { overflow } => self.whole(overflow, left.add(&right)),
             Dyadic::Minus { overflow } => self.whole(overflow, left.subtract(&right)),
@@ -262,7 +262,7 @@ impl<'a> Walk<'a> {
     fn fitting(&mut self, fits: RangeTest, known: Known) -> Result<Known, CheckFault>
         ensures { (visits : Visits) → Goes (fitting fits known) self.old visits result self.new visits }
     {
-        let Known::Ordinal(range) = known;
+        let range = known.range();
         Ok(Known::Ordinal(self.within(limits(fits.range), fits.site, range)?))
     }
 
@@ -270,7 +270,7 @@ impl<'a> Walk<'a> {
     fn width_test(&mut self, site: u32, known: Known) -> Result<(), CheckFault>
         ensures { (visits : Visits) → Goes (width_test site known) self.old visits result self.new visits }
     {
-        let Known::Ordinal(range) = known;
+        let range = known.range();
         self.positive(site, range)?;
         Ok(())
     }

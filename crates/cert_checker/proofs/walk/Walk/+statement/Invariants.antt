@@ -1,10 +1,13 @@
-use Rattle.std.proofs.Common.{map, drop}
+use Rattle.std.proofs.Common.{Result, map, drop}
+use Rattle.cert_checker.specs.declared.fault.CheckFault.{CheckFault}
+use Rattle.cert_checker.specs.declared.visits.Visits.{Visits}
 use Rattle.cert_checker.specs.declared.walk.Walk.{Walk}
 use Rattle.cert_checker.specs.Walk.{all_of, statement_walk}
-use Rattle.cert_checker.specs.View.{Walks}
+use Rattle.cert_checker.specs.View.{Goes}
 use Rattle.cert_checker.proofs.walk.Walk.+statement.Given as goal
 
--- whatever the walk over the statements that are left makes of the checker here, the whole walk makes it
+-- whatever the checker does over the statements that are left, it did it over the whole one
 abbrev pub invariant-loop-statement : goal.invariant-loop-statement
 invariant-loop-statement l =
-    (new : Walk) → Walks (all_of (map statement_walk (drop l.statement-index l.statement-items))) l.self new tt → Walks (statement_walk l.statement) l.fn.self new tt
+    (result : Result (Unit {0}) CheckFault) (new : Walk) (after : Visits) → Goes (all_of (map statement_walk (drop l.statement-index l.statement-items))) l.self l.visits result new after
+    → Goes (statement_walk l.statement) l.fn.self l.fn.visits result new after

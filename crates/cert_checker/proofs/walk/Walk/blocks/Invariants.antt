@@ -1,11 +1,13 @@
-use Rattle.std.proofs.Common.{map, drop, length}
+use Rattle.std.proofs.Common.{Result, map, drop}
+use Rattle.cert_checker.specs.declared.fault.CheckFault.{CheckFault}
+use Rattle.cert_checker.specs.declared.visits.Visits.{Visits}
 use Rattle.cert_checker.specs.declared.walk.Walk.{Walk}
 use Rattle.cert_checker.specs.Walk.{all_of, block_walk}
-use Rattle.cert_checker.specs.View.{Walks}
-use Rattle.cert_checker.proofs.walk.Walk.over.Given as goal
+use Rattle.cert_checker.specs.View.{Goes}
+use Rattle.cert_checker.proofs.walk.Walk.blocks.Given as goal
 
--- whatever the walk over the blocks that are left makes of the checker here, the whole walk makes it
+-- whatever the checker does over the blocks that are left, it did it over them all
 abbrev pub invariant-loop-block : goal.invariant-loop-block
 invariant-loop-block l =
-    let variables = length l.tree.variables.items in
-    (new : Walk) → Walks (all_of (map (block_walk variables) (drop l.block-index l.block-items))) l.walk new tt → Walks (all_of (map (block_walk variables) l.tree.blocks.items)) l.initial.walk new tt
+    (result : Result (Unit {0}) CheckFault) (new : Walk) (after : Visits) → Goes (all_of (map block_walk (drop l.block-index l.block-items))) l.self l.visits result new after
+    → Goes (all_of (map block_walk l.fn.self.tree.now.blocks.items)) l.fn.self l.fn.visits result new after

@@ -1,27 +1,64 @@
 use Rattle.std.proofs.Common.{ap}
-use Rattle.domain.specs.Interval.{sum, difference, product}
-use Rattle.domain.specs.Ranges.{sum-plain, difference-plain, product-plain}
-use Rattle.cert_checker.specs.Walk.{combined}
-use Rattle.cert_checker.proofs.Held.{whole-done}
+use Rattle.domain.specs.Interval.{quotient, remainder}
+use Rattle.typed_tree.specs.declared.tree.Dyadic.TheVariants.{Div, Mod}
+use Rattle.cert_checker.specs.declared.known.Known.TheVariants.{Ordinal}
+use Rattle.cert_checker.specs.Walk.{divisor, positive, combined}
+use Rattle.cert_checker.proofs.Held.{combined-as, sum-done, difference-done, product-done}
+use Rattle.cert_checker.proofs.Steps.{tested-goes, tested-stopped}
 use Rattle.cert_checker.proofs.walk.Walk.combined.Goals as goal
 
 pub returns-in-Plus : goal.returns-in-Plus
 returns-in-Plus c =
-    let left = c.args.left in
-    let right = c.args.right in
-    whole-done (combined c.args.operation left right) c.add.result (sum left right) c.in-Plus.overflow c.within.result c.args.self.now c.within.new.self
-    (ap (λ operation. combined operation left right) c.in-Plus.is) (sum-plain left right) c.add.ensures.ends c.within.ensures
+    sum-done c.args.operation c.args.left c.args.right c.in-Plus.overflow c.range-left.result c.range-right.result c.add.result c.whole.result c.args.self.now c.whole.new.self
+    c.add.ensures.ends c.range-left.ensures c.range-right.ensures c.in-Plus.is c.whole.ensures
 
 pub returns-in-Minus : goal.returns-in-Minus
 returns-in-Minus c =
-    let left = c.args.left in
-    let right = c.args.right in
-    whole-done (combined c.args.operation left right) c.subtract.result (difference left right) c.in-Minus.overflow c.within-in-Minus.result c.args.self.now c.within-in-Minus.new.self
-    (ap (λ operation. combined operation left right) c.in-Minus.is) (difference-plain left right) c.subtract.ensures.ends c.within-in-Minus.ensures
+    difference-done c.args.operation c.args.left c.args.right c.in-Minus.overflow c.range-left.result c.range-right.result c.subtract.result c.whole-in-Minus.result
+    c.args.self.now c.whole-in-Minus.new.self c.subtract.ensures.ends c.range-left.ensures c.range-right.ensures c.in-Minus.is c.whole-in-Minus.ensures
 
 pub returns-in-Times : goal.returns-in-Times
 returns-in-Times c =
-    let left = c.args.left in
-    let right = c.args.right in
-    whole-done (combined c.args.operation left right) c.multiply.result (product left right) c.in-Times.overflow c.within-in-Times.result c.args.self.now c.within-in-Times.new.self
-    (ap (λ operation. combined operation left right) c.in-Times.is) (product-plain left right) c.multiply.ensures.ends c.within-in-Times.ensures
+    product-done c.args.operation c.args.left c.args.right c.in-Times.overflow c.range-left.result c.range-right.result c.multiply.result c.whole-in-Times.result
+    c.args.self.now c.whole-in-Times.new.self c.multiply.ensures.ends c.range-left.ensures c.range-right.ensures c.in-Times.is c.whole-in-Times.ensures
+
+pub returns-in_err-divisor-in-Div : goal.returns-in_err-divisor-in-Div
+returns-in_err-divisor-in-Div c = λ visits.
+    let operation = c.args.operation in
+    let left = c.range-left.result in
+    let right = c.range-right.result in
+    let site = c.in-Div.by_zero in
+    tested-stopped (combined operation c.args.left c.args.right) (divisor site right) (λ passed. Ordinal (quotient left passed)) c.args.self.now c.divisor.new.self visits
+    c.in_err-divisor-in-Div.field-0.0 c.from_residual.result
+    (combined-as operation (Div site) c.args.left c.args.right left right c.in-Div.is c.range-left.ensures c.range-right.ensures) c.from_residual.ensures (c.in_err-divisor-in-Div.ensures visits)
+
+pub returns-in_err-divisor-in-Mod : goal.returns-in_err-divisor-in-Mod
+returns-in_err-divisor-in-Mod c = λ visits.
+    let operation = c.args.operation in
+    let left = c.range-left.result in
+    let right = c.range-right.result in
+    let site = c.in-Mod.by_zero_or_less in
+    let given = c.from_residual-in_err-divisor-in-Mod in
+    tested-stopped (combined operation c.args.left c.args.right) (positive site right) (λ passed. Ordinal (remainder left passed)) c.args.self.now c.positive.new.self visits
+    c.in_err-divisor-in-Mod.field-0.0 given.result
+    (combined-as operation (Mod site) c.args.left c.args.right left right c.in-Mod.is c.range-left.ensures c.range-right.ensures) given.ensures (c.in_err-divisor-in-Mod.ensures visits)
+
+pub returns-in_ok-divisor-in-Div : goal.returns-in_ok-divisor-in-Div
+returns-in_ok-divisor-in-Div c = λ visits.
+    let operation = c.args.operation in
+    let left = c.range-left.result in
+    let right = c.range-right.result in
+    let site = c.in-Div.by_zero in
+    let passed = c.in_ok-divisor-in-Div.divisor in
+    tested-goes (combined operation c.args.left c.args.right) (divisor site right) (λ passed. Ordinal (quotient left passed)) passed (Ordinal c.divide.result) c.args.self.now c.divisor.new.self visits
+    (combined-as operation (Div site) c.args.left c.args.right left right c.in-Div.is c.range-left.ensures c.range-right.ensures) (ap Ordinal c.divide.ensures.ends) (c.in_ok-divisor-in-Div.ensures visits)
+
+pub returns-in_ok-divisor-in-Mod : goal.returns-in_ok-divisor-in-Mod
+returns-in_ok-divisor-in-Mod c = λ visits.
+    let operation = c.args.operation in
+    let left = c.range-left.result in
+    let right = c.range-right.result in
+    let site = c.in-Mod.by_zero_or_less in
+    let passed = c.in_ok-divisor-in-Mod.divisor in
+    tested-goes (combined operation c.args.left c.args.right) (positive site right) (λ passed. Ordinal (remainder left passed)) passed (Ordinal c.remainder.result) c.args.self.now c.positive.new.self visits
+    (combined-as operation (Mod site) c.args.left c.args.right left right c.in-Mod.is c.range-left.ensures c.range-right.ensures) (ap Ordinal c.remainder.ensures.ends) (c.in_ok-divisor-in-Mod.ensures visits)

@@ -1,10 +1,13 @@
-use Rattle.std.proofs.Common.{map, drop}
+use Rattle.std.proofs.Common.{Result, map, drop}
+use Rattle.cert_checker.specs.declared.fault.CheckFault.{CheckFault}
+use Rattle.cert_checker.specs.declared.visits.Visits.{Visits}
 use Rattle.cert_checker.specs.declared.walk.Walk.{Walk}
 use Rattle.cert_checker.specs.Walk.{all_of, parameter_walk}
-use Rattle.cert_checker.specs.View.{Walks}
+use Rattle.cert_checker.specs.View.{Goes}
 use Rattle.cert_checker.proofs.walk.Walk.parameters.Given as goal
 
--- whatever the walk over the values that are left makes of the checker here, the whole walk makes it
+-- whatever the checker does over the values that are left, it did it over them all
 abbrev pub invariant-loop-parameter : goal.invariant-loop-parameter
 invariant-loop-parameter l =
-    (new : Walk) → Walks (all_of (map parameter_walk (drop l.parameter-index l.parameters))) l.self new tt → Walks (all_of (map parameter_walk l.parameters)) l.fn.self new tt
+    (result : Result (Unit {0}) CheckFault) (new : Walk) (after : Visits) → Goes (all_of (map parameter_walk (drop l.parameter-index l.parameters))) l.self l.visits result new after
+    → Goes (all_of (map parameter_walk l.parameters)) l.fn.self l.fn.visits result new after

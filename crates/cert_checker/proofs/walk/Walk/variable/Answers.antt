@@ -1,17 +1,30 @@
-use Rattle.std.proofs.lemmas.Result.{IfOk-weaker}
-use Rattle.cert_checker.specs.declared.walk.Walk.{Walk}
-use Rattle.cert_checker.specs.Walk.{use_of, enter, tested}
-use Rattle.cert_checker.specs.View.{Walks}
-use Rattle.cert_checker.proofs.Steps.{walks-then, use-walks}
+use Rattle.std.proofs.Common.{Err}
+use Rattle.cert_checker.specs.declared.known.Known.TheVariants.{Ordinal}
+use Rattle.cert_checker.specs.Walk.{enter, use_of, variable_walk}
+use Rattle.cert_checker.proofs.Steps.{given-up, goes-then, walks-then, use-walks, use-stopped}
 use Rattle.cert_checker.proofs.walk.Walk.variable.Goals as goal
+
+pub returns-in_err-test : goal.returns-in_err-test
+returns-in_err-test c =
+    let root = c.args.access.root in
+    let number = c.args.access.number in
+    let begun = c.enter.new.self in
+    let fault = c.in_err-test.field-0.0 in
+    let before = c.args.visits.now in
+    let after = c.enter.new.visits in
+    let new = c.test.new.self in
+    given-up (variable_walk c.args.access c.args.defined) c.args.self.now new before after fault c.from_residual-in_err-test.result c.from_residual-in_err-test.ensures
+    (goes-then (enter number) (λ _. use_of root c.args.defined) c.args.self.now begun new before after after tt (Err fault) c.in_ok-enter.ensures
+    (use-stopped root c.args.defined begun new after after c.is_defined-is_defined.result c.range-range.result c.define.new.self fault (c.in_err-test.ensures after)))
 
 pub returns : goal.returns
 returns c =
     let root = c.args.access.root in
-    let number = c.args.access.number in
+    let site = c.args.defined in
     let begun = c.enter.new.self in
-    let defined : Walk = record { state = c.define.new.self; open_ids = begun.open_ids; visits = begun.visits } in
-    IfOk-weaker c.test.result (λ range. Walks (tested c.is_defined-closed.result c.args.defined c.range-range.result) defined c.test.new.self range) _
-    (λ range done. walks-then (enter number) (λ _. use_of root c.args.defined) c.args.self.now begun c.test.new.self tt range (c.in_ok-enter.ensures number)
-    (use-walks root c.args.defined c.is_defined-closed.result c.range-range.result range begun c.test.new.self c.define.new.self c.is_defined-closed.ensures c.range-range.ensures c.define.ensures done))
-    c.test.ensures
+    let range = c.in_ok-test.field-0 in
+    let after = c.enter.new.visits in
+    let new = c.test.new.self in
+    walks-then (enter c.args.access.number) (λ _. use_of root site) c.args.self.now begun new c.args.visits.now after after tt (Ordinal range) c.in_ok-enter.ensures
+    (use-walks root site c.is_defined-is_defined.result c.range-range.result range begun new c.define.new.self after after
+    c.is_defined-is_defined.ensures c.range-range.ensures c.define.ensures (c.in_ok-test.ensures after))

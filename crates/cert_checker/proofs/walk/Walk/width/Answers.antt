@@ -1,7 +1,15 @@
-use Rattle.cert_checker.proofs.Steps.{width-done}
+use Rattle.std.proofs.Common.{ap}
+use Rattle.cert_checker.specs.Walk.{value_walk, width_walk, width_test}
+use Rattle.cert_checker.proofs.Steps.{goes-as, goes-then}
 use Rattle.cert_checker.proofs.walk.Walk.width.Goals as goal
 
-pub returns-in_ok-positive-in-Some : goal.returns-in_ok-positive-in-Some
-returns-in_ok-positive-in-Some c =
-    width-done c.args.width.now c.in-Some.width c.in_ok-range-in-Some.range c.in_ok-positive-in-Some.field-0 c.args.self.now c.expression.new.self c.positive.new.self
-    c.in-Some.is c.in_ok-range-in-Some.ensures c.in_ok-positive-in-Some.ensures
+pub returns-in_ok-known-in-Some : goal.returns-in_ok-known-in-Some
+returns-in_ok-known-in-Some c =
+    let width = c.in-Some.width in
+    let before = c.args.visits.now in
+    let after = c.expression.new.visits in
+    let old = c.args.self.now in
+    let new = c.width_test.new.self in
+    goes-as (width_walk c.args.width.now) _ old new before after c.width_test.result (ap width_walk c.in-Some.is)
+    (goes-then (value_walk width.value) (width_test width.site) old c.expression.new.self new before after after c.in_ok-known-in-Some.known c.width_test.result
+    c.in_ok-known-in-Some.ensures (c.width_test.ensures after))

@@ -1,0 +1,19 @@
+use Rattle.std.proofs.Common.{refl}
+use Rattle.cert_checker.specs.declared.known.Known.TheVariants.{Ordinal}
+use Rattle.cert_checker.specs.State.{integer}
+use Rattle.cert_checker.specs.Walk.{within, whole}
+use Rattle.cert_checker.proofs.Steps.{tested-goes, tested-stopped}
+use Rattle.cert_checker.proofs.walk.Walk.whole.Goals as goal
+
+pub returns-in_err-within : goal.returns-in_err-within
+returns-in_err-within c = λ visits.
+    let site = c.args.overflow in
+    let range = c.args.range in
+    tested-stopped (whole site range) (within integer site range) Ordinal c.args.self.now c.within.new.self visits c.in_err-within.field-0.0 c.from_residual.result
+    refl c.from_residual.ensures (c.in_err-within.ensures visits)
+
+pub returns : goal.returns
+returns c = λ visits.
+    let site = c.args.overflow in
+    let range = c.args.range in
+    tested-goes (whole site range) (within integer site range) Ordinal c.in_ok-within.field-0 _ c.args.self.now c.within.new.self visits refl refl (c.in_ok-within.ensures visits)
