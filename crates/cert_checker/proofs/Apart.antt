@@ -74,7 +74,8 @@ share-none env separate a b p q at_a at_b differ overlaps =
     ⊎_elim (λ listed. absurd (omega (arith, listed.1))) (λ listed. absurd (omega (arith, listed.1))) (separate a b p q at_a at_b differ overlaps)
 
 -- a part of another variable has the value that it had
-pub other-kept : (env : Environment) → Separate env [] → (store : Store) (v : Value) (a b : ℕ) (p : Place) → env a ≡ Some p → a ≢ b → (found : Option Place) → env b ≡ found → (steps : List Step)
+pub other-kept : (env : Environment) → Separate env [] → (store : Store) (v : Value) (a b : ℕ) (p : Place) → env a ≡ Some p → a ≢ b → (found : Option Place)
+    → env b ≡ found → (steps : List Step)
     → part_of (written store p v) found steps ≡ part_of store found steps
 other-kept env separate store v a b p at_a differ None at_b steps = refl
 other-kept env separate store v a b p at_a differ (Some q) at_b steps =

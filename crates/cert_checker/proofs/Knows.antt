@@ -76,7 +76,8 @@ named-entire [] is = refl
 named-entire (s ∷ steps) is = absurd (cc)
 
 -- an entire variable has the value that lies at its place
-entire-value : (variables : ℕ) (env : Environment) → Shows variables env → (store : Store) (root : ℕ) → root < variables → value_at (moment env store) root [] ≡ stored store (place_of env root)
+entire-value : (variables : ℕ) (env : Environment) → Shows variables env → (store : Store) (root : ℕ) → root < variables
+    → value_at (moment env store) root [] ≡ stored store (place_of env root)
 entire-value variables env shows store root within =
     let at = shows.visible root within in
     let other : Place = record { activation = 0; variable = root; steps = [] } in
@@ -104,7 +105,8 @@ never-less Equal is = cc
 never-less Greater is = cc
 
 -- the path of an entire variable is like itself alone
-same-root : (root other : ℕ) (steps : List fact.Step) → is_eq (ordering_then (nat_cmp root other) (slice_cmp step_order [] steps)) ≡ true → (root ≡ other) × (steps ≡ [])
+same-root : (root other : ℕ) (steps : List fact.Step) → is_eq (ordering_then (nat_cmp root other) (slice_cmp step_order [] steps)) ≡ true
+    → (root ≡ other) × (steps ≡ [])
 same-root root other [] is = (tied root other (nat_cmp root other) refl is, refl)
 same-root root other (s ∷ steps) is = absurd (never-less (nat_cmp root other) is)
 
@@ -118,7 +120,8 @@ like-defined m root (Range path range) says holds like = absurd says
 like-defined m root (Stretch path first last) says holds like = absurd says
 like-defined m root (Order a b number) says holds like = absurd says
 
-listed-defined : (m : Moment) (root : ℕ) (facts : List Fact) → All (λ one. SaysDefined one × Holds one m) facts → has_fact (Defined (entire root)) facts ≡ true → HasValue m root []
+listed-defined : (m : Moment) (root : ℕ) (facts : List Fact) → All (λ one. SaysDefined one × Holds one m) facts → has_fact (Defined (entire root)) facts ≡ true
+    → HasValue m root []
 listed-defined m root [] all is = absurd (cc)
 listed-defined m root (one ∷ facts) all is =
     let Fine = λ (one : Fact). SaysDefined one × Holds one m in
@@ -127,7 +130,8 @@ listed-defined m root (one ∷ facts) all is =
     (or_cases (is_eq (fact_order (Defined (entire root)) one)) (has_fact (Defined (entire root)) facts) is)
 
 -- what holds of the facts of a list and of one more
-put-all : (P : Fact → Type 0) (order : Ordering) (one first : Fact) (rest longer : List Fact) → P one → All P (first ∷ rest) → All P longer → All P (put order one first rest longer)
+put-all : (P : Fact → Type 0) (order : Ordering) (one first : Fact) (rest longer : List Fact) → P one → All P (first ∷ rest) → All P longer
+    → All P (put order one first rest longer)
 put-all P Less one first rest longer so all more = All-cons P one (first ∷ rest) so all
 put-all P Equal one first rest longer so all more = all
 put-all P Greater one first rest longer so all more = All-cons P first longer (All-head P first rest all) more
@@ -137,7 +141,8 @@ added-all P one [] so all = All-cons P one [] so all
 added-all P one (first ∷ rest) so all =
     put-all P (fact_order one first) one first rest (with_fact one rest) so all (added-all P one rest so (All-tail P first rest all))
 
-added : (P : Fact → Type 0) (one : Fact) (facts : List Fact) → P one → ((f : Fact) → Contains facts f → P f) → (f : Fact) → Contains (with_fact one facts) f → P f
+added : (P : Fact → Type 0) (one : Fact) (facts : List Fact) → P one → ((f : Fact) → Contains facts f → P f) → (f : Fact) → Contains (with_fact one facts) f
+    → P f
 added P one facts so each f inside =
     All-contains P (with_fact one facts) f (added-all P one facts so (All-weaker (Contains facts) P each facts (All-contains_itself facts))) inside
 
@@ -147,8 +152,9 @@ pub defined-stored : (variables : ℕ) (env : Environment) → Shows variables e
 defined-stored variables env shows Dead store root within known is = absurd known
 defined-stored variables env shows (Live facts) store root within known is =
     let m = moment env store in
-    let fine : (one : Fact) → Contains facts.facts one → SaysDefined one × Holds one m = λ one inside. (known.say_defined one inside, known.hold.facts one inside) in
-    let all = All-weaker (Contains facts.facts) (λ one. SaysDefined one × Holds one m) fine facts.facts (All-contains_itself facts.facts) in
+    let Fine = λ (one : Fact). SaysDefined one × Holds one m in
+    let fine : (one : Fact) → Contains facts.facts one → Fine one = λ one inside. (known.say_defined one inside, known.hold.facts one inside) in
+    let all = All-weaker (Contains facts.facts) Fine fine facts.facts (All-contains_itself facts.facts) in
     let has = listed-defined m root facts.facts all is in
     (has.0, sym (entire-value variables env shows store root within) ∙ has.1)
 
@@ -188,11 +194,13 @@ row-set rows root range found is =
     let within : root < length rows = subst (λ n. root < n) (length-set rows root range) (slice_get_within (set rows root range) root found is) in
     sym (get_or-set_same rows root range vacant within) ∙ get_or_from_slice_get (set rows root range) root found vacant is
 
-row-other : (rows : List Interval) (root other : ℕ) (range found : Interval) → root ≢ other → slice_get (set rows root range) other ≡ Some found → slice_get rows other ≡ Some found
+row-other : (rows : List Interval) (root other : ℕ) (range found : Interval) → root ≢ other → slice_get (set rows root range) other ≡ Some found
+    → slice_get rows other ≡ Some found
 row-other rows root other range found differ is =
     let within : other < length rows = subst (λ n. other < n) (length-set rows root range) (slice_get_within (set rows root range) other found is) in
     slice_get-get_or rows other vacant within
-    ∙ ap Some (sym (get_or-set_other rows root other range vacant (λ same. differ (sym same))) ∙ get_or_from_slice_get (set rows root range) other found vacant is)
+    ∙ ap Some (sym (get_or-set_other rows root other range vacant (λ same. differ (sym same))))
+    ∙ ap Some (get_or_from_slice_get (set rows root range) other found vacant is)
 
 -- what is defined stays so
 still-some : (same : Bool) (v : Value) (before : Option Value) → (w : Value) × (before ≡ Some w) → (w : Value) × (cond same (Some v) before ≡ Some w)
@@ -204,7 +212,8 @@ still-value : (store : Store) (p : Place) (v : Value) (found : Option Place) (st
 still-value store p v None steps has = has
 still-value store p v (Some q) steps has = still-some (place_eq p (part q steps)) v (stored store (part q steps)) has
 
-still-defined : (env : Environment) (store : Store) (p : Place) (v : Value) (one : Fact) → SaysDefined one → Holds one (moment env store) → Holds one (moment env (written store p v))
+still-defined : (env : Environment) (store : Store) (p : Place) (v : Value) (one : Fact) → SaysDefined one → Holds one (moment env store)
+    → Holds one (moment env (written store p v))
 still-defined env store p v (Defined path) says holds =
     let kept = still-value store p v (env path.root) holds.0 holds.2 in
     (holds.0, holds.1, kept)
@@ -218,7 +227,8 @@ module _ (variables : ℕ) (env : Environment) (shows : Shows variables env) (fa
   after = written store (place_of env root) v
 
   -- each row after a value of the range was written
-  row-after : (other : ℕ) (found : Interval) → slice_get (set facts.ranges root range) other ≡ Some found → Holds (Range (entire other) found) (moment env after)
+  row-after : (other : ℕ) (found : Interval) → slice_get (set facts.ranges root range) other ≡ Some found
+      → Holds (Range (entire other) found) (moment env after)
   row-after other found row steps w named is =
       let at = shows.visible root within in
       let other_place : Place = record { activation = 0; variable = root; steps = [] } in
@@ -226,9 +236,11 @@ module _ (variables : ℕ) (env : Environment) (shows : Shows variables env) (fa
       ⊎_elim
       (λ same.
       let whole : value_at (moment env after) root [] ≡ Some w =
-      subst (λ (s : List Step). value_at (moment env after) root s ≡ Some w) (named-entire steps named) (subst (λ (r : ℕ). value_at (moment env after) r steps ≡ Some w) (sym same) is) in
+      subst (λ (s : List Step). value_at (moment env after) root s ≡ Some w) (named-entire steps named)
+      (subst (λ (r : ℕ). value_at (moment env after) r steps ≡ Some w) (sym same) is) in
       let one : v ≡ w = value_is v w (sym (written-stored store (place_of env root) v) ∙ sym (entire-value variables env shows after root within) ∙ whole) in
-      let two : range ≡ found = row-set facts.ranges root range found (subst (λ (r : ℕ). slice_get (set facts.ranges root range) r ≡ Some found) (sym same) row) in
+      let two : range ≡ found = row-set facts.ranges root range found
+      (subst (λ (r : ℕ). slice_get (set facts.ranges root range) r ≡ Some found) (sym same) row) in
       subst (λ (i : Interval). IsIn i w) two (subst (λ (u : Value). IsIn range u) one inside))
       (λ differ.
       let kept = other-kept env shows.separate store v root other (place_of env root) (at.1 ∙ ap Some (sym place_is)) differ (env other) refl steps in
@@ -246,7 +258,8 @@ module _ (variables : ℕ) (env : Environment) (shows : Shows variables env) (fa
   }
 
 -- an assignment of a value of a range
-pub assigned-known : (variables : ℕ) (env : Environment) → Shows variables env → (state : State) (store : Store) (root : ℕ) (range : Interval) (v : Value) → root < variables
+pub assigned-known : (variables : ℕ) (env : Environment) → Shows variables env → (state : State) (store : Store) (root : ℕ) (range : Interval) (v : Value)
+    → root < variables
     → Knows variables env state store → IsIn range v → Knows variables env (with_value root range state) (written store (place_of env root) v)
 assigned-known variables env shows Dead store root range v within known inside = known
 assigned-known variables env shows (Live facts) store root range v within known inside =

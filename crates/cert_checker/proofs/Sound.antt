@@ -53,7 +53,8 @@ GivesAs world env R walked (effect.Gives a s) = R walked.value a × Knows world.
 GivesAs world env R walked (effect.Stops e s) = Unit {0}
 
 -- a reply is as the walk foretells
-pub record Good {A B : Type 0} (world : World) (env : Environment) (R : B → A → Type 0) (walked : Walked B) (before : List Visit) (reply : Reply A) : Type 0 where
+pub record Good {A B : Type 0} (world : World) (env : Environment) (R : B → A → Type 0) (walked : Walked B) (before : List Visit) (reply : Reply A)
+    : Type 0 where
   pub errs : ErrsWithin world reply
   pub new : New world before (visits_of reply)
   pub gives : GivesAs world env R walked reply
@@ -97,7 +98,8 @@ new-then : (world : World) (before mid after : List Visit) → New world before 
 new-then world before mid after one two visit inside = ⊎_elim (λ old. one visit old) (λ meets. inr meets) (two visit inside)
 
 -- what was foretold of a second piece, foretold of both
-good-then : {A B C : Type 0} (world : World) (env : Environment) (R : B → A → Type 0) (first : Walked C) (second : Walked B) (before mid : List Visit) (reply : Reply A)
+good-then : {A B C : Type 0} (world : World) (env : Environment) (R : B → A → Type 0) (first : Walked C) (second : Walked B) (before mid : List Visit)
+    (reply : Reply A)
     → New world before mid → Good world env R second mid reply → Good world env R (followed first second) before reply
 good-then world env R first second before mid (effect.Gives a s) new good =
     record { errs = tt; new = new-then world before mid s.visited new good.new; gives = good.gives }
@@ -122,23 +124,27 @@ pub sound-then : {A B C D : Type 0} (world : World) (env : Environment) (R : B �
 sound-then world env R S action next walking walk_next one two context state s unbroken part known =
     let first = walking context state in
     let second = walk_next first.value context first.after in
-    good-next world env R S context first walk_next next two (unbroken-right first.broken second.broken unbroken) (part-right world first second part) s.visited (action s)
+    good-next world env R S context first walk_next next two (unbroken-right first.broken second.broken unbroken)
+    (part-right world first second part) s.visited (action s)
     (one context state s (unbroken-left first.broken second.broken unbroken) (part-left world first second part) known)
 
 -- the run goes on with a value of which the walk doesn't know
 good-given : {A B C : Type 0} (world : World) (env : Environment) (R : B → A → Type 0) (S : B → C → Type 0) (f : A → C) → ((b : B) (a : A) → R b a → S b (f a))
-    → (walked : Walked B) (before : List Visit) (reply : Reply A) → Good world env R walked before reply → Good world env S walked before (and_then reply (λ a. effect.give (f a)))
+    → (walked : Walked B) (before : List Visit) (reply : Reply A) → Good world env R walked before reply
+    → Good world env S walked before (and_then reply (λ a. effect.give (f a)))
 good-given world env R S f ties walked before (effect.Gives a s) good =
     record { errs = tt; new = good.new; gives = (ties walked.value a good.gives.0, good.gives.1) }
 good-given world env R S f ties walked before (effect.Stops e s) good = record { errs = good.errs; new = good.new; gives = tt }
 
-pub sound-given : {A B C : Type 0} (world : World) (env : Environment) (R : B → A → Type 0) (S : B → C → Type 0) (f : A → C) → ((b : B) (a : A) → R b a → S b (f a))
+pub sound-given : {A B C : Type 0} (world : World) (env : Environment) (R : B → A → Type 0) (S : B → C → Type 0) (f : A → C)
+    → ((b : B) (a : A) → R b a → S b (f a))
     → (action : Action A) (walking : Walking B) → Sound world env R action walking → Sound world env S (effect.◌>>=◌ action (λ a. effect.give (f a))) walking
 sound-given world env R S f ties action walking one context state s unbroken part known =
     good-given world env R S f ties (walking context state) s.visited (action s) (one context state s unbroken part known)
 
 -- so it does with a piece of output
-good-written : {A B : Type 0} (world : World) (env : Environment) (R : B → A → Type 0) (bytes : A → List ℕ) (walked : Walked B) (before : List Visit) (reply : Reply A)
+good-written : {A B : Type 0} (world : World) (env : Environment) (R : B → A → Type 0) (bytes : A → List ℕ) (walked : Walked B) (before : List Visit)
+    (reply : Reply A)
     → Good world env R walked before reply → Good {A = Unit {0}} world env Any_value walked before (and_then reply (λ a. effect.write (bytes a)))
 good-written world env R bytes walked before (effect.Gives a s) good = record { errs = tt; new = good.new; gives = (tt, good.gives.1) }
 good-written world env R bytes walked before (effect.Stops e s) good = record { errs = good.errs; new = good.new; gives = tt }
@@ -156,7 +162,8 @@ good-named world env R S f ties context walked before (effect.Gives a s) good =
     record { errs = tt; new = good.new; gives = (ties walked.value a good.gives.0, good.gives.1) }
 good-named world env R S f ties context walked before (effect.Stops e s) good = record { errs = good.errs; new = good.new; gives = tt }
 
-pub sound-named : {A B C : Type 0} (world : World) (env : Environment) (R : B → A → Type 0) (S : C → A → Type 0) (f : B → C) → ((b : B) (a : A) → R b a → S (f b) a)
+pub sound-named : {A B C : Type 0} (world : World) (env : Environment) (R : B → A → Type 0) (S : C → A → Type 0) (f : B → C)
+    → ((b : B) (a : A) → R b a → S (f b) a)
     → (action : Action A) (walking : Walking B) → Sound world env R action walking → Sound world env S action (walk.◌>>=◌ walking (λ b. walk.give (f b)))
 sound-named world env R S f ties action walking one context state s unbroken part known =
     let first = walking context state in
@@ -166,7 +173,8 @@ sound-named world env R S f ties action walking one context state s unbroken par
 
 -- ---- the pieces
 
-pub sound-give : {A B : Type 0} (world : World) (env : Environment) (R : B → A → Type 0) (a : A) (b : B) → R b a → Sound world env R (effect.give a) (walk.give b)
+pub sound-give : {A B : Type 0} (world : World) (env : Environment) (R : B → A → Type 0) (a : A) (b : B) → R b a
+    → Sound world env R (effect.give a) (walk.give b)
 sound-give world env R a b tie context state s unbroken part known =
     record { errs = tt; new = nothing-new world s.visited; gives = (tie, known) }
 
@@ -174,7 +182,8 @@ none-shared : (env : Environment) (pairs : List (ℕ × ℕ)) → Separate env [
 none-shared env pairs separate a b p q at_a at_b differ overlaps =
     ⊎_elim (λ listed. absurd (omega (arith, listed.1))) (λ listed. absurd (omega (arith, listed.1))) (separate a b p q at_a at_b differ overlaps)
 
-pub sound-enter : (world : World) (env : Environment) → Shows world.variables env → (number : ℕ) → Sound world env Any_value (effect.enter number env) (walk.enter number)
+pub sound-enter : (world : World) (env : Environment) → Shows world.variables env → (number : ℕ)
+    → Sound world env Any_value (effect.enter number env) (walk.enter number)
 sound-enter world env shows number context state s unbroken part known =
     let one : Linked = record { number = number; state = state } in
     let entered : Visit = record { number = number; environment = env; store = s.store } in
@@ -182,13 +191,16 @@ sound-enter world env shows number context state s unbroken part known =
     let separate : Separate env (world.aliases 0) = none-shared env (world.aliases 0) shows.separate in
     record {
       errs = tt;
-      new = λ visit inside. ⊎_elim (λ old. inl old) (λ is. inr (subst (λ (v : Visit). Meets world v × Separate v.environment (world.aliases 0)) is (meets, separate)))
+      new = λ visit inside.
+          ⊎_elim (λ old. inl old)
+          (λ is. inr (subst (λ (v : Visit). Meets world v × Separate v.environment (world.aliases 0)) is (meets, separate)))
           (Contains-push_cases s.visited entered visit inside);
       gives = (tt, known);
     }
 
 -- an error at a site that is left open
-errs-here : (world : World) (site : ℕ) → Contains world.ids site → site < world.sites → (id : ℕ) → Error site ≡ Error id → Contains world.ids id × (id < world.sites)
+errs-here : (world : World) (site : ℕ) → Contains world.ids site → site < world.sites → (id : ℕ) → Error site ≡ Error id
+    → Contains world.ids id × (id < world.sites)
 errs-here world site listed within id is =
     let same : site ≡ id = cc in
     subst (λ (n : ℕ). Contains world.ids n × (n < world.sites)) same (listed, within)
@@ -202,7 +214,8 @@ none-some v is = cc
 
 good-use : (world : World) (env : Environment) → Shows world.variables env → (root site : ℕ) → root < world.variables → site < world.sites
     → (context : Context) (state : State) (s : effect.State) → IsPartOf world (walk.use_of root site context state) → Knows world.variables env state s.store
-    → (found : Option Value) → stored s.store (place_of env root) ≡ found → Good world env IsKnown (walk.use_of root site context state) s.visited (effect.fetched found site s)
+    → (found : Option Value) → stored s.store (place_of env root) ≡ found
+    → Good world env IsKnown (walk.use_of root site context state) s.visited (effect.fetched found site s)
 good-use world env shows root site within below context state s part known None is =
     let unclosed : is_defined state root ≡ true → ⊥ = λ closed.
     let at = defined-stored world.variables env shows state s.store root within known closed in none-some at.0 (sym is ∙ at.1) in
@@ -230,7 +243,8 @@ abbrev pub Passes : Bool → Value → Interval → Unit {0} → Type 0
 Passes test v range done = IsIn range v × (test ≡ true)
 
 -- where a site is closed, no run comes or the test holds
-closed-passes : (variables : ℕ) (env : Environment) (state : State) (store : Store) (closed test : Bool) → Knows variables env state store → (closed ≡ true → test ≡ true)
+closed-passes : (variables : ℕ) (env : Environment) (state : State) (store : Store) (closed test : Bool) → Knows variables env state store
+    → (closed ≡ true → test ≡ true)
     → (is_dead state || closed) ≡ true → test ≡ true
 closed-passes variables env Dead store closed test known holds is = absurd known
 closed-passes variables env (Live facts) store closed test known holds is = holds is
@@ -240,7 +254,8 @@ false-true is = cc
 
 -- a test at a site: it holds where the site is closed, and what passes lies in the range that passes
 pub sound-tested : (world : World) (env : Environment) (closed : Bool) (site : ℕ) (passed : Interval) (v : Value) (test : Bool) → site < world.sites
-    → (closed ≡ true → test ≡ true) → (test ≡ true → IsIn passed v) → Sound world env (Passes test v) (effect.require test site) (walk.tested closed site passed)
+    → (closed ≡ true → test ≡ true) → (test ≡ true → IsIn passed v)
+    → Sound world env (Passes test v) (effect.require test site) (walk.tested closed site passed)
 sound-tested world env closed site passed v true below holds lets context state s unbroken part known =
     let inside : IsIn passed v = lets refl in
     record { errs = tt; new = nothing-new world s.visited; gives = ((inside, refl), nonempty-known world.variables env passed state s.store v inside known) }
@@ -252,7 +267,9 @@ sound-tested world env closed site passed v false below holds lets context state
       gives = tt;
     }
 
-pub sound-assign : (world : World) (env : Environment) → Shows world.variables env → (root : ℕ) (value : Known) (v : Value) → root < world.variables → IsKnown value v
+pub sound-assign : (world : World) (env : Environment) → Shows world.variables env → (root : ℕ) (value : Known) (v : Value) → root < world.variables
+    → IsKnown value v
     → Sound {B = Unit {0}} world env Any_value (effect.store (place_of env root) v) (walk.assign root value)
 sound-assign world env shows root (Ordinal range) v within inside context state s unbroken part known =
-    record { errs = tt; new = nothing-new world s.visited; gives = (tt, assigned-known world.variables env shows state s.store root range v within known inside) }
+    let assigned = assigned-known world.variables env shows state s.store root range v within known inside in
+    record { errs = tt; new = nothing-new world s.visited; gives = (tt, assigned) }

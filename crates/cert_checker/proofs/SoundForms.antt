@@ -49,7 +49,8 @@ module _ (world : World) (env : Environment) (shows : Shows world.variables env)
   entered-sound : {A B : Type 0} (R : B → A → Type 0) (number : ℕ) (action : effect.Action A) (walking : Walking B) → Sound world env R action walking
       → Sound world env R (effect.◌>>=◌ (effect.enter number env) (λ done. action)) (walk.◌>>=◌ (walk.enter number) (λ done. walking))
   entered-sound R number action walking one =
-      sound-then world env Any_value R (effect.enter number env) (λ done. action) (walk.enter number) (λ done. walking) (sound-enter world env shows number) (λ b a tie. one)
+      sound-then world env Any_value R (effect.enter number env) (λ done. action) (walk.enter number) (λ done. walking) (sound-enter world env shows number)
+      (λ b a tie. one)
 
   -- ---- expressions
 
@@ -74,12 +75,14 @@ module _ (world : World) (env : Environment) (shows : Shows world.variables env)
 
   -- the operators of a chain
   turns-sound : (links : List ProvedLink)
-      → SoundLink (all_hold (map well_link (map (λ l. l.0) links))) (meaning.in_turn (map link_of (map (λ l. l.0) links))) (walk.in_turn (map link_walk (map (λ l. l.0) links)))
+      → SoundLink (all_hold (map well_link (map (λ l. l.0) links))) (meaning.in_turn (map link_of (map (λ l. l.0) links)))
+      (walk.in_turn (map link_walk (map (λ l. l.0) links)))
   turns-sound [] well known v inside = sound-give world env IsKnown v known inside
   turns-sound (link ∷ links) well known v inside =
       let later = map (λ (l : ProvedLink). l.0) links in
       let parts = and_parts (well_link link.0) (all_hold (map well_link later)) well in
-      sound-then world env IsKnown IsKnown (link_of link.0 env v) (meaning.in_turn (map link_of later) env) (link_walk link.0 known) (walk.in_turn (map link_walk later))
+      sound-then world env IsKnown IsKnown (link_of link.0 env v) (meaning.in_turn (map link_of later) env) (link_walk link.0 known)
+      (walk.in_turn (map link_walk later))
       (link.1 parts.0 known v inside) (λ k w within. turns-sound links parts.1 k w within)
 
   -- a layer of an expression, of which the parts are sound
@@ -105,21 +108,26 @@ module _ (world : World) (env : Environment) (shows : Shows world.variables env)
       (sound-use world env shows access.root defined (ltb-true access.root world.variables parts.0) (ltb-true defined world.sites parts.1))
   value-layer (MonadicOf number operation operand) well =
       let parts = and_parts (monadic_is_well_formed world.variables world.sites operation) (well_expr operand.value.0) well in
-      entered-sound IsKnown number (effect.◌>>=◌ (value_of operand.value.0 env) (meaning.operated operation)) (walk.◌>>=◌ (value_walk operand.value.0) (walk.operated operation))
+      entered-sound IsKnown number (effect.◌>>=◌ (value_of operand.value.0 env) (meaning.operated operation))
+      (walk.◌>>=◌ (value_walk operand.value.0) (walk.operated operation))
       (sound-then world env IsKnown IsKnown (value_of operand.value.0 env) (meaning.operated operation) (value_walk operand.value.0) (walk.operated operation)
       (operand.value.1 parts.1) (λ known v inside. operated-sound world env operation known v parts.0 inside))
   value-layer (Chain first rest) well =
       let links = map (λ (l : ProvedLink). l.0) rest.items in
       let parts = and_parts (well_expr first.value.0) (all_hold (map well_link links)) well in
-      sound-then world env IsKnown IsKnown (value_of first.value.0 env) (meaning.in_turn (map link_of links) env) (value_walk first.value.0) (walk.in_turn (map link_walk links))
+      sound-then world env IsKnown IsKnown (value_of first.value.0 env) (meaning.in_turn (map link_of links) env) (value_walk first.value.0)
+      (walk.in_turn (map link_walk links))
       (first.value.1 parts.0) (λ known v inside. turns-sound rest.items parts.1 known v inside)
 
   link-layer : (y : Link-F ProvedExpr ProvedLink) → LinkLayer (map-Link ProvedExpr ProvedLink Expr Link (λ e. e.0) (λ l. l.0) y)
   link-layer y well known v inside =
-      let parts = and_parts (dyadic_is_well_formed world.variables world.sites y.operation) (well_expr y.operand.0) well in
-      entered-sound IsKnown y.number (effect.◌>>=◌ (value_of y.operand.0 env) (meaning.combined y.operation v)) (walk.◌>>=◌ (value_walk y.operand.0) (walk.combined y.operation known))
-      (sound-then world env IsKnown IsKnown (value_of y.operand.0 env) (meaning.combined y.operation v) (value_walk y.operand.0) (walk.combined y.operation known)
-      (y.operand.1 parts.1) (λ k w right. combined-sound world env y.operation known k v w parts.0 inside right))
+      let right = y.operand.0 in
+      let meant = meaning.combined y.operation v in
+      let walked = walk.combined y.operation known in
+      let parts = and_parts (dyadic_is_well_formed world.variables world.sites y.operation) (well_expr right) well in
+      entered-sound IsKnown y.number (effect.◌>>=◌ (value_of right env) meant) (walk.◌>>=◌ (value_walk right) walked)
+      (sound-then world env IsKnown IsKnown (value_of right env) meant (value_walk right) walked
+      (y.operand.1 parts.1) (λ k w is. combined-sound world env y.operation known k v w parts.0 inside is))
 
   -- by what the three folds are at a form
   along-value : {a b : Bool} {evaluation evaluated : Evaluation} {walking walked : Walking Known} → a ≡ b → evaluation ≡ evaluated → walking ≡ walked
@@ -138,19 +146,27 @@ module _ (world : World) (env : Environment) (shows : Shows world.variables env)
   rolled-expr x =
       along-value
       (fold-roll-Expr Bool Bool (expr_is_well_formed world.variables world.sites) (link_is_well_formed world.variables world.sites) x)
-      (fold-roll-Expr Evaluation meaning.Combination meaning.value_step meaning.link_step x) (fold-roll-Expr (Walking Known) walk.Combination walk.value_step walk.link_step x)
+      (fold-roll-Expr Evaluation meaning.Combination meaning.value_step meaning.link_step x)
+      (fold-roll-Expr (Walking Known) walk.Combination walk.value_step walk.link_step x)
 
   rolled-link : (x : Link-F Expr Link) → LinkLayer x → LinkIsSound (roll-Link x)
   rolled-link x =
       along-link
       (fold-roll-Link Bool Bool (expr_is_well_formed world.variables world.sites) (link_is_well_formed world.variables world.sites) x)
-      (fold-roll-Link Evaluation meaning.Combination meaning.value_step meaning.link_step x) (fold-roll-Link (Walking Known) walk.Combination walk.value_step walk.link_step x)
+      (fold-roll-Link Evaluation meaning.Combination meaning.value_step meaning.link_step x)
+      (fold-roll-Link (Walking Known) walk.Combination walk.value_step walk.link_step x)
+
+  abbrev plain_expr : Expr-F ProvedExpr ProvedLink → Expr-F Expr Link
+  plain_expr = map-Expr ProvedExpr ProvedLink Expr Link (λ e. e.0) (λ l. l.0)
+
+  abbrev plain_link : Link-F ProvedExpr ProvedLink → Link-F Expr Link
+  plain_link = map-Link ProvedExpr ProvedLink Expr Link (λ e. e.0) (λ l. l.0)
 
   pub value-sound : (e : Expr) → ValueIsSound e
   value-sound =
       ind-Expr ValueIsSound LinkIsSound
-      (λ x y is. subst (λ (z : Expr-F Expr Link). ValueIsSound (roll-Expr z)) is (rolled-expr (map-Expr ProvedExpr ProvedLink Expr Link (λ e. e.0) (λ l. l.0) y) (value-layer y)))
-      (λ x y is. subst (λ (z : Link-F Expr Link). LinkIsSound (roll-Link z)) is (rolled-link (map-Link ProvedExpr ProvedLink Expr Link (λ e. e.0) (λ l. l.0) y) (link-layer y)))
+      (λ x y is. subst (λ (z : Expr-F Expr Link). ValueIsSound (roll-Expr z)) is (rolled-expr (plain_expr y) (value-layer y)))
+      (λ x y is. subst (λ (z : Link-F Expr Link). LinkIsSound (roll-Link z)) is (rolled-link (plain_link y) (link-layer y)))
 
   -- ---- values that are written
 
@@ -225,38 +241,47 @@ module _ (world : World) (env : Environment) (shows : Shows world.variables env)
       (statement_walk statement.0) (λ done. walk.all_of (map statement_walk later))
       (statement.1 parts.0) (λ b a tie. all-sound statements parts.1)
 
+  -- a value is tested, and then it is stored
+  abbrev tested-store : Access → RangeTest → Value → effect.Action (Unit {0})
+  tested-store target fits v = effect.◌>>=◌ (effect.require (is_in fits.range v) fits.site) (λ tested. effect.store (place_of env target.root) v)
+
+  store-sound : (target : Access) (fits : RangeTest) (known : Known) (v : Value) → nat_lt target.root world.variables ≡ true
+      → nat_lt fits.site world.sites ≡ true
+      → IsKnown known v → SoundAction world env (tested-store target fits v) (walk.◌>>=◌ (walk.fitting fits known) (λ passed. walk.assign target.root passed))
+  store-sound target fits known v within below inside =
+      sound-then world env (IsKnownOf v) Any_value (effect.require (is_in fits.range v) fits.site) (λ tested. effect.store (place_of env target.root) v)
+      (walk.fitting fits known) (λ passed. walk.assign target.root passed)
+      (fitting-sound world env fits known v (ltb-true fits.site world.sites below) inside)
+      (λ passed tested is. sound-assign world env shows target.root passed v (ltb-true target.root world.variables within) is)
+
+  -- the target is entered, and then comes the value
+  abbrev assigned : Access → RangeTest → Expr → effect.Action (Unit {0})
+  assigned target fits value = effect.◌>>=◌ (effect.enter target.number env) (λ entered. effect.◌>>=◌ (value_of value env) (tested-store target fits))
+
   assignment-sound : (target : Access) (fits : RangeTest) (value : Expr)
       → (nat_lt target.root world.variables && (is_well_formed_test world.variables world.sites fits && well_expr value)) ≡ true
-      → SoundAction world env
-      (effect.◌>>=◌ (effect.enter target.number env) (λ entered. effect.◌>>=◌ (value_of value env) (λ v. effect.◌>>=◌ (effect.require (is_in fits.range v) fits.site) (λ tested. effect.store (place_of env target.root) v))))
-      (walk.assignment target fits value)
+      → SoundAction world env (assigned target fits value) (walk.assignment target fits value)
   assignment-sound target fits value well =
       let is_test = is_well_formed_test world.variables world.sites fits in
       let one = and_parts (nat_lt target.root world.variables) (is_test && well_expr value) well in
       let two = and_parts is_test (well_expr value) one.1 in
       let three = and_parts (nat_lt fits.site world.sites) (is_whole fits.range.first && is_whole fits.range.last) two.0 in
-      let stores = λ (v : Value) (tested : Unit {0}). effect.store (place_of env target.root) v in
-      let assigns = λ (passed : Known). walk.assign target.root passed in
-      let tests = λ (v : Value). effect.◌>>=◌ (effect.require (is_in fits.range v) fits.site) (stores v) in
-      let test = λ (known : Known). walk.◌>>=◌ (walk.fitting fits known) assigns in
-      entered-sound {A = Unit {0}} {B = Unit {0}} Any_value target.number (effect.◌>>=◌ (value_of value env) tests) (walk.◌>>=◌ (value_walk value) test)
-      (sound-then world env IsKnown Any_value (value_of value env) tests (value_walk value) test
-      (value-sound value two.1)
-      (λ known v inside. sound-then world env (IsKnownOf v) Any_value (effect.require (is_in fits.range v) fits.site) (stores v) (walk.fitting fits known) assigns
-      (fitting-sound world env fits known v (ltb-true fits.site world.sites three.0) inside)
-      (λ passed tested is. sound-assign world env shows target.root passed v (ltb-true target.root world.variables one.0) is)))
+      let test = λ (known : Known). walk.◌>>=◌ (walk.fitting fits known) (λ passed. walk.assign target.root passed) in
+      entered-sound {A = Unit {0}} {B = Unit {0}} Any_value target.number
+      (effect.◌>>=◌ (value_of value env) (tested-store target fits)) (walk.◌>>=◌ (value_walk value) test)
+      (sound-then world env IsKnown Any_value (value_of value env) (tested-store target fits) (value_walk value) test
+      (value-sound value two.1) (λ known v inside. store-sound target fits known v one.0 three.0 inside))
 
   abbrev StmtLayer : Stmt-F Stmt → Type 0
   StmtLayer x =
-      SoundStatement (stmt_is_well_formed world.variables world.sites (map-Stmt Stmt Bool well_stmt x)) (meaning.effect_step (map-Stmt Stmt Execution effect_of x))
+      SoundStatement (stmt_is_well_formed world.variables world.sites (map-Stmt Stmt Bool well_stmt x))
+      (meaning.effect_step (map-Stmt Stmt Execution effect_of x))
       (walk.statement_step (map-Stmt Stmt (Walking (Unit {0})) statement_walk x))
 
   statement-layer : (y : Stmt-F ProvedStmt) → StmtLayer (map-Stmt ProvedStmt Stmt (λ s. s.0) y)
   statement-layer (Empty number) well = sound-enter world env shows number
   statement-layer (Assign number becomes target fits value) well =
-      let tests = λ (v : Value). effect.◌>>=◌ (effect.require (is_in fits.range v) fits.site) (λ tested. effect.store (place_of env target.root) v) in
-      entered-sound {A = Unit {0}} {B = Unit {0}} Any_value number
-      (effect.◌>>=◌ (effect.enter target.number env) (λ again. effect.◌>>=◌ (value_of value env) tests)) (walk.assignment target fits value)
+      entered-sound {A = Unit {0}} {B = Unit {0}} Any_value number (assigned target fits value) (walk.assignment target fits value)
       (assignment-sound target fits value well)
   statement-layer (Write number name parameters ends_line) well =
       let written = meaning.all_of (map parameter_of parameters.items) env in

@@ -34,7 +34,8 @@ module _ (world : World) (env : Environment) where
   -- ---- tests
 
   -- a value that has to lie in limits
-  within-sound : (limits : Interval) (site : ℕ) (range : Interval) (v : Value) (test : Bool) → site < world.sites → (test ≡ true → IsIn limits v) → (IsIn limits v → test ≡ true)
+  within-sound : (limits : Interval) (site : ℕ) (range : Interval) (v : Value) (test : Bool) → site < world.sites → (test ≡ true → IsIn limits v)
+      → (IsIn limits v → test ≡ true)
       → IsIn range v → Sound world env (Passes test v) (effect.require test site) (walk.within limits site range)
   within-sound limits site range v test below lies fits inside =
       sound-tested world env (is_included range limits) site (common range limits) v test below
@@ -94,7 +95,8 @@ module _ (world : World) (env : Environment) where
       whole-sound overflow (squared range) (n *ℤ n) (ltb-true overflow world.sites well) (squared-has range n inside)
   operated-sound monadic.Odd (Ordinal range) (Number n) well inside = truth-sound (is_odd n)
 
-  pub combined-sound : (operation : Dyadic) (left right : Known) (v w : Value) → dyadic_is_well_formed world.variables world.sites operation ≡ true → IsKnown left v
+  pub combined-sound : (operation : Dyadic) (left right : Known) (v w : Value) → dyadic_is_well_formed world.variables world.sites operation ≡ true
+      → IsKnown left v
       → IsKnown right w → Sound world env IsKnown (meaning.combined operation v w) (walk.combined operation left right)
   combined-sound (dyadic.Plus overflow) (Ordinal left) (Ordinal right) (Number a) (Number b) well one two =
       whole-sound overflow (sum left right) (a +ℤ b) (ltb-true overflow world.sites well) (sum-has left right a b one two)
@@ -116,5 +118,6 @@ module _ (world : World) (env : Environment) where
   combined-sound dyadic.And (Ordinal left) (Ordinal right) (Number a) (Number b) well one two =
       given-sound (both left right) (truth (is_true a && is_true b)) (truth-in (both left right) (is_true a && is_true b) (both-has left right a b one two))
   combined-sound dyadic.Or (Ordinal left) (Ordinal right) (Number a) (Number b) well one two =
-      given-sound (either left right) (truth (is_true a || is_true b)) (truth-in (either left right) (is_true a || is_true b) (either-has left right a b one two))
+      given-sound (either left right) (truth (is_true a || is_true b))
+      (truth-in (either left right) (is_true a || is_true b) (either-has left right a b one two))
   combined-sound (dyadic.Relation relation) (Ordinal left) (Ordinal right) (Number a) (Number b) well one two = truth-sound (meaning.relates relation a b)

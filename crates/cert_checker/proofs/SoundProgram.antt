@@ -105,19 +105,23 @@ pub program-foretold : (tree : Tree) (certificate : Certificate) (input : List �
     → Foretold (program_world tree certificate) (run tree input turns)
 program-foretold tree certificate input turns unbroken well =
     blocks-foretold (program_world tree certificate) (program_environment tree) (program-shows tree well) tree.blocks.items
-    (record { tree = tree; certificate = certificate }) input turns refl well.blocks unbroken (record { ids = λ id inside. inside; linked = λ one inside. inside })
+    (record { tree = tree; certificate = certificate }) input turns refl well.blocks unbroken
+    (record { ids = λ id inside. inside; linked = λ one inside. inside })
 
 -- ---- numbers that are places
 
 -- where the numbers of a list go from 0 on, each is the place of its element
-number-at : {X : Type 0} (number : X → ℕ) (xs : List X) (n : ℕ) → map number xs ≡ range_with_len 0 n → (k : ℕ) (x : X) → k < length xs → get_or xs k x ≡ x → number x ≡ k
+number-at : {X : Type 0} (number : X → ℕ) (xs : List X) (n : ℕ) → map number xs ≡ range_with_len 0 n → (k : ℕ) (x : X) → k < length xs → get_or xs k x ≡ x
+    → number x ≡ k
 number-at number xs n are k x within is =
     let long : length xs ≡ n = sym (length-map xs number) ∙ ap length are ∙ length-range_with_len 0 n in
-    ap number (sym is) ∙ sym (get_or-map number xs k x (number x) within) ∙ ap (λ l. get_or l k (number x)) are ∙ get_or-range_with_len 0 n k (number x) (omega (arith, long, within)) ∙ zero-add k
+    ap number (sym is) ∙ sym (get_or-map number xs k x (number x) within) ∙ ap (λ l. get_or l k (number x)) are
+    ∙ get_or-range_with_len 0 n k (number x) (omega (arith, long, within)) ∙ zero-add k
 
 -- ---- closed sites never err
 
-errs-within : (world : World) (reply : Reply (Unit {0})) (id : ℕ) → ErrsWithin world reply → (ended reply).ending ≡ Error id → Contains world.ids id × (id < world.sites)
+errs-within : (world : World) (reply : Reply (Unit {0})) (id : ℕ) → ErrsWithin world reply → (ended reply).ending ≡ Error id
+    → Contains world.ids id × (id < world.sites)
 errs-within world (effect.Gives done s) id told is = absurd (cc)
 errs-within world (effect.Stops e s) id told is = told id is
 
@@ -149,7 +153,8 @@ element-at (x ∷ xs) (suc k) within = element-at xs k (omega arith)
 
 -- each error of a run is at a site that the walk leaves open
 pub closed-never_err : (tree : Tree) (certificate : Certificate) (open_sites : List Site) → (program_walk tree certificate).broken ≡ []
-    → open_sites ≡ open_in (program_walk tree certificate).open_ids tree.sites.items → IsWellFormed tree → AreInOrder tree.sites.items → ClosedNeverErr tree open_sites
+    → open_sites ≡ open_in (program_walk tree certificate).open_ids tree.sites.items → IsWellFormed tree → AreInOrder tree.sites.items
+    → ClosedNeverErr tree open_sites
 closed-never_err tree certificate open_sites unbroken open_are well in_order input turns id errs =
     let ids = (program_walk tree certificate).open_ids in
     let sites = tree.sites.items in
@@ -164,7 +169,8 @@ closed-never_err tree certificate open_sites unbroken open_are well in_order inp
 -- ---- states hold
 
 -- states that are linked to different numbers: a number tells the state
-linked-once : (linked : List Linked) (n : ℕ) → numbers_of linked ≡ range_with_len 0 n → (a b : Linked) → Contains linked a → Contains linked b → a.number ≡ b.number → a ≡ b
+linked-once : (linked : List Linked) (n : ℕ) → numbers_of linked ≡ range_with_len 0 n → (a b : Linked) → Contains linked a → Contains linked b
+    → a.number ≡ b.number → a ≡ b
 linked-once linked n are a b in_a in_b same =
     let at_a = number-at (λ one. one.number) linked n are in_a.0 a in_a.1 in_a.2 in
     let at_b = number-at (λ one. one.number) linked n are in_b.0 b in_b.1 in_b.2 in
@@ -172,7 +178,8 @@ linked-once linked n are a b in_a in_b same =
     sym in_a.2 ∙ ap (λ k. get_or linked k a) places ∙ get_or_default linked in_b.0 a b in_b.1 ∙ in_b.2
 
 -- a visit meets one state that is linked to it, and so each
-holds-at : (world : World) → ((a b : Linked) → Contains world.linked a → Contains world.linked b → a.number ≡ b.number → a ≡ b) → (visit : Visit) → Meets world visit
+holds-at : (world : World) → ((a b : Linked) → Contains world.linked a → Contains world.linked b → a.number ≡ b.number → a ≡ b) → (visit : Visit)
+    → Meets world visit
     → HoldsAt world.linked visit
 holds-at world once visit meets = record {
   is_linked = (meets.0, meets.1, meets.2);
@@ -181,7 +188,8 @@ holds-at world once visit meets = record {
 }
 
 -- at each entry of a run the states that are linked to it hold
-pub states-hold : (tree : Tree) (certificate : Certificate) → (program_walk tree certificate).broken ≡ [] → numbers_of (program_walk tree certificate).linked ≡ entries_of tree
+pub states-hold : (tree : Tree) (certificate : Certificate) → (program_walk tree certificate).broken ≡ []
+    → numbers_of (program_walk tree certificate).linked ≡ entries_of tree
     → IsWellFormed tree → AreNumbered tree → StatesHold tree certificate
 states-hold tree certificate unbroken numbers_are well numbered input turns visit inside =
     let world = program_world tree certificate in
