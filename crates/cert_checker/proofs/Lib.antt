@@ -2,6 +2,7 @@ pub mod Steps
 pub mod Held
 pub mod Among
 pub mod Entered
+pub mod Apart
 pub mod Ranged
 pub mod Knows
 pub mod Sound

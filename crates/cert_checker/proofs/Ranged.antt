@@ -13,7 +13,13 @@ use Rattle.meaning.specs.Effect.{is_in}
 use Rattle.meaning.specs.Integers.{is_integer_number, is_within, truth, is_true}
 use Rattle.cert_checker.specs.State.{integer}
 use Rattle.cert_checker.specs.Walk.{limits_of}
+use Rattle.cert_checker.specs.declared.known.Known.{Known}
+use Rattle.cert_checker.specs.declared.known.Known.TheVariants.{Ordinal}
 use Rattle.cert_checker.specs.Holds.{IsIn}
+
+-- a value is as it is known
+abbrev pub IsKnown : Known → Value → Type 0
+IsKnown (Ordinal range) v = IsIn range v
 
 -- a range with a number isn't empty
 pub in-present : (range : Interval) (v : Value) → IsIn range v → is_vacant range ≡ false

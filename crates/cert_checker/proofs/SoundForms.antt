@@ -1,5 +1,6 @@
 -- The walk over expressions, statements and programs is sound, form by form.
-use Rattle.std.proofs.Common.{◌≡◌, ◌∙◌, sym, ap, subst, Bool, true, false, List, [], ◌∷◌, map, Option, Some, None}
+use Rattle.std.proofs.Common.{◌≡◌, sym, subst, ℕ, Bool, true, false, ◌&&◌, nat_lt, List, [], ◌∷◌, map, Option, Some, None}
+use Rattle.std.proofs.lemmas.Bool.{and_parts, ltb-true}
 use Rattle.typed_tree.specs.declared.tree.Access.{Access}
 use Rattle.typed_tree.specs.declared.tree.RangeTest.{RangeTest}
 use Rattle.typed_tree.specs.declared.tree.Representation.{Representation}
@@ -9,12 +10,14 @@ use Rattle.typed_tree.specs.declared.tree.Expr.{Expr}
 use Rattle.typed_tree.specs.declared.tree.Link.{Link}
 use Rattle.typed_tree.specs.declared.tree.Expr.TheOpen.{Expr-F, Link-F}
 use Rattle.typed_tree.specs.declared.tree.Expr.TheOpen.Expr-F.{Constant, Variable, Monadic as MonadicOf, Chain}
+use Rattle.typed_tree.specs.declared.tree.Expr.TheViews.{roll-Expr, roll-Link}
 use Rattle.typed_tree.specs.declared.tree.Expr.TheFolds.{map-Expr, map-Link, fold-roll-Expr, fold-roll-Link, ind-Expr}
 use Rattle.typed_tree.specs.declared.tree.Stmt.{Stmt}
 use Rattle.typed_tree.specs.declared.tree.Stmt.TheOpen.{Stmt-F}
 use Rattle.typed_tree.specs.declared.tree.Stmt.TheOpen.Stmt-F.{Empty, Assign, Write, Compound}
+use Rattle.typed_tree.specs.declared.tree.Stmt.TheViews.{roll-Stmt}
 use Rattle.typed_tree.specs.declared.tree.Stmt.TheFolds.{map-Stmt, fold-roll-Stmt, ind-Stmt}
-use Rattle.domain.specs.Interval.{Interval}
+use Rattle.typed_tree.specs.WellFormed.{all_hold, is_well_formed_test, dyadic_is_well_formed, expr_is_well_formed, is_well_formed_expr, is_well_formed_link, is_well_formed_parameter, is_well_formed_stmt, is_well_formed_width, is_whole, link_is_well_formed, monadic_is_well_formed, stmt_is_well_formed}
 use Rattle.meaning.specs.declared.store.Value.{Value}
 use Rattle.meaning.specs.declared.store.Value.TheVariants.{Number}
 use Rattle.meaning.specs.Store.{Environment}
@@ -22,168 +25,286 @@ use Rattle.meaning.specs.Effect as effect
 use Rattle.meaning.specs.Effect.{place_of, is_in, is_positive, text_of}
 use Rattle.meaning.specs.Meaning as meaning
 use Rattle.meaning.specs.Meaning.{Evaluation, Execution, value_of, link_of, effect_of, parameter_of, width_of}
+use Rattle.cert_checker.specs.declared.known.Known.{Known}
+use Rattle.cert_checker.specs.declared.known.Known.TheVariants.{Ordinal}
 use Rattle.cert_checker.specs.Walk as walk
-use Rattle.cert_checker.specs.Walk.{Walking, value_walk, link_walk, parameter_walk, width_walk, limits_of, statement_walk}
-use Rattle.cert_checker.specs.Holds.{IsIn}
-use Rattle.cert_checker.proofs.Ranged.{constant-in, is_in-integer}
-use Rattle.cert_checker.proofs.Knows.{Apart}
-use Rattle.cert_checker.proofs.Sound.{Sound, Any_value, Passes, sound-then, sound-given, sound-written, sound-give, sound-enter, sound-use, sound-assign}
-use Rattle.cert_checker.proofs.SoundOperations.{operated-sound, combined-sound, positive-sound, limits-sound}
+use Rattle.cert_checker.specs.Walk.{Walking, value_walk, link_walk, parameter_walk, width_walk, statement_walk}
+use Rattle.cert_checker.proofs.Ranged.{IsKnown, constant-in}
+use Rattle.cert_checker.proofs.Knows.{Shows}
+use Rattle.cert_checker.proofs.Sound.{World, Sound, Any_value, Passes, sound-then, sound-given, sound-written, sound-give, sound-enter, sound-use, sound-assign}
+use Rattle.cert_checker.proofs.SoundOperations.{IsKnownOf, given-sound, operated-sound, combined-sound, positive-sound, fitting-sound}
 
--- an expression's walk gives a range with its value
-abbrev SoundValue : Environment → Evaluation → Walking Interval → Type 0
-SoundValue env evaluation walking = Sound env IsIn (evaluation env) walking
+-- an action that gives nothing is the same as the walk over it
+abbrev pub SoundAction : World → Environment → effect.Action (Unit {0}) → Walking (Unit {0}) → Type 0
+SoundAction world env action walking = Sound {A = Unit {0}} {B = Unit {0}} world env Any_value action walking
 
-abbrev SoundLink : Environment → meaning.Combination → walk.Combination → Type 0
-SoundLink env combination walking = (range : Interval) (v : Value) → IsIn range v → Sound env IsIn (combination env v) (walking range)
+module _ (world : World) (env : Environment) (shows : Shows world.variables env) where
+  abbrev well_expr : Expr → Bool
+  well_expr = is_well_formed_expr world.variables world.sites
 
-abbrev ProvedExpr : Environment → Type 0
-ProvedExpr env = (e : Expr) × SoundValue env (value_of e) (value_walk e)
+  abbrev well_link : Link → Bool
+  well_link = is_well_formed_link world.variables world.sites
 
-abbrev ProvedLink : Environment → Type 0
-ProvedLink env = (l : Link) × SoundLink env (link_of l) (link_walk l)
+  -- behind an entry
+  entered-sound : {A B : Type 0} (R : B → A → Type 0) (number : ℕ) (action : effect.Action A) (walking : Walking B) → Sound world env R action walking
+      → Sound world env R (effect.◌>>=◌ (effect.enter number env) (λ done. action)) (walk.◌>>=◌ (walk.enter number) (λ done. walking))
+  entered-sound R number action walking one =
+      sound-then world env Any_value R (effect.enter number env) (λ done. action) (walk.enter number) (λ done. walking) (sound-enter world env shows number)
+      (λ b a tie. one)
 
-turns-sound : (env : Environment) (links : List (ProvedLink env)) → SoundLink env (meaning.in_turn (map link_of (map (λ l. l.0) links))) (walk.in_turn (map link_walk (map (λ l. l.0) links)))
-turns-sound env [] range v inside = sound-give env IsIn v range inside
-turns-sound env (link ∷ links) range v inside =
-    sound-then env IsIn IsIn (link_of link.0 env v) (meaning.in_turn (map link_of (map (λ l. l.0) links)) env) (link_walk link.0 range) (walk.in_turn (map link_walk (map (λ l. l.0) links)))
-    (link.1 range v inside) (λ r w within. turns-sound env links r w within)
+  -- ---- expressions
 
-value-parts : (env : Environment) (y : Expr-F (ProvedExpr env) (ProvedLink env)) → SoundValue env (meaning.value_step (map-Expr Expr Link Evaluation meaning.Combination value_of link_of (map-Expr (ProvedExpr env) (ProvedLink env) Expr Link (λ e. e.0) (λ l. l.0) y))) (walk.value_step (map-Expr Expr Link (Walking Interval) walk.Combination value_walk link_walk (map-Expr (ProvedExpr env) (ProvedLink env) Expr Link (λ e. e.0) (λ l. l.0) y)))
-value-parts env (Constant number value) =
-    let one : Interval = record { first = value; last = value } in
-    sound-then env Any_value IsIn (effect.enter number env) (λ done. effect.give (Number value)) (walk.enter number) (λ done. walk.give one)
-    (sound-enter env number) (λ b a tie. sound-give env IsIn (Number value) one (constant-in value))
-value-parts env (Variable access defined) =
-    sound-then env Any_value IsIn (effect.enter access.number env) (λ done. effect.fetch (place_of env access.root) defined) (walk.enter access.number) (λ done. walk.use_of access.root defined)
-    (sound-enter env access.number) (λ b a tie. sound-use env access.root defined)
-value-parts env (MonadicOf number operation operand) =
-    sound-then env Any_value IsIn (effect.enter number env) (λ done. effect.◌>>=◌ (value_of operand.value.0 env) (meaning.operated operation))
-    (walk.enter number) (λ done. walk.◌>>=◌ (value_walk operand.value.0) (walk.operated operation))
-    (sound-enter env number)
-    (λ b a tie. sound-then env IsIn IsIn (value_of operand.value.0 env) (meaning.operated operation) (value_walk operand.value.0) (walk.operated operation)
-    operand.value.1 (λ range v inside. operated-sound env operation range v inside))
-value-parts env (Chain first rest) =
-    sound-then env IsIn IsIn (value_of first.value.0 env) (meaning.in_turn (map link_of (map (λ l. l.0) rest.items)) env) (value_walk first.value.0) (walk.in_turn (map link_walk (map (λ l. l.0) rest.items)))
-    first.value.1 (λ range v inside. turns-sound env rest.items range v inside)
+  -- the walk of an expression tells of its value
+  abbrev SoundValue : Bool → Evaluation → Walking Known → Type 0
+  SoundValue well evaluation walking = well ≡ true → Sound world env IsKnown (evaluation env) walking
 
-link-parts : (env : Environment) (y : Link-F (ProvedExpr env) (ProvedLink env)) → SoundLink env (meaning.link_step (map-Link Expr Link Evaluation meaning.Combination value_of link_of (map-Link (ProvedExpr env) (ProvedLink env) Expr Link (λ e. e.0) (λ l. l.0) y))) (walk.link_step (map-Link Expr Link (Walking Interval) walk.Combination value_walk link_walk (map-Link (ProvedExpr env) (ProvedLink env) Expr Link (λ e. e.0) (λ l. l.0) y)))
-link-parts env y range v inside =
-    sound-then env Any_value IsIn (effect.enter y.number env) (λ done. effect.◌>>=◌ (value_of y.operand.0 env) (meaning.combined y.operation v))
-    (walk.enter y.number) (λ done. walk.◌>>=◌ (value_walk y.operand.0) (walk.combined y.operation range))
-    (sound-enter env y.number)
-    (λ b a tie. sound-then env IsIn IsIn (value_of y.operand.0 env) (meaning.combined y.operation v) (value_walk y.operand.0) (walk.combined y.operation range)
-    y.operand.1 (λ r w right. combined-sound env y.operation range r v w inside right))
+  abbrev SoundLink : Bool → meaning.Combination → walk.Combination → Type 0
+  SoundLink well combination walking = well ≡ true → (known : Known) (v : Value) → IsKnown known v → Sound world env IsKnown (combination env v) (walking known)
 
--- by what the two folds are at a form
-along-value : (env : Environment) {evaluation evaluated : Evaluation} {walking walked : Walking Interval} → evaluation ≡ evaluated → walking ≡ walked → SoundValue env evaluated walked → SoundValue env evaluation walking
-along-value env {evaluation} {evaluated} {walking} {walked} one two sound =
-    subst (λ (e : Evaluation). SoundValue env e walking) (sym one) (subst (λ (w : Walking Interval). SoundValue env evaluated w) (sym two) sound)
+  abbrev ValueIsSound : Expr → Type 0
+  ValueIsSound e = SoundValue (well_expr e) (value_of e) (value_walk e)
 
-along-link : (env : Environment) {combination combined : meaning.Combination} {walking walked : walk.Combination} → combination ≡ combined → walking ≡ walked → SoundLink env combined walked → SoundLink env combination walking
-along-link env {combination} {combined} {walking} {walked} one two sound =
-    subst (λ (c : meaning.Combination). SoundLink env c walking) (sym one) (subst (λ (w : walk.Combination). SoundLink env combined w) (sym two) sound)
+  abbrev LinkIsSound : Link → Type 0
+  LinkIsSound l = SoundLink (well_link l) (link_of l) (link_walk l)
 
-pub value-sound : (env : Environment) (e : Expr) → SoundValue env (value_of e) (value_walk e)
-value-sound env = ind-Expr (λ e. SoundValue env (value_of e) (value_walk e)) (λ l. SoundLink env (link_of l) (link_walk l))
-    (λ x y is. along-value env
-    (fold-roll-Expr Evaluation meaning.Combination meaning.value_step meaning.link_step x ∙ ap (λ z. meaning.value_step (map-Expr Expr Link Evaluation meaning.Combination value_of link_of z)) (sym is))
-    (fold-roll-Expr (Walking Interval) walk.Combination walk.value_step walk.link_step x ∙ ap (λ z. walk.value_step (map-Expr Expr Link (Walking Interval) walk.Combination value_walk link_walk z)) (sym is))
-    (value-parts env y))
-    (λ x y is. along-link env
-    (fold-roll-Link Evaluation meaning.Combination meaning.value_step meaning.link_step x ∙ ap (λ z. meaning.link_step (map-Link Expr Link Evaluation meaning.Combination value_of link_of z)) (sym is))
-    (fold-roll-Link (Walking Interval) walk.Combination walk.value_step walk.link_step x ∙ ap (λ z. walk.link_step (map-Link Expr Link (Walking Interval) walk.Combination value_walk link_walk z)) (sym is))
-    (link-parts env y))
+  abbrev ProvedExpr : Type 0
+  ProvedExpr = (e : Expr) × ValueIsSound e
 
--- ---- statements
+  abbrev ProvedLink : Type 0
+  ProvedLink = (l : Link) × LinkIsSound l
 
-abbrev SoundStatement : Environment → Execution → Walking (Unit {0}) → Type 0
-SoundStatement env execution walking = Sound env Any_value (execution env) walking
+  -- the operators of a chain
+  turns-sound : (links : List ProvedLink)
+      → SoundLink (all_hold (map well_link (map (λ l. l.0) links))) (meaning.in_turn (map link_of (map (λ l. l.0) links)))
+      (walk.in_turn (map link_walk (map (λ l. l.0) links)))
+  turns-sound [] well known v inside = sound-give world env IsKnown v known inside
+  turns-sound (link ∷ links) well known v inside =
+      let later = map (λ (l : ProvedLink). l.0) links in
+      let parts = and_parts (well_link link.0) (all_hold (map well_link later)) well in
+      sound-then world env IsKnown IsKnown (link_of link.0 env v) (meaning.in_turn (map link_of later) env) (link_walk link.0 known)
+      (walk.in_turn (map link_walk later))
+      (link.1 parts.0 known v inside) (λ k w within. turns-sound links parts.1 k w within)
 
-abbrev ProvedStmt : Environment → Type 0
-ProvedStmt env = (s : Stmt) × SoundStatement env (effect_of s) (statement_walk s)
+  -- a layer of an expression, of which the parts are sound
+  abbrev ExprLayer : Expr-F Expr Link → Type 0
+  ExprLayer x =
+      SoundValue (expr_is_well_formed world.variables world.sites (map-Expr Expr Link Bool Bool well_expr well_link x))
+      (meaning.value_step (map-Expr Expr Link Evaluation meaning.Combination value_of link_of x))
+      (walk.value_step (map-Expr Expr Link (Walking Known) walk.Combination value_walk link_walk x))
 
-all-sound : (env : Environment) (statements : List (ProvedStmt env)) → SoundStatement env (meaning.all_of (map effect_of (map (λ s. s.0) statements))) (walk.all_of (map statement_walk (map (λ s. s.0) statements)))
-all-sound env [] = sound-give {A = Unit {0}} {B = Unit {0}} env Any_value tt tt tt
-all-sound env (statement ∷ statements) =
-    sound-then env Any_value Any_value (effect_of statement.0 env) (λ done. meaning.all_of (map effect_of (map (λ s. s.0) statements)) env)
-    (statement_walk statement.0) (λ done. walk.all_of (map statement_walk (map (λ s. s.0) statements)))
-    statement.1 (λ b a tie. all-sound env statements)
+  abbrev LinkLayer : Link-F Expr Link → Type 0
+  LinkLayer x =
+      SoundLink (link_is_well_formed world.variables world.sites (map-Link Expr Link Bool Bool well_expr well_link x))
+      (meaning.link_step (map-Link Expr Link Evaluation meaning.Combination value_of link_of x))
+      (walk.link_step (map-Link Expr Link (Walking Known) walk.Combination value_walk link_walk x))
 
--- the width of a value that is written
-width-sound : (env : Environment) (width : Option Width) (representation : Representation) → Sound {B = Unit {0}} env Any_value (width_of width representation env) (width_walk width)
-width-sound env None representation = sound-give {B = Unit {0}} env Any_value (Number (meaning.default_width representation)) tt tt
-width-sound env (Some width) representation =
-    let tests = λ (w : Value). effect.◌>>=◌ (effect.require (is_positive w) width.site) (λ tested. effect.give w) in
-    let test = λ (range : Interval). walk.◌>>=◌ (walk.positive width.site range) (λ passed. walk.give {A = Unit {0}} tt) in
-    sound-then {D = Unit {0}} env IsIn Any_value (value_of width.value env) tests (value_walk width.value) test
-    (value-sound env width.value)
-    (λ range w inside. sound-then {D = Unit {0}} env (Passes (is_positive w) w) Any_value (effect.require (is_positive w) width.site) (λ tested. effect.give w) (walk.positive width.site range) (λ passed. walk.give tt)
-    (positive-sound env width.site range w inside)
-    (λ passed tested passes. sound-give {B = Unit {0}} env Any_value w tt tt))
+  value-layer : (y : Expr-F ProvedExpr ProvedLink) → ExprLayer (map-Expr ProvedExpr ProvedLink Expr Link (λ e. e.0) (λ l. l.0) y)
+  value-layer (Constant number value) well =
+      entered-sound IsKnown number (effect.give (Number value)) (walk.ordinal (record { first = value; last = value }))
+      (given-sound world env (record { first = value; last = value }) value (constant-in value))
+  value-layer (Variable access defined) well =
+      let parts = and_parts (nat_lt access.root world.variables) (nat_lt defined world.sites) well in
+      entered-sound IsKnown access.number (effect.fetch (place_of env access.root) defined) (walk.use_of access.root defined)
+      (sound-use world env shows access.root defined (ltb-true access.root world.variables parts.0) (ltb-true defined world.sites parts.1))
+  value-layer (MonadicOf number operation operand) well =
+      let parts = and_parts (monadic_is_well_formed world.variables world.sites operation) (well_expr operand.value.0) well in
+      entered-sound IsKnown number (effect.◌>>=◌ (value_of operand.value.0 env) (meaning.operated operation))
+      (walk.◌>>=◌ (value_walk operand.value.0) (walk.operated operation))
+      (sound-then world env IsKnown IsKnown (value_of operand.value.0 env) (meaning.operated operation) (value_walk operand.value.0) (walk.operated operation)
+      (operand.value.1 parts.1) (λ known v inside. operated-sound world env operation known v parts.0 inside))
+  value-layer (Chain first rest) well =
+      let links = map (λ (l : ProvedLink). l.0) rest.items in
+      let parts = and_parts (well_expr first.value.0) (all_hold (map well_link links)) well in
+      sound-then world env IsKnown IsKnown (value_of first.value.0 env) (meaning.in_turn (map link_of links) env) (value_walk first.value.0)
+      (walk.in_turn (map link_walk links))
+      (first.value.1 parts.0) (λ known v inside. turns-sound rest.items parts.1 known v inside)
 
--- a value that is written, and its width
-parameter-sound : (env : Environment) (parameter : WriteParameter) → SoundStatement env (parameter_of parameter) (parameter_walk parameter)
-parameter-sound env parameter =
-    let width = width_of parameter.width parameter.representation env in
-    sound-then env IsIn Any_value (value_of parameter.value env) (λ v. effect.◌>>=◌ width (λ w. effect.write (text_of parameter.representation v w)))
-    (value_walk parameter.value) (λ range. width_walk parameter.width)
-    (value-sound env parameter.value)
-    (λ range v inside. sound-written env Any_value (text_of parameter.representation v) width (width_walk parameter.width) (width-sound env parameter.width parameter.representation))
+  link-layer : (y : Link-F ProvedExpr ProvedLink) → LinkLayer (map-Link ProvedExpr ProvedLink Expr Link (λ e. e.0) (λ l. l.0) y)
+  link-layer y well known v inside =
+      let right = y.operand.0 in
+      let meant = meaning.combined y.operation v in
+      let walked = walk.combined y.operation known in
+      let parts = and_parts (dyadic_is_well_formed world.variables world.sites y.operation) (well_expr right) well in
+      entered-sound IsKnown y.number (effect.◌>>=◌ (value_of right env) meant) (walk.◌>>=◌ (value_walk right) walked)
+      (sound-then world env IsKnown IsKnown (value_of right env) meant (value_walk right) walked
+      (y.operand.1 parts.1) (λ k w is. combined-sound world env y.operation known k v w parts.0 inside is))
 
-parameters-sound : (env : Environment) (parameters : List WriteParameter) → SoundStatement env (meaning.all_of (map parameter_of parameters)) (walk.all_of (map parameter_walk parameters))
-parameters-sound env [] = sound-give {A = Unit {0}} {B = Unit {0}} env Any_value tt tt tt
-parameters-sound env (parameter ∷ parameters) =
-    sound-then env Any_value Any_value (parameter_of parameter env) (λ done. meaning.all_of (map parameter_of parameters) env)
-    (parameter_walk parameter) (λ done. walk.all_of (map parameter_walk parameters))
-    (parameter-sound env parameter) (λ b a tie. parameters-sound env parameters)
+  -- by what the three folds are at a form
+  along-value : {a b : Bool} {evaluation evaluated : Evaluation} {walking walked : Walking Known} → a ≡ b → evaluation ≡ evaluated → walking ≡ walked
+      → SoundValue b evaluated walked → SoundValue a evaluation walking
+  along-value {a} {b} {evaluation} {evaluated} {walking} {walked} zero one two sound =
+      subst (λ (w : Bool). SoundValue w evaluation walking) (sym zero)
+      (subst (λ (e : Evaluation). SoundValue b e walking) (sym one) (subst (λ (w : Walking Known). SoundValue b evaluated w) (sym two) sound))
 
--- a line end changes nothing that the walk knows of
-ended-sound : (env : Environment) (ends_line : Bool) (execution : Execution) (walking : Walking (Unit {0})) → SoundStatement env execution walking → Sound {A = Unit {0}} env Any_value (effect.◌>>=◌ (execution env) (λ done. meaning.line_ended ends_line)) walking
-ended-sound env true execution walking one = sound-written env Any_value (λ done. 10 ∷ []) (execution env) walking one
-ended-sound env false execution walking one = sound-given env Any_value Any_value (λ done. tt) (λ b a tie. tt) (execution env) walking one
+  along-link : {a b : Bool} {combination combined : meaning.Combination} {walking walked : walk.Combination} → a ≡ b → combination ≡ combined → walking ≡ walked
+      → SoundLink b combined walked → SoundLink a combination walking
+  along-link {a} {b} {combination} {combined} {walking} {walked} zero one two sound =
+      subst (λ (w : Bool). SoundLink w combination walking) (sym zero)
+      (subst (λ (c : meaning.Combination). SoundLink b c walking) (sym one) (subst (λ (w : walk.Combination). SoundLink b combined w) (sym two) sound))
 
-assignment-sound : (env : Environment) → Apart env → (target : Access) (fits : RangeTest) (value : Expr)
-    → Sound {A = Unit {0}} env Any_value
-    (effect.◌>>=◌ (effect.enter target.number env) (λ entered. effect.◌>>=◌ (value_of value env) (λ v. effect.◌>>=◌ (effect.require (is_in fits.range v) fits.site) (λ tested. effect.store (place_of env target.root) v))))
-    (walk.assignment target fits value)
-assignment-sound env apart target fits value =
-    let stores = λ (v : Value) (tested : Unit {0}). effect.store (place_of env target.root) v in
-    let assigns = λ (fitting : Interval). walk.assign target.root fitting in
-    let tests = λ (v : Value). effect.◌>>=◌ (effect.require (is_in fits.range v) fits.site) (stores v) in
-    let test = λ (range : Interval). walk.◌>>=◌ (walk.within (limits_of fits.range) fits.site range) assigns in
-    sound-then env Any_value Any_value (effect.enter target.number env) (λ entered. effect.◌>>=◌ (value_of value env) tests) (walk.enter target.number) (λ entered. walk.◌>>=◌ (value_walk value) test)
-    (sound-enter env target.number)
-    (λ b a tie. sound-then env IsIn Any_value (value_of value env) tests (value_walk value) test
-    (value-sound env value)
-    (λ range v inside. sound-then env (Passes (is_in fits.range v) v) Any_value (effect.require (is_in fits.range v) fits.site) (stores v) (walk.within (limits_of fits.range) fits.site range) assigns
-    (limits-sound env fits range v inside)
-    (λ fitting tested passes. sound-assign env apart target.root fitting v passes.0 (is_in-integer fits.range v passes.1))))
+  rolled-expr : (x : Expr-F Expr Link) → ExprLayer x → ValueIsSound (roll-Expr x)
+  rolled-expr x =
+      along-value
+      (fold-roll-Expr Bool Bool (expr_is_well_formed world.variables world.sites) (link_is_well_formed world.variables world.sites) x)
+      (fold-roll-Expr Evaluation meaning.Combination meaning.value_step meaning.link_step x)
+      (fold-roll-Expr (Walking Known) walk.Combination walk.value_step walk.link_step x)
 
-statement-parts : (env : Environment) → Apart env → (y : Stmt-F (ProvedStmt env)) → SoundStatement env (meaning.effect_step (map-Stmt Stmt Execution effect_of (map-Stmt (ProvedStmt env) Stmt (λ s. s.0) y))) (walk.statement_step (map-Stmt Stmt (Walking (Unit {0})) statement_walk (map-Stmt (ProvedStmt env) Stmt (λ s. s.0) y)))
-statement-parts env apart (Empty number) = sound-enter env number
-statement-parts env apart (Assign number becomes target fits value) =
-    sound-then env Any_value Any_value (effect.enter number env)
-    (λ entered. effect.◌>>=◌ (effect.enter target.number env) (λ again. effect.◌>>=◌ (value_of value env) (λ v. effect.◌>>=◌ (effect.require (is_in fits.range v) fits.site) (λ tested. effect.store (place_of env target.root) v))))
-    (walk.enter number) (λ entered. walk.assignment target fits value)
-    (sound-enter env number) (λ b a tie. assignment-sound env apart target fits value)
-statement-parts env apart (Write number name parameters ends_line) =
-    let written = meaning.all_of (map parameter_of parameters.items) in
-    let walked = walk.all_of (map parameter_walk parameters.items) in
-    sound-then env Any_value Any_value (effect.enter number env) (λ entered. effect.◌>>=◌ (written env) (λ done. meaning.line_ended ends_line)) (walk.enter number) (λ entered. walked)
-    (sound-enter env number) (λ b a tie. ended-sound env ends_line written walked (parameters-sound env parameters.items))
-statement-parts env apart (Compound number statements) =
-    sound-then env Any_value Any_value (effect.enter number env) (λ entered. meaning.all_of (map effect_of (map (λ s. s.0) statements.items)) env)
-    (walk.enter number) (λ entered. walk.all_of (map statement_walk (map (λ s. s.0) statements.items)))
-    (sound-enter env number) (λ b a tie. all-sound env statements.items)
+  rolled-link : (x : Link-F Expr Link) → LinkLayer x → LinkIsSound (roll-Link x)
+  rolled-link x =
+      along-link
+      (fold-roll-Link Bool Bool (expr_is_well_formed world.variables world.sites) (link_is_well_formed world.variables world.sites) x)
+      (fold-roll-Link Evaluation meaning.Combination meaning.value_step meaning.link_step x)
+      (fold-roll-Link (Walking Known) walk.Combination walk.value_step walk.link_step x)
 
-along-statement : (env : Environment) {execution executed : Execution} {walking walked : Walking (Unit {0})} → execution ≡ executed → walking ≡ walked → SoundStatement env executed walked → SoundStatement env execution walking
-along-statement env {execution} {executed} {walking} {walked} one two sound =
-    subst (λ (e : Execution). SoundStatement env e walking) (sym one) (subst (λ (w : Walking (Unit {0})). SoundStatement env executed w) (sym two) sound)
+  abbrev plain_expr : Expr-F ProvedExpr ProvedLink → Expr-F Expr Link
+  plain_expr = map-Expr ProvedExpr ProvedLink Expr Link (λ e. e.0) (λ l. l.0)
 
-pub statement-sound : (env : Environment) → Apart env → (s : Stmt) → SoundStatement env (effect_of s) (statement_walk s)
-statement-sound env apart = ind-Stmt (λ s. SoundStatement env (effect_of s) (statement_walk s))
-    (λ x y is. along-statement env
-    (fold-roll-Stmt Execution meaning.effect_step x ∙ ap (λ z. meaning.effect_step (map-Stmt Stmt Execution effect_of z)) (sym is))
-    (fold-roll-Stmt (Walking (Unit {0})) walk.statement_step x ∙ ap (λ z. walk.statement_step (map-Stmt Stmt (Walking (Unit {0})) statement_walk z)) (sym is))
-    (statement-parts env apart y))
+  abbrev plain_link : Link-F ProvedExpr ProvedLink → Link-F Expr Link
+  plain_link = map-Link ProvedExpr ProvedLink Expr Link (λ e. e.0) (λ l. l.0)
+
+  pub value-sound : (e : Expr) → ValueIsSound e
+  value-sound =
+      ind-Expr ValueIsSound LinkIsSound
+      (λ x y is. subst (λ (z : Expr-F Expr Link). ValueIsSound (roll-Expr z)) is (rolled-expr (plain_expr y) (value-layer y)))
+      (λ x y is. subst (λ (z : Link-F Expr Link). LinkIsSound (roll-Link z)) is (rolled-link (plain_link y) (link-layer y)))
+
+  -- ---- values that are written
+
+  -- a width that has to be at least 1
+  width-tested : (site : ℕ) (known : Known) (w : Value) → nat_lt site world.sites ≡ true → IsKnown known w
+      → Sound {B = Unit {0}} world env Any_value (effect.◌>>=◌ (effect.require (is_positive w) site) (λ tested. effect.give w)) (walk.width_test site known)
+  width-tested site (Ordinal range) w below inside =
+      sound-then {D = Unit {0}} world env (Passes (is_positive w) w) Any_value (effect.require (is_positive w) site) (λ tested. effect.give w)
+      (walk.positive site range) (λ passed. walk.give tt)
+      (positive-sound world env site range w (ltb-true site world.sites below) inside)
+      (λ passed tested passes. sound-give {B = Unit {0}} world env Any_value w tt tt)
+
+  width-sound : (width : Option Width) (representation : Representation) → is_well_formed_width world.variables world.sites width ≡ true
+      → Sound {B = Unit {0}} world env Any_value (width_of width representation env) (width_walk width)
+  width-sound None representation well = sound-give {B = Unit {0}} world env Any_value (Number (meaning.default_width representation)) tt tt
+  width-sound (Some width) representation well =
+      let parts = and_parts (nat_lt width.site world.sites) (well_expr width.value) well in
+      let tests = λ (w : Value). effect.◌>>=◌ (effect.require (is_positive w) width.site) (λ tested. effect.give w) in
+      sound-then {D = Unit {0}} world env IsKnown Any_value (value_of width.value env) tests (value_walk width.value) (walk.width_test width.site)
+      (value-sound width.value parts.1) (λ known w inside. width-tested width.site known w parts.0 inside)
+
+  -- a value that is written, and its width
+  parameter-sound : (parameter : WriteParameter) → is_well_formed_parameter world.variables world.sites parameter ≡ true
+      → SoundAction world env (parameter_of parameter env) (parameter_walk parameter)
+  parameter-sound parameter well =
+      let parts = and_parts (well_expr parameter.value) (is_well_formed_width world.variables world.sites parameter.width) well in
+      let width = width_of parameter.width parameter.representation env in
+      sound-then world env IsKnown Any_value (value_of parameter.value env) (λ v. effect.◌>>=◌ width (λ w. effect.write (text_of parameter.representation v w)))
+      (value_walk parameter.value) (λ known. width_walk parameter.width)
+      (value-sound parameter.value parts.0)
+      (λ known v inside. sound-written world env Any_value (text_of parameter.representation v) width (width_walk parameter.width)
+      (width-sound parameter.width parameter.representation parts.1))
+
+  parameters-sound : (parameters : List WriteParameter) → all_hold (map (is_well_formed_parameter world.variables world.sites) parameters) ≡ true
+      → SoundAction world env (meaning.all_of (map parameter_of parameters) env) (walk.all_of (map parameter_walk parameters))
+  parameters-sound [] well = sound-give {A = Unit {0}} {B = Unit {0}} world env Any_value tt tt tt
+  parameters-sound (parameter ∷ parameters) well =
+      let is_well = is_well_formed_parameter world.variables world.sites in
+      let parts = and_parts (is_well parameter) (all_hold (map is_well parameters)) well in
+      sound-then world env Any_value Any_value (parameter_of parameter env) (λ done. meaning.all_of (map parameter_of parameters) env)
+      (parameter_walk parameter) (λ done. walk.all_of (map parameter_walk parameters))
+      (parameter-sound parameter parts.0) (λ b a tie. parameters-sound parameters parts.1)
+
+  -- a line end changes nothing that the walk knows of
+  ended-sound : (ends_line : Bool) (action : effect.Action (Unit {0})) (walking : Walking (Unit {0})) → SoundAction world env action walking
+      → SoundAction world env (effect.◌>>=◌ action (λ done. meaning.line_ended ends_line)) walking
+  ended-sound true action walking one = sound-written world env Any_value (λ done. 10 ∷ []) action walking one
+  ended-sound false action walking one = sound-given world env Any_value Any_value (λ done. tt) (λ b a tie. tt) action walking one
+
+  -- ---- statements
+
+  abbrev well_stmt : Stmt → Bool
+  well_stmt = is_well_formed_stmt world.variables world.sites
+
+  abbrev SoundStatement : Bool → Execution → Walking (Unit {0}) → Type 0
+  SoundStatement well execution walking = well ≡ true → SoundAction world env (execution env) walking
+
+  abbrev StatementIsSound : Stmt → Type 0
+  StatementIsSound s = SoundStatement (well_stmt s) (effect_of s) (statement_walk s)
+
+  abbrev ProvedStmt : Type 0
+  ProvedStmt = (s : Stmt) × StatementIsSound s
+
+  all-sound : (statements : List ProvedStmt)
+      → SoundStatement (all_hold (map well_stmt (map (λ s. s.0) statements))) (meaning.all_of (map effect_of (map (λ s. s.0) statements)))
+      (walk.all_of (map statement_walk (map (λ s. s.0) statements)))
+  all-sound [] well = sound-give {A = Unit {0}} {B = Unit {0}} world env Any_value tt tt tt
+  all-sound (statement ∷ statements) well =
+      let later = map (λ (s : ProvedStmt). s.0) statements in
+      let parts = and_parts (well_stmt statement.0) (all_hold (map well_stmt later)) well in
+      sound-then world env Any_value Any_value (effect_of statement.0 env) (λ done. meaning.all_of (map effect_of later) env)
+      (statement_walk statement.0) (λ done. walk.all_of (map statement_walk later))
+      (statement.1 parts.0) (λ b a tie. all-sound statements parts.1)
+
+  -- a value is tested, and then it is stored
+  abbrev tested-store : Access → RangeTest → Value → effect.Action (Unit {0})
+  tested-store target fits v = effect.◌>>=◌ (effect.require (is_in fits.range v) fits.site) (λ tested. effect.store (place_of env target.root) v)
+
+  store-sound : (target : Access) (fits : RangeTest) (known : Known) (v : Value) → nat_lt target.root world.variables ≡ true
+      → nat_lt fits.site world.sites ≡ true
+      → IsKnown known v → SoundAction world env (tested-store target fits v) (walk.◌>>=◌ (walk.fitting fits known) (λ passed. walk.assign target.root passed))
+  store-sound target fits known v within below inside =
+      sound-then world env (IsKnownOf v) Any_value (effect.require (is_in fits.range v) fits.site) (λ tested. effect.store (place_of env target.root) v)
+      (walk.fitting fits known) (λ passed. walk.assign target.root passed)
+      (fitting-sound world env fits known v (ltb-true fits.site world.sites below) inside)
+      (λ passed tested is. sound-assign world env shows target.root passed v (ltb-true target.root world.variables within) is)
+
+  -- the target is entered, and then comes the value
+  abbrev assigned : Access → RangeTest → Expr → effect.Action (Unit {0})
+  assigned target fits value = effect.◌>>=◌ (effect.enter target.number env) (λ entered. effect.◌>>=◌ (value_of value env) (tested-store target fits))
+
+  assignment-sound : (target : Access) (fits : RangeTest) (value : Expr)
+      → (nat_lt target.root world.variables && (is_well_formed_test world.variables world.sites fits && well_expr value)) ≡ true
+      → SoundAction world env (assigned target fits value) (walk.assignment target fits value)
+  assignment-sound target fits value well =
+      let is_test = is_well_formed_test world.variables world.sites fits in
+      let one = and_parts (nat_lt target.root world.variables) (is_test && well_expr value) well in
+      let two = and_parts is_test (well_expr value) one.1 in
+      let three = and_parts (nat_lt fits.site world.sites) (is_whole fits.range.first && is_whole fits.range.last) two.0 in
+      let test = λ (known : Known). walk.◌>>=◌ (walk.fitting fits known) (λ passed. walk.assign target.root passed) in
+      entered-sound {A = Unit {0}} {B = Unit {0}} Any_value target.number
+      (effect.◌>>=◌ (value_of value env) (tested-store target fits)) (walk.◌>>=◌ (value_walk value) test)
+      (sound-then world env IsKnown Any_value (value_of value env) (tested-store target fits) (value_walk value) test
+      (value-sound value two.1) (λ known v inside. store-sound target fits known v one.0 three.0 inside))
+
+  abbrev StmtLayer : Stmt-F Stmt → Type 0
+  StmtLayer x =
+      SoundStatement (stmt_is_well_formed world.variables world.sites (map-Stmt Stmt Bool well_stmt x))
+      (meaning.effect_step (map-Stmt Stmt Execution effect_of x))
+      (walk.statement_step (map-Stmt Stmt (Walking (Unit {0})) statement_walk x))
+
+  statement-layer : (y : Stmt-F ProvedStmt) → StmtLayer (map-Stmt ProvedStmt Stmt (λ s. s.0) y)
+  statement-layer (Empty number) well = sound-enter world env shows number
+  statement-layer (Assign number becomes target fits value) well =
+      entered-sound {A = Unit {0}} {B = Unit {0}} Any_value number (assigned target fits value) (walk.assignment target fits value)
+      (assignment-sound target fits value well)
+  statement-layer (Write number name parameters ends_line) well =
+      let written = meaning.all_of (map parameter_of parameters.items) env in
+      let walked = walk.all_of (map parameter_walk parameters.items) in
+      entered-sound {A = Unit {0}} {B = Unit {0}} Any_value number (effect.◌>>=◌ written (λ done. meaning.line_ended ends_line)) walked
+      (ended-sound ends_line written walked (parameters-sound parameters.items well))
+  statement-layer (Compound number statements) well =
+      let inner = map (λ (s : ProvedStmt). s.0) statements.items in
+      entered-sound {A = Unit {0}} {B = Unit {0}} Any_value number (meaning.all_of (map effect_of inner) env) (walk.all_of (map statement_walk inner))
+      (all-sound statements.items well)
+
+  along-statement : {a b : Bool} {execution executed : Execution} {walking walked : Walking (Unit {0})} → a ≡ b → execution ≡ executed → walking ≡ walked
+      → SoundStatement b executed walked → SoundStatement a execution walking
+  along-statement {a} {b} {execution} {executed} {walking} {walked} zero one two sound =
+      subst (λ (w : Bool). SoundStatement w execution walking) (sym zero)
+      (subst (λ (e : Execution). SoundStatement b e walking) (sym one) (subst (λ (w : Walking (Unit {0})). SoundStatement b executed w) (sym two) sound))
+
+  rolled-stmt : (x : Stmt-F Stmt) → StmtLayer x → StatementIsSound (roll-Stmt x)
+  rolled-stmt x =
+      along-statement (fold-roll-Stmt Bool (stmt_is_well_formed world.variables world.sites) x)
+      (fold-roll-Stmt Execution meaning.effect_step x) (fold-roll-Stmt (Walking (Unit {0})) walk.statement_step x)
+
+  pub statement-sound : (s : Stmt) → StatementIsSound s
+  statement-sound =
+      ind-Stmt StatementIsSound
+      (λ x y is. subst (λ (z : Stmt-F Stmt). StatementIsSound (roll-Stmt z)) is (rolled-stmt (map-Stmt ProvedStmt Stmt (λ s. s.0) y) (statement-layer y)))

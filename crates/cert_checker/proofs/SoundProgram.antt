@@ -1,25 +1,30 @@
 -- The walk over a program is sound for each of its runs: closed sites never err, and states hold.
-use Rattle.std.proofs.Common.{arith, ◌≡◌, ◌≢◌, inl, inr, ◌∙◌, sym, ap, refl, subst, ℕ, zero, suc, ◌<◌, get_or, ◌==◌, Bool, true, false, ◌&&◌, cond, nat_eq, nat_lt, List, [], ◌∷◌, ◌++◌, map, filter, Some, None, length, slice_get}
-use Rattle.std.specs.List.{Contains, list_any}
-use Rattle.std.specs.Option.{unwrap_or}
-use Rattle.std.proofs.Math.Bool.{and-true}
-use Rattle.std.proofs.lemmas.Bool.{eqb-true, eq-eqb}
-use Rattle.std.proofs.lemmas.List.Elements.{Contains-append_left}
+use Rattle.std.proofs.Common.{arith, ◌≡◌, ◌≢◌, ⊎_elim, inl, ◌∙◌, sym, ap, refl, subst, ℕ, zero, suc, ◌<◌, get_or, ◌==◌, Bool, true, false, ◌&&◌, cond, nat_eq, zero-add, List, [], ◌∷◌, map, filter, Option, Some, None, length}
+use Rattle.std.specs.Prelude.{slice_get}
+use Rattle.std.specs.List.{Contains, list_any, list_all, range_with_len}
+use Rattle.std.proofs.lemmas.Bool.{and_parts, eqb-true, eq-eqb}
+use Rattle.std.proofs.lemmas.List.{length-map, get_or-map, get_or_default}
 use Rattle.std.proofs.lemmas.List.Folds.{list_any_at}
+use Rattle.std.proofs.lemmas.List.FromFn.{length-range_with_len, get_or-range_with_len}
+use Rattle.certificate.specs.declared.Certificate.{Certificate}
 use Rattle.typed_tree.specs.declared.tree.Tree.{Tree}
 use Rattle.typed_tree.specs.declared.tree.Block.{Block}
+use Rattle.typed_tree.specs.declared.tree.Variable.{Variable}
 use Rattle.typed_tree.specs.declared.site.Site.{Site}
+use Rattle.typed_tree.specs.Entries.{entries_of}
+use Rattle.typed_tree.specs.Ids.{AreInOrder}
+use Rattle.typed_tree.specs.WellFormed.{IsWellFormed, is_well_formed_block}
 use Rattle.meaning.specs.declared.outcome.Ending.TheVariants.{Error}
-use Rattle.meaning.specs.Store.{Environment, Place, overlap, place_eq}
+use Rattle.meaning.specs.Store.{Environment, Place, overlap}
 use Rattle.meaning.specs.Effect as effect
-use Rattle.meaning.specs.Effect.{Reply, Visit, place_of}
-use Rattle.meaning.specs.Meaning.{run, run_of, first_state, ended, program_environment}
+use Rattle.meaning.specs.Effect.{Reply, Visit}
+use Rattle.meaning.specs.Meaning.{run, run_of, first_state, ended, home_of, program_environment}
 use Rattle.cert_checker.specs.State.{Dead, start}
-use Rattle.cert_checker.specs.Walk.{Entry, Walked, block_walk, all_of, statement_walk, program_walk}
-use Rattle.cert_checker.specs.Holds.{Separate}
-use Rattle.cert_checker.specs.Promise.{open_in, ClosedNeverErr, StatesHold, visits_of}
-use Rattle.cert_checker.proofs.Knows.{Apart, known-start}
-use Rattle.cert_checker.proofs.Sound.{New, ErrsAmong, Good, Any_value, new-left}
+use Rattle.cert_checker.specs.Walk.{Context, Linked, Walked, block_walk, all_of, begin, statement_walk, program_walk, numbers_of}
+use Rattle.cert_checker.specs.Holds.{Separate, StateHolds}
+use Rattle.cert_checker.specs.Promise.{open_in, AreNumbered, ClosedNeverErr, HoldsAt, StatesHold, moment_of, visits_of}
+use Rattle.cert_checker.proofs.Knows.{Shows, Knows, known-start}
+use Rattle.cert_checker.proofs.Sound.{World, IsPartOf, Meets, New, ErrsWithin, unbroken-left, part-left, part-right}
 use Rattle.cert_checker.proofs.SoundForms.{statement-sound}
 
 -- ---- the environment of a program
@@ -27,50 +32,98 @@ use Rattle.cert_checker.proofs.SoundForms.{statement-sound}
 abbrev home : ℕ → Place
 home root = record { activation = 0; variable = root; steps = [] }
 
-home_or : (listed : Bool) (p : Place) → unwrap_or (cond listed (Some p) None) p ≡ p
-home_or true p = refl
-home_or false p = refl
+-- each variable of the program's block has its home
+declared-home : (variables : List Variable) (root k : ℕ) → list_all (λ variable. nat_eq variable.block 0) variables ≡ true → k < length variables
+    → home_of root (slice_get variables k) ≡ Some (home root)
+declared-home [] root k declared within = absurd (omega arith)
+declared-home (variable ∷ variables) root zero declared within =
+    let parts = and_parts (nat_eq variable.block 0) (list_all (λ v. nat_eq v.block 0) variables) declared in
+    ap (λ (own : Bool). cond own (Some (home root)) None) parts.0
+declared-home (variable ∷ variables) root (suc k) declared within =
+    let parts = and_parts (nat_eq variable.block 0) (list_all (λ v. nat_eq v.block 0) variables) declared in
+    declared-home variables root k parts.1 (omega arith)
 
-pub program-apart : (tree : Tree) → Apart (program_environment tree)
-program-apart tree a b =
-    ap (λ p. place_eq p (place_of (program_environment tree) b)) (home_or (nat_lt a (length tree.variables.items)) (home a))
-    ∙ ap (place_eq (home a)) (home_or (nat_lt b (length tree.variables.items)) (home b))
-    ∙ and-true (nat_eq a b)
+own-home : (own : Bool) (p q : Place) → cond own (Some p) None ≡ Some q → p ≡ q
+own-home true p q is = cc
+own-home false p q is = absurd (cc)
 
-listed-home : (listed : Bool) (p q : Place) → cond listed (Some p) None ≡ Some q → p ≡ q
-listed-home true p q is = cc
-listed-home false p q is = absurd (cc)
+visible-home : (root : ℕ) (found : Option Variable) (p : Place) → home_of root found ≡ Some p → home root ≡ p
+visible-home root None p is = absurd (cc)
+visible-home root (Some variable) p is = own-home (nat_eq variable.block 0) (home root) p is
+
+same-home : (a b : ℕ) (same : Bool) → nat_eq a b ≡ same → a ≢ b → (same && true) ≡ true → ⊥
+same-home a b true is differ overlaps = differ (eqb-true a b is)
+same-home a b false is differ overlaps = cc
+
+-- no two variables of the program share a place
+program-separate : (tree : Tree) → Separate (program_environment tree) []
+program-separate tree a b p q at_a at_b differ overlaps =
+    let home_a = visible-home a (slice_get tree.variables.items a) p at_a in
+    let home_b = visible-home b (slice_get tree.variables.items b) q at_b in
+    absurd (same-home a b (nat_eq a b) refl differ (ap (λ y. overlap (home a) y) home_b ∙ ap (λ x. overlap x q) home_a ∙ overlaps))
+
+program-shows : (tree : Tree) → IsWellFormed tree → Shows (length tree.variables.items) (program_environment tree)
+program-shows tree well = record {
+  visible = λ root within. (home root, declared-home tree.variables.items root root well.declared within);
+  separate = program-separate tree;
+}
 
 -- ---- a run and the walk over its block
 
+abbrev program_world : Tree → Certificate → World
+program_world tree certificate = record {
+  ids = (program_walk tree certificate).open_ids;
+  sites = length tree.sites.items;
+  variables = length tree.variables.items;
+  linked = (program_walk tree certificate).linked;
+  aliases = λ block. [];
+}
+
 -- what the walk over a program foretells of a run
-abbrev Foretold : Environment → List ℕ → List Entry → Reply (Unit {0}) → Type 0
-Foretold env ids linked (effect.Gives done s) = New env linked [] s.visited
-Foretold env ids linked (effect.Stops e s) = ErrsAmong ids e × New env linked [] s.visited
+pub record Foretold (world : World) (reply : Reply (Unit {0})) : Type 0 where
+  pub errs : ErrsWithin world reply
+  pub new : New world [] (visits_of reply)
 
-among-more : (env : Environment) (walked : Walked (Unit {0})) (ids : List ℕ) (linked : List Entry) (reply : Reply (Unit {0})) → Good {B = Unit {0}} env Any_value walked [] reply → Foretold env (walked.open_ids ++ ids) (walked.linked ++ linked) reply
-among-more env walked ids linked (effect.Gives done s) good = new-left env walked.linked linked [] s.visited good.2
-among-more env walked ids linked (effect.Stops e s) good =
-    (λ id is. Contains-append_left walked.open_ids ids id (good.0 id is), new-left env walked.linked linked [] s.visited good.1)
+blocks-foretold : (world : World) (env : Environment) → Shows world.variables env → (blocks : List Block) (context : Context) (input : List ℕ) (turns : ℕ)
+    → length context.tree.variables.items ≡ world.variables → list_all (is_well_formed_block world.variables world.sites) blocks ≡ true
+    → (all_of (map block_walk blocks) context Dead).broken ≡ [] → IsPartOf world (all_of (map block_walk blocks) context Dead)
+    → Foretold world (run_of (slice_get blocks 0) env (first_state input turns))
+blocks-foretold world env shows [] context input turns variables well unbroken part = record { errs = tt; new = λ visit inside. inl inside }
+blocks-foretold world env shows (block ∷ blocks) context input turns variables well unbroken part =
+    let begun = start (length context.tree.variables.items) in
+    let first : Walked (Unit {0}) = block_walk block context Dead in
+    let body : Walked (Unit {0}) = statement_walk block.body context begun in
+    let rest : Walked (Unit {0}) = all_of (map block_walk blocks) context first.after in
+    let is_well = is_well_formed_block world.variables world.sites in
+    let parts = and_parts (is_well block) (list_all is_well blocks) well in
+    let known = known-start env (length context.tree.variables.items) in
+    let good = statement-sound world env shows block.body parts.0 context begun (first_state input turns) (unbroken-left first.broken rest.broken unbroken)
+    (part-right world (begin block context Dead) body (part-left world first rest part)) (subst (λ n. Knows n env begun []) variables known) in
+    record { errs = good.errs; new = good.new }
 
-blocks-foretold : (env : Environment) → Apart env → (variables : ℕ) (blocks : List Block) (input : List ℕ) (turns : ℕ)
-    → Foretold env (all_of (map (block_walk variables) blocks) Dead).open_ids (all_of (map (block_walk variables) blocks) Dead).linked (run_of (slice_get blocks 0) env (first_state input turns))
-blocks-foretold env apart variables [] input turns = λ visit inside. inl inside
-blocks-foretold env apart variables (block ∷ blocks) input turns =
-    let walked : Walked (Unit {0}) = statement_walk block.body (start variables) in
-    let rest : Walked (Unit {0}) = all_of (map (block_walk variables) blocks) walked.after in
-    among-more env walked rest.open_ids rest.linked (run_of (Some block) env (first_state input turns))
-    (statement-sound env apart block.body (start variables) (first_state input turns) (known-start env variables))
+pub program-foretold : (tree : Tree) (certificate : Certificate) (input : List ℕ) (turns : ℕ) → (program_walk tree certificate).broken ≡ [] → IsWellFormed tree
+    → Foretold (program_world tree certificate) (run tree input turns)
+program-foretold tree certificate input turns unbroken well =
+    blocks-foretold (program_world tree certificate) (program_environment tree) (program-shows tree well) tree.blocks.items
+    (record { tree = tree; certificate = certificate }) input turns refl well.blocks unbroken
+    (record { ids = λ id inside. inside; linked = λ one inside. inside })
 
-pub program-foretold : (tree : Tree) (input : List ℕ) (turns : ℕ) → Foretold (program_environment tree) (program_walk tree).open_ids (program_walk tree).linked (run tree input turns)
-program-foretold tree input turns =
-    blocks-foretold (program_environment tree) (program-apart tree) (length tree.variables.items) tree.blocks.items input turns
+-- ---- numbers that are places
+
+-- where the numbers of a list go from 0 on, each is the place of its element
+number-at : {X : Type 0} (number : X → ℕ) (xs : List X) (n : ℕ) → map number xs ≡ range_with_len 0 n → (k : ℕ) (x : X) → k < length xs → get_or xs k x ≡ x
+    → number x ≡ k
+number-at number xs n are k x within is =
+    let long : length xs ≡ n = sym (length-map xs number) ∙ ap length are ∙ length-range_with_len 0 n in
+    ap number (sym is) ∙ sym (get_or-map number xs k x (number x) within) ∙ ap (λ l. get_or l k (number x)) are
+    ∙ get_or-range_with_len 0 n k (number x) (omega (arith, long, within)) ∙ zero-add k
 
 -- ---- closed sites never err
 
-errs-among : (env : Environment) (ids : List ℕ) (linked : List Entry) (reply : Reply (Unit {0})) (id : ℕ) → Foretold env ids linked reply → (ended reply).ending ≡ Error id → Contains ids id
-errs-among env ids linked (effect.Gives done s) id told is = absurd (cc)
-errs-among env ids linked (effect.Stops e s) id told is = told.0 id is
+errs-within : (world : World) (reply : Reply (Unit {0})) (id : ℕ) → ErrsWithin world reply → (ended reply).ending ≡ Error id
+    → Contains world.ids id × (id < world.sites)
+errs-within world (effect.Gives done s) id told is = absurd (cc)
+errs-within world (effect.Stops e s) id told is = told id is
 
 kept-later : {X : Type 0} (keep : Bool) (x y : X) (xs : List X) → Contains xs y → Contains (cond keep (x ∷ xs) xs) y
 kept-later true x y xs inside = (suc inside.0, omega (arith, inside.1), inside.2)
@@ -93,38 +146,53 @@ among-open ids sites site listed inside =
     (list_any_at (λ id. id == site.id) ids listed.0 site.id listed.1 (eq-eqb (get_or ids listed.0 site.id) site.id listed.2))
     inside.0 inside.1 inside.2
 
--- no run errs outside the sites that the walk leaves open
-pub closed-never_err : (tree : Tree) (open_sites : List Site) → open_sites ≡ open_in (program_walk tree).open_ids tree.sites.items → ClosedNeverErr tree open_sites
-closed-never_err tree open_sites open_are input turns site listed errs =
-    subst (λ sites. Contains sites site) (sym open_are)
-    (among-open (program_walk tree).open_ids tree.sites.items site
-    (errs-among (program_environment tree) (program_walk tree).open_ids (program_walk tree).linked (run tree input turns) site.id (program-foretold tree input turns) errs)
-    listed)
+element-at : {X : Type 0} (xs : List X) (k : ℕ) → k < length xs → (x : X) × (get_or xs k x ≡ x)
+element-at [] k within = absurd (omega arith)
+element-at (x ∷ xs) zero within = (x, refl)
+element-at (x ∷ xs) (suc k) within = element-at xs k (omega arith)
+
+-- each error of a run is at a site that the walk leaves open
+pub closed-never_err : (tree : Tree) (certificate : Certificate) (open_sites : List Site) → (program_walk tree certificate).broken ≡ []
+    → open_sites ≡ open_in (program_walk tree certificate).open_ids tree.sites.items → IsWellFormed tree → AreInOrder tree.sites.items
+    → ClosedNeverErr tree open_sites
+closed-never_err tree certificate open_sites unbroken open_are well in_order input turns id errs =
+    let ids = (program_walk tree certificate).open_ids in
+    let sites = tree.sites.items in
+    let told = program-foretold tree certificate input turns unbroken well in
+    let at = errs-within (program_world tree certificate) (run tree input turns) id told.errs errs in
+    let found = element-at sites id at.1 in
+    let id_is : found.0.id ≡ id = number-at (λ site. site.id) sites (length sites) in_order id found.0 at.1 found.1 in
+    let inside : Contains sites found.0 = (id, at.1, found.1) in
+    let listed : Contains ids found.0.id = subst (Contains ids) (sym id_is) at.0 in
+    (found.0, inside, subst (λ open_ones. Contains open_ones found.0) (sym open_are) (among-open ids sites found.0 listed inside), id_is)
 
 -- ---- states hold
 
-same_overlap : (a b : ℕ) (same : Bool) → nat_eq a b ≡ same → a ≢ b → (same && true) ≡ true → ⊥
-same_overlap a b true is apart overlaps = apart (eqb-true a b is)
-same_overlap a b false is apart overlaps = cc
+-- states that are linked to different numbers: a number tells the state
+linked-once : (linked : List Linked) (n : ℕ) → numbers_of linked ≡ range_with_len 0 n → (a b : Linked) → Contains linked a → Contains linked b
+    → a.number ≡ b.number → a ≡ b
+linked-once linked n are a b in_a in_b same =
+    let at_a = number-at (λ one. one.number) linked n are in_a.0 a in_a.1 in_a.2 in
+    let at_b = number-at (λ one. one.number) linked n are in_b.0 b in_b.1 in_b.2 in
+    let places : in_a.0 ≡ in_b.0 = sym at_a ∙ same ∙ at_b in
+    sym in_a.2 ∙ ap (λ k. get_or linked k a) places ∙ get_or_default linked in_b.0 a b in_b.1 ∙ in_b.2
 
--- no two variables of the program share a place
-program-separate : (tree : Tree) → Separate (program_environment tree) []
-program-separate tree a b p q at_a at_b apart overlaps =
-    let variables = length tree.variables.items in
-    let home_a : home a ≡ p = listed-home (nat_lt a variables) (home a) p at_a in
-    let home_b : home b ≡ q = listed-home (nat_lt b variables) (home b) q at_b in
-    absurd (same_overlap a b (nat_eq a b) refl apart
-    (ap (λ y. overlap (home a) y) home_b ∙ ap (λ x. overlap x q) home_a ∙ overlaps))
+-- a visit meets one state that is linked to it, and so each
+holds-at : (world : World) → ((a b : Linked) → Contains world.linked a → Contains world.linked b → a.number ≡ b.number → a ≡ b) → (visit : Visit)
+    → Meets world visit
+    → HoldsAt world.linked visit
+holds-at world once visit meets = record {
+  is_linked = (meets.0, meets.1, meets.2);
+  holds = λ one listed numbered.
+      subst (λ (l : Linked). StateHolds l.state (moment_of visit)) (once meets.0 one meets.1 listed (meets.2 ∙ sym numbered)) meets.3;
+}
 
-visits-new : (env : Environment) (ids : List ℕ) (linked : List Entry) (reply : Reply (Unit {0})) → Foretold env ids linked reply → New env linked [] (visits_of reply)
-visits-new env ids linked (effect.Gives done s) told = told
-visits-new env ids linked (effect.Stops e s) told = told.1
-
--- at each entry of a run the state that is linked to it holds
-pub states-hold : (tree : Tree) → StatesHold tree
-states-hold tree input turns visit inside =
-    let env = program_environment tree in
-    elim (visits-new env (program_walk tree).open_ids (program_walk tree).linked (run tree input turns) (program-foretold tree input turns) visit inside) [
-      | inl none ↦ absurd (omega (arith, none.1))
-      | inr meets ↦ (meets.0, subst (λ e. Separate e []) (sym meets.1) (program-separate tree))
-    ]
+-- at each entry of a run the states that are linked to it hold
+pub states-hold : (tree : Tree) (certificate : Certificate) → (program_walk tree certificate).broken ≡ []
+    → numbers_of (program_walk tree certificate).linked ≡ entries_of tree
+    → IsWellFormed tree → AreNumbered tree → StatesHold tree certificate
+states-hold tree certificate unbroken numbers_are well numbered input turns visit inside =
+    let world = program_world tree certificate in
+    let once = linked-once world.linked (length (entries_of tree)) (numbers_are ∙ numbered) in
+    ⊎_elim (λ none. absurd (omega (arith, none.1))) (λ new. (holds-at world once visit new.0, new.1))
+    ((program-foretold tree certificate input turns unbroken well).new visit inside)
