@@ -1,6 +1,6 @@
 -- The walk over a program links a state to each of its entries, once and in their order.
 use Rattle.std.proofs.Common.{arith, ◌+◌, ◌≡◌, ◌∙◌, sym, ap, ap₂, refl, ℕ, List, [], ◌∷◌, ◌++◌, Option, Some, None, length, map, append-nil}
-use Rattle.std.proofs.lemmas.List.{length-map, map-append}
+use Rattle.std.proofs.lemmas.List.{map-append}
 use Rattle.std.specs.Prelude.{flat_map}
 use Rattle.typed_tree.specs.declared.tree.Monadic.{Monadic}
 use Rattle.typed_tree.specs.declared.tree.Monadic.TheVariants as monadic

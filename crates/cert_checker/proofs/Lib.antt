@@ -1,11 +1,12 @@
-pub mod Steps
-pub mod Held
 pub mod Among
-pub mod Entered
 pub mod Apart
-pub mod Ranged
+pub mod Entered
+pub mod Held
 pub mod Knows
+pub mod Ranged
+pub mod Rows
 pub mod Sound
-pub mod SoundOperations
 pub mod SoundForms
+pub mod SoundOperations
 pub mod SoundProgram
+pub mod Steps

@@ -77,9 +77,9 @@ walks-then {A} {B} first next old mid new before between after a b one two =
       value_is = two.value_is ∙ ap (λ w. w.value) same;
       state_is = two.state_is ∙ ap (λ w. w.after) same;
       open_is = two.open_is ∙ ap (λ ids. ids ++ then.open_ids) one.open_is ∙ ap (λ w. (old.open_ids.items ++ was.open_ids) ++ w.open_ids) same
-      ∙ append_assoc old.open_ids.items was.open_ids (next was.value (context_of old) was.after).open_ids;
+          ∙ append_assoc old.open_ids.items was.open_ids (next was.value (context_of old) was.after).open_ids;
       visits_are = two.visits_are ∙ ap (all_counted (numbers_of then.linked)) one.visits_are ∙ ap (λ w. all_counted (numbers_of w.linked) (all_counted (numbers_of was.linked) before)) same
-      ∙ sym (counted-both was.linked (next was.value (context_of old) was.after).linked before);
+          ∙ sym (counted-both was.linked (next was.value (context_of old) was.after).linked before);
       unbroken = ap (λ w. was.broken ++ w.broken) (sym same) ∙ ap (λ b. b ++ then.broken) one.unbroken ∙ two.unbroken;
     }
 

@@ -41,7 +41,6 @@ pub struct Verdict {
 ///
 /// # Errors
 /// The first rule that the certificate breaks, with its place; a certificate without claims breaks none. Or `Memory`.
-#[tactic(auto, using(crate::proofs::Entered::links_entries))]
 pub fn check(alloc: Global, tree: &Tree, certificate: &Certificate) -> Result<Verdict, CheckFault>
     ensures valid { IfOk result (λ verdict. Valid tree.now certificate.now verdict.open_sites.items) }
     ensures refused { IfErr result (IsBreachOf (program_walk tree.now certificate.now)) }

@@ -1,4 +1,4 @@
-use Rattle.std.proofs.Common.{rules, arith, ◌≡◌, ◌∙◌, ap, List, [], length, ◌+◌}
+use Rattle.std.proofs.Common.{rules, arith, ◌≡◌, ◌∙◌, ap, List, []}
 use Rattle.typed_tree.specs.declared.tree.Tree.{Tree}
 use Rattle.typed_tree.specs.declared.site.Site.{Site}
 use Rattle.certificate.specs.declared.Certificate.{Certificate}
@@ -7,7 +7,7 @@ use Rattle.cert_checker.specs.Promise.{open_in}
 use Rattle.cert_checker.specs.View.{all_counted}
 use Rattle.cert_checker.specs.Walk.{program_walk}
 use Rattle.cert_checker.specs.declared.visits.Visits.{Visits}
-use Rattle.cert_checker.proofs.Entered.{counted-many, program-entered}
+use Rattle.cert_checker.proofs.Entered.{counted-many, links_entries, program-entered}
 use Rattle.cert_checker.proofs.SoundProgram.{closed-never_err, states-hold}
 use Rattle.cert_checker.proofs.check.Goals as goal
 
@@ -34,3 +34,12 @@ returns-clause-states_hold c =
     let certificate : Certificate = c.args.certificate.now in
     let unbroken : (program_walk tree certificate).broken ≡ [] = search rules in
     states-hold tree certificate unbroken (program-entered tree certificate)
+
+pub returns-clause-entries : goal.returns-clause-entries
+returns-clause-entries c = links_entries c.args.tree.now c.args.certificate.now
+
+pub returns-in_err-walked-clause-entries : goal.returns-in_err-walked-clause-entries
+returns-in_err-walked-clause-entries c = links_entries c.args.tree.now c.args.certificate.now
+
+pub returns-in_err-open_sites-clause-entries : goal.returns-in_err-open_sites-clause-entries
+returns-in_err-open_sites-clause-entries c = links_entries c.args.tree.now c.args.certificate.now

@@ -1,4 +1,4 @@
-use Rattle.std.proofs.Common.{arith, ◌≡◌, ◌∙◌, sym, ap, refl, true}
+use Rattle.std.proofs.Common.{arith, ◌∙◌, sym, ap, refl, true}
 use Rattle.cert_checker.specs.declared.state.Row.{Row}
 use Rattle.cert_checker.specs.State.{with_value}
 use Rattle.cert_checker.specs.View.{viewed}

@@ -1,4 +1,4 @@
-use Rattle.std.proofs.Common.{rules, arith, ◌≡◌, ◌∙◌, sym, ap, refl, ℕ, true, get_or, length, ◌<◌}
+use Rattle.std.proofs.Common.{arith, ◌∙◌, sym, ap, refl, true, length, ◌<◌}
 use Rattle.std.proofs.lemmas.List.{get_or_default}
 use Rattle.cert_checker.specs.declared.state.Row.{Row}
 use Rattle.cert_checker.specs.State.{with_defined}

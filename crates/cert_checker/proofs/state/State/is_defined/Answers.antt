@@ -1,4 +1,4 @@
-use Rattle.std.proofs.Common.{arith, ◌≡◌, ◌∙◌, sym, ap, refl, ℕ, false, length, ◌<◌, get_or}
+use Rattle.std.proofs.Common.{arith, ◌≡◌, ◌∙◌, sym, ap, refl, false, length, ◌<◌, get_or}
 use Rattle.std.proofs.lemmas.List.{get_or_default}
 use Rattle.std.proofs.lemmas.Bool.Decides.{nat_tests}
 use Rattle.cert_checker.specs.declared.state.Row.{Row}
@@ -16,7 +16,7 @@ returns-in-Some c =
     let rows = c.in-Live.rows.items in
     let inside : c.args.root < length rows = grind (arith, nat_tests, c.in-Some.ensures.lookup.0, c.deref.ensures.value) in
     let there : c.in-Some.row.now ≡ get_or rows c.args.root none = c.in-Some.ensures.lookup.1
-        ∙ ap (λ some. get_or some c.args.root c.in-Some.row.now) c.deref.ensures.value ∙ get_or_default rows c.args.root c.in-Some.row.now none inside in
+    ∙ ap (λ some. get_or some c.args.root c.in-Some.row.now) c.deref.ensures.value ∙ get_or_default rows c.args.root c.in-Some.row.now none inside in
     ap (λ (row : Row). row.is_defined) there ∙ has-row rows none 0 c.args.root c.args.root refl (omega arith)
     ∙ ap (λ kept. is_defined (viewed kept) c.args.root) (sym c.in-Live.is)
 

@@ -1,4 +1,4 @@
-use Rattle.std.proofs.Common.{◌≡◌, refl, false}
+use Rattle.std.proofs.Common.{refl, false}
 use Rattle.cert_checker.specs.declared.state.Row.{Row}
 use Rattle.domain.specs.Interval.{vacant}
 use Rattle.cert_checker.proofs.Rows.{started}
