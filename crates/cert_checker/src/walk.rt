@@ -84,7 +84,9 @@ impl<'a> Walk<'a> {
                 self.assignment(*target, *fits, value, visits)
             }
             Stmt::Write {
-                number, parameters, ..
+                number,
+                parameters,
+                ..
             } => {
                 self.enter(*number, visits)?;
                 self.parameters(parameters, visits)
@@ -116,7 +118,11 @@ impl<'a> Walk<'a> {
         Ok(())
     }
 
-    fn parameters(&mut self, parameters: &[WriteParameter], visits: &mut Visits) -> Result<(), CheckFault>
+    fn parameters(
+        &mut self,
+        parameters: &[WriteParameter],
+        visits: &mut Visits,
+    ) -> Result<(), CheckFault>
         ensures { Goes (all_of (map parameter_walk parameters.now)) self.old visits.old result self.new visits.new }
     {
         for parameter in parameters {
@@ -126,7 +132,11 @@ impl<'a> Walk<'a> {
     }
 
     /// A value that is written, and then its width.
-    fn parameter(&mut self, parameter: &WriteParameter, visits: &mut Visits) -> Result<(), CheckFault>
+    fn parameter(
+        &mut self,
+        parameter: &WriteParameter,
+        visits: &mut Visits,
+    ) -> Result<(), CheckFault>
         ensures { Goes (parameter_walk parameter.now) self.old visits.old result self.new visits.new }
     {
         self.expression(&parameter.value, visits)?;
@@ -187,7 +197,12 @@ impl<'a> Walk<'a> {
     }
 
     /// The use of a variable: it is defined afterwards.
-    fn variable(&mut self, access: Access, defined: u32, visits: &mut Visits) -> Result<Known, CheckFault>
+    fn variable(
+        &mut self,
+        access: Access,
+        defined: u32,
+        visits: &mut Visits,
+    ) -> Result<Known, CheckFault>
         ensures { Goes (variable_walk access defined) self.old visits.old result self.new visits.new }
     {
         self.enter(access.number, visits)?;
@@ -228,7 +243,12 @@ impl<'a> Walk<'a> {
     }
 
     /// What an operation gives for two values.
-    fn combined(&mut self, operation: Dyadic, left: Known, right: Known) -> Result<Known, CheckFault>
+    fn combined(
+        &mut self,
+        operation: Dyadic,
+        left: Known,
+        right: Known,
+    ) -> Result<Known, CheckFault>
         ensures { (visits : Visits) → Goes (combined operation left right) self.old visits result self.new visits }
     {
         let left = left.range();
@@ -276,7 +296,12 @@ impl<'a> Walk<'a> {
     }
 
     /// A value that has to lie in limits.
-    fn within(&mut self, limits: Interval, site: u32, range: Interval) -> Result<Interval, CheckFault>
+    fn within(
+        &mut self,
+        limits: Interval,
+        site: u32,
+        range: Interval,
+    ) -> Result<Interval, CheckFault>
         ensures { (visits : Visits) → Goes (within limits site range) self.old visits result self.new visits }
     {
         self.test(range.leq(&limits), site, range.meet(&limits))
