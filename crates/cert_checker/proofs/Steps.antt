@@ -72,14 +72,21 @@ counted-both : (one two : List Linked) (visits : Visits)
 counted-both [] two visits = refl
 counted-both (linked ∷ one) two visits = counted-both one two (counted linked.number visits)
 
+-- from where the first piece left the checker, the next is what it is behind the first
+then-same : {A B : Type 0} (first : Walking A) (next : A → Walking B) (old mid : Walk) (before between : Visits) (a : A) → Walks first old before mid between a
+    → next a (context_of mid) (viewed mid.state)
+    ≡ next (first (context_of old) (viewed old.state)).value (context_of old) (first (context_of old) (viewed old.state)).after
+then-same {A} first next old mid before between a one =
+    let was : Walked A = first (context_of old) (viewed old.state) in
+    ap (λ x. next x (context_of mid) (viewed mid.state)) one.value_is ∙ ap (λ x. next was.value x (viewed mid.state)) one.context_is
+    ∙ ap (next was.value (context_of old)) one.state_is
+
 pub walks-then : {A B : Type 0} (first : Walking A) (next : A → Walking B) (old mid new : Walk) (before between after : Visits) (a : A) (b : B)
     → Walks first old before mid between a → Walks (next a) mid between new after b → Walks (first >>= next) old before new after b
 walks-then {A} {B} first next old mid new before between after a b one two =
     let was : Walked A = first (context_of old) (viewed old.state) in
     let then : Walked B = next a (context_of mid) (viewed mid.state) in
-    let same : then ≡ next was.value (context_of old) was.after =
-    ap (λ x. next x (context_of mid) (viewed mid.state)) one.value_is ∙ ap (λ x. next was.value x (viewed mid.state)) one.context_is
-    ∙ ap (next was.value (context_of old)) one.state_is in
+    let same : then ≡ next was.value (context_of old) was.after = then-same first next old mid before between a one in
     record {
       context_is = two.context_is ∙ one.context_is;
       value_is = two.value_is ∙ ap (λ w. w.value) same;
@@ -102,7 +109,7 @@ first-stays : (one two : List Breach) (breach : Breach) → first_breach one ≡
 first-stays [] two breach is = cc
 first-stays (first ∷ one) two breach is = is
 
-pub breach-stays : {A B : Type 0} (walked : Walked A) (more : Walked B) (fault : CheckFault) (both : Walked B) → both.broken ≡ walked.broken ++ more.broken
+breach-stays : {A B : Type 0} (walked : Walked A) (more : Walked B) (fault : CheckFault) (both : Walked B) → both.broken ≡ walked.broken ++ more.broken
     → IsBreachOf walked fault → IsBreachOf both fault
 breach-stays walked more Memory both are is = tt
 breach-stays walked more (Broken rule place) both are is =
@@ -122,9 +129,7 @@ goes-then first next old mid new before between after a (Ok b) one two = walks-t
 goes-then {A} {B} first next old mid new before between after a (Err fault) one two =
     let was : Walked A = first (context_of old) (viewed old.state) in
     let then : Walked B = next a (context_of mid) (viewed mid.state) in
-    let same : then ≡ next was.value (context_of old) was.after =
-    ap (λ x. next x (context_of mid) (viewed mid.state)) one.value_is ∙ ap (λ x. next was.value x (viewed mid.state)) one.context_is
-    ∙ ap (next was.value (context_of old)) one.state_is in
+    let same : then ≡ next was.value (context_of old) was.after = then-same first next old mid before between a one in
     breach-same then ((first >>= next) (context_of old) (viewed old.state)) fault
     (sym (ap (λ w. was.broken ++ w.broken) (sym same) ∙ ap (λ b. b ++ then.broken) one.unbroken)) two
 
