@@ -28,13 +28,15 @@ abbrev pub GoesSo : Walking Known → Walk → Result Known CheckFault → Walk 
 GoesSo walk old result new = (visits : Visits) → Goes walk old visits result new visits
 
 -- an operation whose result was tested by its held range
-whole-done : (walk : Walking Known) (kept range : Interval) (site : ℕ) (result : Result Known CheckFault) (old new : Walk) → walk ≡ whole site range → IsPlain range → kept ≡ held range
+whole-done : (walk : Walking Known) (kept range : Interval) (site : ℕ) (result : Result Known CheckFault) (old new : Walk) → walk ≡ whole site range
+    → IsPlain range → kept ≡ held range
     → GoesSo (whole site kept) old result new → GoesSo walk old result new
 whole-done walk kept range site result old new is plain kept_is done visits =
     subst (λ (w : Walking Known). Goes w old visits result new visits) (ap (whole site) kept_is ∙ whole-held range site plain ∙ sym is) (done visits)
 
 pub square-done : (operation : Monadic) (known : Known) (overflow : ℕ) (range kept : Interval) (result : Result Known CheckFault) (old new : Walk)
-    → kept ≡ held (squared range) → known ≡ Ordinal range → operation ≡ monadic.Sqr overflow → GoesSo (whole overflow kept) old result new → GoesSo (operated operation known) old result new
+    → kept ≡ held (squared range) → known ≡ Ordinal range → operation ≡ monadic.Sqr overflow → GoesSo (whole overflow kept) old result new
+    → GoesSo (operated operation known) old result new
 square-done operation known overflow range kept result old new kept_is known_is is done =
     whole-done (operated operation known) kept (squared range) overflow result old new
     (ap (λ o. operated o known) is ∙ ap (operated (monadic.Sqr overflow)) known_is) (squared-plain range) kept_is done

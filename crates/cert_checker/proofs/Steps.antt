@@ -31,16 +31,19 @@ use Rattle.cert_checker.specs.View.{viewed, context_of, all_counted, counted, fi
 
 -- ---- the walk, form by form
 
-pub value-Constant : (number : ℕ) (value : ℤ) → value_walk (expr.Constant number value) ≡ (enter number >>= λ _. ordinal (record { first = value; last = value }))
+pub value-Constant : (number : ℕ) (value : ℤ)
+    → value_walk (expr.Constant number value) ≡ (enter number >>= λ _. ordinal (record { first = value; last = value }))
 value-Constant number value = search (rules, the_lemmas)
 
 pub value-Variable : (access : Access) (defined : ℕ) → value_walk (expr.Variable access defined) ≡ variable_walk access defined
 value-Variable access defined = search (rules, the_lemmas)
 
-pub value-Monadic : (number : ℕ) (operation : Monadic) (operand : Box Expr Global) → value_walk (expr.Monadic number operation operand) ≡ (enter number >>= λ _. (value_walk operand.value >>= operated operation))
+pub value-Monadic : (number : ℕ) (operation : Monadic) (operand : Box Expr Global)
+    → value_walk (expr.Monadic number operation operand) ≡ (enter number >>= λ _. (value_walk operand.value >>= operated operation))
 value-Monadic number operation operand = search (rules, the_lemmas)
 
-pub value-Chain : (first : Box Expr Global) (rest : Vec Link Global) → value_walk (expr.Chain first rest) ≡ (value_walk first.value >>= in_turn (map link_walk rest.items))
+pub value-Chain : (first : Box Expr Global) (rest : Vec Link Global)
+    → value_walk (expr.Chain first rest) ≡ (value_walk first.value >>= in_turn (map link_walk rest.items))
 value-Chain first rest = search (rules, the_lemmas)
 
 pub link-walks : (link : Link) → link_walk link ≡ (λ (left : Known). enter link.number >>= λ _. (value_walk link.operand >>= combined link.operation left))
@@ -49,36 +52,49 @@ link-walks link = search (rules, the_lemmas)
 pub statement-Empty : (number : ℕ) → statement_walk (stmt.Empty number) ≡ enter number
 statement-Empty number = search (rules, stmt_lemmas)
 
-pub statement-Assign : (number : ℕ) (becomes : SourcePlace) (target : Access) (fits : RangeTest) (value : Expr) → statement_walk (stmt.Assign number becomes target fits value) ≡ (enter number >>= λ _. assignment target fits value)
+pub statement-Assign : (number : ℕ) (becomes : SourcePlace) (target : Access) (fits : RangeTest) (value : Expr)
+    → statement_walk (stmt.Assign number becomes target fits value) ≡ (enter number >>= λ _. assignment target fits value)
 statement-Assign number becomes target fits value = search (rules, stmt_lemmas)
 
-pub statement-Write : (number : ℕ) (name : SourcePlace) (parameters : Vec WriteParameter Global) (ends_line : Bool) → statement_walk (stmt.Write number name parameters ends_line) ≡ (enter number >>= λ _. all_of (map parameter_walk parameters.items))
+pub statement-Write : (number : ℕ) (name : SourcePlace) (parameters : Vec WriteParameter Global) (ends_line : Bool)
+    → statement_walk (stmt.Write number name parameters ends_line) ≡ (enter number >>= λ _. all_of (map parameter_walk parameters.items))
 statement-Write number name parameters ends_line = search (rules, stmt_lemmas)
 
-pub statement-Compound : (number : ℕ) (statements : Vec Stmt Global) → statement_walk (stmt.Compound number statements) ≡ (enter number >>= λ _. all_of (map statement_walk statements.items))
+pub statement-Compound : (number : ℕ) (statements : Vec Stmt Global)
+    → statement_walk (stmt.Compound number statements) ≡ (enter number >>= λ _. all_of (map statement_walk statements.items))
 statement-Compound number statements = search (rules, stmt_lemmas)
 
 -- ---- one piece of a walk after another
 
 -- entries that are counted in two parts
-counted-both : (one two : List Linked) (visits : Visits) → all_counted (numbers_of (one ++ two)) visits ≡ all_counted (numbers_of two) (all_counted (numbers_of one) visits)
+counted-both : (one two : List Linked) (visits : Visits)
+    → all_counted (numbers_of (one ++ two)) visits ≡ all_counted (numbers_of two) (all_counted (numbers_of one) visits)
 counted-both [] two visits = refl
 counted-both (linked ∷ one) two visits = counted-both one two (counted linked.number visits)
+
+-- from where the first piece left the checker, the next is what it is behind the first
+then-same : {A B : Type 0} (first : Walking A) (next : A → Walking B) (old mid : Walk) (before between : Visits) (a : A) → Walks first old before mid between a
+    → next a (context_of mid) (viewed mid.state)
+    ≡ next (first (context_of old) (viewed old.state)).value (context_of old) (first (context_of old) (viewed old.state)).after
+then-same {A} first next old mid before between a one =
+    let was : Walked A = first (context_of old) (viewed old.state) in
+    ap (λ x. next x (context_of mid) (viewed mid.state)) one.value_is ∙ ap (λ x. next was.value x (viewed mid.state)) one.context_is
+    ∙ ap (next was.value (context_of old)) one.state_is
 
 pub walks-then : {A B : Type 0} (first : Walking A) (next : A → Walking B) (old mid new : Walk) (before between after : Visits) (a : A) (b : B)
     → Walks first old before mid between a → Walks (next a) mid between new after b → Walks (first >>= next) old before new after b
 walks-then {A} {B} first next old mid new before between after a b one two =
     let was : Walked A = first (context_of old) (viewed old.state) in
     let then : Walked B = next a (context_of mid) (viewed mid.state) in
-    let same : then ≡ next was.value (context_of old) was.after =
-    ap (λ x. next x (context_of mid) (viewed mid.state)) one.value_is ∙ ap (λ x. next was.value x (viewed mid.state)) one.context_is ∙ ap (next was.value (context_of old)) one.state_is in
+    let same : then ≡ next was.value (context_of old) was.after = then-same first next old mid before between a one in
     record {
       context_is = two.context_is ∙ one.context_is;
       value_is = two.value_is ∙ ap (λ w. w.value) same;
       state_is = two.state_is ∙ ap (λ w. w.after) same;
       open_is = two.open_is ∙ ap (λ ids. ids ++ then.open_ids) one.open_is ∙ ap (λ w. (old.open_ids.items ++ was.open_ids) ++ w.open_ids) same
           ∙ append_assoc old.open_ids.items was.open_ids (next was.value (context_of old) was.after).open_ids;
-      visits_are = two.visits_are ∙ ap (all_counted (numbers_of then.linked)) one.visits_are ∙ ap (λ w. all_counted (numbers_of w.linked) (all_counted (numbers_of was.linked) before)) same
+      visits_are = two.visits_are ∙ ap (all_counted (numbers_of then.linked)) one.visits_are
+          ∙ ap (λ w. all_counted (numbers_of w.linked) (all_counted (numbers_of was.linked) before)) same
           ∙ sym (counted-both was.linked (next was.value (context_of old) was.after).linked before);
       unbroken = ap (λ w. was.broken ++ w.broken) (sym same) ∙ ap (λ b. b ++ then.broken) one.unbroken ∙ two.unbroken;
     }
@@ -93,24 +109,27 @@ first-stays : (one two : List Breach) (breach : Breach) → first_breach one ≡
 first-stays [] two breach is = cc
 first-stays (first ∷ one) two breach is = is
 
-pub breach-stays : {A B : Type 0} (walked : Walked A) (more : Walked B) (fault : CheckFault) (both : Walked B) → both.broken ≡ walked.broken ++ more.broken → IsBreachOf walked fault → IsBreachOf both fault
+breach-stays : {A B : Type 0} (walked : Walked A) (more : Walked B) (fault : CheckFault) (both : Walked B) → both.broken ≡ walked.broken ++ more.broken
+    → IsBreachOf walked fault → IsBreachOf both fault
 breach-stays walked more Memory both are is = tt
-breach-stays walked more (Broken rule place) both are is = ap first_breach are ∙ first-stays walked.broken more.broken (record { rule = rule; place = place }) is
+breach-stays walked more (Broken rule place) both are is =
+    ap first_breach are ∙ first-stays walked.broken more.broken (record { rule = rule; place = place }) is
 
 -- the rules that are broken are the same
-breach-same : {A B : Type 0} (walked : Walked A) (other : Walked B) (fault : CheckFault) → walked.broken ≡ other.broken → IsBreachOf walked fault → IsBreachOf other fault
+breach-same : {A B : Type 0} (walked : Walked A) (other : Walked B) (fault : CheckFault) → walked.broken ≡ other.broken → IsBreachOf walked fault
+    → IsBreachOf other fault
 breach-same walked other Memory same is = tt
 breach-same walked other (Broken rule place) same is = ap first_breach (sym same) ∙ is
 
 -- the first piece was walked over: what the checker did over the next is what it did over both
-pub goes-then : {A B : Type 0} (first : Walking A) (next : A → Walking B) (old mid new : Walk) (before between after : Visits) (a : A) (result : Result B CheckFault)
+pub goes-then : {A B : Type 0} (first : Walking A) (next : A → Walking B)
+    (old mid new : Walk) (before between after : Visits) (a : A) (result : Result B CheckFault)
     → Walks first old before mid between a → Goes (next a) mid between result new after → Goes (first >>= next) old before result new after
 goes-then first next old mid new before between after a (Ok b) one two = walks-then first next old mid new before between after a b one two
 goes-then {A} {B} first next old mid new before between after a (Err fault) one two =
     let was : Walked A = first (context_of old) (viewed old.state) in
     let then : Walked B = next a (context_of mid) (viewed mid.state) in
-    let same : then ≡ next was.value (context_of old) was.after =
-    ap (λ x. next x (context_of mid) (viewed mid.state)) one.value_is ∙ ap (λ x. next was.value x (viewed mid.state)) one.context_is ∙ ap (next was.value (context_of old)) one.state_is in
+    let same : then ≡ next was.value (context_of old) was.after = then-same first next old mid before between a one in
     breach-same then ((first >>= next) (context_of old) (viewed old.state)) fault
     (sym (ap (λ w. was.broken ++ w.broken) (sym same) ∙ ap (λ b. b ++ then.broken) one.unbroken)) two
 
@@ -122,11 +141,13 @@ goes-stopped {A} {B} first next old new before after fault is =
     breach-stays was (next was.value (context_of old) was.after) fault ((first >>= next) (context_of old) (viewed old.state)) refl is
 
 -- by what a walk is
-pub goes-as : {A : Type 0} (walk form : Walking A) (old new : Walk) (before after : Visits) (result : Result A CheckFault) → walk ≡ form → Goes form old before result new after → Goes walk old before result new after
+pub goes-as : {A : Type 0} (walk form : Walking A) (old new : Walk) (before after : Visits) (result : Result A CheckFault) → walk ≡ form
+    → Goes form old before result new after → Goes walk old before result new after
 goes-as walk form old new before after result is goes = subst (λ w. Goes w old before result new after) (sym is) goes
 
 -- by the fault that is handed on
-pub given-up : {A : Type 0} (walk : Walking A) (old new : Walk) (before after : Visits) (fault : CheckFault) (result : Result A CheckFault) → IsErr result × IsErrAnd result (λ e. e ≡ fault)
+pub given-up : {A : Type 0} (walk : Walking A) (old new : Walk) (before after : Visits) (fault : CheckFault) (result : Result A CheckFault)
+    → IsErr result × IsErrAnd result (λ e. e ≡ fault)
     → Goes walk old before (Err fault) new after → Goes walk old before result new after
 given-up walk old new before after fault (Ok a) is goes = absurd is.1
 given-up {A} walk old new before after fault (Err other) is goes =
@@ -144,18 +165,21 @@ all-cut : {X : Type 0} (walk : X → Walking (Unit {0})) (items : List X) (i : �
     → all_of (map walk (drop i items)) ≡ (walk x >>= λ _. all_of (map walk (drop (i + 1) items)))
 all-cut walk items i x inside is = ap (λ xs. all_of (map walk xs)) (item-cut items i x inside is)
 
-pub all-step : {X : Type 0} (walk : X → Walking (Unit {0})) (items : List X) (i : ℕ) (item : X) (old mid new : Walk) (before between after : Visits) (value : Unit {0}) (result : Result (Unit {0}) CheckFault)
+pub all-step : {X : Type 0} (walk : X → Walking (Unit {0})) (items : List X) (i : ℕ) (item : X)
+    (old mid new : Walk) (before between after : Visits) (value : Unit {0}) (result : Result (Unit {0}) CheckFault)
     → i < length items → item ≡ get_or items i item → Walks (walk item) old before mid between value
     → Goes (all_of (map walk (drop (i + 1) items))) mid between result new after → Goes (all_of (map walk (drop i items))) old before result new after
 all-step walk items i item old mid new before between after value result inside is one two =
-    goes-as (all_of (map walk (drop i items))) (walk item >>= λ _. all_of (map walk (drop (i + 1) items))) old new before after result (all-cut walk items i item inside is)
+    goes-as (all_of (map walk (drop i items))) (walk item >>= λ _. all_of (map walk (drop (i + 1) items))) old new before after result
+    (all-cut walk items i item inside is)
     (goes-then (walk item) (λ _. all_of (map walk (drop (i + 1) items))) old mid new before between after value result one two)
 
 pub all-stopped : {X : Type 0} (walk : X → Walking (Unit {0})) (items : List X) (i : ℕ) (item : X) (old new : Walk) (before after : Visits) (fault : CheckFault)
     → i < length items → item ≡ get_or items i item → IsBreachOf (walk item (context_of old) (viewed old.state)) fault
     → Goes (all_of (map walk (drop i items))) old before (Err fault) new after
 all-stopped walk items i item old new before after fault inside is one =
-    goes-as (all_of (map walk (drop i items))) (walk item >>= λ _. all_of (map walk (drop (i + 1) items))) old new before after (Err fault) (all-cut walk items i item inside is)
+    goes-as (all_of (map walk (drop i items))) (walk item >>= λ _. all_of (map walk (drop (i + 1) items))) old new before after (Err fault)
+    (all-cut walk items i item inside is)
     (goes-stopped (walk item) (λ _. all_of (map walk (drop (i + 1) items))) old new before after fault one)
 
 -- no piece is left
@@ -169,18 +193,22 @@ turn-cut : (items : List Link) (i : ℕ) (link : Link) (left : Known) → i < le
     → in_turn (map link_walk (drop i items)) left ≡ (link_walk link left >>= in_turn (map link_walk (drop (i + 1) items)))
 turn-cut items i link left inside is = ap (λ links. in_turn (map link_walk links) left) (item-cut items i link inside is)
 
-pub turn-step : (items : List Link) (i : ℕ) (link : Link) (left value : Known) (old mid new : Walk) (before between after : Visits) (result : Result Known CheckFault)
+pub turn-step : (items : List Link) (i : ℕ) (link : Link) (left value : Known) (old mid new : Walk) (before between after : Visits)
+    (result : Result Known CheckFault)
     → i < length items → link ≡ get_or items i link → Walks (link_walk link left) old before mid between value
-    → Goes (in_turn (map link_walk (drop (i + 1) items)) value) mid between result new after → Goes (in_turn (map link_walk (drop i items)) left) old before result new after
+    → Goes (in_turn (map link_walk (drop (i + 1) items)) value) mid between result new after
+    → Goes (in_turn (map link_walk (drop i items)) left) old before result new after
 turn-step items i link left value old mid new before between after result inside is one two =
-    goes-as (in_turn (map link_walk (drop i items)) left) (link_walk link left >>= in_turn (map link_walk (drop (i + 1) items))) old new before after result (turn-cut items i link left inside is)
+    goes-as (in_turn (map link_walk (drop i items)) left) (link_walk link left >>= in_turn (map link_walk (drop (i + 1) items))) old new before after
+    result (turn-cut items i link left inside is)
     (goes-then (link_walk link left) (in_turn (map link_walk (drop (i + 1) items))) old mid new before between after value result one two)
 
 pub turn-stopped : (items : List Link) (i : ℕ) (link : Link) (left : Known) (old new : Walk) (before after : Visits) (fault : CheckFault)
     → i < length items → link ≡ get_or items i link → IsBreachOf (link_walk link left (context_of old) (viewed old.state)) fault
     → Goes (in_turn (map link_walk (drop i items)) left) old before (Err fault) new after
 turn-stopped items i link left old new before after fault inside is one =
-    goes-as (in_turn (map link_walk (drop i items)) left) (link_walk link left >>= in_turn (map link_walk (drop (i + 1) items))) old new before after (Err fault) (turn-cut items i link left inside is)
+    goes-as (in_turn (map link_walk (drop i items)) left) (link_walk link left >>= in_turn (map link_walk (drop (i + 1) items))) old new before after
+    (Err fault) (turn-cut items i link left inside is)
     (goes-stopped (link_walk link left) (in_turn (map link_walk (drop (i + 1) items))) old new before after fault one)
 
 pub turn-end : (items : List Link) (i : ℕ) (left : Known) (old : Walk) (visits : Visits) → length items ≤ i
@@ -201,31 +229,37 @@ pub use-walks : (root site : ℕ) (closed : Bool) (range value : Interval) (old 
     → Walks (tested closed site range) (record old { state = state }) before new after value → Walks (use_of root site) old before new after (Ordinal value)
 use-walks root site closed range value old new state before after closed_is range_is state_is done =
     let was : State = viewed old.state in
-    let same : tested closed site range (context_of old) (viewed state) ≡ tested (is_defined was root) site (range_of was root) (context_of old) (with_defined root was) =
-    ap (λ c. tested c site range (context_of old) (viewed state)) closed_is ∙ ap (λ r. tested (is_defined was root) site r (context_of old) (viewed state)) range_is
+    let same : tested closed site range (context_of old) (viewed state) ≡ tested (is_defined was root) site (range_of was root) (context_of old)
+    (with_defined root was) =
+    ap (λ c. tested c site range (context_of old) (viewed state)) closed_is
+    ∙ ap (λ r. tested (is_defined was root) site r (context_of old) (viewed state)) range_is
     ∙ ap (tested (is_defined was root) site (range_of was root) (context_of old)) state_is in
     record {
       context_is = done.context_is;
       value_is = ap Ordinal (done.value_is ∙ ap (λ w. w.value) same);
       state_is = done.state_is ∙ ap (λ w. w.after) same;
-      open_is = done.open_is ∙ ap (λ w. old.open_ids.items ++ w.open_ids) same ∙ ap (λ ids. old.open_ids.items ++ ids) (sym (use-same root site (context_of old) was));
+      open_is = done.open_is ∙ ap (λ w. old.open_ids.items ++ w.open_ids) same
+          ∙ ap (λ ids. old.open_ids.items ++ ids) (sym (use-same root site (context_of old) was));
       visits_are = done.visits_are;
       unbroken = refl;
     }
 
 -- an assignment changes nothing but the state
-pub assign-walks : (root : ℕ) (known : Known) (range : Interval) (old : Walk) (state : Kept) (visits : Visits) → known ≡ Ordinal range → viewed state ≡ with_value root range (viewed old.state)
+pub assign-walks : (root : ℕ) (known : Known) (range : Interval) (old : Walk) (state : Kept) (visits : Visits) → known ≡ Ordinal range
+    → viewed state ≡ with_value root range (viewed old.state)
     → Walks (assign root known) old visits (record old { state = state }) visits tt
 assign-walks root known range old state visits known_is is =
     subst (λ k. Walks (assign root k) old visits (record old { state = state }) visits tt) (sym known_is)
     (record { context_is = refl; value_is = refl; state_is = is; open_is = sym (append-nil old.open_ids.items); visits_are = refl; unbroken = refl })
 
 -- an assignment from its target's entry on
-pub assignment-done : (target : Access) (fits : RangeTest) (value : Expr) (old entered valued : Walk) (before entries after : Visits) (known : Known) (result : Result (Unit {0}) CheckFault) (new : Walk)
+pub assignment-done : (target : Access) (fits : RangeTest) (value : Expr) (old entered valued : Walk) (before entries after : Visits)
+    (known : Known) (result : Result (Unit {0}) CheckFault) (new : Walk)
     → Walks (enter target.number) old before entered entries tt → Walks (value_walk value) entered entries valued after known
     → Goes (fitting fits known >>= assign target.root) valued after result new after → Goes (assignment target fits value) old before result new after
 assignment-done target fits value old entered valued before entries after known result new one two three =
-    goes-then (enter target.number) (λ _. value_walk value >>= λ known. (fitting fits known >>= assign target.root)) old entered new before entries after tt result one
+    goes-then (enter target.number) (λ _. value_walk value >>= λ known. (fitting fits known >>= assign target.root)) old entered new before entries after
+    tt result one
     (goes-then (value_walk value) (λ known. fitting fits known >>= assign target.root) entered valued new entries after after known result two three)
 
 pub use-stopped : (root site : ℕ) (old new : Walk) (before after : Visits) (closed : Bool) (range : Interval) (state : Kept) (fault : CheckFault)
@@ -235,7 +269,8 @@ use-stopped root site old new before after closed range state fault is =
 
 -- ---- an expression that the checker has begun
 
-pub monadic-begun : (expression : Expr) (number : ℕ) (operation : Monadic) (operand : Box Expr Global) (inner : Expr) (old entered new : Walk) (before between after : Visits) (value : Unit {0}) (result : Result Known CheckFault)
+pub monadic-begun : (expression : Expr) (number : ℕ) (operation : Monadic) (operand : Box Expr Global) (inner : Expr) (old entered new : Walk)
+    (before between after : Visits) (value : Unit {0}) (result : Result Known CheckFault)
     → expression ≡ expr.Monadic number operation operand → inner ≡ operand.value → Walks (enter number) old before entered between value
     → Goes (value_walk inner >>= operated operation) entered between result new after → Goes (value_walk expression) old before result new after
 monadic-begun expression number operation operand inner old entered new before between after value result is inner_is one two =
@@ -243,19 +278,24 @@ monadic-begun expression number operation operand inner old entered new before b
     (ap value_walk is ∙ value-Monadic number operation operand ∙ ap (λ e. enter number >>= λ _. (value_walk e >>= operated operation)) (sym inner_is))
     (goes-then (enter number) (λ _. value_walk inner >>= operated operation) old entered new before between after value result one two)
 
-pub chain-begun : (expression : Expr) (first : Box Expr Global) (rest : Vec Link Global) (inner : Expr) (items : List Link) (left : Known) (old mid : Walk) (before between : Visits)
+pub chain-begun : (expression : Expr) (first : Box Expr Global) (rest : Vec Link Global) (inner : Expr) (items : List Link) (left : Known)
+    (old mid : Walk) (before between : Visits)
     → expression ≡ expr.Chain first rest → inner ≡ first.value → items ≡ rest.items → Walks (value_walk inner) old before mid between left
-    → (result : Result Known CheckFault) (new : Walk) (after : Visits) → Goes (in_turn (map link_walk items) left) mid between result new after → Goes (value_walk expression) old before result new after
+    → (result : Result Known CheckFault) (new : Walk) (after : Visits) → Goes (in_turn (map link_walk items) left) mid between result new after
+    → Goes (value_walk expression) old before result new after
 chain-begun expression first rest inner items left old mid before between is inner_is items_are one result new after two =
     goes-as (value_walk expression) (value_walk inner >>= in_turn (map link_walk items)) old new before after result
-    (ap value_walk is ∙ value-Chain first rest ∙ ap (λ e. value_walk e >>= in_turn (map link_walk rest.items)) (sym inner_is) ∙ ap (λ links. value_walk inner >>= in_turn (map link_walk links)) (sym items_are))
+    (ap value_walk is ∙ value-Chain first rest ∙ ap (λ e. value_walk e >>= in_turn (map link_walk rest.items)) (sym inner_is)
+    ∙ ap (λ links. value_walk inner >>= in_turn (map link_walk links)) (sym items_are))
     (goes-then (value_walk inner) (in_turn (map link_walk items)) old mid new before between after left result one two)
 
-pub link-done : (link : Link) (left right : Known) (old entered valued new : Walk) (before between after end : Visits) (value : Unit {0}) (result : Result Known CheckFault)
+pub link-done : (link : Link) (left right : Known) (old entered valued new : Walk) (before between after end : Visits) (value : Unit {0})
+    (result : Result Known CheckFault)
     → Walks (enter link.number) old before entered between value → Walks (value_walk link.operand) entered between valued after right
     → Goes (combined link.operation left right) valued after result new end → Goes (link_walk link left) old before result new end
 link-done link left right old entered valued new before between after end value result one two three =
-    goes-as (link_walk link left) (enter link.number >>= λ _. (value_walk link.operand >>= combined link.operation left)) old new before end result (ap (λ walk. walk left) (link-walks link))
+    goes-as (link_walk link left) (enter link.number >>= λ _. (value_walk link.operand >>= combined link.operation left)) old new before end result
+    (ap (λ walk. walk left) (link-walks link))
     (goes-then (enter link.number) (λ _. value_walk link.operand >>= combined link.operation left) old entered new before between end value result one
     (goes-then (value_walk link.operand) (combined link.operation left) entered valued new between after end right result two three))
 
@@ -269,7 +309,8 @@ pub fitting-as : (fits : RangeTest) (known : Known) (limits range : Interval) �
 fitting-as fits known limits range is limits_are = ap (fitting fits) is ∙ ap (λ l. within l fits.site range >>= ordinal) (sym limits_are)
 
 -- a value was tested, and what passed is given on
-pub tested-goes : {A B : Type 0} (walk : Walking B) (test : Walking A) (next : A → B) (passed : A) (result : B) (old new : Walk) (visits : Visits) → walk ≡ (test >>= λ x. give (next x))
+pub tested-goes : {A B : Type 0} (walk : Walking B) (test : Walking A) (next : A → B) (passed : A) (result : B) (old new : Walk) (visits : Visits)
+    → walk ≡ (test >>= λ x. give (next x))
     → result ≡ next passed → Walks test old visits new visits passed → Goes walk old visits (Ok result) new visits
 tested-goes walk test next passed result old new visits is result_is tested =
     goes-as walk (test >>= λ x. give (next x)) old new visits visits (Ok result) is
@@ -277,9 +318,11 @@ tested-goes walk test next passed result old new visits is result_is tested =
     (walks-then test (λ x. give (next x)) old new new visits visits visits passed (next passed) tested (walks-give (next passed) new visits)))
 
 -- a value was tested, and the checker gave up there
-pub tested-stopped : {A B : Type 0} (walk : Walking B) (test : Walking A) (next : A → B) (old new : Walk) (visits : Visits) (fault : CheckFault) (result : Result B CheckFault)
+pub tested-stopped : {A B : Type 0} (walk : Walking B) (test : Walking A) (next : A → B)
+    (old new : Walk) (visits : Visits) (fault : CheckFault) (result : Result B CheckFault)
     → walk ≡ (test >>= λ x. give (next x)) → IsErr result × IsErrAnd result (λ e. e ≡ fault) → IsBreachOf (test (context_of old) (viewed old.state)) fault
     → Goes walk old visits result new visits
 tested-stopped walk test next old new visits fault result is left stopped =
     given-up walk old new visits visits fault result left
-    (goes-as walk (test >>= λ x. give (next x)) old new visits visits (Err fault) is (goes-stopped test (λ x. give (next x)) old new visits visits fault stopped))
+    (goes-as walk (test >>= λ x. give (next x)) old new visits visits (Err fault) is
+    (goes-stopped test (λ x. give (next x)) old new visits visits fault stopped))

@@ -53,7 +53,8 @@ pub(crate) fn program(
 
 impl<'a> Walk<'a> {
     fn blocks(&mut self, visits: &mut Visits) -> Result<(), CheckFault>
-        ensures { Goes (all_of (map block_walk self.old.tree.now.blocks.items)) self.old visits.old result self.new visits.new }
+        ensures { Goes (all_of (map block_walk self.old.tree.now.blocks.items))
+            self.old visits.old result self.new visits.new }
     {
         for block in &self.tree.blocks {
             self.block(block, visits)?;

@@ -10,5 +10,6 @@ use Rattle.cert_checker.proofs.walk.Walk.+expression.Given as goal
 -- whatever the checker does over the operators that are left, it did it over the whole expression
 abbrev pub invariant-expression-loop-link : goal.invariant-expression-loop-link
 invariant-expression-loop-link l =
-    (result : Result Known CheckFault) (new : Walk) (after : Visits) → Goes (in_turn (map link_walk (drop l.link-index l.link-items)) l.known) l.self l.visits result new after
+    (result : Result Known CheckFault) (new : Walk) (after : Visits)
+    → Goes (in_turn (map link_walk (drop l.link-index l.link-items)) l.known) l.self l.visits result new after
     → Goes (value_walk l.expression) l.fn.self l.fn.visits result new after

@@ -17,7 +17,8 @@ returns-in_err-passed c =
     let fault = c.in_err-passed.field-0.0 in
     let left = c.from_residual-in_err-passed in
     given-up (assignment target fits value) old new before after fault left.result left.ensures
-    (assignment-done target fits value old c.enter.new.self valued before c.enter.new.visits after known (Err fault) new c.in_ok-enter.ensures c.in_ok-known.ensures
+    (assignment-done target fits value old c.enter.new.self valued before c.enter.new.visits after known (Err fault) new c.in_ok-enter.ensures
+    c.in_ok-known.ensures
     (goes-stopped (fitting fits known) (assign target.root) valued new after after fault (c.in_err-passed.ensures after)))
 
 pub returns : goal.returns
@@ -29,6 +30,7 @@ returns c =
     let known = c.in_ok-known.known in
     let passed = c.in_ok-passed.passed in
     let tested = c.fitting.new.self in
-    assignment-done target fits c.args.value.now c.args.self.now c.enter.new.self valued c.args.visits.now c.enter.new.visits after known (Ok tt) _ c.in_ok-enter.ensures c.in_ok-known.ensures
+    assignment-done target fits c.args.value.now c.args.self.now c.enter.new.self valued c.args.visits.now c.enter.new.visits after known (Ok tt) _
+    c.in_ok-enter.ensures c.in_ok-known.ensures
     (walks-then (fitting fits known) (assign target.root) valued tested _ after after after passed tt (c.in_ok-passed.ensures after)
     (assign-walks target.root passed c.range.result tested c.assign.new.self after c.range.ensures c.assign.ensures))

@@ -9,5 +9,6 @@ use Rattle.cert_checker.proofs.walk.Walk.blocks.Given as goal
 -- whatever the checker does over the blocks that are left, it did it over them all
 abbrev pub invariant-loop-block : goal.invariant-loop-block
 invariant-loop-block l =
-    (result : Result (Unit {0}) CheckFault) (new : Walk) (after : Visits) → Goes (all_of (map block_walk (drop l.block-index l.block-items))) l.self l.visits result new after
+    (result : Result (Unit {0}) CheckFault) (new : Walk) (after : Visits)
+    → Goes (all_of (map block_walk (drop l.block-index l.block-items))) l.self l.visits result new after
     → Goes (all_of (map block_walk l.fn.self.tree.now.blocks.items)) l.fn.self l.fn.visits result new after

@@ -9,7 +9,8 @@ returns-in_err-within c = λ visits.
     let fits = c.args.fits in
     let known = c.args.known in
     let range = c.range-range.result in
-    tested-stopped (fitting fits known) (within c.limits.result fits.site range) Ordinal c.args.self.now c.within.new.self visits c.in_err-within.field-0.0 c.from_residual.result
+    tested-stopped (fitting fits known) (within c.limits.result fits.site range) Ordinal c.args.self.now c.within.new.self visits c.in_err-within.field-0.0
+    c.from_residual.result
     (fitting-as fits known c.limits.result range c.range-range.ensures c.limits.ensures) c.from_residual.ensures (c.in_err-within.ensures visits)
 
 pub returns : goal.returns

@@ -9,5 +9,6 @@ use Rattle.cert_checker.proofs.walk.Walk.parameters.Given as goal
 -- whatever the checker does over the values that are left, it did it over them all
 abbrev pub invariant-loop-parameter : goal.invariant-loop-parameter
 invariant-loop-parameter l =
-    (result : Result (Unit {0}) CheckFault) (new : Walk) (after : Visits) → Goes (all_of (map parameter_walk (drop l.parameter-index l.parameters))) l.self l.visits result new after
+    (result : Result (Unit {0}) CheckFault) (new : Walk) (after : Visits)
+    → Goes (all_of (map parameter_walk (drop l.parameter-index l.parameters))) l.self l.visits result new after
     → Goes (all_of (map parameter_walk l.parameters)) l.fn.self l.fn.visits result new after

@@ -10,5 +10,6 @@ returns c = λ visits.
     let site = c.args.site in
     let passed = c.at_least.result in
     let held : ◌≡◌ {A = ℤ} (to_z w64 (of_z w64 c.first.result)) c.first.result = search (rules, to_z-of_z) in
-    let same = ap (λ z. tested (int_le (pos 1) z) site passed) (held ∙ c.first.ensures.value) ∙ ap (tested (int_le (pos 1) own.first) site) c.at_least.ensures.ends in
+    let same = ap (λ z. tested (int_le (pos 1) z) site passed) (held ∙ c.first.ensures.value)
+    ∙ ap (tested (int_le (pos 1) own.first) site) c.at_least.ensures.ends in
     goes-as (positive site own) _ c.args.self.now c.test.new.self visits visits c.test.result (sym same) (c.test.ensures visits)

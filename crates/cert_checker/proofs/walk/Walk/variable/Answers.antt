@@ -13,9 +13,11 @@ returns-in_err-test c =
     let before = c.args.visits.now in
     let after = c.enter.new.visits in
     let new = c.test.new.self in
-    given-up (variable_walk c.args.access c.args.defined) c.args.self.now new before after fault c.from_residual-in_err-test.result c.from_residual-in_err-test.ensures
+    given-up (variable_walk c.args.access c.args.defined) c.args.self.now new before after fault c.from_residual-in_err-test.result
+    c.from_residual-in_err-test.ensures
     (goes-then (enter number) (λ _. use_of root c.args.defined) c.args.self.now begun new before after after tt (Err fault) c.in_ok-enter.ensures
-    (use-stopped root c.args.defined begun new after after c.is_defined-is_defined.result c.range-range.result c.define.new.self fault (c.in_err-test.ensures after)))
+    (use-stopped root c.args.defined begun new after after c.is_defined-is_defined.result c.range-range.result c.define.new.self fault
+    (c.in_err-test.ensures after)))
 
 pub returns : goal.returns
 returns c =
@@ -25,6 +27,7 @@ returns c =
     let range = c.in_ok-test.field-0 in
     let after = c.enter.new.visits in
     let new = c.test.new.self in
-    walks-then (enter c.args.access.number) (λ _. use_of root site) c.args.self.now begun new c.args.visits.now after after tt (Ordinal range) c.in_ok-enter.ensures
+    walks-then (enter c.args.access.number) (λ _. use_of root site) c.args.self.now begun new c.args.visits.now after after tt (Ordinal range)
+    c.in_ok-enter.ensures
     (use-walks root site c.is_defined-is_defined.result c.range-range.result range begun new c.define.new.self after after
     c.is_defined-is_defined.ensures c.range-range.ensures c.define.ensures (c.in_ok-test.ensures after))

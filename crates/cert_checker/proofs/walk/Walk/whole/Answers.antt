@@ -9,11 +9,13 @@ pub returns-in_err-within : goal.returns-in_err-within
 returns-in_err-within c = λ visits.
     let site = c.args.overflow in
     let range = c.args.range in
-    tested-stopped (whole site range) (within integer site range) Ordinal c.args.self.now c.within.new.self visits c.in_err-within.field-0.0 c.from_residual.result
+    tested-stopped (whole site range) (within integer site range) Ordinal c.args.self.now c.within.new.self visits c.in_err-within.field-0.0
+    c.from_residual.result
     refl c.from_residual.ensures (c.in_err-within.ensures visits)
 
 pub returns : goal.returns
 returns c = λ visits.
     let site = c.args.overflow in
     let range = c.args.range in
-    tested-goes (whole site range) (within integer site range) Ordinal c.in_ok-within.field-0 _ c.args.self.now c.within.new.self visits refl refl (c.in_ok-within.ensures visits)
+    tested-goes (whole site range) (within integer site range) Ordinal c.in_ok-within.field-0 _ c.args.self.now c.within.new.self visits refl refl
+    (c.in_ok-within.ensures visits)

@@ -8,7 +8,8 @@ returns-in_err-positive c = λ visits.
     let site = c.args.site in
     let known = c.args.known in
     let range = c.range-range.result in
-    tested-stopped (width_test site known) (positive site range) (λ _. tt {0}) c.args.self.now c.positive.new.self visits c.in_err-positive.field-0.0 c.from_residual.result
+    tested-stopped (width_test site known) (positive site range) (λ _. tt {0}) c.args.self.now c.positive.new.self visits c.in_err-positive.field-0.0
+    c.from_residual.result
     (width-as site known range c.range-range.ensures) c.from_residual.ensures (c.in_err-positive.ensures visits)
 
 pub returns : goal.returns
