@@ -154,6 +154,7 @@ fn operators_give_what_the_tables_say(rt: HostRuntime) -> Result<(), Fail> {
 
 #[test]
 fn laws_are_called(_rt: HostRuntime) -> Result<(), Fail> {
+    laws::turns_go_on();
     laws::turns_extend_the_output();
     laws::endings_stay();
     laws::chains_go_left_to_right();

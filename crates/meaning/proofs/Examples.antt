@@ -1,5 +1,5 @@
 -- The definitions on small rows, worked out by hand.
-use Rattle.std.proofs.Common.{◌≡◌, ℕ, ap, refl, true, false, pos, negsuc, List, [], ◌∷◌, Some, None, codes}
+use Rattle.std.proofs.Common.{◌≡◌, inl, inr, ℕ, ap, refl, true, false, pos, negsuc, List, [], ◌∷◌, Some, None, codes}
 use Rattle.typed_tree.specs.declared.tree.Dyadic.{Dyadic}
 use Rattle.typed_tree.specs.declared.tree.Dyadic.TheVariants as dyadic
 use Rattle.typed_tree.specs.declared.tree.Monadic.TheVariants as monadic
@@ -7,13 +7,14 @@ use Rattle.typed_tree.specs.declared.tree.Relation.TheVariants.{Equal}
 use Rattle.typed_tree.specs.declared.tree.WriteParameter.{WriteParameter}
 use Rattle.types.specs.declared.form.OrdinalRange.{OrdinalRange}
 use Rattle.meaning.specs.declared.outcome.Ending.{Ending}
-use Rattle.meaning.specs.declared.outcome.Ending.TheVariants.{Error}
+use Rattle.meaning.specs.declared.outcome.Ending.TheVariants.{Error, More}
 use Rattle.meaning.specs.declared.store.Value.{Value}
 use Rattle.meaning.specs.declared.store.Value.TheVariants.{Number}
 use Rattle.meaning.specs.Store.{Place, Step, Element, Environment, stored, written, undefined, overlap}
 use Rattle.meaning.specs.Integers.{is_integer_number}
-use Rattle.meaning.specs.Effect.{State, Reply, Gives, Stops, ◌>>=◌, and_then, give, fetch, write, is_in, boolean_text, text_of}
+use Rattle.meaning.specs.Effect.{State, Reply, Gives, Stops, Action, ◌>>=◌, and_then, give, fetch, use_turn, write, is_in, boolean_text, text_of}
 use Rattle.meaning.specs.Meaning.{Evaluation, Combination, link_step, in_turn, operated, value_of, width_of, parameter_of, completed, first_state}
+use Rattle.meaning.specs.Laws.{Extends}
 use Rattle.meaning.specs.Pending.{positive}
 
 abbrev place : ℕ → List Step → Place
@@ -107,7 +108,8 @@ unfolding nowhere
 overflows = refl
 
 -- -7 div 2 is the sign of 7 div 2: -3; and (-7) div 2 is cut toward zero too
-sign_of_quotient : told ((link (dyadic.Div 3) (operand (Number (pos 2))) nowhere (Number (pos 7)) >>= operated monadic.Minus) (first_state [] 0)) ≡ Value_of (Number (negsuc 2))
+sign_of_quotient : told ((link (dyadic.Div 3) (operand (Number (pos 2))) nowhere (Number (pos 7)) >>= operated monadic.Minus) (first_state [] 0)) ≡
+    Value_of (Number (negsuc 2))
 unfolding nowhere
 sign_of_quotient = refl
 
@@ -154,7 +156,9 @@ negative_is_odd = refl
 
 -- 1 div 0 = 1, with the division's site 3
 abbrev quotient_is_one : Evaluation
-quotient_is_one environment = in_turn (link (dyadic.Div 3) (operand (Number (pos 0))) ∷ []) environment (Number (pos 1)) >>= link (dyadic.Relation Equal) (operand (Number (pos 1))) environment
+quotient_is_one environment =
+    in_turn (link (dyadic.Div 3) (operand (Number (pos 0))) ∷ []) environment (Number (pos 1))
+    >>= link (dyadic.Relation Equal) (operand (Number (pos 1))) environment
 
 -- in false and (1 div 0 = 1) the division is an error: both operands of `and` are evaluated
 both_evaluated : told (link dyadic.And quotient_is_one nowhere (Number (pos 0)) (first_state [] 0)) ≡ End_of (Error 3)
@@ -166,15 +170,49 @@ no_width : told (positive 6 (Number (pos 0)) (first_state [] 0)) ≡ End_of (Err
 no_width = refl
 
 -- where a value stops, its width isn't evaluated
-value_first : (parameter : WriteParameter) (environment : Environment) (s t : State) (end : Ending) → value_of parameter.value environment s ≡ Stops end t → parameter_of parameter environment s ≡ Stops end t
+value_first : (parameter : WriteParameter) (environment : Environment) (s t : State) (end : Ending) → value_of parameter.value environment s ≡ Stops end t →
+    parameter_of parameter environment s ≡ Stops end t
 value_first parameter environment s t end stopped =
-    ap (λ (r : Reply Value). and_then r (λ v. width_of parameter.width parameter.representation environment >>= λ w. write (text_of parameter.representation v w))) stopped
+    let width = width_of parameter.width parameter.representation environment in
+    ap (λ (r : Reply Value). and_then r (λ v. width >>= λ w. write (text_of parameter.representation v w))) stopped
 
 -- in maxint + 1 + x the overflow is told, and the undefined x isn't reached; in maxint + x + 1 it is
-left_first : told (in_turn (link (dyadic.Plus 3) (operand (Number (pos 1))) ∷ link (dyadic.Plus 4) nothing_there ∷ []) nowhere (Number (pos 2147483647)) (first_state [] 0)) ≡ End_of (Error 3)
+left_first : told (in_turn (link (dyadic.Plus 3) (operand (Number (pos 1))) ∷ link (dyadic.Plus 4) nothing_there ∷ []) nowhere (Number (pos 2147483647))
+    (first_state [] 0)) ≡ End_of (Error 3)
 unfolding nowhere
 left_first = refl
 
-right_reached : told (in_turn (link (dyadic.Plus 3) nothing_there ∷ link (dyadic.Plus 4) (operand (Number (pos 1))) ∷ []) nowhere (Number (pos 2147483647)) (first_state [] 0)) ≡ End_of (Error 7)
+right_reached : told (in_turn (link (dyadic.Plus 3) nothing_there ∷ link (dyadic.Plus 4) (operand (Number (pos 1))) ∷ []) nowhere (Number (pos 2147483647))
+    (first_state [] 0)) ≡ End_of (Error 7)
 unfolding nowhere
 right_reached = refl
+
+-- a turn of 2 leaves 1, and of 0 none can be used
+turn_used : use_turn (first_state [] 2) ≡ Gives tt (first_state [] 1)
+turn_used = refl
+
+no_turn : use_turn (first_state [] 0) ≡ Stops More (first_state [] 0)
+no_turn = refl
+
+-- a turn, and then a byte is written; where there is no turn, nothing is written
+written_in_turn : (use_turn >>= λ _. write (codes "a")) (first_state [] 1) ≡ Gives tt (record (first_state [] 0) { output = codes "a" })
+written_in_turn = refl
+
+not_written : (use_turn >>= λ _. write (codes "a")) (first_state [] 0) ≡ Stops More (first_state [] 0)
+not_written = refl
+
+-- a byte, a turn, and a byte: with no turn the run stops after the first byte, and with one more it goes on from there
+two_bytes : Action (Unit {0})
+two_bytes = do
+  _ ← write (codes "a")
+  _ ← use_turn
+  write (codes "b")
+
+one_more_turn : Extends 1 (two_bytes (first_state [] 0)) (two_bytes (first_state [] 1))
+unfolding two_bytes
+one_more_turn = inr (record (first_state [] 0) { output = codes "a" }, refl, (codes "b", refl))
+
+-- a run that didn't want for turns is the same with more of them, which are left
+turns_to_spare : Extends 1 (two_bytes (first_state [] 1)) (two_bytes (first_state [] 2))
+unfolding two_bytes
+turns_to_spare = inl refl

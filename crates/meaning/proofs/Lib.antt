@@ -5,3 +5,4 @@ mod Resuming
 mod Starting
 mod Turns
 mod Unrolling
+mod Weights

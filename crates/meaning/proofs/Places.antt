@@ -25,7 +25,8 @@ equal_numbers m n = search rules
 -- places without components are the same where their activations and their variables are
 pub same_place : (p q : KeptPlace) → p.steps.items ≡ [] → q.steps.items ≡ [] → is_at (ghosts.cmp p) q ≡ place_eq (place_seen p) (place_seen q)
 same_place p q whole_p whole_q =
-    let places : List KeptStep → List KeptStep → Bool = λ xs ys. is_eq (ordering_then (nat_cmp p.activation q.activation) (ordering_then (nat_cmp p.variable q.variable) (slice_cmp step_ghosts.cmp xs ys))) in
+    let places : List KeptStep → List KeptStep → Bool =
+    λ xs ys. is_eq (ordering_then (nat_cmp p.activation q.activation) (ordering_then (nat_cmp p.variable q.variable) (slice_cmp step_ghosts.cmp xs ys))) in
     ap (λ xs. places xs q.steps.items) whole_p
     ∙ ap (λ ys. places [] ys) whole_q
     ∙ equal_then (nat_cmp p.activation q.activation) (ordering_then (nat_cmp p.variable q.variable) Equal)
@@ -34,7 +35,9 @@ same_place p q whole_p whole_q =
     ∙ ap (λ b. nat_eq p.activation q.activation && (b && true)) (equal_numbers p.variable q.variable)
 
 -- a value kept at a place is stored there, and each other variable holds what it held
-pub keeps_agreeing : (place p : KeptPlace) (there : Place) (v : Value) (old new : BTreeMap KeptPlace Value) (store : Store) → place_seen place ≡ there → place.steps.items ≡ [] → p.steps.items ≡ [] → get ghosts.cmp new p ≡ cond (is_at (ghosts.cmp place) p) (Some v) (get ghosts.cmp old p) → get ghosts.cmp old p ≡ stored store (place_seen p) → get ghosts.cmp new p ≡ stored (written store there v) (place_seen p)
+pub keeps_agreeing : (place p : KeptPlace) (there : Place) (v : Value) (old new : BTreeMap KeptPlace Value) (store : Store) → place_seen place ≡ there →
+    place.steps.items ≡ [] → p.steps.items ≡ [] → get ghosts.cmp new p ≡ cond (is_at (ghosts.cmp place) p) (Some v) (get ghosts.cmp old p) →
+    get ghosts.cmp old p ≡ stored store (place_seen p) → get ghosts.cmp new p ≡ stored (written store there v) (place_seen p)
 keeps_agreeing place p there v old new store seen whole_place whole updated held =
     updated
     ∙ ap (λ b. cond b (Some v) (get ghosts.cmp old p)) (same_place place p whole_place whole)

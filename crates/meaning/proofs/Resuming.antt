@@ -1,14 +1,13 @@
 -- What pending work means, step by step.
-use Rattle.std.proofs.Common.{◌≡◌, ℕ, List, [], ◌∷◌, ◌++◌, Option, Some, None, Result, Ok, reverse, sym, ◌∙◌, ap, subst, refl, length, arith, Bool, true, false, if◌then◌else◌}
+use Rattle.std.proofs.Common.{◌≡◌, ℕ, List, [], ◌∷◌, ◌++◌, Option, Some, None, Result, Ok, reverse, sym, ◌∙◌, ap, subst, refl, length, arith, Bool}
+use Rattle.std.proofs.Common.{true, false, if◌then◌else◌}
 use Rattle.std.specs.declared.alloc.AllocError.{AllocError}
 use Rattle.typed_tree.specs.declared.tree.RangeTest.{RangeTest}
 use Rattle.types.specs.declared.form.OrdinalRange.{OrdinalRange}
 use Rattle.meaning.specs.declared.outcome.Ending.{Ending}
-use Rattle.std.specs.declared.cmp.Ordering.{Ordering}
 use Rattle.std.proofs.lemmas.List.{reverse-append}
 use Rattle.std.specs.Option.{ok_or}
 use Rattle.meaning.specs.declared.outcome.Ending.TheVariants.{Finished}
-use Rattle.meaning.specs.declared.store.Place.{Place as KeptPlace}
 use Rattle.meaning.specs.declared.store.Value.{Value}
 use Rattle.meaning.specs.declared.interpreter.Run.{Run}
 use Rattle.meaning.specs.declared.work.Work.{Work}
@@ -16,7 +15,7 @@ use Rattle.meaning.specs.declared.work.Work.TheVariants as work
 use Rattle.meaning.specs.Store.{Environment, Place, stored, written}
 use Rattle.meaning.specs.Effect.{State, Reply, Gives, Stops, Action, ◌>>=◌, and_then, fetched, fetch, place_of, is_in, require, store}
 use Rattle.meaning.specs.Meaning.{Meaning, ended}
-use Rattle.meaning.specs.Pending.{Resumption, Agrees, IsFlat, StoreAgrees, Continues, Does, pending_of, resumed, rest_of, answered, giving, top_of, below_top, checked}
+use Rattle.meaning.specs.Pending.{Resumption, Agrees, IsFlat, Continues, Does, pending_of, resumed, rest_of, answered, giving, top_of, below_top, checked}
 
 -- one more at the end of a stack is one more at its top
 pub reverse_push : {A : Type 0} (xs : List A) (x : A) → reverse (xs ++ x ∷ []) ≡ x ∷ reverse xs
@@ -30,7 +29,8 @@ none_left [] h = refl
 none_left (x ∷ xs) h = let no : ⊥ = omega (arith, h) in absurd no
 
 -- three actions one after another, however they are grouped
-pub and_then-and_then : {A B C : Type 0} (r : Reply A) (f : A → State → Reply B) (g : B → State → Reply C) → and_then (and_then r f) g ≡ and_then r (λ a s. and_then (f a s) g)
+pub and_then-and_then : {A B C : Type 0} (r : Reply A) (f : A → State → Reply B) (g : B → State → Reply C) →
+    and_then (and_then r f) g ≡ and_then r (λ a s. and_then (f a s) g)
 and_then-and_then (Gives a s) f g = refl
 and_then-and_then (Stops e s) f g = refl
 
@@ -44,63 +44,76 @@ fetched_answer None site s = refl
 fetched_answer (Some v) site s = refl
 
 -- the value of a variable is what is stored at its place
-pub fetched_there : (root defined : ℕ) (env : Environment) (s : State) (p : Place) (o : Option Value) (answer : Result Value ℕ) → place_of env root ≡ p → o ≡ stored s.store p → answer ≡ ok_or o defined → fetch (place_of env root) defined s ≡ answered answer s
+pub fetched_there : (root defined : ℕ) (env : Environment) (s : State) (p : Place) (o : Option Value) (answer : Result Value ℕ) → place_of env root ≡ p →
+    o ≡ stored s.store p → answer ≡ ok_or o defined → fetch (place_of env root) defined s ≡ answered answer s
 fetched_there root defined env s p o answer there holds is =
     ap (λ q. fetched (stored s.store q) defined s) there
     ∙ ap (λ w. fetched w defined s) (sym holds)
     ∙ fetched_answer o defined s
     ∙ ap (λ a. answered a s) (sym is)
 
-module _ (cmp : KeptPlace → KeptPlace → Ordering) (env : Environment) (old new : Run) where
+module _ (env : Environment) (old new : Run) where
   -- the run goes on with other work
-  pub goes_on_to : (s : State) (works : List Work) (reply : Reply (Unit {0})) → Agrees cmp new s → reverse new.pending.items ≡ works → new.values.items ≡ old.values.items → reply ≡ pending_of env works (reverse old.values.items) s → Continues cmp env reply (Ok None) new
+  pub goes_on_to : (s : State) (works : List Work) (reply : Reply (Unit {0})) → Agrees new s → reverse new.pending.items ≡ works →
+      new.values.items ≡ old.values.items → reply ≡ pending_of env works (reverse old.values.items) s → Continues env reply (Ok None) new
   goes_on_to s works reply agrees work same is =
       (s, agrees, is ∙ ap (λ l. pending_of env works (reverse l) s) (sym same) ∙ ap (λ p. pending_of env p (reverse new.values.items) s) (sym work))
 
   -- what another reply goes on to
-  pub continues_as : (reply other : Reply (Unit {0})) (result : Result (Option Ending) AllocError) → reply ≡ other → Continues cmp env other result new → Continues cmp env reply result new
-  continues_as reply other result is continues = subst (λ (r : Reply (Unit {0})). Continues cmp env r result new) (sym is) continues
+  pub continues_as : (reply other : Reply (Unit {0})) (result : Result (Option Ending) AllocError) → reply ≡ other → Continues env other result new →
+      Continues env reply result new
+  continues_as reply other result is continues = subst (λ (r : Reply (Unit {0})). Continues env r result new) (sym is) continues
 
-module _ (cmp : KeptPlace → KeptPlace → Ordering) (old new : Run) where
+module _ (old new : Run) where
   -- a step that does another piece of work that is the same
-  pub does_as : (work other : Work) (result : Result (Option Ending) AllocError) → work ≡ other → Does cmp (λ env. resumed env other) old result new → Does cmp (λ env. resumed env work) old result new
-  does_as work other result is does = subst (λ (w : Work). Does cmp (λ env. resumed env w) old result new) (sym is) does
+  pub does_as : (work other : Work) (result : Result (Option Ending) AllocError) → work ≡ other → Does (λ env. resumed env other) old result new →
+      Does (λ env. resumed env work) old result new
+  does_as work other result is does = subst (λ (w : Work). Does (λ env. resumed env w) old result new) (sym is) does
 
   -- a run that goes on after its topmost piece of work
-  pub goes_on_from : (env : Environment) (start reply : Reply (Unit {0})) (result : Result (Option Ending) AllocError) → start ≡ reply → result ≡ Ok None → Continues cmp env reply result new → (t : State) × Agrees cmp new t × (start ≡ rest_of env new t)
+  pub goes_on_from : (env : Environment) (start reply : Reply (Unit {0})) (result : Result (Option Ending) AllocError) → start ≡ reply → result ≡ Ok None →
+      Continues env reply result new → (t : State) × Agrees new t × (start ≡ rest_of env new t)
   goes_on_from env start reply result is none continues =
-      let next : Continues cmp env reply (Ok None) new = subst (λ (r : Result (Option Ending) AllocError). Continues cmp env reply r new) none continues in
+      let next : Continues env reply (Ok None) new = subst (λ (r : Result (Option Ending) AllocError). Continues env reply r new) none continues in
       (next.0, next.1, is ∙ next.2)
 
   -- a run that stops at its topmost piece of work
-  pub stops_from : (env : Environment) (start reply : Reply (Unit {0})) (result : Result (Option Ending) AllocError) (ending : Ending) → start ≡ reply → result ≡ Ok (Some ending) → Continues cmp env reply result new → ended start ≡ record { output = new.output.items; ending = ending }
+  pub stops_from : (env : Environment) (start reply : Reply (Unit {0})) (result : Result (Option Ending) AllocError) (ending : Ending) → start ≡ reply →
+      result ≡ Ok (Some ending) → Continues env reply result new → ended start ≡ record { output = new.output.items; ending = ending }
   stops_from env start reply result ending is some continues =
-      let next : Continues cmp env reply (Ok (Some ending)) new = subst (λ (r : Result (Option Ending) AllocError). Continues cmp env reply r new) some continues in
+      let next : Continues env reply (Ok (Some ending)) new = subst (λ (r : Result (Option Ending) AllocError). Continues env reply r new) some continues in
       ap ended (is ∙ next.2) ∙ ap (λ (o : List ℕ). let m : Meaning = record { output = o; ending = ending } in m) (sym next.1)
 
   -- a run that has nothing left to do
-  pub done_from : (env : Environment) (start : Reply (Unit {0})) (t : State) → start ≡ rest_of env new t → new.pending.items ≡ [] → Agrees cmp new t → ended start ≡ record { output = new.output.items; ending = Finished }
+  pub done_from : (env : Environment) (start : Reply (Unit {0})) (t : State) → start ≡ rest_of env new t → new.pending.items ≡ [] → Agrees new t →
+      ended start ≡ record { output = new.output.items; ending = Finished }
   done_from env start t is none agrees =
       ap ended is
       ∙ ap (λ (l : List Work). ended (pending_of env (reverse l) (reverse new.values.items) t)) none
       ∙ ap (λ (o : List ℕ). let m : Meaning = record { output = o; ending = Finished } in m) (sym agrees.output)
 
 -- a calculation with operands that were taken from the stack
-pub goes_on_by : (cmp : KeptPlace → KeptPlace → Ordering) (old taken new : Run) (env : Environment) (s : State) (action : Action Value) (answer : Result Value ℕ) (below : List Value) (result : Result (Option Ending) AllocError) → taken ≡ record old { values = taken.values } → reverse taken.values.items ≡ below → action s ≡ answered answer s → IsFlat env → Agrees cmp old s → Does cmp (λ env. giving (answered answer)) taken result new → Continues cmp env (giving action (pending_of env (reverse old.pending.items)) below s) result new
-goes_on_by cmp old taken new env s action answer below result same left gives flat agrees does =
-    let kept : StoreAgrees cmp taken.store s.store = subst (λ (r : Run). StoreAgrees cmp r.store s.store) (sym same) agrees.store in
-    continues_as cmp env old new _ _ result
+pub goes_on_by : (old taken new : Run) (env : Environment) (s : State) (action : Action Value) (answer : Result Value ℕ) (below : List Value)
+    (result : Result (Option Ending) AllocError) → taken ≡ record old { values = taken.values } → reverse taken.values.items ≡ below →
+    action s ≡ answered answer s → IsFlat env → Agrees old s → Does (λ env. giving (answered answer)) taken result new →
+    Continues env (giving action (pending_of env (reverse old.pending.items)) below s) result new
+goes_on_by old taken new env s action answer below result same left gives flat agrees does =
+    let kept : Agrees taken s = subst (λ (r : Run). Agrees r s) (sym same) agrees in
+    continues_as env old new _ _ result
     (ap (λ (r : Reply Value). and_then r (λ v. pending_of env (reverse old.pending.items) (v ∷ below))) gives
     ∙ ap (λ (l : List Value). giving (answered answer) (pending_of env (reverse old.pending.items)) l s) (sym left)
     ∙ ap (λ (r : Run). giving (answered answer) (pending_of env (reverse r.pending.items)) (reverse taken.values.items) s) (sym same))
-    (does env flat s (record { store = kept; output = ap (λ (r : Run). r.output.items) same ∙ agrees.output }))
+    (does env flat s kept)
 
 -- the topmost piece of work is taken from the stack
-pub taken : (env : Environment) (run : Run) (left : List Work) (work : Work) (t : State) → run.pending.items ≡ left ++ work ∷ [] → rest_of env run t ≡ resumed env work (pending_of env (reverse left)) (reverse run.values.items) t
+pub taken : (env : Environment) (run : Run) (left : List Work) (work : Work) (t : State) → run.pending.items ≡ left ++ work ∷ [] →
+    rest_of env run t ≡ resumed env work (pending_of env (reverse left)) (reverse run.values.items) t
 taken env run left work t is = ap (λ (l : List Work). pending_of env l (reverse run.values.items) t) (ap reverse is ∙ reverse_push left work)
 
 -- the topmost operand is stored
-pub stores : (env : Environment) (root : ℕ) (fits : RangeTest) (next : Resumption) (operands : List Value) (s : State) (v : Value) → v ≡ top_of operands → is_in fits.range v ≡ true → resumed env (work.Store root fits) next operands s ≡ next (below_top operands) (record s { store = written s.store (place_of env root) v })
+pub stores : (env : Environment) (root : ℕ) (fits : RangeTest) (next : Resumption) (operands : List Value) (s : State) (v : Value) → v ≡ top_of operands →
+    is_in fits.range v ≡ true → resumed env (work.Store root fits) next operands s ≡
+    next (below_top operands) (record s { store = written s.store (place_of env root) v })
 stores env root fits next operands s v top fine =
     let then_rest : Value → Unit {0} → Action (Unit {0}) = λ u _. store (place_of env root) u >>= λ _. next (below_top operands) in
     ap (λ (u : Value). and_then (require (is_in fits.range u) fits.site s) (then_rest u)) (sym top)

@@ -1,9 +1,8 @@
 -- How a run begins.
 use Rattle.std.proofs.Common.{◌≡◌, ℕ, List, [], ◌∷◌, ◌++◌, Bool, true, false, Option, Some, None, Result, Ok, Err, IfOk, if◌then◌else◌, Bor, reverse, nat_eq, slice_get, unwrap_or, sym, ◌∙◌, ap, refl}
-use Rattle.std.specs.BTreeMap.{is_at}
+use Rattle.std.specs.BTreeMap.{BTreeMap, is_at}
 use Rattle.std.specs.Map.{lookup}
 use Rattle.std.specs.declared.alloc.AllocError.{AllocError}
-use Rattle.std.specs.declared.cmp.Ordering.{Ordering}
 use Rattle.typed_tree.specs.declared.tree.Tree.{Tree}
 use Rattle.typed_tree.specs.declared.tree.Block.{Block}
 use Rattle.typed_tree.specs.declared.tree.Variable.{Variable}
@@ -14,10 +13,11 @@ use Rattle.meaning.specs.declared.store.Value.{Value}
 use Rattle.meaning.specs.declared.interpreter.Run.{Run}
 use Rattle.meaning.specs.declared.work.Work.{Work}
 use Rattle.meaning.specs.declared.work.Work.TheVariants as work
+use Rattle.meaning.specs.contracts.store.PlaceOrd.TheImpl.{ghosts}
 use Rattle.meaning.specs.Store.{Environment, Place}
 use Rattle.meaning.specs.Effect.{State, Reply, Gives, Stops, and_then, give}
 use Rattle.meaning.specs.Meaning.{Meaning, ended, effect_of, run_of, meaning, home_of, program_environment, first_state}
-use Rattle.meaning.specs.Pending.{Agrees, IsFlat, pending_of}
+use Rattle.meaning.specs.Pending.{Agrees, IsFlat, StoreAgrees, pending_of}
 
 either_way : (b : Bool) (p : Place) → unwrap_or (if b then Some p else None) p ≡ p
 either_way true p = refl
@@ -51,10 +51,16 @@ pub finishes_as : (whole rest : Reply (Unit {0})) (output : List ℕ) (result : 
 finishes_as whole rest output (Ok ending) is finished = ap ended is ∙ finished
 finishes_as whole rest output (Err refused) is finished = tt
 
--- a run that did the program's block with nothing stored or written ends as the program does
-pub ends_as_meant : (cmp : KeptPlace → KeptPlace → Ordering) (tree : Tree) (input : List ℕ) (turns : ℕ) (run : Run) (output : List ℕ) (ending : Ending) → run.store.entries ≡ [] → run.output.items ≡ [] → ((env : Environment) → IsFlat env → (s : State) → Agrees cmp run s → ended (run_of (slice_get tree.blocks.items 0) env s) ≡ record { output = output; ending = ending }) → (output ≡ (meaning tree input turns).output) × (ending ≡ (meaning tree input turns).ending)
-ends_as_meant cmp tree input turns run output ending nothing_stored nothing_written finished =
-    let s = first_state input turns in
-    let agrees : Agrees cmp run s = record { store = λ p whole. ap (λ (l : List (KeptPlace × Value)). lookup (is_at (cmp p)) l) nothing_stored; output = nothing_written } in
-    let told = sym (finished (program_environment tree) (flat_program tree) s agrees) in
+-- a map with no entries holds what an empty store does
+pub holds_nothing : (kept : BTreeMap KeptPlace Value) → kept.entries ≡ [] → StoreAgrees kept []
+holds_nothing kept none p whole = ap (λ (l : List (KeptPlace × Value)). lookup (is_at (ghosts.cmp p)) l) none
+
+-- a run that did the program's block from the first state ends as the program does
+pub ends_as_meant : (tree : Tree) (input : List ℕ) (turns : ℕ) (run : Run) (output : List ℕ) (ending : Ending) →
+    Agrees run (first_state input turns) →
+    ((env : Environment) → IsFlat env → (s : State) → Agrees run s →
+    ended (run_of (slice_get tree.blocks.items 0) env s) ≡ record { output = output; ending = ending }) →
+    (output ≡ (meaning tree input turns).output) × (ending ≡ (meaning tree input turns).ending)
+ends_as_meant tree input turns run output ending begun finished =
+    let told = sym (finished (program_environment tree) (flat_program tree) (first_state input turns) begun) in
     (ap (λ (m : Meaning). m.output) told, ap (λ (m : Meaning). m.ending) told)

@@ -1,9 +1,11 @@
--- Nothing of this meaning reads how many turns are left.
+-- More turns only extend a run. For each action three facts: the output only grows, the turns only fall, and with more
+-- turns the action goes on from where it was with fewer. A loop's body and a routine's block will need them all.
 use Rattle.std.specs.Prelude.{int_div, int_le, not}
 use Rattle.std.specs.Int.{int_rem_euclid}
 use Rattle.std.specs.Ordering.{int_eq}
-use Rattle.std.proofs.Common.{◌≡◌, ℕ, ℤ, pos, ◌+ℤ◌, ◌-ℤ◌, ◌*ℤ◌, List, [], ◌∷◌, Bool, true, false, Option, Some, None, map, slice_get, sym, ◌∙◌, ap, subst, refl}
-use Rattle.typed_tree.specs.declared.tree.Tree.{Tree}
+use Rattle.std.proofs.Common.{◌≡◌, ◌≢◌, inl, inr, ℕ, zero, suc, ◌+◌, ◌≤◌, ℤ, pos, ◌+ℤ◌, ◌-ℤ◌, ◌*ℤ◌, arith}
+use Rattle.std.proofs.Common.{List, [], ◌∷◌, ◌++◌, append-nil, append_assoc, Bool, true, false, Option, Some, None, map, slice_get}
+use Rattle.std.proofs.Common.{sym, ◌∙◌, ap, subst, refl}
 use Rattle.typed_tree.specs.declared.tree.Block.{Block}
 use Rattle.typed_tree.specs.declared.tree.Dyadic.{Dyadic}
 use Rattle.typed_tree.specs.declared.tree.Dyadic.TheVariants as dyadic
@@ -21,153 +23,310 @@ use Rattle.typed_tree.specs.declared.tree.Expr.TheFolds.{map-Expr, map-Link, fol
 use Rattle.typed_tree.specs.declared.tree.Stmt.TheOpen.{Stmt-F}
 use Rattle.typed_tree.specs.declared.tree.Stmt.TheOpen.Stmt-F.{Empty, Assign, Write, Compound}
 use Rattle.typed_tree.specs.declared.tree.Stmt.TheFolds.{map-Stmt, fold-roll-Stmt, ind-Stmt}
+use Rattle.meaning.specs.declared.outcome.Ending.{Ending}
+use Rattle.meaning.specs.declared.outcome.Ending.TheVariants as ending
 use Rattle.meaning.specs.declared.store.Value.{Value}
 use Rattle.meaning.specs.declared.store.Value.TheVariants.{Number}
 use Rattle.meaning.specs.Integers.{is_integer_number}
 use Rattle.meaning.specs.Store.{Environment, Place, stored}
-use Rattle.meaning.specs.Effect.{State, Reply, Gives, Stops, Action, ◌>>=◌, and_then, give, require, enter, place_of, fetched, fetch, store, write, is_in, is_positive, text_of}
-use Rattle.meaning.specs.Meaning.{Evaluation, Combination, Execution, value_step, link_step, effect_step, whole, operated, combined, in_turn, all_of, width_of, parameter_of, line_ended, value_of, link_of, effect_of, run_of, ended, meaning, program_environment, first_state}
+use Rattle.meaning.specs.Effect.{State, Reply, Gives, Stops, Action, ◌>>=◌, and_then, give, stop, require, enter, take_turn, use_turn, place_of}
+use Rattle.meaning.specs.Effect.{fetched, fetch, store, write, is_in, is_positive, text_of}
+use Rattle.meaning.specs.Meaning.{Evaluation, Combination, Execution, value_step, link_step, effect_step, whole, operated, combined, in_turn, all_of}
+use Rattle.meaning.specs.Meaning.{width_of, parameter_of, line_ended, value_of, link_of, effect_of, Meaning, run_of, run, ended}
+use Rattle.meaning.specs.Meaning.{program_environment, first_state}
+use Rattle.meaning.specs.Laws.{with_turns, reply_with_turns, state_after, Begins, Extends, TurnsGoOn, TurnsExtendTheOutput, EndingsStay}
 
--- a state with another number of turns
-abbrev retimed : ℕ → State → State
-retimed n s = record s { turns = n }
+-- nothing more was written
+nothing : (output : List ℕ) → Begins output output
+nothing output = ([], sym (append-nil output))
 
-abbrev retimed_reply : {A : Type 0} → ℕ → Reply A → Reply A
-retimed_reply n (Gives a s) = Gives a (retimed n s)
-retimed_reply n (Stops e s) = Stops e (retimed n s)
+-- what was written, and then more
+further : (first second third : List ℕ) → Begins first second → Begins second third → Begins first third
+further first second third begun more =
+    (begun.0 ++ more.0, more.1 ∙ ap (λ written. written ++ more.0) begun.1 ∙ append_assoc first begun.0 more.0)
 
--- an action that does the same whatever turns are left
-abbrev Blind : {A : Type 0} → Action A → Type 0
-Blind a = (n : ℕ) (s : State) → a (retimed n s) ≡ retimed_reply n (a s)
+-- an action that more turns only extend, and that gives no turns back: a loop's turns are then enough for its rounds
+record Extended {A : Type 0} (action : Action A) : Type 0 where
+  grows : (s : State) → Begins s.output (state_after (action s)).output
+  falls : (s : State) → (state_after (action s)).turns ≤ s.turns
+  extends : (more : ℕ) (s : State) → Extends more (action s) (action (with_turns more s))
 
-blind_rest : {A B : Type 0} (r : Reply A) (f : A → Action B) → ((x : A) → Blind (f x)) → (n : ℕ) → and_then (retimed_reply n r) f ≡ retimed_reply n (and_then r f)
-blind_rest (Gives a s) f rest n = rest a n s
-blind_rest (Stops e s) f rest n = refl
+-- what comes after a reply only adds to its output
+grown_rest : {A B : Type 0} (output : List ℕ) (reply : Reply A) (rest : A → Action B) → Begins output (state_after reply).output →
+    ((a : A) (s : State) → Begins s.output (state_after (rest a s)).output) → Begins output (state_after (and_then reply rest)).output
+grown_rest output (Gives a s) rest begun each = further output s.output _ begun (each a s)
+grown_rest output (Stops e s) rest begun each = begun
 
-blind_bind : {A B : Type 0} (a : Action A) (f : A → Action B) → Blind a → ((x : A) → Blind (f x)) → Blind (a >>= f)
-blind_bind a f first rest = λ n s. ap (λ r. and_then r f) (first n s) ∙ blind_rest (a s) f rest n
+-- what comes after a reply gives no turns back
+fallen_rest : {A B : Type 0} (turns : ℕ) (reply : Reply A) (rest : A → Action B) → (state_after reply).turns ≤ turns →
+    ((a : A) (s : State) → (state_after (rest a s)).turns ≤ s.turns) → (state_after (and_then reply rest)).turns ≤ turns
+fallen_rest turns (Gives a s) rest fewer each = omega (arith, fewer, each a s)
+fallen_rest turns (Stops e s) rest fewer each = fewer
 
-blind_require : (b : Bool) (site : ℕ) → Blind (require b site)
-blind_require true site = λ n s. refl
-blind_require false site = λ n s. refl
+-- the same reply with more turns, and then a rest that more turns extend
+same_rest : {A B : Type 0} (more : ℕ) (reply : Reply A) (rest longer_rest : A → Action B) →
+    ((a : A) (s : State) → Extends more (rest a s) (longer_rest a (with_turns more s))) →
+    Extends more (and_then reply rest) (and_then (reply_with_turns more reply) longer_rest)
+same_rest more (Gives a s) rest longer_rest each = each a s
+same_rest more (Stops e s) rest longer_rest each = inl refl
 
-blind_fetched : (o : Option Value) (site : ℕ) → Blind (fetched o site)
-blind_fetched None site = λ n s. refl
-blind_fetched (Some v) site = λ n s. refl
+-- a reply for want of turns stays so, whatever comes after it; where the run with more went on, its rest adds to the output
+extended_rest : {A B : Type 0} (more : ℕ) (first second : Reply A) (rest longer_rest : A → Action B) → Extends more first second →
+    ((a : A) (s : State) → Extends more (rest a s) (longer_rest a (with_turns more s))) →
+    ((a : A) (s : State) → Begins s.output (state_after (longer_rest a s)).output) →
+    Extends more (and_then first rest) (and_then second longer_rest)
+extended_rest {A} {B} more first second rest longer_rest (inl same) each grows =
+    subst (λ (reply : Reply A). Extends more (and_then first rest) (and_then reply longer_rest)) (sym same)
+    (same_rest more first rest longer_rest each)
+extended_rest more first second rest longer_rest (inr stopped) each grows =
+    inr (stopped.0, ap (λ reply. and_then reply rest) stopped.1, grown_rest stopped.0.output second longer_rest stopped.2 grows)
 
-blind_fetch : (p : Place) (site : ℕ) → Blind (fetch p site)
-blind_fetch p site = λ n s. blind_fetched (stored s.store p) site n s
+extended_then : {A B : Type 0} (action : Action A) (rest : A → Action B) → Extended action → ((a : A) → Extended (rest a)) →
+    Extended (action >>= rest)
+extended_then action rest first each = record {
+  grows = λ s. grown_rest s.output (action s) rest (first.grows s) (λ a t. (each a).grows t);
+  falls = λ s. fallen_rest s.turns (action s) rest (first.falls s) (λ a t. (each a).falls t);
+  extends = λ more s. extended_rest more (action s) (action (with_turns more s)) rest rest (first.extends more s)
+      (λ a t. (each a).extends more t) (λ a t. (each a).grows t);
+}
+
+extended_give : {A : Type 0} (a : A) → Extended (give a)
+extended_give a = record { grows = λ s. nothing s.output; falls = λ s. omega arith; extends = λ more s. inl refl }
+
+extended_stop : {A : Type 0} (e : Ending) → Extended (stop {A = A} e)
+extended_stop e = record { grows = λ s. nothing s.output; falls = λ s. omega arith; extends = λ more s. inl refl }
+
+extended_enter : (number : ℕ) (env : Environment) → Extended (enter number env)
+extended_enter number env = record { grows = λ s. nothing s.output; falls = λ s. omega arith; extends = λ more s. inl refl }
+
+extended_store : (p : Place) (v : Value) → Extended (store p v)
+extended_store p v = record { grows = λ s. nothing s.output; falls = λ s. omega arith; extends = λ more s. inl refl }
+
+extended_write : (bytes : List ℕ) → Extended (write bytes)
+extended_write bytes = record { grows = λ s. (bytes, refl); falls = λ s. omega arith; extends = λ more s. inl refl }
+
+-- a turn writes nothing
+turn_grows : (turns : ℕ) (s : State) → Begins s.output (state_after (take_turn turns s)).output
+turn_grows zero s = nothing s.output
+turn_grows (suc left) s = nothing s.output
+
+-- after a turn there are fewer
+turn_falls : (turns : ℕ) (s : State) → turns ≤ s.turns → (state_after (take_turn turns s)).turns ≤ s.turns
+turn_falls zero s there = omega arith
+turn_falls (suc left) s there = omega (arith, there)
+
+-- where no turn was left, more of them may go on
+turn_extends : (turns more : ℕ) (s : State) → Extends more (take_turn turns s) (take_turn (turns + more) (with_turns more s))
+turn_extends zero more s = inr (s, refl, turn_grows (zero + more) (with_turns more s))
+turn_extends (suc left) more s =
+    let one_more : suc left + more ≡ suc (left + more) = omega arith in
+    inl (ap (λ turns. take_turn turns (with_turns more s)) one_more)
+
+-- no form uses a turn yet; this is what the start of a loop's body and of a routine's block will cite
+extended_use_turn : Extended use_turn
+extended_use_turn = record {
+  grows = λ s. turn_grows s.turns s;
+  falls = λ s. turn_falls s.turns s (omega arith);
+  extends = λ more s. turn_extends s.turns more s;
+}
+
+extended_require : (b : Bool) (site : ℕ) → Extended (require b site)
+extended_require true site = extended_give tt
+extended_require false site = extended_stop (ending.Error site)
+
+extended_fetched : (o : Option Value) (site : ℕ) → Extended (fetched o site)
+extended_fetched None site = extended_stop (ending.Error site)
+extended_fetched (Some v) site = extended_give v
+
+extended_fetch : (p : Place) (site : ℕ) → Extended (fetch p site)
+extended_fetch p site = record {
+  grows = λ s. (extended_fetched (stored s.store p) site).grows s;
+  falls = λ s. (extended_fetched (stored s.store p) site).falls s;
+  extends = λ more s. (extended_fetched (stored s.store p) site).extends more s;
+}
 
 -- a test, and then a value
-blind_tested : (b : Bool) (site : ℕ) (v : Value) → Blind (require b site >>= λ _. give v)
-blind_tested b site v = blind_bind (require b site) (λ _. give v) (blind_require b site) (λ _ n s. refl)
+extended_tested : (b : Bool) (site : ℕ) (v : Value) → Extended (require b site >>= λ _. give v)
+extended_tested b site v = extended_then (require b site) (λ _. give v) (extended_require b site) (λ _. extended_give v)
 
-blind_whole : (overflow : ℕ) (z : ℤ) → Blind (whole overflow z)
-blind_whole overflow z = blind_tested (is_integer_number z) overflow (Number z)
+extended_whole : (overflow : ℕ) (n : ℤ) → Extended (whole overflow n)
+extended_whole overflow n = extended_tested (is_integer_number n) overflow (Number n)
 
-blind_operated : (operation : Monadic) (v : Value) → Blind (operated operation v)
-blind_operated monadic.Plus (Number a) = λ n s. refl
-blind_operated monadic.Minus (Number a) = λ n s. refl
-blind_operated monadic.Not (Number a) = λ n s. refl
-blind_operated monadic.Abs (Number a) = λ n s. refl
-blind_operated (monadic.Sqr overflow) (Number a) = blind_whole overflow (a *ℤ a)
-blind_operated monadic.Odd (Number a) = λ n s. refl
+extended_operated : (operation : Monadic) (v : Value) → Extended (operated operation v)
+extended_operated monadic.Plus (Number a) = extended_give _
+extended_operated monadic.Minus (Number a) = extended_give _
+extended_operated monadic.Not (Number a) = extended_give _
+extended_operated monadic.Abs (Number a) = extended_give _
+extended_operated (monadic.Sqr overflow) (Number a) = extended_whole overflow (a *ℤ a)
+extended_operated monadic.Odd (Number a) = extended_give _
 
-blind_combined : (operation : Dyadic) (left right : Value) → Blind (combined operation left right)
-blind_combined (dyadic.Plus overflow) (Number a) (Number b) = blind_whole overflow (a +ℤ b)
-blind_combined (dyadic.Minus overflow) (Number a) (Number b) = blind_whole overflow (a -ℤ b)
-blind_combined (dyadic.Times overflow) (Number a) (Number b) = blind_whole overflow (a *ℤ b)
-blind_combined (dyadic.Div by_zero) (Number a) (Number b) = blind_tested (not (int_eq b (pos 0))) by_zero (Number (int_div a b))
-blind_combined (dyadic.Mod by_zero_or_less) (Number a) (Number b) = blind_tested (int_le (pos 1) b) by_zero_or_less (Number (int_rem_euclid a b))
-blind_combined dyadic.And (Number a) (Number b) = λ n s. refl
-blind_combined dyadic.Or (Number a) (Number b) = λ n s. refl
-blind_combined (dyadic.Relation r) (Number a) (Number b) = λ n s. refl
+extended_combined : (operation : Dyadic) (left right : Value) → Extended (combined operation left right)
+extended_combined (dyadic.Plus overflow) (Number a) (Number b) = extended_whole overflow (a +ℤ b)
+extended_combined (dyadic.Minus overflow) (Number a) (Number b) = extended_whole overflow (a -ℤ b)
+extended_combined (dyadic.Times overflow) (Number a) (Number b) = extended_whole overflow (a *ℤ b)
+extended_combined (dyadic.Div by_zero) (Number a) (Number b) = extended_tested (not (int_eq b (pos 0))) by_zero (Number (int_div a b))
+extended_combined (dyadic.Mod by_zero_or_less) (Number a) (Number b) =
+    extended_tested (int_le (pos 1) b) by_zero_or_less (Number (int_rem_euclid a b))
+extended_combined dyadic.And (Number a) (Number b) = extended_give _
+extended_combined dyadic.Or (Number a) (Number b) = extended_give _
+extended_combined (dyadic.Relation r) (Number a) (Number b) = extended_give _
 
-abbrev BlindExpr : Type 0
-BlindExpr = (e : Expr) × ((env : Environment) → Blind (value_of e env))
+-- an expression whose value more turns only extend, and an operator with its right operand
+abbrev ExtendedExpr : Type 0
+ExtendedExpr = (e : Expr) × ((env : Environment) → Extended (value_of e env))
 
-abbrev BlindLink : Type 0
-BlindLink = (l : Link) × ((env : Environment) (v : Value) → Blind (link_of l env v))
+abbrev ExtendedLink : Type 0
+ExtendedLink = (l : Link) × ((env : Environment) (v : Value) → Extended (link_of l env v))
 
-blind_in_turn : (links : List BlindLink) (env : Environment) (v : Value) → Blind (in_turn (map link_of (map (λ l. l.0) links)) env v)
-blind_in_turn [] env v = λ n s. refl
-blind_in_turn (link ∷ links) env v = blind_bind (link_of link.0 env v) (λ w. in_turn (map link_of (map (λ l. l.0) links)) env w) (link.1 env v) (λ w. blind_in_turn links env w)
+extended_in_turn : (links : List ExtendedLink) (env : Environment) (v : Value) →
+    Extended (in_turn (map link_of (map (λ l. l.0) links)) env v)
+extended_in_turn [] env v = extended_give v
+extended_in_turn (link ∷ links) env v =
+    extended_then (link_of link.0 env v) (λ w. in_turn (map link_of (map (λ l. l.0) links)) env w) (link.1 env v)
+    (λ w. extended_in_turn links env w)
 
-value-parts : (y : Expr-F BlindExpr BlindLink) (env : Environment) → Blind (value_step (map-Expr Expr Link Evaluation Combination value_of link_of (map-Expr BlindExpr BlindLink Expr Link (λ e. e.0) (λ l. l.0) y)) env)
-value-parts (Constant number value) env = λ n s. refl
-value-parts (Variable access defined) env = blind_bind (enter access.number env) (λ _. fetch (place_of env access.root) defined) (λ n s. refl) (λ _. blind_fetch (place_of env access.root) defined)
+-- the expressions of one layer
+abbrev valued : Expr-F Expr Link → Evaluation
+valued y = value_step (map-Expr Expr Link Evaluation Combination value_of link_of y)
+
+abbrev linked : Link-F Expr Link → Combination
+linked y = link_step (map-Link Expr Link Evaluation Combination value_of link_of y)
+
+value-parts : (y : Expr-F ExtendedExpr ExtendedLink) (env : Environment) →
+    Extended (valued (map-Expr ExtendedExpr ExtendedLink Expr Link (λ e. e.0) (λ l. l.0) y) env)
+value-parts (Constant number value) env =
+    extended_then (enter number env) (λ _. give (Number value)) (extended_enter number env) (λ _. extended_give (Number value))
+value-parts (Variable access defined) env =
+    extended_then (enter access.number env) (λ _. fetch (place_of env access.root) defined) (extended_enter access.number env)
+    (λ _. extended_fetch (place_of env access.root) defined)
 value-parts (MonadicOf number operation operand) env =
-    blind_bind (enter number env) (λ _. value_of operand.value.0 env >>= λ v. operated operation v) (λ n s. refl) (λ _. blind_bind (value_of operand.value.0 env) (λ v. operated operation v) (operand.value.1 env) (λ v. blind_operated operation v))
+    let value : Action Value = value_of operand.value.0 env in
+    extended_then (enter number env) (λ _. value >>= λ v. operated operation v) (extended_enter number env)
+    (λ _. extended_then value (λ v. operated operation v) (operand.value.1 env) (λ v. extended_operated operation v))
 value-parts (Chain first rest) env =
-    blind_bind (value_of first.value.0 env) (λ v. in_turn (map link_of (map (λ l. l.0) rest.items)) env v) (first.value.1 env) (λ v. blind_in_turn rest.items env v)
+    extended_then (value_of first.value.0 env) (λ v. in_turn (map link_of (map (λ l. l.0) rest.items)) env v) (first.value.1 env)
+    (λ v. extended_in_turn rest.items env v)
 
-link-parts : (y : Link-F BlindExpr BlindLink) (env : Environment) (left : Value) → Blind (link_step (map-Link Expr Link Evaluation Combination value_of link_of (map-Link BlindExpr BlindLink Expr Link (λ e. e.0) (λ l. l.0) y)) env left)
+link-parts : (y : Link-F ExtendedExpr ExtendedLink) (env : Environment) (left : Value) →
+    Extended (linked (map-Link ExtendedExpr ExtendedLink Expr Link (λ e. e.0) (λ l. l.0) y) env left)
 link-parts y env left =
-    let result : Value → Action Value = λ right. combined y.operation left right in
-    blind_bind (enter y.number env) (λ _. value_of y.operand.0 env >>= result) (λ n s. refl) (λ _.
-    blind_bind (value_of y.operand.0 env) result (y.operand.1 env) (λ right. blind_combined y.operation left right))
+    let right : Action Value = value_of y.operand.0 env in
+    let result : Value → Action Value = λ v. combined y.operation left v in
+    extended_then (enter y.number env) (λ _. right >>= result) (extended_enter y.number env)
+    (λ _. extended_then right result (y.operand.1 env) (λ v. extended_combined y.operation left v))
 
-blind_value : (e : Expr) (env : Environment) → Blind (value_of e env)
-blind_value = ind-Expr (λ e. (env : Environment) → Blind (value_of e env)) (λ l. (env : Environment) (v : Value) → Blind (link_of l env v))
-    (λ x y is env. subst (λ (f : Evaluation). Blind (f env)) (sym (fold-roll-Expr Evaluation Combination value_step link_step x ∙ ap (λ z. value_step (map-Expr Expr Link Evaluation Combination value_of link_of z)) (sym is))) (value-parts y env))
-    (λ x y is env left. subst (λ (f : Combination). Blind (f env left)) (sym (fold-roll-Link Evaluation Combination value_step link_step x ∙ ap (λ z. link_step (map-Link Expr Link Evaluation Combination value_of link_of z)) (sym is))) (link-parts y env left))
+extended_value : (e : Expr) (env : Environment) → Extended (value_of e env)
+extended_value = ind-Expr
+    (λ e. (env : Environment) → Extended (value_of e env))
+    (λ l. (env : Environment) (v : Value) → Extended (link_of l env v))
+    (λ x y is env. subst (λ (f : Evaluation). Extended (f env))
+    (sym (fold-roll-Expr Evaluation Combination value_step link_step x ∙ ap valued (sym is))) (value-parts y env))
+    (λ x y is env left. subst (λ (f : Combination). Extended (f env left))
+    (sym (fold-roll-Link Evaluation Combination value_step link_step x ∙ ap linked (sym is))) (link-parts y env left))
 
-blind_width : (width : Option Width) (representation : Representation) (env : Environment) → Blind (width_of width representation env)
-blind_width None representation env = λ n s. refl
-blind_width (Some width) representation env =
-    blind_bind (value_of width.value env) (λ w. require (is_positive w) width.site >>= λ _. give w) (blind_value width.value env) (λ w. blind_tested (is_positive w) width.site w)
+extended_width : (width : Option Width) (representation : Representation) (env : Environment) →
+    Extended (width_of width representation env)
+extended_width None representation env = extended_give _
+extended_width (Some width) representation env =
+    extended_then (value_of width.value env) (λ w. require (is_positive w) width.site >>= λ _. give w) (extended_value width.value env)
+    (λ w. extended_tested (is_positive w) width.site w)
 
-blind_parameter : (parameter : WriteParameter) (env : Environment) → Blind (parameter_of parameter env)
-blind_parameter parameter env =
+extended_parameter : (parameter : WriteParameter) (env : Environment) → Extended (parameter_of parameter env)
+extended_parameter parameter env =
     let width : Action Value = width_of parameter.width parameter.representation env in
     let written : Value → Value → Action (Unit {0}) = λ v w. write (text_of parameter.representation v w) in
-    blind_bind (value_of parameter.value env) (λ v. width >>= written v) (blind_value parameter.value env) (λ v.
-    blind_bind width (written v) (blind_width parameter.width parameter.representation env) (λ w n s. refl))
+    extended_then (value_of parameter.value env) (λ v. width >>= written v) (extended_value parameter.value env)
+    (λ v. extended_then width (written v) (extended_width parameter.width parameter.representation env)
+    (λ w. extended_write (text_of parameter.representation v w)))
 
-blind_parameters : (parameters : List WriteParameter) (env : Environment) → Blind (all_of (map parameter_of parameters) env)
-blind_parameters [] env = λ n s. refl
-blind_parameters (parameter ∷ parameters) env = blind_bind (parameter_of parameter env) (λ _. all_of (map parameter_of parameters) env) (blind_parameter parameter env) (λ _. blind_parameters parameters env)
+extended_parameters : (parameters : List WriteParameter) (env : Environment) → Extended (all_of (map parameter_of parameters) env)
+extended_parameters [] env = extended_give tt
+extended_parameters (parameter ∷ parameters) env =
+    extended_then (parameter_of parameter env) (λ _. all_of (map parameter_of parameters) env) (extended_parameter parameter env)
+    (λ _. extended_parameters parameters env)
 
-blind_line_ended : (ends_line : Bool) → Blind (line_ended ends_line)
-blind_line_ended true = λ n s. refl
-blind_line_ended false = λ n s. refl
+extended_line_ended : (ends_line : Bool) → Extended (line_ended ends_line)
+extended_line_ended true = extended_write (10 ∷ [])
+extended_line_ended false = extended_give tt
 
-abbrev BlindStmt : Type 0
-BlindStmt = (e : Stmt) × ((env : Environment) → Blind (effect_of e env))
+-- a statement that more turns only extend
+abbrev ExtendedStmt : Type 0
+ExtendedStmt = (e : Stmt) × ((env : Environment) → Extended (effect_of e env))
 
-blind_all_of : (statements : List BlindStmt) (env : Environment) → Blind (all_of (map effect_of (map (λ e. e.0) statements)) env)
-blind_all_of [] env = λ n s. refl
-blind_all_of (statement ∷ statements) env = blind_bind (effect_of statement.0 env) (λ _. all_of (map effect_of (map (λ e. e.0) statements)) env) (statement.1 env) (λ _. blind_all_of statements env)
+extended_all_of : (statements : List ExtendedStmt) (env : Environment) →
+    Extended (all_of (map effect_of (map (λ e. e.0) statements)) env)
+extended_all_of [] env = extended_give tt
+extended_all_of (statement ∷ statements) env =
+    extended_then (effect_of statement.0 env) (λ _. all_of (map effect_of (map (λ e. e.0) statements)) env) (statement.1 env)
+    (λ _. extended_all_of statements env)
 
-effect-parts : (y : Stmt-F BlindStmt) (env : Environment) → Blind (effect_step (map-Stmt Stmt Execution effect_of (map-Stmt BlindStmt Stmt (λ e. e.0) y)) env)
-effect-parts (Empty number) env = λ n s. refl
+-- the statements of one layer
+abbrev executed : Stmt-F Stmt → Execution
+executed y = effect_step (map-Stmt Stmt Execution effect_of y)
+
+effect-parts : (y : Stmt-F ExtendedStmt) (env : Environment) → Extended (executed (map-Stmt ExtendedStmt Stmt (λ e. e.0) y) env)
+effect-parts (Empty number) env = extended_enter number env
 effect-parts (Assign number becomes target fits value) env =
-    let kept : Value → Action (Unit {0}) = λ v. require (is_in fits.range v) fits.site >>= λ _. store (place_of env target.root) v in
-    blind_bind (enter number env) (λ _. enter target.number env >>= λ _. value_of value env >>= kept) (λ n s. refl) (λ _.
-    blind_bind (enter target.number env) (λ _. value_of value env >>= kept) (λ n s. refl) (λ _.
-    blind_bind (value_of value env) kept (blind_value value env) (λ v.
-    blind_bind (require (is_in fits.range v) fits.site) (λ _. store (place_of env target.root) v) (blind_require (is_in fits.range v) fits.site) (λ _ n s. refl))))
+    let given : Action Value = value_of value env in
+    let kept : Value → Unit {0} → Action (Unit {0}) = λ v _. store (place_of env target.root) v in
+    let tested : Value → Action (Unit {0}) = λ v. require (is_in fits.range v) fits.site >>= kept v in
+    extended_then (enter number env) (λ _. enter target.number env >>= λ _. given >>= tested) (extended_enter number env)
+    (λ _. extended_then (enter target.number env) (λ _. given >>= tested) (extended_enter target.number env)
+    (λ _. extended_then given tested (extended_value value env)
+    (λ v. extended_then (require (is_in fits.range v) fits.site) (kept v) (extended_require (is_in fits.range v) fits.site)
+    (λ _. extended_store (place_of env target.root) v))))
 effect-parts (Write number name parameters ends_line) env =
-    blind_bind (enter number env) (λ _. all_of (map parameter_of parameters.items) env >>= λ _. line_ended ends_line) (λ n s. refl) (λ _.
-    blind_bind (all_of (map parameter_of parameters.items) env) (λ _. line_ended ends_line) (blind_parameters parameters.items env) (λ _. blind_line_ended ends_line))
+    let written : Action (Unit {0}) = all_of (map parameter_of parameters.items) env in
+    extended_then (enter number env) (λ _. written >>= λ _. line_ended ends_line) (extended_enter number env)
+    (λ _. extended_then written (λ _. line_ended ends_line) (extended_parameters parameters.items env)
+    (λ _. extended_line_ended ends_line))
 effect-parts (Compound number statements) env =
-    blind_bind (enter number env) (λ _. all_of (map effect_of (map (λ e. e.0) statements.items)) env) (λ n s. refl) (λ _. blind_all_of statements.items env)
+    extended_then (enter number env) (λ _. all_of (map effect_of (map (λ e. e.0) statements.items)) env) (extended_enter number env)
+    (λ _. extended_all_of statements.items env)
 
-blind_effect : (e : Stmt) (env : Environment) → Blind (effect_of e env)
-blind_effect = ind-Stmt (λ e. (env : Environment) → Blind (effect_of e env))
-    (λ x y is env. subst (λ (f : Execution). Blind (f env)) (sym (fold-roll-Stmt Execution effect_step x ∙ ap (λ z. effect_step (map-Stmt Stmt Execution effect_of z)) (sym is))) (effect-parts y env))
+extended_effect : (e : Stmt) (env : Environment) → Extended (effect_of e env)
+extended_effect = ind-Stmt
+    (λ e. (env : Environment) → Extended (effect_of e env))
+    (λ x y is env. subst (λ (f : Execution). Extended (f env))
+    (sym (fold-roll-Stmt Execution effect_step x ∙ ap executed (sym is))) (effect-parts y env))
 
-blind_run : (o : Option Block) (env : Environment) → Blind (run_of o env)
-blind_run None env = λ n s. refl
-blind_run (Some block) env = blind_effect block.body env
+extended_run : (o : Option Block) (env : Environment) → Extended (run_of o env)
+extended_run None env = extended_give tt
+extended_run (Some block) env = extended_effect block.body env
 
-same_end : (n : ℕ) (r : Reply (Unit {0})) → ended (retimed_reply n r) ≡ ended r
-same_end n (Gives a s) = refl
-same_end n (Stops e s) = refl
+pub goes_on : TurnsGoOn
+goes_on tree input turns more =
+    (extended_run (slice_get tree.blocks.items 0) (program_environment tree)).extends more (first_state input turns)
 
--- a program means the same whatever turns it has
-pub same_meaning : (tree : Tree) (input : List ℕ) (m n : ℕ) → meaning tree input n ≡ meaning tree input m
-same_meaning tree input m n =
-    let block = slice_get tree.blocks.items 0 in
-    let env = program_environment tree in
-    ap ended (blind_run block env n (first_state input m)) ∙ same_end n (run_of block env (first_state input m))
+-- the output of a whole run is that of its last state
+output_after : (reply : Reply (Unit {0})) → (ended reply).output ≡ (state_after reply).output
+output_after (Gives a s) = refl
+output_after (Stops e s) = refl
+
+-- turns that are left show neither in the output nor in the ending
+same_end : (more : ℕ) (reply : Reply (Unit {0})) → ended (reply_with_turns more reply) ≡ ended reply
+same_end more (Gives a s) = refl
+same_end more (Stops e s) = refl
+
+output_extended : (more : ℕ) (first second : Reply (Unit {0})) → Extends more first second →
+    Begins (ended first).output (ended second).output
+output_extended more first second (inl same) =
+    subst (λ (written : List ℕ). Begins (ended first).output written)
+    (sym (ap (λ (m : Meaning). m.output) (ap ended same ∙ same_end more first))) (nothing (ended first).output)
+output_extended more first second (inr stopped) = (
+  stopped.2.0,
+  output_after second ∙ stopped.2.1
+      ∙ ap (λ (written : List ℕ). written ++ stopped.2.0) (sym (ap (λ (r : Reply (Unit {0})). (ended r).output) stopped.1)),
+)
+
+ending_kept : (more : ℕ) (first second : Reply (Unit {0})) → Extends more first second → (ended first).ending ≢ ending.More →
+    ended second ≡ ended first
+ending_kept more first second (inl same) other = ap ended same ∙ same_end more first
+ending_kept more first second (inr stopped) other = absurd (other (ap (λ (r : Reply (Unit {0})). (ended r).ending) stopped.1))
+
+pub output_extends : TurnsExtendTheOutput
+output_extends tree input turns more = output_extended more (run tree input turns) (run tree input (turns + more)) (goes_on tree input turns more)
+
+pub ending_stays : EndingsStay
+ending_stays tree input turns more other =
+    ending_kept more (run tree input turns) (run tree input (turns + more)) (goes_on tree input turns more) other

@@ -20,33 +20,50 @@ use Rattle.meaning.specs.declared.work.Work.{Work}
 use Rattle.meaning.specs.declared.work.Work.TheVariants as work
 use Rattle.meaning.specs.Store.{Environment}
 use Rattle.meaning.specs.Effect.{State, Reply, Action, ◌>>=◌, and_then, require, enter, place_of, fetch, store, write, is_in, text_of}
-use Rattle.meaning.specs.Meaning.{Evaluation, Combination, Execution, value_step, link_step, effect_step, operated, combined, in_turn, all_of, width_of, parameter_of, line_ended, value_of, link_of, effect_of}
+use Rattle.meaning.specs.Meaning.{Evaluation, Combination, Execution, value_step, link_step, effect_step, operated, combined, in_turn, all_of}
+use Rattle.meaning.specs.Meaning.{width_of, parameter_of, line_ended, value_of, link_of, effect_of}
 use Rattle.meaning.specs.Pending.{Resumption, pending_of, resumed, line_ending, linking, giving, positive, top_of, below_top}
 use Rattle.meaning.proofs.Resuming.{and_then-and_then, and_then-same}
 
-value-Variable : (a : Access) (defined : ℕ) (env : Environment) → value_of (expr.Variable a defined) env ≡ (enter a.number env >>= λ _. fetch (place_of env a.root) defined)
-value-Variable a defined env = ap (λ (e : Expr). value_of e env) (sym (expr.rolls-Variable a defined)) ∙ ap (λ (f : Evaluation). f env) (fold-roll-Expr Evaluation Combination value_step link_step (Variable-F a defined))
+value-Variable : (a : Access) (defined : ℕ) (env : Environment) →
+    value_of (expr.Variable a defined) env ≡ (enter a.number env >>= λ _. fetch (place_of env a.root) defined)
+value-Variable a defined env = ap (λ (e : Expr). value_of e env) (sym (expr.rolls-Variable a defined))
+    ∙ ap (λ (f : Evaluation). f env) (fold-roll-Expr Evaluation Combination value_step link_step (Variable-F a defined))
 
-value-Monadic : (n : ℕ) (operation : Monadic) (operand : Box Expr Global) (env : Environment) → value_of (expr.Monadic n operation operand) env ≡ (enter n env >>= λ _. value_of operand.value env >>= λ v. operated operation v)
-value-Monadic n operation operand env = ap (λ (e : Expr). value_of e env) (sym (expr.rolls-Monadic n operation operand)) ∙ ap (λ (f : Evaluation). f env) (fold-roll-Expr Evaluation Combination value_step link_step (Monadic-F n operation operand))
+value-Monadic : (n : ℕ) (operation : Monadic) (operand : Box Expr Global) (env : Environment) →
+    value_of (expr.Monadic n operation operand) env ≡ (enter n env >>= λ _. value_of operand.value env >>= λ v. operated operation v)
+value-Monadic n operation operand env = ap (λ (e : Expr). value_of e env) (sym (expr.rolls-Monadic n operation operand))
+    ∙ ap (λ (f : Evaluation). f env) (fold-roll-Expr Evaluation Combination value_step link_step (Monadic-F n operation operand))
 
-pub value-Chain : (first : Box Expr Global) (rest : Vec Link Global) (env : Environment) → value_of (expr.Chain first rest) env ≡ (value_of first.value env >>= λ v. in_turn (map link_of rest.items) env v)
-value-Chain first rest env = ap (λ (e : Expr). value_of e env) (sym (expr.rolls-Chain first rest)) ∙ ap (λ (f : Evaluation). f env) (fold-roll-Expr Evaluation Combination value_step link_step (Chain-F first rest))
+pub value-Chain : (first : Box Expr Global) (rest : Vec Link Global) (env : Environment) →
+    value_of (expr.Chain first rest) env ≡ (value_of first.value env >>= λ v. in_turn (map link_of rest.items) env v)
+value-Chain first rest env = ap (λ (e : Expr). value_of e env) (sym (expr.rolls-Chain first rest))
+    ∙ ap (λ (f : Evaluation). f env) (fold-roll-Expr Evaluation Combination value_step link_step (Chain-F first rest))
 
-combination-Link : (link : Link) (env : Environment) (left : Value) → link_of link env left ≡ (enter link.number env >>= λ _. value_of link.operand env >>= λ right. combined link.operation left right)
+combination-Link : (link : Link) (env : Environment) (left : Value) →
+    link_of link env left ≡ (enter link.number env >>= λ _. value_of link.operand env >>= λ right. combined link.operation left right)
 combination-Link link env left = ap (λ (f : Combination). f env left) (fold_out-Link Evaluation Combination value_step link_step link)
 
 effect-Empty : (n : ℕ) (env : Environment) → effect_of (stmt.Empty n) env ≡ enter n env
-effect-Empty n env = ap (λ (e : Stmt). effect_of e env) (sym (stmt.rolls-Empty n)) ∙ ap (λ (f : Execution). f env) (fold-roll-Stmt Execution effect_step (Empty-F n))
+effect-Empty n env = ap (λ (e : Stmt). effect_of e env) (sym (stmt.rolls-Empty n))
+    ∙ ap (λ (f : Execution). f env) (fold-roll-Stmt Execution effect_step (Empty-F n))
 
-effect-Assign : (n : ℕ) (becomes : SourcePlace) (target : Access) (fits : RangeTest) (value : Expr) (env : Environment) → effect_of (stmt.Assign n becomes target fits value) env ≡ (enter n env >>= λ _. enter target.number env >>= λ _. value_of value env >>= λ v. require (is_in fits.range v) fits.site >>= λ _. store (place_of env target.root) v)
-effect-Assign n becomes target fits value env = ap (λ (e : Stmt). effect_of e env) (sym (stmt.rolls-Assign n becomes target fits value)) ∙ ap (λ (f : Execution). f env) (fold-roll-Stmt Execution effect_step (Assign-F n becomes target fits value))
+effect-Assign : (n : ℕ) (becomes : SourcePlace) (target : Access) (fits : RangeTest) (value : Expr) (env : Environment) →
+    effect_of (stmt.Assign n becomes target fits value) env ≡
+    (enter n env >>= λ _. enter target.number env >>= λ _. value_of value env >>= λ v.
+    require (is_in fits.range v) fits.site >>= λ _. store (place_of env target.root) v)
+effect-Assign n becomes target fits value env = ap (λ (e : Stmt). effect_of e env) (sym (stmt.rolls-Assign n becomes target fits value))
+    ∙ ap (λ (f : Execution). f env) (fold-roll-Stmt Execution effect_step (Assign-F n becomes target fits value))
 
-effect-Write : (n : ℕ) (name : SourcePlace) (parameters : Vec WriteParameter Global) (ends_line : Bool) (env : Environment) → effect_of (stmt.Write n name parameters ends_line) env ≡ (enter n env >>= λ _. all_of (map parameter_of parameters.items) env >>= λ _. line_ended ends_line)
-effect-Write n name parameters ends_line env = ap (λ (e : Stmt). effect_of e env) (sym (stmt.rolls-Write n name parameters ends_line)) ∙ ap (λ (f : Execution). f env) (fold-roll-Stmt Execution effect_step (Write-F n name parameters ends_line))
+effect-Write : (n : ℕ) (name : SourcePlace) (parameters : Vec WriteParameter Global) (ends_line : Bool) (env : Environment) →
+    effect_of (stmt.Write n name parameters ends_line) env ≡ (enter n env >>= λ _. all_of (map parameter_of parameters.items) env >>= λ _. line_ended ends_line)
+effect-Write n name parameters ends_line env = ap (λ (e : Stmt). effect_of e env) (sym (stmt.rolls-Write n name parameters ends_line))
+    ∙ ap (λ (f : Execution). f env) (fold-roll-Stmt Execution effect_step (Write-F n name parameters ends_line))
 
-effect-Compound : (n : ℕ) (statements : Vec Stmt Global) (env : Environment) → effect_of (stmt.Compound n statements) env ≡ (enter n env >>= λ _. all_of (map effect_of statements.items) env)
-effect-Compound n statements env = ap (λ (e : Stmt). effect_of e env) (sym (stmt.rolls-Compound n statements)) ∙ ap (λ (f : Execution). f env) (fold-roll-Stmt Execution effect_step (Compound-F n statements))
+effect-Compound : (n : ℕ) (statements : Vec Stmt Global) (env : Environment) →
+    effect_of (stmt.Compound n statements) env ≡ (enter n env >>= λ _. all_of (map effect_of statements.items) env)
+effect-Compound n statements env = ap (λ (e : Stmt). effect_of e env) (sym (stmt.rolls-Compound n statements))
+    ∙ ap (λ (f : Execution). f env) (fold-roll-Stmt Execution effect_step (Compound-F n statements))
 
 -- the state after an entry
 abbrev pub entered : ℕ → Environment → State → State
@@ -56,11 +73,16 @@ entered number env s = record s { visited = s.visited ++ record { number = numbe
 abbrev pub evaluated : Environment → Expr → List Work → List Value → Action (Unit {0})
 evaluated env e works operands = giving (value_of e env) (pending_of env works) operands
 
-pub does-Variable : (a : Access) (defined : ℕ) (given : Expr) → given ≡ expr.Variable a defined → (env : Environment) (works : List Work) (operands : List Value) (s : State) → evaluated env given works operands s ≡ giving (fetch (place_of env a.root) defined) (pending_of env works) operands (entered a.number env s)
+pub does-Variable : (a : Access) (defined : ℕ) (given : Expr) → given ≡ expr.Variable a defined →
+    (env : Environment) (works : List Work) (operands : List Value) (s : State) →
+    evaluated env given works operands s ≡ giving (fetch (place_of env a.root) defined) (pending_of env works) operands (entered a.number env s)
 does-Variable a defined given is env works operands s =
-    ap (λ (e : Expr). evaluated env e works operands s) is ∙ ap (λ (a : Action Value). giving a (pending_of env works) operands s) (value-Variable a defined env)
+    ap (λ (e : Expr). evaluated env e works operands s) is
+    ∙ ap (λ (a : Action Value). giving a (pending_of env works) operands s) (value-Variable a defined env)
 
-pub does-Monadic : (n : ℕ) (operation : Monadic) (operand : Box Expr Global) (given : Expr) → given ≡ expr.Monadic n operation operand → (inner : Bor Expr) → inner.now ≡ operand.value → (env : Environment) (works : List Work) (operands : List Value) (s : State) → evaluated env given works operands s ≡ pending_of env (work.Value inner ∷ work.Monadic operation ∷ works) operands (entered n env s)
+pub does-Monadic : (n : ℕ) (operation : Monadic) (operand : Box Expr Global) (given : Expr) → given ≡ expr.Monadic n operation operand → (inner : Bor Expr) →
+    inner.now ≡ operand.value → (env : Environment) (works : List Work) (operands : List Value) (s : State) →
+    evaluated env given works operands s ≡ pending_of env (work.Value inner ∷ work.Monadic operation ∷ works) operands (entered n env s)
 does-Monadic n operation operand given is inner same env works operands s =
     let then_rest : Value → Action (Unit {0}) = λ v. pending_of env works (v ∷ operands) in
     ap (λ (e : Expr). evaluated env e works operands s) is
@@ -69,13 +91,17 @@ does-Monadic n operation operand given is inner same env works operands s =
     ∙ ap (λ (e : Expr). and_then (value_of e env (entered n env s)) (λ v. operated operation v >>= then_rest)) (sym same)
 
 -- the operators of a chain, with the operands in hand
-linking-in_turn : (env : Environment) (links : List Combination) (next : Resumption) (v : Value) (operands : List Value) (s : State) → and_then (in_turn links env v s) (λ w. next (w ∷ operands)) ≡ linking env links next (v ∷ operands) s
+linking-in_turn : (env : Environment) (links : List Combination) (next : Resumption) (v : Value) (operands : List Value) (s : State) →
+    and_then (in_turn links env v s) (λ w. next (w ∷ operands)) ≡ linking env links next (v ∷ operands) s
 linking-in_turn env [] next v operands s = refl
 linking-in_turn env (link ∷ links) next v operands s =
     and_then-and_then (link env v s) (λ w. in_turn links env w) (λ w. next (w ∷ operands))
     ∙ and_then-same (link env v s) _ _ (λ w t. linking-in_turn env links next w operands t)
 
-pub does-Chain : (first : Box Expr Global) (rest : Vec Link Global) (given : Expr) → given ≡ expr.Chain first rest → (inner : Bor Expr) → inner.now ≡ first.value → (links : Bor (List Link)) → links.now ≡ rest.items → (env : Environment) (works : List Work) (operands : List Value) (s : State) → evaluated env given works operands s ≡ pending_of env (work.Value inner ∷ work.Links links ∷ works) operands s
+pub does-Chain : (first : Box Expr Global) (rest : Vec Link Global) (given : Expr) → given ≡ expr.Chain first rest → (inner : Bor Expr) →
+    inner.now ≡ first.value → (links : Bor (List Link)) → links.now ≡ rest.items →
+    (env : Environment) (works : List Work) (operands : List Value) (s : State) →
+    evaluated env given works operands s ≡ pending_of env (work.Value inner ∷ work.Links links ∷ works) operands s
 does-Chain first rest given is inner same links all env works operands s =
     let then_rest : Value → Action (Unit {0}) = λ v. pending_of env works (v ∷ operands) in
     ap (λ (e : Expr). evaluated env e works operands s) is
@@ -85,7 +111,10 @@ does-Chain first rest given is inner same links all env works operands s =
     ∙ ap (λ (e : Expr). and_then (value_of e env s) (λ v. linking env (map link_of rest.items) (pending_of env works) (v ∷ operands))) (sym same)
     ∙ ap (λ (l : List Link). and_then (value_of inner.now env s) (λ v. linking env (map link_of l) (pending_of env works) (v ∷ operands))) (sym all)
 
-pub does-Links : (first : Link) (rest all : Bor (List Link)) → all.now ≡ first ∷ rest.now → (env : Environment) (works : List Work) (operands : List Value) (s : State) → resumed env (work.Links all) (pending_of env works) operands s ≡ evaluated env first.operand (work.Combine first.operation ∷ work.Links rest ∷ works) operands (entered first.number env s)
+pub does-Links : (first : Link) (rest all : Bor (List Link)) → all.now ≡ first ∷ rest.now →
+    (env : Environment) (works : List Work) (operands : List Value) (s : State) →
+    resumed env (work.Links all) (pending_of env works) operands s ≡
+    evaluated env first.operand (work.Combine first.operation ∷ work.Links rest ∷ works) operands (entered first.number env s)
 does-Links first rest all is env works operands s =
     let left = top_of operands in
     let then_rest : Value → Action (Unit {0}) = λ w. linking env (map link_of rest.now) (pending_of env works) (w ∷ below_top operands) in
@@ -97,20 +126,28 @@ does-Links first rest all is env works operands s =
 abbrev executed : Environment → Stmt → List Work → List Value → Action (Unit {0})
 executed env e works operands = effect_of e env >>= λ _. pending_of env works operands
 
-pub does-Empty : (n : ℕ) (given : Stmt) → given ≡ stmt.Empty n → (env : Environment) (works : List Work) (operands : List Value) (s : State) → executed env given works operands s ≡ pending_of env works operands (entered n env s)
+pub does-Empty : (n : ℕ) (given : Stmt) → given ≡ stmt.Empty n → (env : Environment) (works : List Work) (operands : List Value) (s : State) →
+    executed env given works operands s ≡ pending_of env works operands (entered n env s)
 does-Empty n given is env works operands s =
-    ap (λ (e : Stmt). executed env e works operands s) is ∙ ap (λ (a : Action (Unit {0})). and_then (a s) (λ _. pending_of env works operands)) (effect-Empty n env)
+    ap (λ (e : Stmt). executed env e works operands s) is
+    ∙ ap (λ (a : Action (Unit {0})). and_then (a s) (λ _. pending_of env works operands)) (effect-Empty n env)
 
-pub does-Assign : (n : ℕ) (becomes : SourcePlace) (target : Access) (fits : RangeTest) (value : Expr) (given : Stmt) → given ≡ stmt.Assign n becomes target fits value → (env : Environment) (works : List Work) (operands : List Value) (s : State) → executed env given works operands s ≡ evaluated env value (work.Store target.root fits ∷ works) operands (entered target.number env (entered n env s))
+pub does-Assign : (n : ℕ) (becomes : SourcePlace) (target : Access) (fits : RangeTest) (value : Expr) (given : Stmt) →
+    given ≡ stmt.Assign n becomes target fits value → (env : Environment) (works : List Work) (operands : List Value) (s : State) →
+    executed env given works operands s ≡ evaluated env value (work.Store target.root fits ∷ works) operands (entered target.number env (entered n env s))
 does-Assign n becomes target fits value given is env works operands s =
     let then_rest : Unit {0} → Action (Unit {0}) = λ _. pending_of env works operands in
     let there = entered target.number env (entered n env s) in
     ap (λ (e : Stmt). executed env e works operands s) is
     ∙ ap (λ (a : Action (Unit {0})). and_then (a s) then_rest) (effect-Assign n becomes target fits value env)
     ∙ and_then-and_then (value_of value env there) (λ v. require (is_in fits.range v) fits.site >>= λ _. store (place_of env target.root) v) then_rest
-    ∙ and_then-same (value_of value env there) _ _ (λ v t. and_then-and_then (require (is_in fits.range v) fits.site t) (λ _. store (place_of env target.root) v) then_rest)
+    ∙ and_then-same (value_of value env there) _ _
+    (λ v t. and_then-and_then (require (is_in fits.range v) fits.site t) (λ _. store (place_of env target.root) v) then_rest)
 
-pub does-Write : (n : ℕ) (name : SourcePlace) (parameters : Vec WriteParameter Global) (ends_line : Bool) (given : Stmt) → given ≡ stmt.Write n name parameters ends_line → (all : Bor (List WriteParameter)) → all.now ≡ parameters.items → (env : Environment) (works : List Work) (operands : List Value) (s : State) → executed env given works operands s ≡ resumed env (work.Parameters all ends_line) (pending_of env works) operands (entered n env s)
+pub does-Write : (n : ℕ) (name : SourcePlace) (parameters : Vec WriteParameter Global) (ends_line : Bool) (given : Stmt) →
+    given ≡ stmt.Write n name parameters ends_line → (all : Bor (List WriteParameter)) → all.now ≡ parameters.items →
+    (env : Environment) (works : List Work) (operands : List Value) (s : State) →
+    executed env given works operands s ≡ resumed env (work.Parameters all ends_line) (pending_of env works) operands (entered n env s)
 does-Write n name parameters ends_line given is all same env works operands s =
     let then_rest : Unit {0} → Action (Unit {0}) = λ _. pending_of env works operands in
     let written : List WriteParameter → Reply (Unit {0}) = λ l. all_of (map parameter_of l) env (entered n env s) in
@@ -119,30 +156,41 @@ does-Write n name parameters ends_line given is all same env works operands s =
     ∙ and_then-and_then (written parameters.items) (λ _. line_ended ends_line) then_rest
     ∙ ap (λ (l : List WriteParameter). and_then (written l) (λ _. line_ended ends_line >>= then_rest)) (sym same)
 
-pub does-Compound : (n : ℕ) (statements : Vec Stmt Global) (given : Stmt) → given ≡ stmt.Compound n statements → (all : Bor (List Stmt)) → all.now ≡ statements.items → (env : Environment) (works : List Work) (operands : List Value) (s : State) → executed env given works operands s ≡ pending_of env (work.Statements all ∷ works) operands (entered n env s)
+pub does-Compound : (n : ℕ) (statements : Vec Stmt Global) (given : Stmt) → given ≡ stmt.Compound n statements → (all : Bor (List Stmt)) →
+    all.now ≡ statements.items → (env : Environment) (works : List Work) (operands : List Value) (s : State) →
+    executed env given works operands s ≡ pending_of env (work.Statements all ∷ works) operands (entered n env s)
 does-Compound n statements given is all same env works operands s =
     let then_rest : Unit {0} → Action (Unit {0}) = λ _. pending_of env works operands in
     ap (λ (e : Stmt). executed env e works operands s) is
     ∙ ap (λ (a : Action (Unit {0})). and_then (a s) then_rest) (effect-Compound n statements env)
     ∙ ap (λ (l : List Stmt). and_then (all_of (map effect_of l) env (entered n env s)) then_rest) (sym same)
 
-pub does-Statements : (first : Bor Stmt) (rest all : Bor (List Stmt)) → all.now ≡ first.now ∷ rest.now → (env : Environment) (works : List Work) (operands : List Value) (s : State) → resumed env (work.Statements all) (pending_of env works) operands s ≡ pending_of env (work.Statement first ∷ work.Statements rest ∷ works) operands s
+pub does-Statements : (first : Bor Stmt) (rest all : Bor (List Stmt)) → all.now ≡ first.now ∷ rest.now →
+    (env : Environment) (works : List Work) (operands : List Value) (s : State) →
+    resumed env (work.Statements all) (pending_of env works) operands s ≡ pending_of env (work.Statement first ∷ work.Statements rest ∷ works) operands s
 does-Statements first rest all is env works operands s =
     let then_rest : Unit {0} → Action (Unit {0}) = λ _. pending_of env works operands in
     ap (λ (l : List Stmt). and_then (all_of (map effect_of l) env s) then_rest) is
     ∙ and_then-and_then (effect_of first.now env s) (λ _. all_of (map effect_of rest.now) env) then_rest
 
-pub does-Parameters : (first : Bor WriteParameter) (rest all : Bor (List WriteParameter)) (ends_line : Bool) → all.now ≡ first.now ∷ rest.now → (env : Environment) (works : List Work) (operands : List Value) (s : State) → resumed env (work.Parameters all ends_line) (pending_of env works) operands s ≡ pending_of env (work.Parameter first ∷ work.Parameters rest ends_line ∷ works) operands s
+pub does-Parameters : (first : Bor WriteParameter) (rest all : Bor (List WriteParameter)) (ends_line : Bool) → all.now ≡ first.now ∷ rest.now →
+    (env : Environment) (works : List Work) (operands : List Value) (s : State) →
+    resumed env (work.Parameters all ends_line) (pending_of env works) operands s ≡
+    pending_of env (work.Parameter first ∷ work.Parameters rest ends_line ∷ works) operands s
 does-Parameters first rest all ends_line is env works operands s =
     let then_rest : Unit {0} → Action (Unit {0}) = λ _. line_ended ends_line >>= λ _. pending_of env works operands in
     ap (λ (l : List WriteParameter). and_then (all_of (map parameter_of l) env s) then_rest) is
     ∙ and_then-and_then (parameter_of first.now env s) (λ _. all_of (map parameter_of rest.now) env) then_rest
 
-pub does-no-Parameters : (all : Bor (List WriteParameter)) (ends_line : Bool) → all.now ≡ [] → (env : Environment) (works : List Work) (operands : List Value) (s : State) → resumed env (work.Parameters all ends_line) (pending_of env works) operands s ≡ line_ending ends_line (pending_of env works) operands s
+pub does-no-Parameters : (all : Bor (List WriteParameter)) (ends_line : Bool) → all.now ≡ [] →
+    (env : Environment) (works : List Work) (operands : List Value) (s : State) →
+    resumed env (work.Parameters all ends_line) (pending_of env works) operands s ≡ line_ending ends_line (pending_of env works) operands s
 does-no-Parameters all ends_line none env works operands s =
     ap (λ (l : List WriteParameter). and_then (all_of (map parameter_of l) env s) (λ _. line_ending ends_line (pending_of env works) operands)) none
 
-pub does-Parameter : (parameter : Bor WriteParameter) (env : Environment) (works : List Work) (operands : List Value) (s : State) → resumed env (work.Parameter parameter) (pending_of env works) operands s ≡ evaluated env parameter.now.value (work.Width parameter ∷ work.Write parameter.now.representation ∷ works) operands s
+pub does-Parameter : (parameter : Bor WriteParameter) (env : Environment) (works : List Work) (operands : List Value) (s : State) →
+    resumed env (work.Parameter parameter) (pending_of env works) operands s ≡
+    evaluated env parameter.now.value (work.Width parameter ∷ work.Write parameter.now.representation ∷ works) operands s
 does-Parameter parameter env works operands s =
     let p = parameter.now in
     let then_rest : Unit {0} → Action (Unit {0}) = λ _. pending_of env works operands in
@@ -151,7 +199,9 @@ does-Parameter parameter env works operands s =
     and_then-and_then (value_of p.value env s) (λ v. width >>= written v) then_rest
     ∙ and_then-same (value_of p.value env s) _ _ (λ v t. and_then-and_then (width t) (written v) then_rest)
 
-pub does-Width : (parameter : Bor WriteParameter) (width : Width) → parameter.now.width ≡ Some width → (env : Environment) (works : List Work) (operands : List Value) (s : State) → resumed env (work.Width parameter) (pending_of env works) operands s ≡ evaluated env width.value (work.WidthTest width.site ∷ works) operands s
+pub does-Width : (parameter : Bor WriteParameter) (width : Width) → parameter.now.width ≡ Some width →
+    (env : Environment) (works : List Work) (operands : List Value) (s : State) →
+    resumed env (work.Width parameter) (pending_of env works) operands s ≡ evaluated env width.value (work.WidthTest width.site ∷ works) operands s
 does-Width parameter width is env works operands s =
     ap (λ (o : Option Width). giving (width_of o parameter.now.representation env) (pending_of env works) operands s) is
     ∙ and_then-and_then (value_of width.value env s) (positive width.site) (λ w. pending_of env works (w ∷ operands))

@@ -1,6 +1,6 @@
 -- What a piece of a program does: from a state to a reply, which gives a value or stops (ISO 7185:1990, 6.7, 6.8).
 -- It says nothing of how long that takes.
-use Rattle.std.specs.Prelude.{ℕ, ℤ, pos, negsuc, ◌-◌, ◌++◌, ◌&&◌, Bool, List, [], ◌∷◌, Option, Some, None, if◌then◌else◌, int_le, length, replicate, take, unwrap_or, codes}
+use Rattle.std.specs.Prelude.{ℕ, zero, suc, ℤ, pos, negsuc, ◌-◌, ◌++◌, ◌&&◌, Bool, List, [], ◌∷◌, Option, Some, None, if◌then◌else◌, int_le, length, replicate, take, unwrap_or, codes}
 use Rattle.std.specs.Fmt.{signed_decimal}
 use Rattle.types.specs.declared.form.OrdinalRange.{OrdinalRange}
 use Rattle.typed_tree.specs.declared.tree.Representation.{Representation}
@@ -63,6 +63,15 @@ require holds site = if holds then give tt else stop (ending.Error site)
 abbrev pub enter : ℕ → Environment → Action (Unit {0})
 enter number env s =
     Gives tt (record s { visited = s.visited ++ record { number = number; environment = env; store = s.store } ∷ [] })
+
+-- goes on with one turn less than there were, or ends where there was none
+abbrev pub take_turn : ℕ → Action (Unit {0})
+take_turn zero s = Stops ending.More s
+take_turn (suc left) s = Gives tt (record s { turns = left })
+
+-- uses a turn: each start of a loop's body and of a routine's block does
+abbrev pub use_turn : Action (Unit {0})
+use_turn s = take_turn s.turns s
 
 -- where a variable lies; each variable that a tree names is visible there
 abbrev pub place_of : Environment → ℕ → Place

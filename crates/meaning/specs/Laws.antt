@@ -1,7 +1,7 @@
 -- What holds of the meaning of every program (ISO 7185:1990, 6.7.2.1, 6.8): a run with more turns goes on from where
 -- the shorter one was, and a chain of operators is calculated from left to right. It says nothing of what the single
 -- steps are.
-use Rattle.std.specs.Prelude.{◌≡◌, ◌≢◌, ℕ, ◌+◌, List, ◌++◌}
+use Rattle.std.specs.Prelude.{◌≡◌, ◌≢◌, ◌⊎◌, ℕ, ◌+◌, List, ◌++◌}
 use Rattle.std.specs.declared.alloc.Global.{Global}
 use Rattle.std.specs.declared.boxed.Box.{Box}
 use Rattle.std.specs.declared.vec.Vec.{Vec}
@@ -12,8 +12,39 @@ use Rattle.typed_tree.specs.declared.tree.Expr.TheVariants.{Chain}
 use Rattle.meaning.specs.declared.outcome.Ending.{Ending}
 use Rattle.meaning.specs.declared.outcome.Ending.TheVariants as ending
 use Rattle.meaning.specs.Store.{Environment}
-use Rattle.meaning.specs.Effect.{State, Stops}
-use Rattle.meaning.specs.Meaning.{meaning, value_of}
+use Rattle.meaning.specs.Effect.{State, Reply, Gives, Stops}
+use Rattle.meaning.specs.Meaning.{meaning, run, value_of}
+
+-- the same state with more turns left
+abbrev pub with_turns : ℕ → State → State
+with_turns more s = record s { turns = s.turns + more }
+
+-- the same reply with more turns left
+abbrev pub reply_with_turns : {A : Type 0} → ℕ → Reply A → Reply A
+reply_with_turns more (Gives a s) = Gives a (with_turns more s)
+reply_with_turns more (Stops e s) = Stops e (with_turns more s)
+
+-- the state after a reply
+abbrev pub state_after : {A : Type 0} → Reply A → State
+state_after (Gives a s) = s
+state_after (Stops e s) = s
+
+-- an output that begins another
+abbrev pub Begins : List ℕ → List ℕ → Type 0
+Begins output whole = (rest : List ℕ) × (whole ≡ output ++ rest)
+
+-- of two replies, the second for more turns: they are the same but for the turns that are left, or the first stopped
+-- for want of turns, with an output that begins the second's
+abbrev pub Extends : {A : Type 0} → ℕ → Reply A → Reply A → Type 0
+Extends more first second =
+    (second ≡ reply_with_turns more first)
+    ⊎ ((s : State) × (first ≡ Stops ending.More s) × Begins s.output (state_after second).output)
+
+-- a run with more turns goes on from where the run with fewer was
+abbrev pub TurnsGoOn : Type 0
+TurnsGoOn =
+    (tree : Tree) (input : List ℕ) (turns more : ℕ) →
+    Extends more (run tree input turns) (run tree input (turns + more))
 
 -- with more turns the output only grows at its end
 abbrev pub TurnsExtendTheOutput : Type 0

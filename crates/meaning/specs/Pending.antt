@@ -1,8 +1,8 @@
 -- What the work that an interpreter has still to do means: from its operands and the state, the topmost first.
 -- It says nothing of how many steps the work takes.
-use Rattle.std.specs.Prelude.{◌≡◌, ℕ, pos, Bool, List, [], ◌∷◌, Option, Some, None, Result, Ok, Err, IfOk, if◌then◌else◌, map, reverse}
+use Rattle.std.specs.Prelude.{◌≡◌, ℕ, pos, Bool, List, [], ◌∷◌, Option, Some, None, Result, Ok, Err, IfOk}
+use Rattle.std.specs.Prelude.{if◌then◌else◌, drop, map, reverse}
 use Rattle.std.specs.BTreeMap.{BTreeMap, get}
-use Rattle.std.specs.declared.cmp.Ordering.{Ordering}
 use Rattle.std.specs.declared.alloc.AllocError.{AllocError}
 use Rattle.types.specs.declared.form.OrdinalRange.{OrdinalRange}
 use Rattle.meaning.specs.declared.outcome.Ending.{Ending}
@@ -13,9 +13,12 @@ use Rattle.meaning.specs.declared.store.Value.TheVariants.{Number}
 use Rattle.meaning.specs.declared.work.Work.{Work}
 use Rattle.meaning.specs.declared.work.Work.TheVariants as work
 use Rattle.meaning.specs.declared.interpreter.Run.{Run}
+use Rattle.meaning.specs.contracts.store.PlaceOrd.TheImpl.{ghosts as places}
 use Rattle.meaning.specs.Store.{Environment, Place, Store, stored}
-use Rattle.meaning.specs.Effect.{State, Reply, Stops, Action, ◌>>=◌, give, stop, require, place_of, store, write, is_in, is_positive, text_of}
-use Rattle.meaning.specs.Meaning.{Combination, ended, operated, combined, value_of, link_of, effect_of, all_of, width_of, parameter_of, line_ended}
+use Rattle.meaning.specs.Effect.{State, Reply, Stops, Action, ◌>>=◌, give, stop, require, place_of, store, write}
+use Rattle.meaning.specs.Effect.{is_in, is_positive, text_of}
+use Rattle.meaning.specs.Meaning.{Combination, completed, ended, operated, combined, value_of, link_of, effect_of}
+use Rattle.meaning.specs.Meaning.{all_of, width_of, parameter_of, line_ended}
 
 -- what is done with the operands, the topmost first, and the state
 abbrev pub Resumption : Type 0
@@ -108,39 +111,41 @@ abbrev pub place_seen : KeptPlace → Place
 place_seen p = record { activation = p.activation; variable = p.variable; steps = [] }
 
 -- the map holds for each variable what the store holds
-abbrev pub StoreAgrees : (KeptPlace → KeptPlace → Ordering) → BTreeMap KeptPlace Value → Store → Type 0
-StoreAgrees cmp kept store = (p : KeptPlace) → p.steps.items ≡ [] → get cmp kept p ≡ stored store (place_seen p)
+abbrev pub StoreAgrees : BTreeMap KeptPlace Value → Store → Type 0
+StoreAgrees kept store = (p : KeptPlace) → p.steps.items ≡ [] → get places.cmp kept p ≡ stored store (place_seen p)
 
--- the interpreter has the store and the output of a state
-pub record Agrees (cmp : KeptPlace → KeptPlace → Ordering) (run : Run) (s : State) : Type 0 where
-  pub store : StoreAgrees cmp run.store s.store
-  pub output : run.output.items ≡ s.output
+-- the interpreter has what a state has, but for its entries
+abbrev pub Agrees : Run → State → Type 0
+Agrees run s = record {
+  store : StoreAgrees run.store s.store;
+  input : drop run.taken (completed run.input.now) ≡ s.input;
+  output : run.output.items ≡ s.output;
+  turns : run.turns ≡ s.turns;
+  activations : run.activations ≡ s.activations;
+}
 
 -- what a run has still to do, from a state
 abbrev pub rest_of : Environment → Run → State → Reply (Unit {0})
 rest_of env run s = pending_of env (reverse run.pending.items) (reverse run.values.items) s
 
 -- a step answered: it goes on to what the reply goes on to, or the reply stops with this ending and this output
-abbrev pub Continues : (KeptPlace → KeptPlace → Ordering) → Environment → Reply (Unit {0})
-    → Result (Option Ending) AllocError → Run → Type 0
-Continues cmp env reply (Err e) run = Unit {0}
-Continues cmp env reply (Ok None) run = (s : State) × Agrees cmp run s × (reply ≡ rest_of env run s)
-Continues cmp env reply (Ok (Some ending)) run = (s : State) × (run.output.items ≡ s.output) × (reply ≡ Stops ending s)
+abbrev pub Continues : Environment → Reply (Unit {0}) → Result (Option Ending) AllocError → Run → Type 0
+Continues env reply (Err e) run = Unit {0}
+Continues env reply (Ok None) run = (s : State) × Agrees run s × (reply ≡ rest_of env run s)
+Continues env reply (Ok (Some ending)) run = (s : State) × (run.output.items ≡ s.output) × (reply ≡ Stops ending s)
 
 -- the variables of the program's block lie where the interpreter looks for them
 abbrev pub IsFlat : Environment → Type 0
 IsFlat env = (root : ℕ) → place_of env root ≡ record { activation = 0; variable = root; steps = [] }
 
 -- a step does a piece of work: in each state that the run agrees with
-abbrev pub Does : (KeptPlace → KeptPlace → Ordering) → (Environment → Resumption → Resumption) → Run
-    → Result (Option Ending) AllocError → Run → Type 0
-Does cmp piece old result new =
-    (env : Environment) → IsFlat env → (s : State) → Agrees cmp old s →
-    Continues cmp env (piece env (pending_of env (reverse old.pending.items)) (reverse old.values.items) s) result new
+abbrev pub Does : (Environment → Resumption → Resumption) → Run → Result (Option Ending) AllocError → Run → Type 0
+Does piece old result new =
+    (env : Environment) → IsFlat env → (s : State) → Agrees old s →
+    Continues env (piece env (pending_of env (reverse old.pending.items)) (reverse old.values.items) s) result new
 
 -- a run is done: what it wrote and how it ended are those of all that it had to do
-abbrev pub Finishes : (KeptPlace → KeptPlace → Ordering) → (Environment → Action (Unit {0})) → Run
-    → Result Ending AllocError → Run → Type 0
-Finishes cmp all old result new =
-    (env : Environment) → IsFlat env → (s : State) → Agrees cmp old s →
+abbrev pub Finishes : (Environment → Action (Unit {0})) → Run → Result Ending AllocError → Run → Type 0
+Finishes all old result new =
+    (env : Environment) → IsFlat env → (s : State) → Agrees old s →
     IfOk result (λ ending. ended (all env s) ≡ record { output = new.output.items; ending = ending })

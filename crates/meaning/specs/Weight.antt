@@ -1,6 +1,8 @@
--- How many steps of the interpreter a piece of pending work needs at most: the measure by which it ends.
+-- How many steps of the interpreter a piece of pending work needs at most, for the turns that are left: the measure by
+-- which it ends.
 -- It says nothing of what the steps do.
-use Rattle.std.specs.Prelude.{ℕ, ◌+◌, List, Option, Some, None, map, sum_by}
+use Rattle.std.specs.Prelude.{ℕ, ◌+◌, ◌<◌, List, Option, Some, None, Result, OnOk, map, sum_by}
+use Rattle.std.specs.declared.alloc.AllocError.{AllocError}
 use Rattle.typed_tree.specs.declared.tree.Width.{Width}
 use Rattle.typed_tree.specs.declared.tree.WriteParameter.{WriteParameter}
 use Rattle.typed_tree.specs.declared.tree.Expr.{Expr}
@@ -12,54 +14,70 @@ use Rattle.typed_tree.specs.declared.tree.Stmt.{Stmt}
 use Rattle.typed_tree.specs.declared.tree.Stmt.TheOpen.{Stmt-F}
 use Rattle.typed_tree.specs.declared.tree.Stmt.TheOpen.Stmt-F.{Empty, Assign, Write, Compound}
 use Rattle.typed_tree.specs.declared.tree.Stmt.TheFolds.{fold-Stmt}
+use Rattle.meaning.specs.declared.outcome.Ending.{Ending}
+use Rattle.meaning.specs.declared.interpreter.Run.{Run}
 use Rattle.meaning.specs.declared.work.Work.{Work}
 use Rattle.meaning.specs.declared.work.Work.TheVariants as work
 
+-- the steps of a piece, from the turns that are left: what a turn starts is weighed with the turns after it
+abbrev pub Weight : Type 0
+Weight = ℕ → ℕ
+
 -- a row of pieces, each with k steps beside its own, and one step for its end
-abbrev pub row_weight : ℕ → List ℕ → ℕ
-row_weight k pieces = 1 + sum_by (λ n. n + k) pieces
+abbrev pub row_weight : ℕ → List Weight → Weight
+row_weight k pieces turns = 1 + sum_by (λ piece. piece turns + k) pieces
 
-abbrev pub link_weight : Link-F ℕ ℕ → ℕ
-link_weight l = l.operand
+abbrev pub link_weight : Link-F Weight Weight → Weight
+link_weight l turns = l.operand turns
 
-abbrev pub expression_weight : Expr-F ℕ ℕ → ℕ
-expression_weight (Constant n v) = 1
-expression_weight (Variable a d) = 1
-expression_weight (Monadic n operation operand) = 2 + operand.value
-expression_weight (Chain first rest) = 1 + first.value + row_weight 2 rest.items
+abbrev pub expression_weight : Expr-F Weight Weight → Weight
+expression_weight (Constant n v) turns = 1
+expression_weight (Variable a d) turns = 1
+expression_weight (Monadic n operation operand) turns = 2 + operand.value turns
+expression_weight (Chain first rest) turns = 1 + first.value turns + row_weight 2 rest.items turns
 
-abbrev pub weight_of_expression : Expr → ℕ
-weight_of_expression = fold-Expr ℕ ℕ expression_weight link_weight
+abbrev pub weight_of_expression : Expr → Weight
+weight_of_expression = fold-Expr Weight Weight expression_weight link_weight
 
-abbrev pub weight_of_link : Link → ℕ
-weight_of_link = fold-Link ℕ ℕ expression_weight link_weight
+abbrev pub weight_of_link : Link → Weight
+weight_of_link = fold-Link Weight Weight expression_weight link_weight
 
-abbrev pub weight_of_width : Option Width → ℕ
-weight_of_width None = 1
-weight_of_width (Some width) = 2 + weight_of_expression width.value
+abbrev pub weight_of_width : Option Width → Weight
+weight_of_width None turns = 1
+weight_of_width (Some width) turns = 2 + weight_of_expression width.value turns
 
-abbrev pub weight_of_parameter : WriteParameter → ℕ
-weight_of_parameter parameter = 2 + weight_of_expression parameter.value + weight_of_width parameter.width
+abbrev pub weight_of_parameter : WriteParameter → Weight
+weight_of_parameter parameter turns =
+    2 + weight_of_expression parameter.value turns + weight_of_width parameter.width turns
 
-abbrev pub statement_weight : Stmt-F ℕ → ℕ
-statement_weight (Empty n) = 1
-statement_weight (Assign n becomes target fits value) = 2 + weight_of_expression value
-statement_weight (Write n name parameters ends_line) = row_weight 1 (map weight_of_parameter parameters.items)
-statement_weight (Compound n statements) = row_weight 1 statements.items
+abbrev pub statement_weight : Stmt-F Weight → Weight
+statement_weight (Empty n) turns = 1
+statement_weight (Assign n becomes target fits value) turns = 2 + weight_of_expression value turns
+statement_weight (Write n name parameters ends_line) turns =
+    row_weight 1 (map weight_of_parameter parameters.items) turns
+statement_weight (Compound n statements) turns = row_weight 1 statements.items turns
 
-abbrev pub weight_of_statement : Stmt → ℕ
-weight_of_statement = fold-Stmt ℕ statement_weight
+abbrev pub weight_of_statement : Stmt → Weight
+weight_of_statement = fold-Stmt Weight statement_weight
 
-abbrev pub weight_of : Work → ℕ
-weight_of (work.Statements statements) = row_weight 1 (map weight_of_statement statements.now)
-weight_of (work.Statement statement) = weight_of_statement statement.now
-weight_of (work.Parameters parameters ends_line) = row_weight 1 (map weight_of_parameter parameters.now)
-weight_of (work.Parameter parameter) = weight_of_parameter parameter.now
-weight_of (work.Width parameter) = weight_of_width parameter.now.width
-weight_of (work.WidthTest site) = 1
-weight_of (work.Write representation) = 1
-weight_of (work.Store root fits) = 1
-weight_of (work.Value expression) = weight_of_expression expression.now
-weight_of (work.Monadic operation) = 1
-weight_of (work.Links links) = row_weight 2 (map weight_of_link links.now)
-weight_of (work.Combine operation) = 1
+abbrev pub weight_of : ℕ → Work → ℕ
+weight_of turns (work.Statements statements) = row_weight 1 (map weight_of_statement statements.now) turns
+weight_of turns (work.Statement statement) = weight_of_statement statement.now turns
+weight_of turns (work.Parameters parameters ends_line) = row_weight 1 (map weight_of_parameter parameters.now) turns
+weight_of turns (work.Parameter parameter) = weight_of_parameter parameter.now turns
+weight_of turns (work.Width parameter) = weight_of_width parameter.now.width turns
+weight_of turns (work.WidthTest site) = 1
+weight_of turns (work.Write representation) = 1
+weight_of turns (work.Store root fits) = 1
+weight_of turns (work.Value expression) = weight_of_expression expression.now turns
+weight_of turns (work.Monadic operation) = 1
+weight_of turns (work.Links links) = row_weight 2 (map weight_of_link links.now) turns
+weight_of turns (work.Combine operation) = 1
+
+-- all that a run has still to do, for the turns that it has left
+abbrev pub pending_weight : Run → ℕ
+pending_weight run = sum_by (weight_of run.turns) run.pending.items
+
+-- after a step there is less to do than before it, when its piece of work was still to do
+abbrev pub Lightens : Work → Run → Result (Option Ending) AllocError → Run → Type 0
+Lightens work old result new = OnOk result (pending_weight new < pending_weight old + weight_of old.turns work)

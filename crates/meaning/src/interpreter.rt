@@ -1,7 +1,8 @@
-ghost use Rattle.std.specs.Prelude.{◌≡◌, ◌+◌, ◌<◌, OnOk, IfOk, sum_by, [], ◌∷◌, ◌++◌, reverse, slice_get};
-ghost use Rattle.meaning.specs.Weight.{weight_of};
+ghost use Rattle.std.specs.Prelude.{◌≡◌, ◌+◌, OnOk, IfOk, [], ◌∷◌, ◌++◌, reverse, slice_get};
+ghost use Rattle.meaning.specs.Weight.{Lightens, pending_weight, weight_of};
 ghost use Rattle.meaning.specs.Effect.{fetch, place_of};
-ghost use Rattle.meaning.specs.Pending.{Does, Finishes, answered, giving, line_ending, resumed, rest_of, place_seen, top_of, below_top};
+ghost use Rattle.meaning.specs.Pending.{Does, Finishes, answered, giving, line_ending, resumed, rest_of, place_seen};
+ghost use Rattle.meaning.specs.Pending.{top_of, below_top};
 ghost use Rattle.meaning.specs.Meaning.{meaning, run_of};
 
 use crate::operations::{
@@ -32,7 +33,11 @@ pub fn interpret(
     let mut run = Run {
         alloc,
         store: BTreeMap::new(alloc),
+        input,
+        taken: 0,
         output: Vec::new(alloc),
+        turns,
+        activations: 1,
         values: Vec::new(alloc),
         pending: Vec::new(alloc),
     };
@@ -43,21 +48,28 @@ pub fn interpret(
     })
 }
 
-// A run: the store, what was written, the values of operands, and the work that is left, the next on top.
+// A run: what it has made so far, the values of operands, and the work that is left, the next on top.
 #[derive(Drop)]
-struct Run<'t> {
+struct Run<'t, 'i> {
     alloc: Global,
     store: BTreeMap<Place, Value>,
+    input: &'i [u8],
+    // How many bytes of the input were read, its last line end among them if it has to be supplied.
+    taken: usize,
     output: Vec<u8>,
+    // How many turns are left.
+    turns: u64,
+    // How many activations there were.
+    activations: u64,
     values: Vec<Value>,
     pending: Vec<Work<'t>>,
 }
 
-impl<'t> Run<'t> {
+impl<'t> Run<'t, '_> {
     // Does the statement of the program's block.
     fn execute(&mut self, tree: &'t Tree) -> Result<Ending, AllocError>
         requires { self.old.pending.items ≡ [] }
-        ensures { Finishes ⟦<Place as Ord>⟧.cmp (run_of (slice_get tree.now.blocks.items 0)) self.old result self.new }
+        ensures { Finishes (run_of (slice_get tree.now.blocks.items 0)) self.old result self.new }
     {
         match tree.blocks.first() {
             Some(block) => {
@@ -70,7 +82,7 @@ impl<'t> Run<'t> {
 
     // Does the work that is left.
     fn finish(&mut self) -> Result<Ending, AllocError>
-        ensures { Finishes ⟦<Place as Ord>⟧.cmp (λ env. rest_of env self.old) self.old result self.new }
+        ensures { Finishes (λ env. rest_of env self.old) self.old result self.new }
     {
         while let Some(work) = self.pending.pop() {
             if let Some(ending) = self.step(work)? {
@@ -81,9 +93,8 @@ impl<'t> Run<'t> {
     }
 
     fn step(&mut self, work: Work<'t>) -> Result<Option<Ending>, AllocError>
-        ensures fewer { OnOk result (
-            sum_by weight_of self.new.pending.items < sum_by weight_of self.old.pending.items + weight_of work.entry) }
-        ensures does { Does ⟦<Place as Ord>⟧.cmp (λ env. resumed env work.entry) self.old result self.new }
+        ensures fewer { Lightens work.entry self.old result self.new }
+        ensures does { Does (λ env. resumed env work.entry) self.old result self.new }
     {
         match work {
             Work::Statements(statements) => self.statements(statements),
@@ -106,9 +117,9 @@ impl<'t> Run<'t> {
 
     // What is done next, and what is done after it.
     fn plan(&mut self, next: Work<'t>, later: Work<'t>) -> Result<Option<Ending>, AllocError>
-        ensures weight { OnOk result (sum_by weight_of self.new.pending.items
-            ≡ sum_by weight_of self.old.pending.items + weight_of later.entry + weight_of next.entry) }
-        ensures does { Does ⟦<Place as Ord>⟧.cmp (λ env rest. resumed env next.entry (resumed env later.entry rest))
+        ensures weight { OnOk result (pending_weight self.new
+            ≡ pending_weight self.old + weight_of self.old.turns later.entry + weight_of self.old.turns next.entry) }
+        ensures does { Does (λ env rest. resumed env next.entry (resumed env later.entry rest))
             self.old result self.new }
     {
         put(&mut self.pending, later)?;
@@ -118,13 +129,10 @@ impl<'t> Run<'t> {
 }
 
 // The steps of statements.
-impl<'t> Run<'t> {
+impl<'t> Run<'t, '_> {
     fn statements(&mut self, statements: &'t [Stmt]) -> Result<Option<Ending>, AllocError>
-        ensures fewer { OnOk result (
-            sum_by weight_of self.new.pending.items
-            < sum_by weight_of self.old.pending.items + weight_of (Work.Statements statements.entry)) }
-        ensures does { Does ⟦<Place as Ord>⟧.cmp (λ env. resumed env (Work.Statements statements.entry))
-            self.old result self.new }
+        ensures fewer { Lightens (Work.Statements statements.entry) self.old result self.new }
+        ensures does { Does (λ env. resumed env (Work.Statements statements.entry)) self.old result self.new }
     {
         match statements.split_first() {
             Some((first, rest)) => self.plan(Work::Statement(first), Work::Statements(rest)),
@@ -133,11 +141,8 @@ impl<'t> Run<'t> {
     }
 
     fn statement(&mut self, statement: &'t Stmt) -> Result<Option<Ending>, AllocError>
-        ensures fewer { OnOk result (
-            sum_by weight_of self.new.pending.items
-            < sum_by weight_of self.old.pending.items + weight_of (Work.Statement statement.entry)) }
-        ensures does { Does ⟦<Place as Ord>⟧.cmp (λ env. resumed env (Work.Statement statement.entry))
-            self.old result self.new }
+        ensures fewer { Lightens (Work.Statement statement.entry) self.old result self.new }
+        ensures does { Does (λ env. resumed env (Work.Statement statement.entry)) self.old result self.new }
     {
         match statement {
             Stmt::Empty { .. } => Ok(None),
@@ -167,11 +172,8 @@ impl<'t> Run<'t> {
         parameters: &'t [WriteParameter],
         ends_line: bool,
     ) -> Result<Option<Ending>, AllocError>
-        ensures fewer { OnOk result (
-            sum_by weight_of self.new.pending.items
-            < sum_by weight_of self.old.pending.items + weight_of (Work.Parameters parameters.entry ends_line)) }
-        ensures does { Does ⟦<Place as Ord>⟧.cmp (λ env. resumed env (Work.Parameters parameters.entry ends_line))
-            self.old result self.new }
+        ensures fewer { Lightens (Work.Parameters parameters.entry ends_line) self.old result self.new }
+        ensures does { Does (λ env. resumed env (Work.Parameters parameters.entry ends_line)) self.old result self.new }
     {
         match parameters.split_first() {
             Some((first, rest)) => self.plan(
@@ -186,22 +188,16 @@ impl<'t> Run<'t> {
     }
 
     fn parameter(&mut self, parameter: &'t WriteParameter) -> Result<Option<Ending>, AllocError>
-        ensures fewer { OnOk result (
-            sum_by weight_of self.new.pending.items
-            < sum_by weight_of self.old.pending.items + weight_of (Work.Parameter parameter.entry)) }
-        ensures does { Does ⟦<Place as Ord>⟧.cmp (λ env. resumed env (Work.Parameter parameter.entry))
-            self.old result self.new }
+        ensures fewer { Lightens (Work.Parameter parameter.entry) self.old result self.new }
+        ensures does { Does (λ env. resumed env (Work.Parameter parameter.entry)) self.old result self.new }
     {
         put(&mut self.pending, Work::Write(parameter.representation))?;
         self.plan(Work::Value(&parameter.value), Work::Width(parameter))
     }
 
     fn width(&mut self, parameter: &'t WriteParameter) -> Result<Option<Ending>, AllocError>
-        ensures fewer { OnOk result (
-            sum_by weight_of self.new.pending.items
-            < sum_by weight_of self.old.pending.items + weight_of (Work.Width parameter.entry)) }
-        ensures does { Does ⟦<Place as Ord>⟧.cmp (λ env. resumed env (Work.Width parameter.entry))
-            self.old result self.new }
+        ensures fewer { Lightens (Work.Width parameter.entry) self.old result self.new }
+        ensures does { Does (λ env. resumed env (Work.Width parameter.entry)) self.old result self.new }
     {
         match &parameter.width {
             Some(width) => self.plan(
@@ -213,17 +209,16 @@ impl<'t> Run<'t> {
     }
 
     fn width_test(&mut self, site: u32) -> Result<Option<Ending>, AllocError>
-        ensures same { self.new.pending.items ≡ self.old.pending.items }
-        ensures does { Does ⟦<Place as Ord>⟧.cmp (λ env. resumed env (Work.WidthTest site)) self.old result self.new }
+        ensures weight { pending_weight self.new ≡ pending_weight self.old }
+        ensures does { Does (λ env. resumed env (Work.WidthTest site)) self.old result self.new }
     {
         let width = self.popped();
         self.go_on(positive_width(width, site))
     }
 
     fn write(&mut self, representation: Representation) -> Result<Option<Ending>, AllocError>
-        ensures same { self.new.pending.items ≡ self.old.pending.items }
-        ensures does { Does ⟦<Place as Ord>⟧.cmp (λ env. resumed env (Work.Write representation))
-            self.old result self.new }
+        ensures weight { pending_weight self.new ≡ pending_weight self.old }
+        ensures does { Does (λ env. resumed env (Work.Write representation)) self.old result self.new }
     {
         let width = self.popped();
         let value = self.popped();
@@ -232,8 +227,8 @@ impl<'t> Run<'t> {
     }
 
     fn line_end(&mut self, ends_line: bool) -> Result<Option<Ending>, AllocError>
-        ensures same { self.new.pending.items ≡ self.old.pending.items }
-        ensures does { Does ⟦<Place as Ord>⟧.cmp (λ env. line_ending ends_line) self.old result self.new }
+        ensures weight { pending_weight self.new ≡ pending_weight self.old }
+        ensures does { Does (λ env. line_ending ends_line) self.old result self.new }
     {
         if ends_line {
             self.output.push(b'\n')?;
@@ -242,8 +237,8 @@ impl<'t> Run<'t> {
     }
 
     fn store(&mut self, root: u32, fits: RangeTest) -> Result<Option<Ending>, AllocError>
-        ensures same { self.new.pending.items ≡ self.old.pending.items }
-        ensures does { Does ⟦<Place as Ord>⟧.cmp (λ env. resumed env (Work.Store root fits)) self.old result self.new }
+        ensures weight { pending_weight self.new ≡ pending_weight self.old }
+        ensures does { Does (λ env. resumed env (Work.Store root fits)) self.old result self.new }
     {
         match value_in(fits.range, self.popped()) {
             Some(value) => {
@@ -257,13 +252,10 @@ impl<'t> Run<'t> {
 }
 
 // The steps of expressions.
-impl<'t> Run<'t> {
+impl<'t> Run<'t, '_> {
     fn value(&mut self, expression: &'t Expr) -> Result<Option<Ending>, AllocError>
-        ensures fewer { OnOk result (
-            sum_by weight_of self.new.pending.items
-            < sum_by weight_of self.old.pending.items + weight_of (Work.Value expression.entry)) }
-        ensures does { Does ⟦<Place as Ord>⟧.cmp (λ env. resumed env (Work.Value expression.entry))
-            self.old result self.new }
+        ensures fewer { Lightens (Work.Value expression.entry) self.old result self.new }
+        ensures does { Does (λ env. resumed env (Work.Value expression.entry)) self.old result self.new }
     {
         match expression {
             Expr::Constant { value, .. } => self.go_on(Ok(Value::Number(Ordinal::new(*value)))),
@@ -278,29 +270,24 @@ impl<'t> Run<'t> {
     }
 
     fn variable(&mut self, root: u32, defined: u32) -> Result<Option<Ending>, AllocError>
-        ensures same { self.new.pending.items ≡ self.old.pending.items }
-        ensures does { Does ⟦<Place as Ord>⟧.cmp (λ env. giving (fetch (place_of env root) defined))
-            self.old result self.new }
+        ensures weight { pending_weight self.new ≡ pending_weight self.old }
+        ensures does { Does (λ env. giving (fetch (place_of env root) defined)) self.old result self.new }
     {
         let value = self.store.get(&self.place(root)).copied();
         self.go_on(value.ok_or(defined))
     }
 
     fn monadic(&mut self, operation: Monadic) -> Result<Option<Ending>, AllocError>
-        ensures same { self.new.pending.items ≡ self.old.pending.items }
-        ensures does { Does ⟦<Place as Ord>⟧.cmp (λ env. resumed env (Work.Monadic operation))
-            self.old result self.new }
+        ensures weight { pending_weight self.new ≡ pending_weight self.old }
+        ensures does { Does (λ env. resumed env (Work.Monadic operation)) self.old result self.new }
     {
         let operand = self.popped();
         self.go_on(operated_value(operation, operand))
     }
 
     fn links(&mut self, links: &'t [Link]) -> Result<Option<Ending>, AllocError>
-        ensures fewer { OnOk result (
-            sum_by weight_of self.new.pending.items
-            < sum_by weight_of self.old.pending.items + weight_of (Work.Links links.entry)) }
-        ensures does { Does ⟦<Place as Ord>⟧.cmp (λ env. resumed env (Work.Links links.entry))
-            self.old result self.new }
+        ensures fewer { Lightens (Work.Links links.entry) self.old result self.new }
+        ensures does { Does (λ env. resumed env (Work.Links links.entry)) self.old result self.new }
     {
         match links.split_first() {
             Some((first, rest)) => {
@@ -312,9 +299,8 @@ impl<'t> Run<'t> {
     }
 
     fn combine(&mut self, operation: Dyadic) -> Result<Option<Ending>, AllocError>
-        ensures same { self.new.pending.items ≡ self.old.pending.items }
-        ensures does { Does ⟦<Place as Ord>⟧.cmp (λ env. resumed env (Work.Combine operation))
-            self.old result self.new }
+        ensures weight { pending_weight self.new ≡ pending_weight self.old }
+        ensures does { Does (λ env. resumed env (Work.Combine operation)) self.old result self.new }
     {
         let right = self.popped();
         let left = self.popped();
@@ -323,8 +309,8 @@ impl<'t> Run<'t> {
 
     // Goes on with a value, or stops at the site of its error.
     fn go_on(&mut self, value: Result<Value, u32>) -> Result<Option<Ending>, AllocError>
-        ensures same { self.new.pending.items ≡ self.old.pending.items }
-        ensures does { Does ⟦<Place as Ord>⟧.cmp (λ env. giving (answered value)) self.old result self.new }
+        ensures weight { pending_weight self.new ≡ pending_weight self.old }
+        ensures does { Does (λ env. giving (answered value)) self.old result self.new }
     {
         match value {
             Ok(value) => {

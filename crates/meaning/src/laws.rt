@@ -1,5 +1,11 @@
 //! What holds of the meaning of every program. Each law is the contract of a function that does nothing.
-ghost use Rattle.meaning.specs.Laws.{TurnsExtendTheOutput, EndingsStay, ChainsGoLeftToRight};
+ghost use Rattle.meaning.specs.Laws.{TurnsGoOn, TurnsExtendTheOutput, EndingsStay, ChainsGoLeftToRight};
+
+/// A run with more turns goes on from where the run with fewer was: they are the same but for the turns that are left,
+/// or the one with fewer stopped for want of turns, with an output that begins the other's.
+pub fn turns_go_on()
+    ensures { TurnsGoOn }
+{}
 
 /// With more turns the output only grows at its end.
 pub fn turns_extend_the_output()

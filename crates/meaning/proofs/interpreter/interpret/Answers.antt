@@ -1,8 +1,28 @@
+use Rattle.std.proofs.Common.{refl}
 use Rattle.meaning.specs.declared.interpreter.Run.{Run}
-use Rattle.meaning.proofs.Starting.{ends_as_meant}
+use Rattle.meaning.specs.Meaning.{first_state}
+use Rattle.meaning.specs.Pending.{Agrees}
+use Rattle.meaning.proofs.Starting.{holds_nothing, ends_as_meant}
 use Rattle.meaning.proofs.interpreter.interpret.Goals as goal
 
 pub returns : goal.returns
 returns c =
-    let run : Run = record { alloc = c.args.alloc; store = c.new.result; output = c.new-2.result; values = c.new-3.result; pending = c.new-4.result } in
-    ends_as_meant _ c.args.tree.now c.args.input.now c.args.turns run c.execute.new.self.output.items c.in_ok-ending.ending c.new.ensures.empty c.new-2.ensures.items c.in_ok-ending.ensures
+    let run : Run = record {
+      alloc = c.args.alloc;
+      store = c.new.result;
+      input = c.args.input;
+      taken = 0;
+      output = c.new-2.result;
+      turns = c.args.turns;
+      activations = 1;
+      values = c.new-3.result;
+      pending = c.new-4.result;
+    } in
+    let begun : Agrees run (first_state c.args.input.now c.args.turns) = record {
+      store = holds_nothing c.new.result c.new.ensures.empty;
+      input = refl;
+      output = c.new-2.ensures.items;
+      turns = refl;
+      activations = refl;
+    } in
+    ends_as_meant c.args.tree.now c.args.input.now c.args.turns run c.execute.new.self.output.items c.in_ok-ending.ending begun c.in_ok-ending.ensures

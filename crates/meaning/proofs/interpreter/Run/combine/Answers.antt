@@ -18,5 +18,6 @@ returns-clause-does c = λ env flat s agrees.
     let answers : Answers (combined c.args.operation (top_of (below_top operands)) (top_of operands)) answer =
     subst (λ (v : Value). Answers (combined c.args.operation (top_of (below_top operands)) v) answer) right.top
     (subst (λ (v : Value). Answers (combined c.args.operation v c.popped-right.result) answer) (left.top ∙ ap top_of right.below) c.combined_value.ensures) in
-    goes_on_by _ old taken c.go_on.new.self env s (combined c.args.operation (top_of (below_top operands)) (top_of operands)) answer (below_top (below_top operands)) c.go_on.result
-    same (left.below ∙ ap below_top right.below) (answers s) flat (record { store = agrees.store; output = agrees.output }) c.go_on.ensures.does
+    goes_on_by old taken c.go_on.new.self env s (combined c.args.operation (top_of (below_top operands)) (top_of operands)) answer
+    (below_top (below_top operands)) c.go_on.result
+    same (left.below ∙ ap below_top right.below) (answers s) flat agrees c.go_on.ensures.does

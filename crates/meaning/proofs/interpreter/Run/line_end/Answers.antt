@@ -8,6 +8,12 @@ returns-in_ok-push-clause-does c = λ env flat s agrees.
     let old = c.args.self.now in
     let after : State = record s { output = s.output ++ 10 ∷ [] } in (
       after,
-      record { store = agrees.store; output = c.in_ok-push.ensures.items ∙ ap (λ out. out ++ 10 ∷ []) agrees.output },
+      record {
+        store = agrees.store;
+        input = agrees.input;
+        output = c.in_ok-push.ensures.items ∙ ap (λ out. out ++ 10 ∷ []) agrees.output;
+        turns = agrees.turns;
+        activations = agrees.activations;
+      },
       ap (λ (b : Bool). line_ending b (pending_of env (reverse old.pending.items)) (reverse old.values.items) s) c.if-ends_line.true,
     )

@@ -1,7 +1,7 @@
 use Rattle.std.proofs.Common.{◌≡◌, ℕ, ◌+◌, ◌<◌, List, ◌∷◌, Option, Result, Ok, Err, OnOk, map, sum_by, reverse, refl, ap, sym, subst, ◌∙◌, arith}
 use Rattle.std.specs.declared.alloc.AllocError.{AllocError}
 use Rattle.meaning.specs.declared.outcome.Ending.{Ending}
-use Rattle.meaning.specs.Weight.{weight_of, weight_of_link, weight_of_expression, expression_weight, link_weight, row_weight}
+use Rattle.meaning.specs.Weight.{Weight, weight_of, weight_of_link, weight_of_expression, expression_weight, link_weight, row_weight}
 use Rattle.typed_tree.specs.declared.tree.Expr.TheFolds.{fold_out-Link}
 use Rattle.std.proofs.lemmas.List.Sums.{sum_by-cons, sum_by_push}
 use Rattle.meaning.specs.declared.work.Work.{Work}
@@ -15,10 +15,11 @@ returns-in_ok-put-in-Some-clause-does c = λ env flat s agrees.
     let old = c.args.self.now in
     let first = c.in-Some.first.now in
     let all : c.args.links.now ≡ first ∷ c.in-Some.rest.now = c.in-Some.ensures.cases.0 in
-    continues_as _ env old c.plan.new.self _ _ c.plan.result
+    continues_as env old c.plan.new.self _ _ c.plan.result
     (does-Links first c.in-Some.rest c.args.links all env (reverse old.pending.items) (reverse old.values.items) s
-    ∙ ap (λ (works : List Work). evaluated env first.operand (work.Combine first.operation ∷ works) (reverse old.values.items) (entered first.number env s)) (sym (reverse_pushed _ _ _ _ c.in_ok-put-in-Some.ensures refl)))
-    (c.plan.ensures.does env flat (entered first.number env s) (record { store = agrees.store; output = agrees.output }))
+    ∙ ap (λ (works : List Work). evaluated env first.operand (work.Combine first.operation ∷ works) (reverse old.values.items) (entered first.number env s))
+    (sym (reverse_pushed _ _ _ _ c.in_ok-put-in-Some.ensures refl)))
+    (c.plan.ensures.does env flat (entered first.number env s) agrees)
 
 -- what weighs as much as a sum below the bound weighs less than the bound
 lighter : (result : Result (Option Ending) AllocError) (new sum bound : ℕ) → OnOk result (new ≡ sum) → sum < bound → OnOk result (new < bound)
@@ -29,11 +30,13 @@ pub returns-in_ok-put-in-Some-clause-fewer : goal.returns-in_ok-put-in-Some-clau
 returns-in_ok-put-in-Some-clause-fewer c =
     let first = c.in-Some.first.now in
     let old = c.args.self.now.pending.items in
-    let left : sum_by weight_of c.put.new.pending.items ≡ sum_by weight_of old + weight_of (work.Links c.in-Some.rest) =
-    ap (sum_by weight_of) c.in_ok-put-in-Some.ensures ∙ sum_by_push weight_of old (work.Links c.in-Some.rest) in
+    let turns = c.args.self.now.turns in
+    let left : sum_by (weight_of turns) c.put.new.pending.items ≡ sum_by (weight_of turns) old + weight_of turns (work.Links c.in-Some.rest) =
+    ap (sum_by (weight_of turns)) c.in_ok-put-in-Some.ensures ∙ sum_by_push (weight_of turns) old (work.Links c.in-Some.rest) in
     let after = map weight_of_link c.in-Some.rest.now in
-    let all : weight_of (work.Links c.args.links) ≡ 1 + (weight_of_expression first.operand + 2 + sum_by (λ n. n + 2) after) =
-    ap (λ ls. row_weight 2 (map weight_of_link ls)) c.in-Some.ensures.cases.0
-    ∙ ap (λ n. row_weight 2 (n ∷ after)) (fold_out-Link ℕ ℕ expression_weight link_weight first)
-    ∙ ap (λ n. 1 + n) (sum_by-cons (λ n. n + 2) (weight_of_expression first.operand) after) in
+    let all : weight_of turns (work.Links c.args.links)
+    ≡ 1 + (weight_of_expression first.operand turns + 2 + sum_by (λ (piece : Weight). piece turns + 2) after) =
+    ap (λ ls. row_weight 2 (map weight_of_link ls) turns) c.in-Some.ensures.cases.0
+    ∙ ap (λ (piece : Weight). row_weight 2 (piece ∷ after) turns) (fold_out-Link Weight Weight expression_weight link_weight first)
+    ∙ ap (λ n. 1 + n) (sum_by-cons (λ (piece : Weight). piece turns + 2) (λ turns. weight_of_expression first.operand turns) after) in
     lighter c.plan.result _ _ _ c.plan.ensures.weight (omega (arith, left, all))

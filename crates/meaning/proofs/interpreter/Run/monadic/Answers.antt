@@ -12,5 +12,5 @@ returns-clause-does c = λ env flat s agrees.
     let answer = c.operated_value.result in
     let answers : Answers (operated c.args.operation (top_of operands)) answer =
     subst (λ (v : Value). Answers (operated c.args.operation v) answer) c.popped-operand.ensures.top c.operated_value.ensures in
-    goes_on_by _ old c.popped-operand.new.self c.go_on.new.self env s (operated c.args.operation (top_of operands)) answer (below_top operands) c.go_on.result
-    c.popped-operand.ensures.same c.popped-operand.ensures.below (answers s) flat (record { store = agrees.store; output = agrees.output }) c.go_on.ensures.does
+    goes_on_by old c.popped-operand.new.self c.go_on.new.self env s (operated c.args.operation (top_of operands)) answer (below_top operands) c.go_on.result
+    c.popped-operand.ensures.same c.popped-operand.ensures.below (answers s) flat agrees c.go_on.ensures.does

@@ -2,34 +2,36 @@ use Rattle.meaning.proofs.Resuming.{does_as}
 use Rattle.meaning.proofs.interpreter.Run.step.Goals as goal
 
 pub returns-in-Statements-clause-does : goal.returns-in-Statements-clause-does
-returns-in-Statements-clause-does c = does_as _ c.args.self.now c.statements.new.self c.args.work _ c.statements.result c.in-Statements.is c.statements.ensures.does
+returns-in-Statements-clause-does c =
+    does_as c.args.self.now c.statements.new.self c.args.work _ c.statements.result c.in-Statements.is c.statements.ensures.does
 
 pub returns-in-Statement-clause-does : goal.returns-in-Statement-clause-does
-returns-in-Statement-clause-does c = does_as _ c.args.self.now c.statement.new.self c.args.work _ c.statement.result c.in-Statement.is c.statement.ensures.does
+returns-in-Statement-clause-does c = does_as c.args.self.now c.statement.new.self c.args.work _ c.statement.result c.in-Statement.is c.statement.ensures.does
 
 pub returns-in-Parameters-clause-does : goal.returns-in-Parameters-clause-does
-returns-in-Parameters-clause-does c = does_as _ c.args.self.now c.parameters.new.self c.args.work _ c.parameters.result c.in-Parameters.is c.parameters.ensures.does
+returns-in-Parameters-clause-does c =
+    does_as c.args.self.now c.parameters.new.self c.args.work _ c.parameters.result c.in-Parameters.is c.parameters.ensures.does
 
 pub returns-in-Parameter-clause-does : goal.returns-in-Parameter-clause-does
-returns-in-Parameter-clause-does c = does_as _ c.args.self.now c.parameter.new.self c.args.work _ c.parameter.result c.in-Parameter.is c.parameter.ensures.does
+returns-in-Parameter-clause-does c = does_as c.args.self.now c.parameter.new.self c.args.work _ c.parameter.result c.in-Parameter.is c.parameter.ensures.does
 
 pub returns-in-Width-clause-does : goal.returns-in-Width-clause-does
-returns-in-Width-clause-does c = does_as _ c.args.self.now c.width.new.self c.args.work _ c.width.result c.in-Width.is c.width.ensures.does
+returns-in-Width-clause-does c = does_as c.args.self.now c.width.new.self c.args.work _ c.width.result c.in-Width.is c.width.ensures.does
 
 pub returns-in-WidthTest-clause-does : goal.returns-in-WidthTest-clause-does
-returns-in-WidthTest-clause-does c = does_as _ c.args.self.now c.width_test.new.self c.args.work _ c.width_test.result c.in-WidthTest.is c.width_test.ensures.does
+returns-in-WidthTest-clause-does c = does_as c.args.self.now c.width_test.new.self c.args.work _ c.width_test.result c.in-WidthTest.is c.width_test.ensures.does
 
 pub returns-in-Store-clause-does : goal.returns-in-Store-clause-does
-returns-in-Store-clause-does c = does_as _ c.args.self.now c.store.new.self c.args.work _ c.store.result c.in-Store.is c.store.ensures.does
+returns-in-Store-clause-does c = does_as c.args.self.now c.store.new.self c.args.work _ c.store.result c.in-Store.is c.store.ensures.does
 
 pub returns-in-Value-clause-does : goal.returns-in-Value-clause-does
-returns-in-Value-clause-does c = does_as _ c.args.self.now c.value.new.self c.args.work _ c.value.result c.in-Value.is c.value.ensures.does
+returns-in-Value-clause-does c = does_as c.args.self.now c.value.new.self c.args.work _ c.value.result c.in-Value.is c.value.ensures.does
 
 pub returns-in-Monadic-clause-does : goal.returns-in-Monadic-clause-does
-returns-in-Monadic-clause-does c = does_as _ c.args.self.now c.monadic.new.self c.args.work _ c.monadic.result c.in-Monadic.is c.monadic.ensures.does
+returns-in-Monadic-clause-does c = does_as c.args.self.now c.monadic.new.self c.args.work _ c.monadic.result c.in-Monadic.is c.monadic.ensures.does
 
 pub returns-in-Links-clause-does : goal.returns-in-Links-clause-does
-returns-in-Links-clause-does c = does_as _ c.args.self.now c.links.new.self c.args.work _ c.links.result c.in-Links.is c.links.ensures.does
+returns-in-Links-clause-does c = does_as c.args.self.now c.links.new.self c.args.work _ c.links.result c.in-Links.is c.links.ensures.does
 
 pub returns-in-Combine-clause-does : goal.returns-in-Combine-clause-does
-returns-in-Combine-clause-does c = does_as _ c.args.self.now c.combine.new.self c.args.work _ c.combine.result c.in-Combine.is c.combine.ensures.does
+returns-in-Combine-clause-does c = does_as c.args.self.now c.combine.new.self c.args.work _ c.combine.result c.in-Combine.is c.combine.ensures.does

@@ -8,6 +8,6 @@ pub returns-clause-does : goal.returns-clause-does
 returns-clause-does c = λ env flat s agrees.
     let old = c.args.self.now in
     let found = c.copied-value.ensures ∙ c.get.ensures.value ∙ agrees.store c.place.result c.place.ensures.whole ∙ ap (stored s.store) c.place.ensures.seen in
-    goes_on_by _ old old c.go_on.new.self env s (fetch (place_of env c.args.root) c.args.defined) c.ok_or.result (reverse old.values.items) c.go_on.result
+    goes_on_by old old c.go_on.new.self env s (fetch (place_of env c.args.root) c.args.defined) c.ok_or.result (reverse old.values.items) c.go_on.result
     refl refl (fetched_there c.args.root c.args.defined env s _ c.copied-value.result c.ok_or.result (flat c.args.root) found c.ok_or.ensures.value)
-    flat (record { store = agrees.store; output = agrees.output }) c.go_on.ensures.does
+    flat agrees c.go_on.ensures.does

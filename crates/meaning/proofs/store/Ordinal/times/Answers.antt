@@ -9,4 +9,5 @@ returns c = search rules
 
 pub overflow_mul-self-inside : goal.overflow_mul-self-inside
 overflow_mul-self-inside c =
-    fits_signed_mul w64 (to_z w64 (of_z w64 c.self.inside.number)) (to_z w64 (of_z w64 c.other.inside.number)) 2147483648 2147483648 (omega (arith, ints)) (omega (arith, ints)) (omega arith)
+    fits_signed_mul w64 (to_z w64 (of_z w64 c.self.inside.number)) (to_z w64 (of_z w64 c.other.inside.number)) 2147483648 2147483648 (omega (arith, ints))
+    (omega (arith, ints)) (omega arith)
