@@ -1,5 +1,5 @@
 -- The walk over a program is sound for each of its runs: closed sites never err, and states hold.
-use Rattle.std.proofs.Common.{arith, ◌≡◌, ◌≢◌, inl, inr, ◌∙◌, sym, ap, refl, subst, ℕ, zero, suc, ◌<◌, get_or, ◌==◌, Bool, true, false, ◌&&◌, cond, nat_eq, nat_lt, List, [], ◌∷◌, ◌++◌, map, filter, Some, None, length, slice_get}
+use Rattle.std.proofs.Common.{arith, ◌≡◌, ◌≢◌, inl, inr, ◌∙◌, sym, ap, refl, subst, ℕ, zero, suc, ◌<◌, get_or, ◌==◌, Bool, true, false, ◌&&◌, cond, nat_eq, List, [], ◌∷◌, ◌++◌, map, filter, Option, Some, None, length, slice_get}
 use Rattle.std.specs.List.{Contains, list_any}
 use Rattle.std.specs.Option.{unwrap_or}
 use Rattle.std.proofs.Math.Bool.{and-true}
@@ -8,12 +8,13 @@ use Rattle.std.proofs.lemmas.List.Elements.{Contains-append_left}
 use Rattle.std.proofs.lemmas.List.Folds.{list_any_at}
 use Rattle.typed_tree.specs.declared.tree.Tree.{Tree}
 use Rattle.typed_tree.specs.declared.tree.Block.{Block}
+use Rattle.typed_tree.specs.declared.tree.Variable.{Variable}
 use Rattle.typed_tree.specs.declared.site.Site.{Site}
 use Rattle.meaning.specs.declared.outcome.Ending.TheVariants.{Error}
 use Rattle.meaning.specs.Store.{Environment, Place, overlap, place_eq}
 use Rattle.meaning.specs.Effect as effect
 use Rattle.meaning.specs.Effect.{Reply, Visit, place_of}
-use Rattle.meaning.specs.Meaning.{run, run_of, first_state, ended, program_environment}
+use Rattle.meaning.specs.Meaning.{run, run_of, first_state, ended, home_of, program_environment}
 use Rattle.cert_checker.specs.State.{Dead, start}
 use Rattle.cert_checker.specs.Walk.{Entry, Walked, block_walk, all_of, statement_walk, program_walk}
 use Rattle.cert_checker.specs.Holds.{Separate}
@@ -27,19 +28,27 @@ use Rattle.cert_checker.proofs.SoundForms.{statement-sound}
 abbrev home : ℕ → Place
 home root = record { activation = 0; variable = root; steps = [] }
 
-home_or : (listed : Bool) (p : Place) → unwrap_or (cond listed (Some p) None) p ≡ p
-home_or true p = refl
-home_or false p = refl
+declared-home : (declared : Bool) (p : Place) → unwrap_or (cond declared (Some p) None) p ≡ p
+declared-home true p = refl
+declared-home false p = refl
+
+home-or : (root : ℕ) (variable : Option Variable) → unwrap_or (home_of root variable) (home root) ≡ home root
+home-or root None = refl
+home-or root (Some variable) = declared-home (nat_eq variable.block 0) (home root)
 
 pub program-apart : (tree : Tree) → Apart (program_environment tree)
 program-apart tree a b =
-    ap (λ p. place_eq p (place_of (program_environment tree) b)) (home_or (nat_lt a (length tree.variables.items)) (home a))
-    ∙ ap (place_eq (home a)) (home_or (nat_lt b (length tree.variables.items)) (home b))
+    ap (λ p. place_eq p (place_of (program_environment tree) b)) (home-or a (slice_get tree.variables.items a))
+    ∙ ap (place_eq (home a)) (home-or b (slice_get tree.variables.items b))
     ∙ and-true (nat_eq a b)
 
 listed-home : (listed : Bool) (p q : Place) → cond listed (Some p) None ≡ Some q → p ≡ q
 listed-home true p q is = cc
 listed-home false p q is = absurd (cc)
+
+is-home : (root : ℕ) (variable : Option Variable) (q : Place) → home_of root variable ≡ Some q → home root ≡ q
+is-home root None q is = absurd (cc)
+is-home root (Some variable) q is = listed-home (nat_eq variable.block 0) (home root) q is
 
 -- ---- a run and the walk over its block
 
@@ -110,9 +119,8 @@ same_overlap a b false is apart overlaps = cc
 -- no two variables of the program share a place
 program-separate : (tree : Tree) → Separate (program_environment tree) []
 program-separate tree a b p q at_a at_b apart overlaps =
-    let variables = length tree.variables.items in
-    let home_a : home a ≡ p = listed-home (nat_lt a variables) (home a) p at_a in
-    let home_b : home b ≡ q = listed-home (nat_lt b variables) (home b) q at_b in
+    let home_a : home a ≡ p = is-home a (slice_get tree.variables.items a) p at_a in
+    let home_b : home b ≡ q = is-home b (slice_get tree.variables.items b) q at_b in
     absurd (same_overlap a b (nat_eq a b) refl apart
     (ap (λ y. overlap (home a) y) home_b ∙ ap (λ x. overlap x q) home_a ∙ overlaps))
 
