@@ -39,6 +39,7 @@ SaysDefined (Defined path) = Unit {0}
 SaysDefined (Stretch path first last) = ⊥
 SaysDefined (Order root other number) = ⊥
 
+-- what facts say is so, with a row for each variable
 pub record IsHeld (variables : ℕ) (env : Environment) (facts : Facts) (store : Store) : Type 0 where
   pub rows_are : length facts.ranges ≡ variables
   pub say_defined : (one : Fact) → Contains facts.facts one → SaysDefined one

@@ -5,8 +5,7 @@ use Rattle.std.proofs.lemmas.Bool.{and_parts, and_from}
 use Rattle.types.specs.declared.form.OrdinalRange.{OrdinalRange}
 use Rattle.domain.specs.Interval as domain
 use Rattle.domain.specs.Interval.{Interval, HasMember, has_number, is_vacant, common, truth_values}
-use Rattle.domain.specs.Ranges.{common-has_left, common-has_right, has-present}
-use Rattle.domain.specs.contracts.interval.IntervalDomain.TheImpl.Laws.{leq_includes-law, meet_has_common-law}
+use Rattle.domain.specs.contracts.interval.IntervalDomain.TheImpl.Laws.{leq_includes-law, meet_has_common-law, meet_has_left-law, meet_has_right-law, has_present-law}
 use Rattle.meaning.specs.declared.store.Value.{Value}
 use Rattle.meaning.specs.declared.store.Value.TheVariants.{Number}
 use Rattle.meaning.specs.Effect.{is_in}
@@ -23,7 +22,7 @@ IsKnown (Ordinal range) v = IsIn range v
 
 -- a range with a number isn't empty
 pub in-present : (range : Interval) (v : Value) → IsIn range v → is_vacant range ≡ false
-in-present range (Number n) inside = has-present range n inside
+in-present range (Number n) inside = has_present-law range n inside
 
 -- a constant is the one number of its range
 pub constant-in : (n : ℤ) → IsIn (record { first = n; last = n }) (Number n)
@@ -67,8 +66,8 @@ pub limits-is_in : (range : OrdinalRange) (v : Value) → IsIn (limits_of range)
 limits-is_in range (Number n) inside =
     let own : Interval = record { first = range.first; last = range.last } in
     and_from (is_integer_number n) (is_within range.first range.last n)
-    (has-is_within integer.first integer.last n (common-has_left integer own n inside))
-    (has-is_within range.first range.last n (common-has_right integer own n inside))
+    (has-is_within integer.first integer.last n (meet_has_left-law integer own n inside))
+    (has-is_within range.first range.last n (meet_has_right-law integer own n inside))
 
 pub included-in : (range limits : Interval) (v : Value) → domain.is_included range limits ≡ true → IsIn range v → IsIn limits v
 included-in range limits (Number n) included inside = leq_includes-law range limits n included inside

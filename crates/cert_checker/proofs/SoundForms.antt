@@ -34,7 +34,7 @@ use Rattle.cert_checker.proofs.Knows.{Shows}
 use Rattle.cert_checker.proofs.Sound.{World, Sound, Any_value, Passes, sound-then, sound-given, sound-written, sound-give, sound-enter, sound-use, sound-assign}
 use Rattle.cert_checker.proofs.SoundOperations.{IsKnownOf, given-sound, operated-sound, combined-sound, positive-sound, fitting-sound}
 
--- an action that gives nothing is the same as the walk over it
+-- the walk over an action that gives no value is sound
 abbrev pub SoundAction : World → Environment → effect.Action (Unit {0}) → Walking (Unit {0}) → Type 0
 SoundAction world env action walking = Sound {A = Unit {0}} {B = Unit {0}} world env Any_value action walking
 

@@ -1,6 +1,6 @@
 ghost use Rattle.std.specs.Prelude.{◌≡◌, ◌↔◌, ℤ, pos, ◌+ℤ◌, ◌-ℤ◌, neg_ℤ, ◌≤ℤ◌, IsTrue};
 ghost use Rattle.domain.specs.Interval.{Interval as Range, IsEnd, HasMember, Includes, has_number, is_vacant, is_included, joined, common, between, sum, difference, negated, held, nearest_end};
-ghost use Rattle.domain.specs.Ranges.{included-has, joined-has_left, joined-has_right, common-has};
+ghost use Rattle.domain.specs.Ranges.{included-has, joined-has_left, joined-has_right, common-has, common-has_left, common-has_right, has-present};
 
 use crate::Domain;
 use std::marker::Model;
@@ -64,14 +64,6 @@ impl Interval {
         ensures bounds { IsEnd result }
     {
         self.last
-    }
-
-    /// Whether no number lies in the range.
-    pub fn is_empty(&self) -> bool
-        ensures answer { result ≡ is_vacant self.now }
-        ensures vacant { IsTrue result ↔ ((z : ℤ) → ¬ HasMember self.now z) }
-    {
-        self.last() < self.first()
     }
 
     /// Whether the number lies in the range.
@@ -162,6 +154,8 @@ impl Domain for Interval {
 
     ghost common = { common };
 
+    ghost vacant = { is_vacant };
+
     fn leq(&self, other: &Interval) -> bool
         ensures answer { result ≡ is_included self.now other.now }
         ensures exact { IsTrue result ↔ Includes other.now self.now }
@@ -197,6 +191,13 @@ impl Domain for Interval {
         Interval { first, last }
     }
 
+    fn is_empty(&self) -> bool
+        ensures answer { result ≡ is_vacant self.now }
+        ensures vacant { IsTrue result ↔ ((z : ℤ) → ¬ HasMember self.now z) }
+    {
+        self.last() < self.first()
+    }
+
     ghost leq_includes = { included-has };
 
     ghost join_has_left = { joined-has_left };
@@ -204,4 +205,10 @@ impl Domain for Interval {
     ghost join_has_right = { joined-has_right };
 
     ghost meet_has_common = { common-has };
+
+    ghost meet_has_left = { common-has_left };
+
+    ghost meet_has_right = { common-has_right };
+
+    ghost has_present = { has-present };
 }

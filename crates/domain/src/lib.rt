@@ -1,10 +1,10 @@
 //! The domains of the checker's abstract values, and (in `specs/Facts.antt`) the facts that it may know.
 //!
-//! `Domain` has the three operations that the checker's soundness stands on, with their laws; `Interval` is a
+//! `Domain` has the four operations that the checker's soundness stands on, with their laws; `Interval` is a
 //! domain, with the arithmetic of ranges.
 #![tactic(auto)]
 
-ghost use Rattle.std.specs.Prelude.{◌≡◌, Bool, true};
+ghost use Rattle.std.specs.Prelude.{◌≡◌, Bool, true, false};
 
 pub mod interval;
 
@@ -18,12 +18,14 @@ pub trait Domain: Sized {
     /// That a concrete value is a member.
     ghost has: { Self → Member → Type 0 };
 
-    /// What `leq`, `join` and `meet` answer.
+    /// What `leq`, `join`, `meet` and `is_empty` answer.
     ghost below: { Self → Self → Bool };
 
     ghost joined: { Self → Self → Self };
 
     ghost common: { Self → Self → Self };
+
+    ghost vacant: { Self → Bool };
 
     /// Whether all members of `self` are members of `other`; `false` may also mean that it can't be told.
     fn leq(&self, other: &Self) -> bool
@@ -33,9 +35,13 @@ pub trait Domain: Sized {
     fn join(&self, other: &Self) -> Self
         ensures { result ≡ joined self.now other.now };
 
-    /// A value that has the members that both have.
+    /// A value that has the members that both have, and no others.
     fn meet(&self, other: &Self) -> Self
         ensures { result ≡ common self.now other.now };
+
+    /// Whether `self` has no member; `false` may also mean that it can't be told.
+    fn is_empty(&self) -> bool
+        ensures { result ≡ vacant self.now };
 
     ghost leq_includes: { (a b : Self) (m : Member) → below a b ≡ true → has a m → has b m };
 
@@ -44,4 +50,10 @@ pub trait Domain: Sized {
     ghost join_has_right: { (a b : Self) (m : Member) → has b m → has (joined a b) m };
 
     ghost meet_has_common: { (a b : Self) (m : Member) → has a m → has b m → has (common a b) m };
+
+    ghost meet_has_left: { (a b : Self) (m : Member) → has (common a b) m → has a m };
+
+    ghost meet_has_right: { (a b : Self) (m : Member) → has (common a b) m → has b m };
+
+    ghost has_present: { (a : Self) (m : Member) → has a m → vacant a ≡ false };
 }

@@ -1,6 +1,7 @@
 ghost use Rattle.std.specs.Prelude.{◌≡◌, not, ◌&&◌, ◌||◌, ℤ};
 ghost use Rattle.domain.specs.Interval.{HasMember, truth, is_true, always_true, never_true, truths, both, either, complement};
 
+use crate::Domain;
 use crate::interval::Interval;
 
 impl Interval {

@@ -1,6 +1,6 @@
 use Rattle.std.proofs.Common.{◌∙◌}
 use Rattle.domain.specs.Ranges.{as_is, same_lt, vacant-tells}
-use Rattle.domain.proofs.interval.Interval.is_empty.Goals as goal
+use Rattle.domain.proofs.interval.IntervalDomain.is_empty.Goals as goal
 
 pub returns-clause-answer : goal.returns-clause-answer
 returns-clause-answer c =
