@@ -2,6 +2,7 @@ ghost use Rattle.std.specs.Prelude.{◌≡◌, IfOk};
 ghost use Rattle.cert_checker.specs.State.{start, is_dead, range_of, is_defined, with_defined, with_value, unless_empty};
 ghost use Rattle.cert_checker.specs.View.{viewed};
 
+use domain::Domain;
 use domain::interval::Interval;
 use std::alloc::{AllocError, Global};
 
