@@ -34,7 +34,8 @@ none-among xs x true is none =
 none-among xs x false is none = refl
 
 -- no number of a list that jumps over x is x
-apart : (xs : List ℕ) (x i k : ℕ) (before : Bool) → nat_lt k i ≡ before → ((n : ℕ) → n < i → get_or xs n 0 < x) → ((n : ℕ) → i ≤ n → n < length xs → x < get_or xs n 0) → k < length xs → get_or xs k 0 ≡ x → ⊥
+apart : (xs : List ℕ) (x i k : ℕ) (before : Bool) → nat_lt k i ≡ before → ((n : ℕ) → n < i → get_or xs n 0 < x) → ((n : ℕ) → i ≤ n → n < length xs
+    → x < get_or xs n 0) → k < length xs → get_or xs k 0 ≡ x → ⊥
 apart xs x i k true is below above inside same =
     let before : k < i = grind (arith, nat_tests) in
     let less : get_or xs k 0 < x = below k before in
@@ -66,7 +67,8 @@ open_in-permuted ids sorted sites permuted =
     (λ site. sym (list_any-IsPermutation (λ id. id == site.id) ids sorted permuted)) sites
 
 -- one site more
-open_in-more : (ids : List ℕ) (sites : List Site) (i : ℕ) (d : Site) (found : List Site) (is : Bool) → i < length sites → found ≡ open_in ids (take i sites) → list_any (λ id. id == (get_or sites i d).id) ids ≡ is
+open_in-more : (ids : List ℕ) (sites : List Site) (i : ℕ) (d : Site) (found : List Site) (is : Bool) → i < length sites → found ≡ open_in ids (take i sites)
+    → list_any (λ id. id == (get_or sites i d).id) ids ≡ is
     → found ++ cond is (get_or sites i d ∷ []) [] ≡ open_in ids (take (i + 1) sites)
 open_in-more ids sites i d found is inside so_far tells =
     let site = get_or sites i d in
@@ -74,13 +76,15 @@ open_in-more ids sites i d found is inside so_far tells =
     ∙ sym (filter_more (λ s. list_any (λ id. id == s.id) ids) sites i d inside)
 
 -- which is open
-pub open_in-taken : (ids : List ℕ) (sites : List Site) (i : ℕ) (d : Site) (found more : List Site) (is : Bool) → i < length sites → found ≡ open_in ids (take i sites) → is ≡ list_any (λ id. id == (get_or sites i d).id) ids
+pub open_in-taken : (ids : List ℕ) (sites : List Site) (i : ℕ) (d : Site) (found more : List Site) (is : Bool) → i < length sites
+    → found ≡ open_in ids (take i sites) → is ≡ list_any (λ id. id == (get_or sites i d).id) ids
     → is ≡ true → more ≡ found ++ (get_or sites i d ∷ []) → more ≡ open_in ids (take (i + 1) sites)
 open_in-taken ids sites i d found more is inside so_far tells taken grown =
     grown ∙ open_in-more ids sites i d found true inside so_far (sym tells ∙ taken)
 
 -- or isn't
-pub open_in-left : (ids : List ℕ) (sites : List Site) (i : ℕ) (d : Site) (found more : List Site) (is : Bool) → i < length sites → found ≡ open_in ids (take i sites) → is ≡ list_any (λ id. id == (get_or sites i d).id) ids
+pub open_in-left : (ids : List ℕ) (sites : List Site) (i : ℕ) (d : Site) (found more : List Site) (is : Bool) → i < length sites
+    → found ≡ open_in ids (take i sites) → is ≡ list_any (λ id. id == (get_or sites i d).id) ids
     → is ≡ false → more ≡ found → more ≡ open_in ids (take (i + 1) sites)
 open_in-left ids sites i d found more is inside so_far tells left kept =
     kept ∙ sym (append-nil found) ∙ open_in-more ids sites i d found false inside so_far (sym tells ∙ left)

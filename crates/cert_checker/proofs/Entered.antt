@@ -89,7 +89,8 @@ value-parts (Variable access defined) context state = refl
 value-parts (MonadicOf number operation operand) context state =
     let begun = value_walk operand.value.0 context state in
     let after = operated operation begun.value context begun.after in
-    ap (λ numbers. number ∷ numbers) (and_no_more begun.linked after.linked _ (operand.value.1 context state) (operated-silent operation begun.value context begun.after))
+    ap (λ numbers. number ∷ numbers) (and_no_more begun.linked after.linked _ (operand.value.1 context state)
+    (operated-silent operation begun.value context begun.after))
 value-parts (Chain first rest) context state =
     let begun = value_walk first.value.0 context state in
     let after = in_turn (map link_walk (map (λ l. l.0) rest.items)) begun.value context begun.after in
@@ -103,7 +104,8 @@ link-parts : (y : Link-F EnteredExpr EnteredLink)
 link-parts y left context state =
     let begun = value_walk y.operand.0 context state in
     let after = combined y.operation left begun.value context begun.after in
-    ap (λ numbers. y.number ∷ numbers) (and_no_more begun.linked after.linked _ (y.operand.1 context state) (combined-silent y.operation left begun.value context begun.after))
+    ap (λ numbers. y.number ∷ numbers) (and_no_more begun.linked after.linked _ (y.operand.1 context state)
+    (combined-silent y.operation left begun.value context begun.after))
 
 -- the walk over an expression enters its entries
 pub value-entered : (e : Expr) → Enters (value_walk e) (entries_of_expression e)

@@ -74,27 +74,34 @@ has-row rows none from i root says is = sym (says-row rows none from i root says
 -- ---- a row becomes defined
 
 -- a fact that comes before a first one
-ahead : (root first : ℕ) (facts : List Fact) → root < first → with_fact (Defined (entire root)) (Defined (entire first) ∷ facts) ≡ Defined (entire root) ∷ Defined (entire first) ∷ facts
-ahead root first facts less = ap (λ order. put order (Defined (entire root)) (Defined (entire first)) facts (with_fact (Defined (entire root)) facts)) (below root first less)
+ahead : (root first : ℕ) (facts : List Fact) → root < first
+    → with_fact (Defined (entire root)) (Defined (entire first) ∷ facts) ≡ Defined (entire root) ∷ Defined (entire first) ∷ facts
+ahead root first facts less =
+    ap (λ order. put order (Defined (entire root)) (Defined (entire first)) facts (with_fact (Defined (entire root)) facts)) (below root first less)
 
 -- or that comes behind it
-behind : (root first : ℕ) (facts : List Fact) → first < root → with_fact (Defined (entire root)) (Defined (entire first) ∷ facts) ≡ Defined (entire first) ∷ with_fact (Defined (entire root)) facts
-behind root first facts more = ap (λ order. put order (Defined (entire root)) (Defined (entire first)) facts (with_fact (Defined (entire root)) facts)) (above root first more)
+behind : (root first : ℕ) (facts : List Fact) → first < root
+    → with_fact (Defined (entire root)) (Defined (entire first) ∷ facts) ≡ Defined (entire first) ∷ with_fact (Defined (entire root)) facts
+behind root first facts more =
+    ap (λ order. put order (Defined (entire root)) (Defined (entire first)) facts (with_fact (Defined (entire root)) facts)) (above root first more)
 
 again : (root : ℕ) (facts : List Fact) → with_fact (Defined (entire root)) (Defined (entire root) ∷ facts) ≡ Defined (entire root) ∷ facts
 again root facts = ap (λ order. put order (Defined (entire root)) (Defined (entire root)) facts (with_fact (Defined (entire root)) facts)) (same root)
 
 ahead-or : (root first : ℕ) (bit : Bool) (facts : List Fact) → root < first → with_fact (Defined (entire root)) facts ≡ Defined (entire root) ∷ facts
-    → with_fact (Defined (entire root)) (cond bit (Defined (entire first) ∷ facts) facts) ≡ Defined (entire root) ∷ cond bit (Defined (entire first) ∷ facts) facts
+    → with_fact (Defined (entire root)) (cond bit (Defined (entire first) ∷ facts) facts) ≡ Defined (entire root) ∷ cond bit (Defined
+    (entire first) ∷ facts) facts
 ahead-or root first true facts less rest = ahead root first facts less
 ahead-or root first false facts less rest = rest
 
 behind-or : (root first : ℕ) (bit : Bool) (facts : List Fact) → first < root
-    → with_fact (Defined (entire root)) (cond bit (Defined (entire first) ∷ facts) facts) ≡ cond bit (Defined (entire first) ∷ with_fact (Defined (entire root)) facts) (with_fact (Defined (entire root)) facts)
+    → with_fact (Defined (entire root)) (cond bit (Defined (entire first) ∷ facts) facts) ≡ cond bit (Defined (entire first) ∷ with_fact (Defined
+    (entire root)) facts) (with_fact (Defined (entire root)) facts)
 behind-or root first true facts more = behind root first facts more
 behind-or root first false facts more = refl
 
-before-all : (root from : ℕ) (rows : List Row) → root < from → with_fact (Defined (entire root)) (defined_from from rows) ≡ Defined (entire root) ∷ defined_from from rows
+before-all : (root from : ℕ) (rows : List Row) → root < from
+    → with_fact (Defined (entire root)) (defined_from from rows) ≡ Defined (entire root) ∷ defined_from from rows
 before-all root from [] less = refl
 before-all root from (row ∷ rows) less =
     ahead-or root from row.is_defined (defined_from (suc from) rows) less (before-all root (suc from) rows (omega arith))
@@ -115,7 +122,8 @@ row-defined (first ∷ rows) from zero root row inside is bit =
     ∙ ap (λ b. cond b (Defined (entire from) ∷ defined_from (suc from) rows) (defined_from (suc from) rows)) (sym bit)
 row-defined (first ∷ rows) from (suc i) root row inside is bit =
     behind-or root from first.is_defined (defined_from (suc from) rows) (omega (arith, is))
-    ∙ ap (λ facts. cond first.is_defined (Defined (entire from) ∷ facts) facts) (row-defined rows (suc from) i root row (omega (arith, inside)) (omega (arith, is)) bit)
+    ∙ ap (λ facts. cond first.is_defined (Defined (entire from) ∷ facts) facts) (row-defined rows (suc from) i root row (omega (arith, inside)) (omega
+    (arith, is)) bit)
 
 -- ---- the ranges of rows
 
@@ -170,7 +178,8 @@ started rows n row are range bit =
 
 -- a row is written
 pub assigned : (rows : List Row) (root : ℕ) (row : Row) → root < length rows → row.is_defined ≡ true
-    → rows_state (ranges_of (set rows root row)) (defined_from 0 (set rows root row)) ≡ with_value root row.range (rows_state (ranges_of rows) (defined_from 0 rows))
+    → rows_state (ranges_of (set rows root row)) (defined_from 0 (set rows root row)) ≡ with_value root row.range (rows_state (ranges_of rows)
+    (defined_from 0 rows))
 assigned rows root row inside bit =
     let facts = defined_from 0 rows in
     let ranges = set (ranges_of rows) root row.range in

@@ -23,5 +23,6 @@ returns-in-Some c =
 pub returns-in-None : goal.returns-in-None
 returns-in-None c =
     let rows = c.in-Live.rows.items in
-    ap (λ (row : Row). row.is_defined) (sym (past rows c.args.root none (grind (arith, nat_tests, c.in-None.ensures.lookup.0, c.deref.ensures.value)))) ∙ has-row rows none 0 c.args.root c.args.root refl (omega arith)
+    ap (λ (row : Row). row.is_defined) (sym (past rows c.args.root none (grind (arith, nat_tests, c.in-None.ensures.lookup.0, c.deref.ensures.value))))
+    ∙ has-row rows none 0 c.args.root c.args.root refl (omega arith)
     ∙ ap (λ kept. is_defined (viewed kept) c.args.root) (sym c.in-Live.is)
