@@ -27,7 +27,8 @@ use Rattle.cert_checker.specs.declared.state.State.{State as Kept}
 use Rattle.cert_checker.specs.declared.known.Known.TheVariants.{Ordinal}
 use Rattle.cert_checker.specs.State.{State, Dead, Live, is_defined, range_of, with_defined, with_value}
 use Rattle.cert_checker.specs.Walk.{Breach, Context, Linked, Walked, Walking, use_of, tested, positive, within, limits_of, width_test, assign, fitting, ◌>>=◌, give, ordinal, enter, variable_walk, operated, combined, in_turn, value_walk, link_walk, parameter_walk, statement_walk, all_of, assignment, numbers_of}
-use Rattle.cert_checker.specs.View.{viewed, context_of, all_counted, counted, first_breach, IsBreachOf, Walks, Goes}
+use Rattle.cert_checker.specs.View.{viewed, context_of, all_counted, counted, Walks, Goes}
+use Rattle.cert_checker.specs.Promise.{first_breach, IsBreachOf}
 
 -- ---- the walk, form by form
 

@@ -1,6 +1,7 @@
 -- What a verdict promises: the list of open sites, and of the runs of a program that they err at its open sites alone
--- (ISO 7185:1990, 3.1), and that at each entry the states of the walk hold. It does not say that an open site can err.
-use Rattle.std.specs.Prelude.{◌≡◌, ℕ, List, [], ◌==◌, Contains, filter, length}
+-- (ISO 7185:1990, 3.1), and that at each entry the states of the walk hold; and why a certificate gets no verdict. It
+-- does not say that an open site can err.
+use Rattle.std.specs.Prelude.{◌≡◌, ℕ, List, [], ◌∷◌, ◌==◌, Contains, Option, Some, None, filter, length}
 use Rattle.std.specs.List.{list_any, range_with_len}
 use Rattle.certificate.specs.declared.Certificate.{Certificate}
 use Rattle.typed_tree.specs.declared.tree.Tree.{Tree}
@@ -11,7 +12,9 @@ use Rattle.meaning.specs.declared.outcome.Ending.TheVariants.{Error}
 use Rattle.meaning.specs.Effect.{Reply, Gives, Stops, Visit}
 use Rattle.meaning.specs.Meaning.{run, meaning}
 use Rattle.cert_checker.specs.State.{State}
-use Rattle.cert_checker.specs.Walk.{Context, Linked, block_walk, program_walk, numbers_of}
+use Rattle.cert_checker.specs.declared.fault.CheckFault.{CheckFault}
+use Rattle.cert_checker.specs.declared.fault.CheckFault.TheVariants.{Memory, Broken}
+use Rattle.cert_checker.specs.Walk.{Breach, Context, Linked, Walked, block_walk, program_walk, numbers_of}
 use Rattle.cert_checker.specs.Holds.{Moment, StateHolds, Separate}
 
 -- the sites of the table that the walk leaves open, in the order of the table
@@ -22,6 +25,16 @@ open_in ids sites = filter (λ site. list_any (λ id. id == site.id) ids) sites
 pub record Valid (tree : Tree) (certificate : Certificate) (open_sites : List Site) : Type 0 where
   pub unbroken : (program_walk tree certificate).broken ≡ []
   pub open_are : open_sites ≡ open_in (program_walk tree certificate).open_ids tree.sites.items
+
+-- the first breach of a list, if there is one
+abbrev pub first_breach : List Breach → Option Breach
+first_breach [] = None
+first_breach (breach ∷ breaches) = Some breach
+
+-- why a certificate is refused: for the first rule that the walk by it breaks, or for want of memory
+abbrev pub IsBreachOf : {A : Type 0} → Walked A → CheckFault → Type 0
+IsBreachOf walked Memory = Unit {0}
+IsBreachOf walked (Broken rule place) = first_breach walked.broken ≡ Some (record { rule = rule; place = place })
 
 -- each error of a run is at a site of the table that is open
 abbrev pub ClosedNeverErr : Tree → List Site → Type 0

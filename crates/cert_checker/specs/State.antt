@@ -43,7 +43,8 @@ is_defined (Live facts) root = has_fact (Defined (entire root)) facts.facts
 abbrev pub with_defined : ℕ → State → State
 with_defined root Dead = Dead
 with_defined root (Live facts) =
-    if nat_lt root (length facts.ranges) then Live (record facts { facts = with_fact (Defined (entire root)) facts.facts })
+    if nat_lt root (length facts.ranges)
+    then Live (record facts { facts = with_fact (Defined (entire root)) facts.facts })
     else Live facts
 
 -- the values of a variable lie in a range from here on

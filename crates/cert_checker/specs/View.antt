@@ -1,16 +1,16 @@
 -- The checker's own values as the definitions see them, and that the checker has walked over a piece of a program.
 -- It does not say what a walk is.
-use Rattle.std.specs.Prelude.{◌≡◌, ℕ, ◌+◌, suc, ◌&&◌, List, [], ◌∷◌, ◌++◌, Option, Some, None, Result, Ok, Err, if◌then◌else◌, map, nat_eq}
+use Rattle.std.specs.Prelude.{◌≡◌, ℕ, ◌+◌, suc, ◌&&◌, List, [], ◌∷◌, ◌++◌, Result, Ok, Err, if◌then◌else◌, map, nat_eq}
 use Rattle.domain.specs.Facts.{Fact, Defined, entire}
 use Rattle.cert_checker.specs.declared.fault.CheckFault.{CheckFault}
-use Rattle.cert_checker.specs.declared.fault.CheckFault.TheVariants.{Memory, Broken}
 use Rattle.cert_checker.specs.declared.state.Row.{Row}
 use Rattle.cert_checker.specs.declared.state.State.{State as Kept}
 use Rattle.cert_checker.specs.declared.state.State.TheVariants as kept
 use Rattle.cert_checker.specs.declared.visits.Visits.{Visits}
 use Rattle.cert_checker.specs.declared.walk.Walk.{Walk}
 use Rattle.cert_checker.specs.State.{State, Dead, Live}
-use Rattle.cert_checker.specs.Walk.{Breach, Context, Walked, Walking, numbers_of}
+use Rattle.cert_checker.specs.Promise.{IsBreachOf}
+use Rattle.cert_checker.specs.Walk.{Context, Walking, numbers_of}
 
 -- the facts that rows say: that variables are defined, the first row being that of a root number
 abbrev pub defined_from : ℕ → List Row → List Fact
@@ -40,8 +40,8 @@ context_of walk = record { tree = walk.tree.now; certificate = walk.certificate.
 
 -- the checker came from an old to a new point as the walk of a piece does, and has its value; it counted the entries of
 -- the piece; the piece breaks no rule
-pub record Walks {A : Type 0} (walking : Walking A) (old : Walk) (before : Visits) (new : Walk) (after : Visits) (value : A)
-    : Type 0 where
+pub record Walks {A : Type 0} (walking : Walking A) (old : Walk) (before : Visits) (new : Walk) (after : Visits)
+    (value : A) : Type 0 where
   pub context_is : context_of new ≡ context_of old
   pub value_is : value ≡ (walking (context_of old) (viewed old.state)).value
   pub state_is : viewed new.state ≡ (walking (context_of old) (viewed old.state)).after
@@ -49,18 +49,8 @@ pub record Walks {A : Type 0} (walking : Walking A) (old : Walk) (before : Visit
   pub visits_are : after ≡ all_counted (numbers_of (walking (context_of old) (viewed old.state)).linked) before
   pub unbroken : (walking (context_of old) (viewed old.state)).broken ≡ []
 
--- the first breach of a list, if there is one
-abbrev pub first_breach : List Breach → Option Breach
-first_breach [] = None
-first_breach (breach ∷ breaches) = Some breach
-
--- why a walk is given up: for the first rule that it breaks, or for want of memory
-abbrev pub IsBreachOf : {A : Type 0} → Walked A → CheckFault → Type 0
-IsBreachOf walked Memory = Unit {0}
-IsBreachOf walked (Broken rule place) = first_breach walked.broken ≡ Some (record { rule = rule; place = place })
-
--- the checker went over a piece of a program: it walked over it, or it tells the first rule that the piece breaks, or it
--- found no memory
+-- the checker went over a piece of a program: it walked over it, or it tells the first rule that the piece breaks, or
+-- it found no memory
 abbrev pub Goes : {A : Type 0} → Walking A → Walk → Visits → Result A CheckFault → Walk → Visits → Type 0
 Goes walking old before (Ok value) new after = Walks walking old before new after value
 Goes walking old before (Err fault) new after = IsBreachOf (walking (context_of old) (viewed old.state)) fault

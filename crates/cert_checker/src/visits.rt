@@ -44,7 +44,8 @@ impl Visits {
     /// The entries that were counted, once the walk over the program ended. Where the walk was not refused, they are
     /// those of the program, each once and in their order.
     pub(crate) fn finish<T>(self, tree: &Tree, walked: &Result<T, CheckFault>) -> u64
-        requires { IfOk walked.now (λ _. self ≡ all_counted (entries_of tree.now) (record { entries = 0; are_in_order = true })) }
+        requires { IfOk walked.now
+            (λ _. self ≡ all_counted (entries_of tree.now) (record { entries = 0; are_in_order = true })) }
         ensures { result ≡ self.entries }
     {
         let Visits {

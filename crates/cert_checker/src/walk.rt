@@ -1,7 +1,8 @@
 ghost use Rattle.std.specs.Prelude.{◌≡◌, [], map, IfOk, MatchResult};
 ghost use Rattle.cert_checker.specs.Walk.{enter, variable_walk, tested, within, positive, divisor, whole, operated, combined, value_walk, link_walk, width_test, width_walk, parameter_walk, all_of, limits_of, fitting, assignment, statement_walk, block_walk, program_walk};
 ghost use Rattle.typed_tree.specs.Entries.{entries_of};
-ghost use Rattle.cert_checker.specs.View.{Goes, IsBreachOf, all_counted};
+ghost use Rattle.cert_checker.specs.View.{Goes, all_counted};
+ghost use Rattle.cert_checker.specs.Promise.{IsBreachOf};
 
 use crate::fault::CheckFault;
 use crate::known::Known;

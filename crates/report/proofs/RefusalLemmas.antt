@@ -25,7 +25,7 @@ use Rattle.report.specs.Faults.{lexer_fault, parser_fault, typing_fault, certifi
 use Rattle.certificate.specs.declared.Certificate.{Certificate as CertificateRead}
 use Rattle.cert_checker.specs.declared.fault.CheckFault.{CheckFault}
 use Rattle.cert_checker.specs.declared.fault.CheckFault.TheVariants as check
-use Rattle.cert_checker.specs.View.{IsBreachOf}
+use Rattle.cert_checker.specs.Promise.{IsBreachOf}
 use Rattle.cert_checker.specs.Walk.{program_walk}
 use Rattle.report.specs.Headline.{IsWrittenAs, IsTypedTreeOf}
 use Rattle.report.specs.Typed.{IsSoundTreeOf}
