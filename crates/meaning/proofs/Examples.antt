@@ -1,19 +1,22 @@
 -- The definitions on small rows, worked out by hand.
-use Rattle.std.proofs.Common.{◌≡◌, inl, inr, ℕ, ap, refl, true, false, pos, negsuc, List, [], ◌∷◌, Some, None, codes}
+use Rattle.std.proofs.Common.{◌≡◌, inl, inr, ℕ, ap, refl, true, false, pos, negsuc, List, [], ◌∷◌, Some, None, codes, slice_get}
 use Rattle.typed_tree.specs.declared.tree.Dyadic.{Dyadic}
 use Rattle.typed_tree.specs.declared.tree.Dyadic.TheVariants as dyadic
 use Rattle.typed_tree.specs.declared.tree.Monadic.TheVariants as monadic
 use Rattle.typed_tree.specs.declared.tree.Relation.TheVariants.{Equal}
+use Rattle.typed_tree.specs.declared.tree.Tree.{Tree}
 use Rattle.typed_tree.specs.declared.tree.WriteParameter.{WriteParameter}
 use Rattle.types.specs.declared.form.OrdinalRange.{OrdinalRange}
+use Rattle.types.specs.declared.form.TypeId.{TypeId}
 use Rattle.meaning.specs.declared.outcome.Ending.{Ending}
 use Rattle.meaning.specs.declared.outcome.Ending.TheVariants.{Error, More}
 use Rattle.meaning.specs.declared.store.Value.{Value}
 use Rattle.meaning.specs.declared.store.Value.TheVariants.{Number}
 use Rattle.meaning.specs.Store.{Place, Step, Element, Environment, stored, written, undefined, overlap}
 use Rattle.meaning.specs.Integers.{is_integer_number}
-use Rattle.meaning.specs.Effect.{State, Reply, Gives, Stops, Action, ◌>>=◌, and_then, give, fetch, use_turn, write, is_in, boolean_text, text_of}
+use Rattle.meaning.specs.Effect.{State, Reply, Gives, Stops, Action, ◌>>=◌, and_then, give, fetch, store, use_turn, write, is_in, boolean_text, text_of}
 use Rattle.meaning.specs.Meaning.{Evaluation, Combination, link_step, in_turn, operated, value_of, width_of, parameter_of, completed, first_state}
+use Rattle.meaning.specs.Meaning.{home_of, program_environment}
 use Rattle.meaning.specs.Laws.{Extends}
 use Rattle.meaning.specs.Pending.{positive}
 
@@ -72,6 +75,22 @@ no_line = refl
 nowhere : Environment
 nowhere root = None
 
+-- a variable of the program's block lies in its activation; one that another block declares is not visible there
+of_its_block : (id : TypeId) → home_of 3 (Some (record { block = 0; type_id = id })) ≡ Some (place 3 [])
+of_its_block id = refl
+
+of_another_block : (id : TypeId) → home_of 3 (Some (record { block = 1; type_id = id })) ≡ None
+of_another_block id = refl
+
+outside_the_program : (tree : Tree) (id : TypeId) → slice_get tree.variables.items 3 ≡ Some (record { block = 1; type_id = id }) →
+    program_environment tree 3 ≡ None
+outside_the_program tree id is = ap (home_of 3) is
+
+-- a variable that isn't visible can't get a value
+not_kept : store (nowhere 0) (Number (pos 1)) (first_state [] 0) ≡ Gives tt (first_state [] 0)
+unfolding nowhere
+not_kept = refl
+
 -- a reply without its state
 data Told : Type 0 where
   Value_of : Value → Told
@@ -87,7 +106,12 @@ operand v environment = give v
 
 -- the undefined variable of root 0, whose site is 7
 abbrev nothing_there : Evaluation
-nothing_there environment = fetch (place 0 []) 7
+nothing_there environment = fetch (Some (place 0 [])) 7
+
+-- the value of a variable that isn't visible is an error at its site
+not_found : told (fetch (nowhere 0) 7 (first_state [] 0)) ≡ End_of (Error 7)
+unfolding nowhere
+not_found = refl
 
 -- an operator with its right operand
 abbrev link : Dyadic → Evaluation → Combination

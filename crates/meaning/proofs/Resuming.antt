@@ -12,10 +12,10 @@ use Rattle.meaning.specs.declared.store.Value.{Value}
 use Rattle.meaning.specs.declared.interpreter.Run.{Run}
 use Rattle.meaning.specs.declared.work.Work.{Work}
 use Rattle.meaning.specs.declared.work.Work.TheVariants as work
-use Rattle.meaning.specs.Store.{Environment, Place, stored, written}
-use Rattle.meaning.specs.Effect.{State, Reply, Gives, Stops, Action, ◌>>=◌, and_then, fetched, fetch, place_of, is_in, require, store}
+use Rattle.meaning.specs.Store.{Environment, Place, held, kept}
+use Rattle.meaning.specs.Effect.{State, Reply, Gives, Stops, Action, ◌>>=◌, and_then, fetched, fetch, is_in, require, store}
 use Rattle.meaning.specs.Meaning.{Meaning, ended}
-use Rattle.meaning.specs.Pending.{Resumption, Agrees, IsFlat, Continues, Does, pending_of, resumed, rest_of, answered, giving, top_of, below_top, checked}
+use Rattle.meaning.specs.Pending.{Resumption, Agrees, Continues, Does, pending_of, resumed, rest_of, answered, giving, top_of, below_top, checked}
 
 -- one more at the end of a stack is one more at its top
 pub reverse_push : {A : Type 0} (xs : List A) (x : A) → reverse (xs ++ x ∷ []) ≡ x ∷ reverse xs
@@ -43,18 +43,14 @@ fetched_answer : (o : Option Value) (site : ℕ) (s : State) → fetched o site 
 fetched_answer None site s = refl
 fetched_answer (Some v) site s = refl
 
--- the value of a variable is what is stored at its place
-pub fetched_there : (root defined : ℕ) (env : Environment) (s : State) (p : Place) (o : Option Value) (answer : Result Value ℕ) → place_of env root ≡ p →
-    o ≡ stored s.store p → answer ≡ ok_or o defined → fetch (place_of env root) defined s ≡ answered answer s
-fetched_there root defined env s p o answer there holds is =
-    ap (λ q. fetched (stored s.store q) defined s) there
-    ∙ ap (λ w. fetched w defined s) (sym holds)
-    ∙ fetched_answer o defined s
-    ∙ ap (λ a. answered a s) (sym is)
+-- the value of a variable is what its place holds
+pub fetched_there : (defined : ℕ) (s : State) (place : Option Place) (o : Option Value) (answer : Result Value ℕ) → o ≡ held s.store place →
+    answer ≡ ok_or o defined → fetch place defined s ≡ answered answer s
+fetched_there defined s place o answer holds is = ap (λ w. fetched w defined s) (sym holds) ∙ fetched_answer o defined s ∙ ap (λ a. answered a s) (sym is)
 
 module _ (env : Environment) (old new : Run) where
   -- the run goes on with other work
-  pub goes_on_to : (s : State) (works : List Work) (reply : Reply (Unit {0})) → Agrees new s → reverse new.pending.items ≡ works →
+  pub goes_on_to : (s : State) (works : List Work) (reply : Reply (Unit {0})) → Agrees env new s → reverse new.pending.items ≡ works →
       new.values.items ≡ old.values.items → reply ≡ pending_of env works (reverse old.values.items) s → Continues env reply (Ok None) new
   goes_on_to s works reply agrees work same is =
       (s, agrees, is ∙ ap (λ l. pending_of env works (reverse l) s) (sym same) ∙ ap (λ p. pending_of env p (reverse new.values.items) s) (sym work))
@@ -72,7 +68,7 @@ module _ (old new : Run) where
 
   -- a run that goes on after its topmost piece of work
   pub goes_on_from : (env : Environment) (start reply : Reply (Unit {0})) (result : Result (Option Ending) AllocError) → start ≡ reply → result ≡ Ok None →
-      Continues env reply result new → (t : State) × Agrees new t × (start ≡ rest_of env new t)
+      Continues env reply result new → (t : State) × Agrees env new t × (start ≡ rest_of env new t)
   goes_on_from env start reply result is none continues =
       let next : Continues env reply (Ok None) new = subst (λ (r : Result (Option Ending) AllocError). Continues env reply r new) none continues in
       (next.0, next.1, is ∙ next.2)
@@ -85,7 +81,7 @@ module _ (old new : Run) where
       ap ended (is ∙ next.2) ∙ ap (λ (o : List ℕ). let m : Meaning = record { output = o; ending = ending } in m) (sym next.1)
 
   -- a run that has nothing left to do
-  pub done_from : (env : Environment) (start : Reply (Unit {0})) (t : State) → start ≡ rest_of env new t → new.pending.items ≡ [] → Agrees new t →
+  pub done_from : (env : Environment) (start : Reply (Unit {0})) (t : State) → start ≡ rest_of env new t → new.pending.items ≡ [] → Agrees env new t →
       ended start ≡ record { output = new.output.items; ending = Finished }
   done_from env start t is none agrees =
       ap ended is
@@ -95,15 +91,15 @@ module _ (old new : Run) where
 -- a calculation with operands that were taken from the stack
 pub goes_on_by : (old taken new : Run) (env : Environment) (s : State) (action : Action Value) (answer : Result Value ℕ) (below : List Value)
     (result : Result (Option Ending) AllocError) → taken ≡ record old { values = taken.values } → reverse taken.values.items ≡ below →
-    action s ≡ answered answer s → IsFlat env → Agrees old s → Does (λ env. giving (answered answer)) taken result new →
+    action s ≡ answered answer s → Agrees env old s → Does (λ env. giving (answered answer)) taken result new →
     Continues env (giving action (pending_of env (reverse old.pending.items)) below s) result new
-goes_on_by old taken new env s action answer below result same left gives flat agrees does =
-    let kept : Agrees taken s = subst (λ (r : Run). Agrees r s) (sym same) agrees in
+goes_on_by old taken new env s action answer below result same left gives agrees does =
+    let agreed : Agrees env taken s = subst (λ (r : Run). Agrees env r s) (sym same) agrees in
     continues_as env old new _ _ result
     (ap (λ (r : Reply Value). and_then r (λ v. pending_of env (reverse old.pending.items) (v ∷ below))) gives
     ∙ ap (λ (l : List Value). giving (answered answer) (pending_of env (reverse old.pending.items)) l s) (sym left)
     ∙ ap (λ (r : Run). giving (answered answer) (pending_of env (reverse r.pending.items)) (reverse taken.values.items) s) (sym same))
-    (does env flat s kept)
+    (does env s agreed)
 
 -- the topmost piece of work is taken from the stack
 pub taken : (env : Environment) (run : Run) (left : List Work) (work : Work) (t : State) → run.pending.items ≡ left ++ work ∷ [] →
@@ -113,9 +109,9 @@ taken env run left work t is = ap (λ (l : List Work). pending_of env l (reverse
 -- the topmost operand is stored
 pub stores : (env : Environment) (root : ℕ) (fits : RangeTest) (next : Resumption) (operands : List Value) (s : State) (v : Value) → v ≡ top_of operands →
     is_in fits.range v ≡ true → resumed env (work.Store root fits) next operands s ≡
-    next (below_top operands) (record s { store = written s.store (place_of env root) v })
+    next (below_top operands) (record s { store = kept s.store (env root) v })
 stores env root fits next operands s v top fine =
-    let then_rest : Value → Unit {0} → Action (Unit {0}) = λ u _. store (place_of env root) u >>= λ _. next (below_top operands) in
+    let then_rest : Value → Unit {0} → Action (Unit {0}) = λ u _. store (env root) u >>= λ _. next (below_top operands) in
     ap (λ (u : Value). and_then (require (is_in fits.range u) fits.site s) (then_rest u)) (sym top)
     ∙ ap (λ (b : Bool). and_then (require b fits.site s) (then_rest v)) fine
 

@@ -1,11 +1,10 @@
 -- How a run begins.
-use Rattle.std.proofs.Common.{◌≡◌, ℕ, List, [], ◌∷◌, ◌++◌, Bool, true, false, Option, Some, None, Result, Ok, Err, IfOk, if◌then◌else◌, Bor, reverse, nat_eq, slice_get, unwrap_or, sym, ◌∙◌, ap, refl}
+use Rattle.std.proofs.Common.{◌≡◌, ℕ, List, [], ◌∷◌, ◌++◌, Option, Some, Result, Ok, Err, IfOk, Bor, reverse, slice_get, sym, ◌∙◌, ap, refl}
 use Rattle.std.specs.BTreeMap.{BTreeMap, is_at}
 use Rattle.std.specs.Map.{lookup}
 use Rattle.std.specs.declared.alloc.AllocError.{AllocError}
 use Rattle.typed_tree.specs.declared.tree.Tree.{Tree}
 use Rattle.typed_tree.specs.declared.tree.Block.{Block}
-use Rattle.typed_tree.specs.declared.tree.Variable.{Variable}
 use Rattle.typed_tree.specs.declared.tree.Stmt.{Stmt}
 use Rattle.meaning.specs.declared.outcome.Ending.{Ending}
 use Rattle.meaning.specs.declared.store.Place.{Place as KeptPlace}
@@ -14,24 +13,10 @@ use Rattle.meaning.specs.declared.interpreter.Run.{Run}
 use Rattle.meaning.specs.declared.work.Work.{Work}
 use Rattle.meaning.specs.declared.work.Work.TheVariants as work
 use Rattle.meaning.specs.contracts.store.PlaceOrd.TheImpl.{ghosts}
-use Rattle.meaning.specs.Store.{Environment, Place}
+use Rattle.meaning.specs.Store.{Environment}
 use Rattle.meaning.specs.Effect.{State, Reply, Gives, Stops, and_then, give}
-use Rattle.meaning.specs.Meaning.{Meaning, ended, effect_of, run_of, meaning, home_of, program_environment, first_state}
-use Rattle.meaning.specs.Pending.{Agrees, IsFlat, StoreAgrees, pending_of}
-
-either_way : (b : Bool) (p : Place) → unwrap_or (if b then Some p else None) p ≡ p
-either_way true p = refl
-either_way false p = refl
-
--- a variable lies in the first activation
-home_is_flat : (root : ℕ) (o : Option Variable)
-    → unwrap_or (home_of root o) (record { activation = 0; variable = root; steps = [] }) ≡ record { activation = 0; variable = root; steps = [] }
-home_is_flat root None = refl
-home_is_flat root (Some variable) = either_way (nat_eq variable.block 0) (record { activation = 0; variable = root; steps = [] })
-
--- the variables of the program's block lie in the first activation
-flat_program : (tree : Tree) → IsFlat (program_environment tree)
-flat_program tree root = home_is_flat root (slice_get tree.variables.items root)
+use Rattle.meaning.specs.Meaning.{Meaning, ended, effect_of, run_of, meaning, program_environment, first_state}
+use Rattle.meaning.specs.Pending.{Agrees, StoreAgrees, pending_of}
 
 -- nothing follows
 and_then-nothing : (r : Reply (Unit {0})) → and_then r (λ _. give tt) ≡ r
@@ -57,10 +42,10 @@ holds_nothing kept none p whole = ap (λ (l : List (KeptPlace × Value)). lookup
 
 -- a run that did the program's block from the first state ends as the program does
 pub ends_as_meant : (tree : Tree) (input : List ℕ) (turns : ℕ) (run : Run) (output : List ℕ) (ending : Ending) →
-    Agrees run (first_state input turns) →
-    ((env : Environment) → IsFlat env → (s : State) → Agrees run s →
+    Agrees (program_environment tree) run (first_state input turns) →
+    ((env : Environment) (s : State) → Agrees env run s →
     ended (run_of (slice_get tree.blocks.items 0) env s) ≡ record { output = output; ending = ending }) →
     (output ≡ (meaning tree input turns).output) × (ending ≡ (meaning tree input turns).ending)
 ends_as_meant tree input turns run output ending begun finished =
-    let told = sym (finished (program_environment tree) (flat_program tree) (first_state input turns) begun) in
+    let told = sym (finished (program_environment tree) (first_state input turns) begun) in
     (ap (λ (m : Meaning). m.output) told, ap (λ (m : Meaning). m.ending) told)

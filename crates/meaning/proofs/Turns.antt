@@ -28,8 +28,8 @@ use Rattle.meaning.specs.declared.outcome.Ending.TheVariants as ending
 use Rattle.meaning.specs.declared.store.Value.{Value}
 use Rattle.meaning.specs.declared.store.Value.TheVariants.{Number}
 use Rattle.meaning.specs.Integers.{is_integer_number}
-use Rattle.meaning.specs.Store.{Environment, Place, stored}
-use Rattle.meaning.specs.Effect.{State, Reply, Gives, Stops, Action, ◌>>=◌, and_then, give, stop, require, enter, take_turn, use_turn, place_of}
+use Rattle.meaning.specs.Store.{Environment, Place, held}
+use Rattle.meaning.specs.Effect.{State, Reply, Gives, Stops, Action, ◌>>=◌, and_then, give, stop, require, enter, take_turn, use_turn}
 use Rattle.meaning.specs.Effect.{fetched, fetch, store, write, is_in, is_positive, text_of}
 use Rattle.meaning.specs.Meaning.{Evaluation, Combination, Execution, value_step, link_step, effect_step, whole, operated, combined, in_turn, all_of}
 use Rattle.meaning.specs.Meaning.{width_of, parameter_of, line_ended, value_of, link_of, effect_of, Meaning, run_of, run, ended}
@@ -99,7 +99,7 @@ extended_stop e = record { grows = λ s. nothing s.output; falls = λ s. omega a
 extended_enter : (number : ℕ) (env : Environment) → Extended (enter number env)
 extended_enter number env = record { grows = λ s. nothing s.output; falls = λ s. omega arith; extends = λ more s. inl refl }
 
-extended_store : (p : Place) (v : Value) → Extended (store p v)
+extended_store : (p : Option Place) (v : Value) → Extended (store p v)
 extended_store p v = record { grows = λ s. nothing s.output; falls = λ s. omega arith; extends = λ more s. inl refl }
 
 extended_write : (bytes : List ℕ) → Extended (write bytes)
@@ -138,11 +138,11 @@ extended_fetched : (o : Option Value) (site : ℕ) → Extended (fetched o site)
 extended_fetched None site = extended_stop (ending.Error site)
 extended_fetched (Some v) site = extended_give v
 
-extended_fetch : (p : Place) (site : ℕ) → Extended (fetch p site)
+extended_fetch : (p : Option Place) (site : ℕ) → Extended (fetch p site)
 extended_fetch p site = record {
-  grows = λ s. (extended_fetched (stored s.store p) site).grows s;
-  falls = λ s. (extended_fetched (stored s.store p) site).falls s;
-  extends = λ more s. (extended_fetched (stored s.store p) site).extends more s;
+  grows = λ s. (extended_fetched (held s.store p) site).grows s;
+  falls = λ s. (extended_fetched (held s.store p) site).falls s;
+  extends = λ more s. (extended_fetched (held s.store p) site).extends more s;
 }
 
 -- a test, and then a value
@@ -197,8 +197,8 @@ value-parts : (y : Expr-F ExtendedExpr ExtendedLink) (env : Environment) →
 value-parts (Constant number value) env =
     extended_then (enter number env) (λ _. give (Number value)) (extended_enter number env) (λ _. extended_give (Number value))
 value-parts (Variable access defined) env =
-    extended_then (enter access.number env) (λ _. fetch (place_of env access.root) defined) (extended_enter access.number env)
-    (λ _. extended_fetch (place_of env access.root) defined)
+    extended_then (enter access.number env) (λ _. fetch (env access.root) defined) (extended_enter access.number env)
+    (λ _. extended_fetch (env access.root) defined)
 value-parts (MonadicOf number operation operand) env =
     let value : Action Value = value_of operand.value.0 env in
     extended_then (enter number env) (λ _. value >>= λ v. operated operation v) (extended_enter number env)
@@ -268,13 +268,13 @@ effect-parts : (y : Stmt-F ExtendedStmt) (env : Environment) → Extended (execu
 effect-parts (Empty number) env = extended_enter number env
 effect-parts (Assign number becomes target fits value) env =
     let given : Action Value = value_of value env in
-    let kept : Value → Unit {0} → Action (Unit {0}) = λ v _. store (place_of env target.root) v in
+    let kept : Value → Unit {0} → Action (Unit {0}) = λ v _. store (env target.root) v in
     let tested : Value → Action (Unit {0}) = λ v. require (is_in fits.range v) fits.site >>= kept v in
     extended_then (enter number env) (λ _. enter target.number env >>= λ _. given >>= tested) (extended_enter number env)
     (λ _. extended_then (enter target.number env) (λ _. given >>= tested) (extended_enter target.number env)
     (λ _. extended_then given tested (extended_value value env)
     (λ v. extended_then (require (is_in fits.range v) fits.site) (kept v) (extended_require (is_in fits.range v) fits.site)
-    (λ _. extended_store (place_of env target.root) v))))
+    (λ _. extended_store (env target.root) v))))
 effect-parts (Write number name parameters ends_line) env =
     let written : Action (Unit {0}) = all_of (map parameter_of parameters.items) env in
     extended_then (enter number env) (λ _. written >>= λ _. line_ended ends_line) (extended_enter number env)

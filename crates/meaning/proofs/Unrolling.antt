@@ -19,14 +19,14 @@ use Rattle.meaning.specs.declared.store.Value.{Value}
 use Rattle.meaning.specs.declared.work.Work.{Work}
 use Rattle.meaning.specs.declared.work.Work.TheVariants as work
 use Rattle.meaning.specs.Store.{Environment}
-use Rattle.meaning.specs.Effect.{State, Reply, Action, ◌>>=◌, and_then, require, enter, place_of, fetch, store, write, is_in, text_of}
+use Rattle.meaning.specs.Effect.{State, Reply, Action, ◌>>=◌, and_then, require, enter, fetch, store, write, is_in, text_of}
 use Rattle.meaning.specs.Meaning.{Evaluation, Combination, Execution, value_step, link_step, effect_step, operated, combined, in_turn, all_of}
 use Rattle.meaning.specs.Meaning.{width_of, parameter_of, line_ended, value_of, link_of, effect_of}
 use Rattle.meaning.specs.Pending.{Resumption, pending_of, resumed, line_ending, linking, giving, positive, top_of, below_top}
 use Rattle.meaning.proofs.Resuming.{and_then-and_then, and_then-same}
 
 value-Variable : (a : Access) (defined : ℕ) (env : Environment) →
-    value_of (expr.Variable a defined) env ≡ (enter a.number env >>= λ _. fetch (place_of env a.root) defined)
+    value_of (expr.Variable a defined) env ≡ (enter a.number env >>= λ _. fetch (env a.root) defined)
 value-Variable a defined env = ap (λ (e : Expr). value_of e env) (sym (expr.rolls-Variable a defined))
     ∙ ap (λ (f : Evaluation). f env) (fold-roll-Expr Evaluation Combination value_step link_step (Variable-F a defined))
 
@@ -51,7 +51,7 @@ effect-Empty n env = ap (λ (e : Stmt). effect_of e env) (sym (stmt.rolls-Empty 
 effect-Assign : (n : ℕ) (becomes : SourcePlace) (target : Access) (fits : RangeTest) (value : Expr) (env : Environment) →
     effect_of (stmt.Assign n becomes target fits value) env ≡
     (enter n env >>= λ _. enter target.number env >>= λ _. value_of value env >>= λ v.
-    require (is_in fits.range v) fits.site >>= λ _. store (place_of env target.root) v)
+    require (is_in fits.range v) fits.site >>= λ _. store (env target.root) v)
 effect-Assign n becomes target fits value env = ap (λ (e : Stmt). effect_of e env) (sym (stmt.rolls-Assign n becomes target fits value))
     ∙ ap (λ (f : Execution). f env) (fold-roll-Stmt Execution effect_step (Assign-F n becomes target fits value))
 
@@ -75,7 +75,7 @@ evaluated env e works operands = giving (value_of e env) (pending_of env works) 
 
 pub does-Variable : (a : Access) (defined : ℕ) (given : Expr) → given ≡ expr.Variable a defined →
     (env : Environment) (works : List Work) (operands : List Value) (s : State) →
-    evaluated env given works operands s ≡ giving (fetch (place_of env a.root) defined) (pending_of env works) operands (entered a.number env s)
+    evaluated env given works operands s ≡ giving (fetch (env a.root) defined) (pending_of env works) operands (entered a.number env s)
 does-Variable a defined given is env works operands s =
     ap (λ (e : Expr). evaluated env e works operands s) is
     ∙ ap (λ (a : Action Value). giving a (pending_of env works) operands s) (value-Variable a defined env)
@@ -140,9 +140,9 @@ does-Assign n becomes target fits value given is env works operands s =
     let there = entered target.number env (entered n env s) in
     ap (λ (e : Stmt). executed env e works operands s) is
     ∙ ap (λ (a : Action (Unit {0})). and_then (a s) then_rest) (effect-Assign n becomes target fits value env)
-    ∙ and_then-and_then (value_of value env there) (λ v. require (is_in fits.range v) fits.site >>= λ _. store (place_of env target.root) v) then_rest
+    ∙ and_then-and_then (value_of value env there) (λ v. require (is_in fits.range v) fits.site >>= λ _. store (env target.root) v) then_rest
     ∙ and_then-same (value_of value env there) _ _
-    (λ v t. and_then-and_then (require (is_in fits.range v) fits.site t) (λ _. store (place_of env target.root) v) then_rest)
+    (λ v t. and_then-and_then (require (is_in fits.range v) fits.site t) (λ _. store (env target.root) v) then_rest)
 
 pub does-Write : (n : ℕ) (name : SourcePlace) (parameters : Vec WriteParameter Global) (ends_line : Bool) (given : Stmt) →
     given ≡ stmt.Write n name parameters ends_line → (all : Bor (List WriteParameter)) → all.now ≡ parameters.items →

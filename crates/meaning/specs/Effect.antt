@@ -1,6 +1,6 @@
 -- What a piece of a program does: from a state to a reply, which gives a value or stops (ISO 7185:1990, 6.7, 6.8).
 -- It says nothing of how long that takes.
-use Rattle.std.specs.Prelude.{ℕ, zero, suc, ℤ, pos, negsuc, ◌-◌, ◌++◌, ◌&&◌, Bool, List, [], ◌∷◌, Option, Some, None, if◌then◌else◌, int_le, length, replicate, take, unwrap_or, codes}
+use Rattle.std.specs.Prelude.{ℕ, zero, suc, ℤ, pos, negsuc, ◌-◌, ◌++◌, ◌&&◌, Bool, List, [], ◌∷◌, Option, Some, None, if◌then◌else◌, int_le, length, replicate, take, codes}
 use Rattle.std.specs.Fmt.{signed_decimal}
 use Rattle.types.specs.declared.form.OrdinalRange.{OrdinalRange}
 use Rattle.typed_tree.specs.declared.tree.Representation.{Representation}
@@ -10,7 +10,7 @@ use Rattle.meaning.specs.declared.outcome.Ending.TheVariants as ending
 use Rattle.meaning.specs.declared.store.Value.{Value}
 use Rattle.meaning.specs.declared.store.Value.TheVariants.{Number}
 use Rattle.meaning.specs.Integers.{is_integer_number, is_true, is_within}
-use Rattle.meaning.specs.Store.{Environment, Place, Store, stored, written}
+use Rattle.meaning.specs.Store.{Environment, Place, Store, held, kept}
 
 -- an entry into the statement or expression with this number, for theorems alone
 pub record Visit : Type 0 where
@@ -73,22 +73,18 @@ take_turn (suc left) s = Gives tt (record s { turns = left })
 abbrev pub use_turn : Action (Unit {0})
 use_turn s = take_turn s.turns s
 
--- where a variable lies; each variable that a tree names is visible there
-abbrev pub place_of : Environment → ℕ → Place
-place_of env root = unwrap_or (env root) (record { activation = 0; variable = root; steps = [] })
-
 -- the value of a place, or an error at the site where it is undefined
 abbrev pub fetched : Option Value → ℕ → Action Value
 fetched None site = stop (ending.Error site)
 fetched (Some v) site = give v
 
--- the value of a place, in the store of the state
-abbrev pub fetch : Place → ℕ → Action Value
-fetch p site s = fetched (stored s.store p) site s
+-- the value at a place, in the store of the state; a variable that isn't visible has no place
+abbrev pub fetch : Option Place → ℕ → Action Value
+fetch place site s = fetched (held s.store place) site s
 
--- a value is written to a place
-abbrev pub store : Place → Value → Action (Unit {0})
-store p v s = Gives tt (record s { store = written s.store p v })
+-- a value is written to a place, if there is one
+abbrev pub store : Option Place → Value → Action (Unit {0})
+store place v s = Gives tt (record s { store = kept s.store place v })
 
 -- bytes are put behind the output
 abbrev pub write : List ℕ → Action (Unit {0})

@@ -33,7 +33,7 @@ use Rattle.meaning.specs.declared.store.Value.{Value}
 use Rattle.meaning.specs.declared.store.Value.TheVariants.{Number}
 use Rattle.meaning.specs.Integers.{is_integer_number, truth, is_true, is_odd, magnitude}
 use Rattle.meaning.specs.Store.{Environment, Place}
-use Rattle.meaning.specs.Effect.{State, Reply, Gives, Stops, Action, ◌>>=◌, give, require, enter, place_of, fetch, store, write, is_in, is_positive, text_of}
+use Rattle.meaning.specs.Effect.{State, Reply, Gives, Stops, Action, ◌>>=◌, give, require, enter, fetch, store, write, is_in, is_positive, text_of}
 
 -- what an expression does in an environment: it gives its value
 abbrev pub Evaluation : Type 0
@@ -105,7 +105,7 @@ value_step (Constant number value) env = do
   give (Number value)
 value_step (Variable access defined) env = do
   _ ← enter access.number env
-  fetch (place_of env access.root) defined
+  fetch (env access.root) defined
 value_step (MonadicOf number operation operand) env = do
   _ ← enter number env
   v ← operand.value env
@@ -165,7 +165,7 @@ effect_step (Assign number becomes target fits value) env = do
   _ ← enter target.number env
   v ← value_of value env
   _ ← require (is_in fits.range v) fits.site
-  store (place_of env target.root) v
+  store (env target.root) v
 effect_step (Write number name parameters ends_line) env = do
   _ ← enter number env
   _ ← all_of (map parameter_of parameters.items) env

@@ -1,7 +1,7 @@
 -- What the work that an interpreter has still to do means: from its operands and the state, the topmost first.
 -- It says nothing of how many steps the work takes.
 use Rattle.std.specs.Prelude.{◌≡◌, ℕ, pos, Bool, List, [], ◌∷◌, Option, Some, None, Result, Ok, Err, IfOk}
-use Rattle.std.specs.Prelude.{if◌then◌else◌, drop, map, reverse}
+use Rattle.std.specs.Prelude.{if◌then◌else◌, drop, map, reverse, slice_get}
 use Rattle.std.specs.BTreeMap.{BTreeMap, get}
 use Rattle.std.specs.declared.alloc.AllocError.{AllocError}
 use Rattle.types.specs.declared.form.OrdinalRange.{OrdinalRange}
@@ -15,9 +15,9 @@ use Rattle.meaning.specs.declared.work.Work.TheVariants as work
 use Rattle.meaning.specs.declared.interpreter.Run.{Run}
 use Rattle.meaning.specs.contracts.store.PlaceOrd.TheImpl.{ghosts as places}
 use Rattle.meaning.specs.Store.{Environment, Place, Store, stored}
-use Rattle.meaning.specs.Effect.{State, Reply, Stops, Action, ◌>>=◌, give, stop, require, place_of, store, write}
+use Rattle.meaning.specs.Effect.{State, Reply, Stops, Action, ◌>>=◌, give, stop, require, store, write}
 use Rattle.meaning.specs.Effect.{is_in, is_positive, text_of}
-use Rattle.meaning.specs.Meaning.{Combination, completed, ended, operated, combined, value_of, link_of, effect_of}
+use Rattle.meaning.specs.Meaning.{Combination, completed, ended, home_of, operated, combined, value_of, link_of, effect_of}
 use Rattle.meaning.specs.Meaning.{all_of, width_of, parameter_of, line_ended}
 
 -- what is done with the operands, the topmost first, and the state
@@ -93,7 +93,7 @@ resumed env (work.Write representation) next operands =
     with_top (λ w rest. with_top (λ v below. write (text_of representation v w) >>= λ _. next below) rest) operands
 resumed env (work.Store root fits) next operands =
     with_top
-    (λ v below. require (is_in fits.range v) fits.site >>= λ _. store (place_of env root) v >>= λ _. next below)
+    (λ v below. require (is_in fits.range v) fits.site >>= λ _. store (env root) v >>= λ _. next below)
     operands
 resumed env (work.Value expression) next operands = giving (value_of expression.now env) next operands
 resumed env (work.Monadic operation) next operands = with_top (λ v. giving (operated operation v) next) operands
@@ -114,9 +114,10 @@ place_seen p = record { activation = p.activation; variable = p.variable; steps 
 abbrev pub StoreAgrees : BTreeMap KeptPlace Value → Store → Type 0
 StoreAgrees kept store = (p : KeptPlace) → p.steps.items ≡ [] → get places.cmp kept p ≡ stored store (place_seen p)
 
--- the interpreter has what a state has, but for its entries
-abbrev pub Agrees : Run → State → Type 0
-Agrees run s = record {
+-- the interpreter has what a state has, but for its entries, and finds the variables of an environment
+abbrev pub Agrees : Environment → Run → State → Type 0
+Agrees env run s = record {
+  visible : (root : ℕ) → env root ≡ home_of root (slice_get run.variables.now root);
   store : StoreAgrees run.store s.store;
   input : drop run.taken (completed run.input.now) ≡ s.input;
   output : run.output.items ≡ s.output;
@@ -131,21 +132,17 @@ rest_of env run s = pending_of env (reverse run.pending.items) (reverse run.valu
 -- a step answered: it goes on to what the reply goes on to, or the reply stops with this ending and this output
 abbrev pub Continues : Environment → Reply (Unit {0}) → Result (Option Ending) AllocError → Run → Type 0
 Continues env reply (Err e) run = Unit {0}
-Continues env reply (Ok None) run = (s : State) × Agrees run s × (reply ≡ rest_of env run s)
+Continues env reply (Ok None) run = (s : State) × Agrees env run s × (reply ≡ rest_of env run s)
 Continues env reply (Ok (Some ending)) run = (s : State) × (run.output.items ≡ s.output) × (reply ≡ Stops ending s)
-
--- the variables of the program's block lie where the interpreter looks for them
-abbrev pub IsFlat : Environment → Type 0
-IsFlat env = (root : ℕ) → place_of env root ≡ record { activation = 0; variable = root; steps = [] }
 
 -- a step does a piece of work: in each state that the run agrees with
 abbrev pub Does : (Environment → Resumption → Resumption) → Run → Result (Option Ending) AllocError → Run → Type 0
 Does piece old result new =
-    (env : Environment) → IsFlat env → (s : State) → Agrees old s →
+    (env : Environment) (s : State) → Agrees env old s →
     Continues env (piece env (pending_of env (reverse old.pending.items)) (reverse old.values.items) s) result new
 
 -- a run is done: what it wrote and how it ended are those of all that it had to do
 abbrev pub Finishes : (Environment → Action (Unit {0})) → Run → Result Ending AllocError → Run → Type 0
 Finishes all old result new =
-    (env : Environment) → IsFlat env → (s : State) → Agrees old s →
+    (env : Environment) (s : State) → Agrees env old s →
     IfOk result (λ ending. ended (all env s) ≡ record { output = new.output.items; ending = ending })

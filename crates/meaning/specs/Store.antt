@@ -44,6 +44,16 @@ stored (entry ∷ store) p = if place_eq entry.0 p then entry.1 else stored stor
 abbrev pub written : Store → Place → Value → Store
 written store p v = (p, Some v) ∷ store
 
+-- what a store holds, where there is a place and it is defined
+abbrev pub held : Store → Option Place → Option Value
+held store None = None
+held store (Some p) = stored store p
+
+-- the store after a value was written, where there is a place
+abbrev pub kept : Store → Option Place → Value → Store
+kept store None v = store
+kept store (Some p) v = written store p v
+
 -- the store after a place became undefined
 abbrev pub undefined : Store → Place → Store
 undefined store p = (p, None) ∷ store

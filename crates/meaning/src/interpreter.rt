@@ -1,9 +1,10 @@
-ghost use Rattle.std.specs.Prelude.{◌≡◌, ◌+◌, OnOk, IfOk, [], ◌∷◌, ◌++◌, reverse, slice_get};
+ghost use Rattle.std.specs.Prelude.{◌≡◌, ◌+◌, OnOk, IfOk, IfSome, [], ◌∷◌, ◌++◌, option_map, reverse, slice_get};
 ghost use Rattle.meaning.specs.Weight.{Lightens, pending_weight, weight_of};
-ghost use Rattle.meaning.specs.Effect.{fetch, place_of};
-ghost use Rattle.meaning.specs.Pending.{Does, Finishes, answered, giving, line_ending, resumed, rest_of, place_seen};
+ghost use Rattle.meaning.specs.Effect.{fetch};
+ghost use Rattle.meaning.specs.Store.{Store, held, kept};
+ghost use Rattle.meaning.specs.Pending.{Does, Finishes, StoreAgrees, answered, giving, line_ending, resumed, rest_of, place_seen};
 ghost use Rattle.meaning.specs.Pending.{top_of, below_top};
-ghost use Rattle.meaning.specs.Meaning.{meaning, run_of};
+ghost use Rattle.meaning.specs.Meaning.{home_of, meaning, run_of};
 
 use crate::operations::{
     combined_value, operated_value, positive_width, value_in, width_by_default,
@@ -15,7 +16,7 @@ use crate::work::{Work, put};
 use std::alloc::{AllocError, Global};
 use std::collections::BTreeMap;
 use typed_tree::tree::{
-    Dyadic, Expr, Link, Monadic, RangeTest, Representation, Stmt, Tree, WriteParameter,
+    Dyadic, Expr, Link, Monadic, RangeTest, Representation, Stmt, Tree, Variable, WriteParameter,
 };
 
 /// What a program writes and how it ends, from an input and for a number of turns: each start of a
@@ -32,6 +33,7 @@ pub fn interpret(
 {
     let mut run = Run {
         alloc,
+        variables: &tree.variables,
         store: BTreeMap::new(alloc),
         input,
         taken: 0,
@@ -52,6 +54,8 @@ pub fn interpret(
 #[derive(Drop)]
 struct Run<'t, 'i> {
     alloc: Global,
+    // The variables of the tree, by root number.
+    variables: &'t [Variable],
     store: BTreeMap<Place, Value>,
     input: &'i [u8],
     // How many bytes of the input were read, its last line end among them if it has to be supplied.
@@ -242,8 +246,7 @@ impl<'t> Run<'t, '_> {
     {
         match value_in(fits.range, self.popped()) {
             Some(value) => {
-                let place = self.place(root);
-                self.store.insert(place, value)?;
+                self.keep(root, value)?;
                 Ok(None)
             }
             None => Ok(Some(Ending::Error(fits.site))),
@@ -271,9 +274,9 @@ impl<'t> Run<'t, '_> {
 
     fn variable(&mut self, root: u32, defined: u32) -> Result<Option<Ending>, AllocError>
         ensures weight { pending_weight self.new ≡ pending_weight self.old }
-        ensures does { Does (λ env. giving (fetch (place_of env root) defined)) self.old result self.new }
+        ensures does { Does (λ env. giving (fetch (env root) defined)) self.old result self.new }
     {
-        let value = self.store.get(&self.place(root)).copied();
+        let value = self.found(root);
         self.go_on(value.ok_or(defined))
     }
 
@@ -329,16 +332,45 @@ impl<'t> Run<'t, '_> {
     {
         self.values.pop().unwrap_or(Value::Number(Ordinal::new(0)))
     }
+}
 
-    // Where a variable of the program's block lies: its activation is the first.
-    fn place(&self, root: u32) -> Place
-        ensures seen { place_seen result ≡ record { activation = 0; variable = root; steps = [] } }
-        ensures whole { result.steps.items ≡ [] }
+// The variables.
+impl Run<'_, '_> {
+    // What a variable holds, if it is visible and defined.
+    fn found(&self, root: u32) -> Option<Value>
+        ensures { (s : Store) → StoreAgrees self.now.store s
+            → result ≡ held s (home_of root (slice_get self.now.variables.now root)) }
     {
-        Place {
-            activation: 0,
-            variable: root,
-            steps: Vec::new(self.alloc),
+        match self.place(root) {
+            Some(place) => self.store.get(&place).copied(),
+            None => None,
+        }
+    }
+
+    // Keeps the value of a variable, if it is visible.
+    fn keep(&mut self, root: u32, value: Value) -> Result<(), AllocError>
+        ensures same { self.new ≡ record self.old { store = self.new.store } }
+        ensures agrees { OnOk result ((s : Store) → StoreAgrees self.old.store s
+            → StoreAgrees self.new.store (kept s (home_of root (slice_get self.old.variables.now root)) value)) }
+    {
+        if let Some(place) = self.place(root) {
+            self.store.insert(place, value)?;
+        }
+        Ok(())
+    }
+
+    // Where a variable lies, if the program's block declares it: that block's activation is the first.
+    fn place(&self, root: u32) -> Option<Place>
+        ensures seen { option_map place_seen result ≡ home_of root (slice_get self.now.variables.now root) }
+        ensures whole { IfSome result (λ place. place.steps.items ≡ []) }
+    {
+        match self.variables.get(root as usize) {
+            Some(variable) if variable.block == 0 => Some(Place {
+                activation: 0,
+                variable: root,
+                steps: Vec::new(self.alloc),
+            }),
+            _ => None,
         }
     }
 }

@@ -1,6 +1,6 @@
-use Rattle.std.proofs.Common.{refl}
+use Rattle.std.proofs.Common.{slice_get, sym, ap, refl}
 use Rattle.meaning.specs.declared.interpreter.Run.{Run}
-use Rattle.meaning.specs.Meaning.{first_state}
+use Rattle.meaning.specs.Meaning.{first_state, home_of, program_environment}
 use Rattle.meaning.specs.Pending.{Agrees}
 use Rattle.meaning.proofs.Starting.{holds_nothing, ends_as_meant}
 use Rattle.meaning.proofs.interpreter.interpret.Goals as goal
@@ -9,6 +9,7 @@ pub returns : goal.returns
 returns c =
     let run : Run = record {
       alloc = c.args.alloc;
+      variables = c.deref.result;
       store = c.new.result;
       input = c.args.input;
       taken = 0;
@@ -18,7 +19,8 @@ returns c =
       values = c.new-3.result;
       pending = c.new-4.result;
     } in
-    let begun : Agrees run (first_state c.args.input.now c.args.turns) = record {
+    let begun : Agrees (program_environment c.args.tree.now) run (first_state c.args.input.now c.args.turns) = record {
+      visible = λ root. ap (λ l. home_of root (slice_get l root)) (sym c.deref.ensures.value);
       store = holds_nothing c.new.result c.new.ensures.empty;
       input = refl;
       output = c.new-2.ensures.items;

@@ -7,7 +7,7 @@ use Rattle.meaning.proofs.Resuming.{goes_on_by}
 use Rattle.meaning.proofs.interpreter.Run.combine.Goals as goal
 
 pub returns-clause-does : goal.returns-clause-does
-returns-clause-does c = λ env flat s agrees.
+returns-clause-does c = λ env s agrees.
     let old = c.args.self.now in
     let operands = reverse old.values.items in
     let taken = c.popped-left.new.self in
@@ -20,4 +20,4 @@ returns-clause-does c = λ env flat s agrees.
     (subst (λ (v : Value). Answers (combined c.args.operation v c.popped-right.result) answer) (left.top ∙ ap top_of right.below) c.combined_value.ensures) in
     goes_on_by old taken c.go_on.new.self env s (combined c.args.operation (top_of (below_top operands)) (top_of operands)) answer
     (below_top (below_top operands)) c.go_on.result
-    same (left.below ∙ ap below_top right.below) (answers s) flat agrees c.go_on.ensures.does
+    same (left.below ∙ ap below_top right.below) (answers s) agrees c.go_on.ensures.does

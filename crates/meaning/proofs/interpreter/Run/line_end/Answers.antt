@@ -4,11 +4,12 @@ use Rattle.meaning.specs.Pending.{line_ending, pending_of}
 use Rattle.meaning.proofs.interpreter.Run.line_end.Goals as goal
 
 pub returns-in_ok-push-clause-does : goal.returns-in_ok-push-clause-does
-returns-in_ok-push-clause-does c = λ env flat s agrees.
+returns-in_ok-push-clause-does c = λ env s agrees.
     let old = c.args.self.now in
     let after : State = record s { output = s.output ++ 10 ∷ [] } in (
       after,
       record {
+        visible = agrees.visible;
         store = agrees.store;
         input = agrees.input;
         output = c.in_ok-push.ensures.items ∙ ap (λ out. out ++ 10 ∷ []) agrees.output;

@@ -11,7 +11,7 @@ use Rattle.meaning.proofs.Unrolling.{entered, evaluated, does-Links}
 use Rattle.meaning.proofs.interpreter.Run.links.Goals as goal
 
 pub returns-in_ok-put-in-Some-clause-does : goal.returns-in_ok-put-in-Some-clause-does
-returns-in_ok-put-in-Some-clause-does c = λ env flat s agrees.
+returns-in_ok-put-in-Some-clause-does c = λ env s agrees.
     let old = c.args.self.now in
     let first = c.in-Some.first.now in
     let all : c.args.links.now ≡ first ∷ c.in-Some.rest.now = c.in-Some.ensures.cases.0 in
@@ -19,7 +19,7 @@ returns-in_ok-put-in-Some-clause-does c = λ env flat s agrees.
     (does-Links first c.in-Some.rest c.args.links all env (reverse old.pending.items) (reverse old.values.items) s
     ∙ ap (λ (works : List Work). evaluated env first.operand (work.Combine first.operation ∷ works) (reverse old.values.items) (entered first.number env s))
     (sym (reverse_pushed _ _ _ _ c.in_ok-put-in-Some.ensures refl)))
-    (c.plan.ensures.does env flat (entered first.number env s) agrees)
+    (c.plan.ensures.does env (entered first.number env s) agrees)
 
 -- what weighs as much as a sum below the bound weighs less than the bound
 lighter : (result : Result (Option Ending) AllocError) (new sum bound : ℕ) → OnOk result (new ≡ sum) → sum < bound → OnOk result (new < bound)

@@ -6,11 +6,11 @@ use Rattle.meaning.proofs.Resuming.{goes_on_by}
 use Rattle.meaning.proofs.interpreter.Run.monadic.Goals as goal
 
 pub returns-clause-does : goal.returns-clause-does
-returns-clause-does c = λ env flat s agrees.
+returns-clause-does c = λ env s agrees.
     let old = c.args.self.now in
     let operands = reverse old.values.items in
     let answer = c.operated_value.result in
     let answers : Answers (operated c.args.operation (top_of operands)) answer =
     subst (λ (v : Value). Answers (operated c.args.operation v) answer) c.popped-operand.ensures.top c.operated_value.ensures in
     goes_on_by old c.popped-operand.new.self c.go_on.new.self env s (operated c.args.operation (top_of operands)) answer (below_top operands) c.go_on.result
-    c.popped-operand.ensures.same c.popped-operand.ensures.below (answers s) flat agrees c.go_on.ensures.does
+    c.popped-operand.ensures.same c.popped-operand.ensures.below (answers s) agrees c.go_on.ensures.does

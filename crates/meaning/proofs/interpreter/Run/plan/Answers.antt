@@ -3,7 +3,7 @@ use Rattle.meaning.proofs.Resuming.{goes_on_to, reverse_pushed}
 use Rattle.meaning.proofs.interpreter.Run.plan.Goals as goal
 
 pub returns-clause-does : goal.returns-clause-does
-returns-clause-does c = λ env flat s agrees.
+returns-clause-does c = λ env s agrees.
     let old = c.args.self.now in
     goes_on_to env old (record old { pending = c.put-2.new.pending }) s _ _
     agrees

@@ -4,33 +4,33 @@ use Rattle.meaning.proofs.Unrolling.{entered, does-Empty, does-Assign, does-Writ
 use Rattle.meaning.proofs.interpreter.Run.statement.Goals as goal
 
 pub returns-in-Empty-clause-does : goal.returns-in-Empty-clause-does
-returns-in-Empty-clause-does c = λ env flat s agrees.
+returns-in-Empty-clause-does c = λ env s agrees.
     let old = c.args.self.now in
     goes_on_to env old old (entered c.in-Empty.number env s) (reverse old.pending.items) _
     agrees refl refl
     (does-Empty c.in-Empty.number c.args.statement.now c.in-Empty.is env (reverse old.pending.items) (reverse old.values.items) s)
 
 pub returns-in-Assign-clause-does : goal.returns-in-Assign-clause-does
-returns-in-Assign-clause-does c = λ env flat s agrees.
+returns-in-Assign-clause-does c = λ env s agrees.
     let old = c.args.self.now in
     let assign = c.in-Assign in
     continues_as env old c.plan.new.self _ _ c.plan.result
     (does-Assign assign.number assign.becomes assign.target assign.fits assign.value c.args.statement.now assign.is env (reverse old.pending.items)
     (reverse old.values.items) s)
-    (c.plan.ensures.does env flat (entered assign.target.number env (entered assign.number env s)) agrees)
+    (c.plan.ensures.does env (entered assign.target.number env (entered assign.number env s)) agrees)
 
 pub returns-in-Write-clause-does : goal.returns-in-Write-clause-does
-returns-in-Write-clause-does c = λ env flat s agrees.
+returns-in-Write-clause-does c = λ env s agrees.
     let old = c.args.self.now in
     continues_as env old c.parameters.new.self _ _ c.parameters.result
     (does-Write c.in-Write.number c.in-Write.name c.in-Write.parameters c.in-Write.ends_line c.args.statement.now c.in-Write.is c.deref.result
     c.deref.ensures.value env (reverse old.pending.items) (reverse old.values.items) s)
-    (c.parameters.ensures.does env flat (entered c.in-Write.number env s) agrees)
+    (c.parameters.ensures.does env (entered c.in-Write.number env s) agrees)
 
 pub returns-in-Compound-clause-does : goal.returns-in-Compound-clause-does
-returns-in-Compound-clause-does c = λ env flat s agrees.
+returns-in-Compound-clause-does c = λ env s agrees.
     let old = c.args.self.now in
     continues_as env old c.statements.new.self _ _ c.statements.result
     (does-Compound c.in-Compound.number c.in-Compound.statements c.args.statement.now c.in-Compound.is c.deref-in-Compound.result
     c.deref-in-Compound.ensures.value env (reverse old.pending.items) (reverse old.values.items) s)
-    (c.statements.ensures.does env flat (entered c.in-Compound.number env s) agrees)
+    (c.statements.ensures.does env (entered c.in-Compound.number env s) agrees)

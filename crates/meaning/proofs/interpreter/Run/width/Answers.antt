@@ -4,8 +4,8 @@ use Rattle.meaning.proofs.Unrolling.{does-Width}
 use Rattle.meaning.proofs.interpreter.Run.width.Goals as goal
 
 pub returns-in-Some-clause-does : goal.returns-in-Some-clause-does
-returns-in-Some-clause-does c = λ env flat s agrees.
+returns-in-Some-clause-does c = λ env s agrees.
     let old = c.args.self.now in
     continues_as env old c.plan.new.self _ _ c.plan.result
     (does-Width c.args.parameter c.in-Some.width c.in-Some.is env (reverse old.pending.items) (reverse old.values.items) s)
-    (c.plan.ensures.does env flat s agrees)
+    (c.plan.ensures.does env s agrees)
