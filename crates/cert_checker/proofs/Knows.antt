@@ -18,7 +18,6 @@ use Rattle.domain.specs.Facts as fact
 use Rattle.domain.specs.Facts.{Path, Fact, Range, Defined, Stretch, Order, entire, fact_order, step_order, has_fact, with_fact, put}
 use Rattle.meaning.specs.declared.store.Value.{Value}
 use Rattle.meaning.specs.Store.{Step, Place, Environment, Store, place_eq, stored, written}
-use Rattle.meaning.specs.Effect.{place_of}
 use Rattle.cert_checker.specs.State.{State, Facts, Dead, Live, start, range_of, is_defined, with_defined, with_value, unless_empty}
 use Rattle.cert_checker.specs.Holds.{Moment, FactsHold, Holds, HasValue, IsIn, StateHolds, Separate, is_named, part_of, value_at}
 use Rattle.cert_checker.proofs.Apart.{part, entire-stored, written-stored, other-kept}
@@ -75,6 +74,15 @@ known-start env variables = record {
 named-entire : (steps : List Step) → is_named [] steps ≡ true → steps ≡ []
 named-entire [] is = refl
 named-entire (s ∷ steps) is = absurd (cc)
+
+-- where a visible variable lies
+abbrev pub place_of : Environment → ℕ → Place
+place_of env root = unwrap_or (env root) (record { activation = 0; variable = root; steps = [] })
+
+pub at-place : (variables : ℕ) (env : Environment) → Shows variables env → (root : ℕ) → root < variables → env root ≡ Some (place_of env root)
+at-place variables env shows root within =
+    let at = shows.visible root within in
+    at.1 ∙ ap (λ (found : Option Place). Some (unwrap_or found (record { activation = 0; variable = root; steps = [] }))) (sym at.1)
 
 -- an entire variable has the value that lies at its place
 entire-value : (variables : ℕ) (env : Environment) → Shows variables env → (store : Store) (root : ℕ) → root < variables

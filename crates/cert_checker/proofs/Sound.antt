@@ -5,9 +5,9 @@ use Rattle.std.proofs.lemmas.List.Elements.{Contains-append_left, Contains-appen
 use Rattle.domain.specs.Interval.{Interval}
 use Rattle.meaning.specs.declared.outcome.Ending.TheVariants.{Error}
 use Rattle.meaning.specs.declared.store.Value.{Value}
-use Rattle.meaning.specs.Store.{Environment, Store, stored}
+use Rattle.meaning.specs.Store.{Environment, Place, Store, stored}
 use Rattle.meaning.specs.Effect as effect
-use Rattle.meaning.specs.Effect.{Action, Reply, Visit, place_of, and_then}
+use Rattle.meaning.specs.Effect.{Action, Reply, Visit, and_then}
 use Rattle.cert_checker.specs.declared.known.Known.{Known}
 use Rattle.cert_checker.specs.declared.known.Known.TheVariants.{Ordinal}
 use Rattle.cert_checker.specs.State.{State, Dead, Live, is_dead, is_defined, range_of, with_defined}
@@ -16,7 +16,7 @@ use Rattle.cert_checker.specs.Walk.{Breach, Context, Linked, Walked, Walking, fo
 use Rattle.cert_checker.specs.Holds.{IsIn, StateHolds, Separate}
 use Rattle.cert_checker.specs.Promise.{moment_of, visits_of}
 use Rattle.cert_checker.proofs.Ranged.{IsKnown}
-use Rattle.cert_checker.proofs.Knows.{Shows, Knows, known-holds, read-in, defined-stored, nonempty-known, used-known, assigned-known}
+use Rattle.cert_checker.proofs.Knows.{Shows, Knows, place_of, at-place, known-holds, read-in, defined-stored, nonempty-known, used-known, assigned-known}
 
 -- what is fixed for a program: the sites that the whole walk leaves open, how many sites and variables the program has,
 -- the states that the whole walk links, and the pairs of aliases of each block by its number
@@ -234,9 +234,11 @@ good-use world env shows root site within below context state s part known (Some
     }
 
 pub sound-use : (world : World) (env : Environment) → Shows world.variables env → (root site : ℕ) → root < world.variables → site < world.sites
-    → Sound world env IsKnown (effect.fetch (place_of env root) site) (walk.use_of root site)
-sound-use world env shows root site within below context state s unbroken part known =
-    good-use world env shows root site within below context state s part known (stored s.store (place_of env root)) refl
+    → Sound world env IsKnown (effect.fetch (env root) site) (walk.use_of root site)
+sound-use world env shows root site within below =
+    subst (λ (place : Option Place). Sound world env IsKnown (effect.fetch place site) (walk.use_of root site)) (sym (at-place world.variables env shows root within))
+    (λ context state s unbroken part known.
+    good-use world env shows root site within below context state s part known (stored s.store (place_of env root)) refl)
 
 -- a value that passes a test lies in the range that passes
 abbrev pub Passes : Bool → Value → Interval → Unit {0} → Type 0
@@ -269,7 +271,10 @@ sound-tested world env closed site passed v false below holds lets context state
 
 pub sound-assign : (world : World) (env : Environment) → Shows world.variables env → (root : ℕ) (value : Known) (v : Value) → root < world.variables
     → IsKnown value v
-    → Sound {B = Unit {0}} world env Any_value (effect.store (place_of env root) v) (walk.assign root value)
-sound-assign world env shows root (Ordinal range) v within inside context state s unbroken part known =
+    → Sound {B = Unit {0}} world env Any_value (effect.store (env root) v) (walk.assign root value)
+sound-assign world env shows root (Ordinal range) v within inside =
+    subst (λ (place : Option Place). Sound {B = Unit {0}} world env Any_value (effect.store place v) (walk.assign root (Ordinal range)))
+    (sym (at-place world.variables env shows root within))
+    (λ context state s unbroken part known.
     let assigned = assigned-known world.variables env shows state s.store root range v within known inside in
-    record { errs = tt; new = nothing-new world s.visited; gives = (tt, assigned) }
+    record { errs = tt; new = nothing-new world s.visited; gives = (tt, assigned) })

@@ -22,7 +22,7 @@ use Rattle.meaning.specs.declared.store.Value.{Value}
 use Rattle.meaning.specs.declared.store.Value.TheVariants.{Number}
 use Rattle.meaning.specs.Store.{Environment}
 use Rattle.meaning.specs.Effect as effect
-use Rattle.meaning.specs.Effect.{place_of, is_in, is_positive, text_of}
+use Rattle.meaning.specs.Effect.{is_in, is_positive, text_of}
 use Rattle.meaning.specs.Meaning as meaning
 use Rattle.meaning.specs.Meaning.{Evaluation, Execution, value_of, link_of, effect_of, parameter_of, width_of}
 use Rattle.cert_checker.specs.declared.known.Known.{Known}
@@ -104,7 +104,7 @@ module _ (world : World) (env : Environment) (shows : Shows world.variables env)
       (given-sound world env (record { first = value; last = value }) value (constant-in value))
   value-layer (Variable access defined) well =
       let parts = and_parts (nat_lt access.root world.variables) (nat_lt defined world.sites) well in
-      entered-sound IsKnown access.number (effect.fetch (place_of env access.root) defined) (walk.use_of access.root defined)
+      entered-sound IsKnown access.number (effect.fetch (env access.root) defined) (walk.use_of access.root defined)
       (sound-use world env shows access.root defined (ltb-true access.root world.variables parts.0) (ltb-true defined world.sites parts.1))
   value-layer (MonadicOf number operation operand) well =
       let parts = and_parts (monadic_is_well_formed world.variables world.sites operation) (well_expr operand.value.0) well in
@@ -243,13 +243,13 @@ module _ (world : World) (env : Environment) (shows : Shows world.variables env)
 
   -- a value is tested, and then it is stored
   abbrev tested-store : Access → RangeTest → Value → effect.Action (Unit {0})
-  tested-store target fits v = effect.◌>>=◌ (effect.require (is_in fits.range v) fits.site) (λ tested. effect.store (place_of env target.root) v)
+  tested-store target fits v = effect.◌>>=◌ (effect.require (is_in fits.range v) fits.site) (λ tested. effect.store (env target.root) v)
 
   store-sound : (target : Access) (fits : RangeTest) (known : Known) (v : Value) → nat_lt target.root world.variables ≡ true
       → nat_lt fits.site world.sites ≡ true
       → IsKnown known v → SoundAction world env (tested-store target fits v) (walk.◌>>=◌ (walk.fitting fits known) (λ passed. walk.assign target.root passed))
   store-sound target fits known v within below inside =
-      sound-then world env (IsKnownOf v) Any_value (effect.require (is_in fits.range v) fits.site) (λ tested. effect.store (place_of env target.root) v)
+      sound-then world env (IsKnownOf v) Any_value (effect.require (is_in fits.range v) fits.site) (λ tested. effect.store (env target.root) v)
       (walk.fitting fits known) (λ passed. walk.assign target.root passed)
       (fitting-sound world env fits known v (ltb-true fits.site world.sites below) inside)
       (λ passed tested is. sound-assign world env shows target.root passed v (ltb-true target.root world.variables within) is)
