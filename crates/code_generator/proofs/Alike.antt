@@ -1,14 +1,13 @@
 -- How the store of a program's meaning and the cells of the machine agree, over all the activations that live. Of the
 -- cells that are no variable's it says only where each static link leads.
 use Rattle.std.proofs.Common.{◌≡◌, ℕ, zero, suc, ◌+◌, ◌<◌, ◌≤◌, ◌⊎◌, List, [], ◌∷◌, ◌++◌, length, Option, Some, None, Ok, Err, refl, sym, ap, ◌∙◌, subst, ⊎_elim, arith, length-append, Bool, true, false, Contains}
-use Rattle.std.specs.Prelude.{slice_get, slice_set, ℤ, pos, if◌then◌else◌, unwrap_or}
+use Rattle.std.specs.Prelude.{slice_get, slice_set, ℤ, pos, if◌then◌else◌}
 use Rattle.std.proofs.lemmas.Bool.{lt-ltb}
 use Rattle.std.proofs.lemmas.List.{length-set}
 use Rattle.std.proofs.lemmas.Option.{slice_get_within}
 use Rattle.meaning.specs.declared.store.Value.{Value}
 use Rattle.meaning.specs.declared.store.Value.TheVariants as value
 use Rattle.meaning.specs.Store.{Step, Place, Store, Environment, place_eq, stored, written}
-use Rattle.meaning.specs.Effect.{place_of}
 use Rattle.stack_machine.specs.declared.cell.Cell.{Cell}
 use Rattle.stack_machine.specs.declared.cell.Cell.TheVariants.{Undefined, Number}
 use Rattle.stack_machine.specs.declared.stop.MachineFault.TheVariants.{OutOfBounds}
@@ -210,24 +209,23 @@ Shown env world a root (ByAddress level offset) =
 pub record Shows (env : Environment) (world : World) (a : Activation) (ways : ℕ → Option Way) : Type 0 where
   pub each : (root : ℕ) (way : Way) → ways root ≡ Some way → Shown env world a root way
 
--- the place of a visible variable
-place_is : (env : Environment) (root : ℕ) (p : Place) → env root ≡ Some p → place_of env root ≡ p
-place_is env root p e = ap (λ o. unwrap_or o (record { activation = 0; variable = root; steps = [] })) e
+-- a variable is visible, and its place lies in this cell
+abbrev pub HasCell : Environment → World → ℕ → ℕ → Type 0
+HasCell env world root cell = (p : Place) × (env root ≡ Some p) × LiesIn world p cell
 
 -- a variable that is reached directly is a scalar and lies where it is looked for
-pub direct_lies : (env : Environment) (world : World) (a : Activation) (root level offset : ℕ) → Shown env world a root (Direct level offset) → (b : Activation) × Leads world level a b × LiesIn world (place_of env root) (b.frame + offset)
+pub direct_lies : (env : Environment) (world : World) (a : Activation) (root level offset : ℕ) → Shown env world a root (Direct level offset) → (b : Activation) × Leads world level a b × HasCell env world root (b.frame + offset)
 direct_lies env world a root level offset s =
     let b = s.0 in
     let whole : Place = record { activation = b.number; variable = root; steps = [] } in
     let lies : Lies b whole (b.frame + offset) = record { its = refl; start = offset; owned = s.2; inward = 0; reached = refl; cell_is = omega arith } in
     let there : LiesIn world whole (b.frame + offset) = record { owner = b; lives = leads_to world level a b s.1; lies = lies } in
-    (b, s.1, subst (λ p. LiesIn world p (b.frame + offset)) (sym (place_is env root whole s.3)) there)
+    (b, s.1, (whole, s.3, there))
 
 -- where a variable is reached by its address, that is the address of its cell
-pub address_lies : (env : Environment) (world : World) (store : Store) (cells : List Cell) (a : Activation) (root level offset : ℕ) → IsClosed world → Alike world store cells → Shown env world a root (ByAddress level offset) → (b : Activation) × Leads world level a b × (c : ℕ) × LiesIn world (place_of env root) c × (slice_get cells (b.frame + offset) ≡ Some (Number (pos c)))
+pub address_lies : (env : Environment) (world : World) (store : Store) (cells : List Cell) (a : Activation) (root level offset : ℕ) → IsClosed world → Alike world store cells → Shown env world a root (ByAddress level offset) → (b : Activation) × Leads world level a b × (c : ℕ) × HasCell env world root c × (slice_get cells (b.frame + offset) ≡ Some (Number (pos c)))
 address_lies env world store cells a root level offset closed alike s =
     let b = s.0 in
     let lives = leads_to world level a b s.1 in
     let there = closed.each b root offset s.2 lives s.3 in
-    let lies = subst (λ p. LiesIn world p there.0) (sym (place_is env root s.2 s.4)) there.1 in
-    (b, s.1, there.0, lies, alike.references b root offset s.2 there.0 lives s.3 there.1)
+    (b, s.1, there.0, (s.2, s.4, there.1), alike.references b root offset s.2 there.0 lives s.3 there.1)

@@ -29,9 +29,9 @@ use Rattle.meaning.specs.declared.outcome.Ending.TheVariants as ending
 use Rattle.meaning.specs.declared.store.Value.{Value}
 use Rattle.meaning.specs.declared.store.Value.TheVariants as value
 use Rattle.meaning.specs.Store as meant
-use Rattle.meaning.specs.Store.{Environment, stored}
+use Rattle.meaning.specs.Store.{Environment, held, stored}
 use Rattle.meaning.specs.Effect as effect
-use Rattle.meaning.specs.Effect.{Reply, Gives, Action, ◌>>=◌, place_of, fetched, require, give}
+use Rattle.meaning.specs.Effect.{Reply, Gives, Action, ◌>>=◌, fetched, require, give}
 use Rattle.meaning.specs.Meaning.{Evaluation, Combination, value_of, link_of, value_step, operated, combined, relates, in_turn, width_of}
 use Rattle.meaning.specs.Meaning as meaning
 use Rattle.meaning.specs.Integers.{magnitude, truth}
@@ -157,16 +157,17 @@ module _ (tree : Tree) (code : List Instr) (variables limit size : ℕ) (input :
         let offset = operand_is (access.root + 4) (omega arith) in
         let s' : effect.State = record s { visited = s.visited ++ record { number = access.number; environment = env; store = s.store } ∷ [] } in
         let still' : Still s' = record { store_is = still.store_is; output_is = still.output_is } in
-        let p = place_of env access.root in
-        let lies = program_lies variables access.root env shows root_within in
+        let there = program_lies variables access.root env shows root_within in
+        let p = there.0 in
+        let lies = there.2 in
         let within = cell_within (program_world variables) store cells p (access.root + 4) alike lies in
-        let held = ap (λ st. stored st p) still.store_is in
+        let holds = ap (held s.store) there.1 ∙ ap (λ st. stored st p) still.store_is in
         let cell = cell_of (stored store p) in
         let loaded = acts (instr.Load 0 (variable_offset access.root)) cells (cells ++ cell ∷ []) place output _ has.0 refl (ap (λ o. frames.load 0 o (framed limit size cells)) offset ∙ loads limit size cells (access.root + 4) cell (omega arith) within (alike.scalars p (access.root + 4) lies)) in
         let checked' = fetched_runs (place + 1) (access.root + 4) defined cells s' (stored store p) has.1.0 site_within (omega arith) (omega arith) (alike.fits p (access.root + 4) lies) still' in
         let whole = evaluates_on _ _ cells (place + 1 + 1) _ loaded checked' in
         let e : place + 1 + 1 ≡ place + 2 = omega arith in
-        subst (λ o. Evaluates (at cells place output) cells (place + 2) (fetched o defined s')) (sym held) (subst (λ q. Evaluates (at cells place output) cells q (fetched (stored store p) defined s')) e whole)
+        subst (λ o. Evaluates (at cells place output) cells (place + 2) (fetched o defined s')) (sym holds) (subst (λ q. Evaluates (at cells place output) cells q (fetched (stored store p) defined s')) e whole)
 
     -- an operation that is never in error: the instruction leaves a number, which is the one that is meant
     given_runs : (apply : Instr) (place : ℕ) (stack cells : List Cell) (c d : ℤ) (s : effect.State) (attempt : Attempt frames.Frames) → slice_get code place ≡ Some apply → obeyed plain_sites apply (at stack (place + 1) output) ≡ and_then attempt (with_frames (at stack (place + 1) output)) → attempt ≡ Ok (framed limit size (cells ++ Number d ∷ [])) → d ≡ c → Fits c → length cells < limit → Still s → Evaluates (at stack place output) cells (place + 1) (give (value.Number c) s)

@@ -13,7 +13,7 @@ use Rattle.typed_tree.specs.declared.tree.Variable.{Variable}
 use Rattle.meaning.specs.declared.outcome.Ending.{Ending}
 use Rattle.meaning.specs.declared.outcome.Ending.TheVariants as ending
 use Rattle.meaning.specs.Effect as effect
-use Rattle.meaning.specs.Effect.{Reply, Gives, place_of}
+use Rattle.meaning.specs.Effect.{Reply, Gives}
 use Rattle.meaning.specs.Meaning as meant
 use Rattle.meaning.specs.Meaning.{Meaning, meaning, ended, home_of, program_environment}
 use Rattle.stack_machine.specs.declared.stop.Stop.{Stop}

@@ -6,11 +6,10 @@ use Rattle.std.specs.Cmp.Lexicographic.{pointwise}
 use Rattle.std.proofs.lemmas.Bool.{ltb-true, lt-ltb, cases_eq, ne_eqb}
 use Rattle.std.proofs.lemmas.Option.{none-some, same_Some, cond_some}
 use Rattle.meaning.specs.Store.{Step, Place, Store, Environment, step_eq, place_eq}
-use Rattle.meaning.specs.Effect.{place_of}
 use Rattle.stack_machine.specs.declared.cell.Cell.{Cell}
 use Rattle.stack_machine.specs.declared.cell.Cell.TheVariants.{Undefined}
 use Rattle.stack_machine.specs.Frames.{first_frames}
-use Rattle.code_generator.proofs.Alike.{Activation, World, path_offset, Lies, LiesIn, IsApart, IsClosed, Alike, Way, Direct, Shown, Shows, direct_lies}
+use Rattle.code_generator.proofs.Alike.{Activation, World, path_offset, Lies, LiesIn, IsApart, IsClosed, Alike, Way, Direct, Shown, Shows, HasCell, direct_lies}
 
 -- the program's activation with so many variables
 abbrev pub program_activation : ℕ → Activation
@@ -105,13 +104,13 @@ program_closed n = record {
 }
 
 -- a variable of the program lies behind the links
-pub program_lies : (n root : ℕ) (env : Environment) → ShowsProgram n env → root < n → LiesIn (program_world n) (place_of env root) (root + 4)
+pub program_lies : (n root : ℕ) (env : Environment) → ShowsProgram n env → root < n → HasCell env (program_world n) root (root + 4)
 program_lies n root env shows h =
     let way = ap (λ b. if b then Some (Direct 0 (root + 4)) else None) (lt-ltb root n h) in
     let s = direct_lies env (program_world n) (program_activation n) root 0 (root + 4) (shows.each root (Direct 0 (root + 4)) way) in
     let first : 0 ≡ s.0.frame = ap (λ (x : Activation). x.frame) s.1.1 in
     let at : s.0.frame + (root + 4) ≡ root + 4 = omega arith in
-    subst (LiesIn (program_world n) (place_of env root)) at s.2
+    subst (HasCell env (program_world n) root) at s.2
 
 -- the links of the program's frame are there
 pub program_linked : (n : ℕ) (store : Store) (cells : List Cell) → Alike (program_world n) store cells → 4 ≤ length cells

@@ -24,9 +24,9 @@ use Rattle.meaning.specs.declared.outcome.Ending.{Ending}
 use Rattle.meaning.specs.declared.store.Value.{Value}
 use Rattle.meaning.specs.declared.store.Value.TheVariants as value
 use Rattle.meaning.specs.Store as meant
-use Rattle.meaning.specs.Store.{Environment}
+use Rattle.meaning.specs.Store.{Environment, kept}
 use Rattle.meaning.specs.Effect as effect
-use Rattle.meaning.specs.Effect.{Reply, Gives, Action, ◌>>=◌, place_of, require, give}
+use Rattle.meaning.specs.Effect.{Reply, Gives, Action, ◌>>=◌, require, give}
 use Rattle.meaning.specs.Meaning.{Execution, value_of, width_of, effect_of, effect_step, parameter_of, all_of, line_ended}
 use Rattle.stack_machine.specs.declared.cell.Cell.{Cell}
 use Rattle.stack_machine.specs.declared.cell.Cell.TheVariants.{Number}
@@ -103,7 +103,7 @@ module _ (tree : Tree) (code : List Instr) (variables limit size : ℕ) (input :
       (place : ℕ) (cells : List Cell) (s : effect.State) → HasAt code place c → well ≡ true → Alike (program_world variables) s.store cells → length cells ≡ 4 + variables → length cells + depth ≤ limit → Executes (on cells place s.output) (place + length c) (execution env s)
 
   -- a value that is checked and stored
-  stored_by : (root : ℕ) (fits : RangeTest) (place : ℕ) (cells : List Cell) (n : ℤ) (s : effect.State) (good : Bool) → (int_le fits.range.first n && int_le n fits.range.last) ≡ good → slice_get code place ≡ Some (instr.CheckRange fits.site fits.range.first fits.range.last) → slice_get code (place + 1) ≡ Some (instr.Store 0 (variable_offset root)) → fits.site < length tree.sites.items → root < variables → Fits n → Alike (program_world variables) s.store cells → length cells ≡ 4 + variables → Executes (on (cells ++ Number n ∷ []) place s.output) (place + 2) (effect.and_then (require good fits.site s) (λ _. effect.store (place_of env root) (value.Number n)))
+  stored_by : (root : ℕ) (fits : RangeTest) (place : ℕ) (cells : List Cell) (n : ℤ) (s : effect.State) (good : Bool) → (int_le fits.range.first n && int_le n fits.range.last) ≡ good → slice_get code place ≡ Some (instr.CheckRange fits.site fits.range.first fits.range.last) → slice_get code (place + 1) ≡ Some (instr.Store 0 (variable_offset root)) → fits.site < length tree.sites.items → root < variables → Fits n → Alike (program_world variables) s.store cells → length cells ≡ 4 + variables → Executes (on (cells ++ Number n ∷ []) place s.output) (place + 2) (effect.and_then (require good fits.site s) (λ _. effect.store (env root) (value.Number n)))
   stored_by root fits place cells n s true holds has has' h within fit alike full =
       let check = instr.CheckRange fits.site fits.range.first fits.range.last in
       let offset = operand_is (root + 4) (omega arith) in
@@ -111,15 +111,21 @@ module _ (tree : Tree) (code : List Instr) (variables limit size : ℕ) (input :
       let put = exprs.acts tree code variables limit size input env few shows (instr.Store 0 (variable_offset root)) (cells ++ Number n ∷ []) (slice_set cells (root + 4) (Number n)) (place + 1) s.output _ has' refl (ap (λ o. frames.store 0 o (framed limit size (cells ++ Number n ∷ []))) offset ∙ stores limit size cells (omega arith) (Number n) (root + 4) (omega arith)) in
       let e : place + 1 + 1 ≡ place + 2 = omega arith in
       let both = subst (λ p. Comes sites code (on (cells ++ Number n ∷ []) place s.output) (on (slice_set cells (root + 4) (Number n)) p s.output)) e (comes_on sites code _ _ _ checked put) in
-      let alike' = alike_written (program_world variables) s.store cells (place_of env root) (root + 4) n (program_apart variables) (program_lies variables root env shows within) fit alike in
-      (slice_set cells (root + 4) (Number n), length-set cells (root + 4) (Number n) ∙ full, alike', both)
+      let there = program_lies variables root env shows within in
+      let alike' = alike_written (program_world variables) s.store cells there.0 (root + 4) n (program_apart variables) there.2 fit alike in
+      (
+        slice_set cells (root + 4) (Number n),
+        length-set cells (root + 4) (Number n) ∙ full,
+        subst (λ home. Alike (program_world variables) (kept s.store home (value.Number n)) (slice_set cells (root + 4) (Number n))) (sym there.1) alike',
+        both,
+      )
   stored_by root fits place cells n s false holds has has' h within fit alike full =
       let check = instr.CheckRange fits.site fits.range.first fits.range.last in
       exprs.refuses tree code variables limit size input env few shows check (cells ++ Number n ∷ []) place fits.site s.output _ h has refl (is_in_range limit size cells (omega arith) fits.range.first fits.range.last n ∙ ap Ok holds)
 
-  stored_runs : (root : ℕ) (fits : RangeTest) (place : ℕ) (cells : List Cell) (n : ℤ) (s : effect.State) → slice_get code place ≡ Some (instr.CheckRange fits.site fits.range.first fits.range.last) → slice_get code (place + 1) ≡ Some (instr.Store 0 (variable_offset root)) → fits.site < length tree.sites.items → root < variables → Fits n → Alike (program_world variables) s.store cells → length cells ≡ 4 + variables → Executes (on (cells ++ Number n ∷ []) place s.output) (place + 2) (effect.and_then (require (effect.is_in fits.range (value.Number n)) fits.site s) (λ _. effect.store (place_of env root) (value.Number n)))
+  stored_runs : (root : ℕ) (fits : RangeTest) (place : ℕ) (cells : List Cell) (n : ℤ) (s : effect.State) → slice_get code place ≡ Some (instr.CheckRange fits.site fits.range.first fits.range.last) → slice_get code (place + 1) ≡ Some (instr.Store 0 (variable_offset root)) → fits.site < length tree.sites.items → root < variables → Fits n → Alike (program_world variables) s.store cells → length cells ≡ 4 + variables → Executes (on (cells ++ Number n ∷ []) place s.output) (place + 2) (effect.and_then (require (effect.is_in fits.range (value.Number n)) fits.site s) (λ _. effect.store (env root) (value.Number n)))
   stored_runs root fits place cells n s has has' h within fit alike full =
-      subst (λ t. Executes (on (cells ++ Number n ∷ []) place s.output) (place + 2) (effect.and_then (require t fits.site s) (λ _. effect.store (place_of env root) (value.Number n)))) (sym (same_range fits.range n fit)) (stored_by root fits place cells n s _ refl has has' h within fit alike full)
+      subst (λ t. Executes (on (cells ++ Number n ∷ []) place s.output) (place + 2) (effect.and_then (require t fits.site s) (λ _. effect.store (env root) (value.Number n)))) (sym (same_range fits.range n fit)) (stored_by root fits place cells n s _ refl has has' h within fit alike full)
 
   -- an assignment
   assign_runs : (number : ℕ) (becomes : SourcePlace) (target : Access) (fits : RangeTest) (v : Expr) → ExecutesAs (stmt_step (Assign number becomes target fits v)) (expr_depth v) (stmt_is_well_formed variables (length tree.sites.items) (Assign number becomes target fits v)) (effect_step (Assign number becomes target fits v))
@@ -131,7 +137,7 @@ module _ (tree : Tree) (code : List Instr) (variables limit size : ℕ) (input :
       let behind = has_back code place c rest has in
       let e : place + length c + 2 ≡ place + length (c ++ rest) = omega (arith, length-append c rest) in
       let still : Still s.store s.output s2 = record { store_is = refl; output_is = refl } in
-      let next : Value → Action (Unit {0}) = λ w. require (effect.is_in fits.range w) fits.site >>= λ _. effect.store (place_of env target.root) w in
+      let next : Value → Action (Unit {0}) = λ w. require (effect.is_in fits.range w) fits.site >>= λ _. effect.store (env target.root) w in
       let parts = and_parts _ _ good in
       let parts' = and_parts _ _ parts.1 in
       let site_within = ltb-true fits.site (length tree.sites.items) (and_parts _ _ parts'.0).0 in
