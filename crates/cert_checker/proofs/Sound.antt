@@ -236,7 +236,8 @@ good-use world env shows root site within below context state s part known (Some
 pub sound-use : (world : World) (env : Environment) → Shows world.variables env → (root site : ℕ) → root < world.variables → site < world.sites
     → Sound world env IsKnown (effect.fetch (env root) site) (walk.use_of root site)
 sound-use world env shows root site within below =
-    subst (λ (place : Option Place). Sound world env IsKnown (effect.fetch place site) (walk.use_of root site)) (sym (at-place world.variables env shows root within))
+    subst (λ (place : Option Place). Sound world env IsKnown (effect.fetch place site) (walk.use_of root site)) (sym
+    (at-place world.variables env shows root within))
     (λ context state s unbroken part known.
     good-use world env shows root site within below context state s part known (stored s.store (place_of env root)) refl)
 
