@@ -112,8 +112,7 @@ module _ (tree : Tree) (code : List Instr) (variables limit size : ℕ) (input :
       let e : place + 1 + 1 ≡ place + 2 = omega arith in
       let both = subst (λ p. Comes sites code (on (cells ++ Number n ∷ []) place s.output) (on (slice_set cells (root + 4) (Number n)) p s.output)) e (comes_on sites code _ _ _ checked put) in
       let there = program_lies variables root env shows within in
-      let alike' = alike_written (program_world variables) s.store cells there.0 (root + 4) n (program_apart variables) there.2 fit alike in
-      (
+      let alike' = alike_written (program_world variables) s.store cells there.0 (root + 4) n (program_apart variables) there.2 fit alike in (
         slice_set cells (root + 4) (Number n),
         length-set cells (root + 4) (Number n) ∙ full,
         subst (λ home. Alike (program_world variables) (kept s.store home (value.Number n)) (slice_set cells (root + 4) (Number n))) (sym there.1) alike',

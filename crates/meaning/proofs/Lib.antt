@@ -1,6 +1,5 @@
 mod Examples
 mod LeftToRight
-mod Places
 mod Resuming
 mod Starting
 mod Turns

@@ -67,3 +67,5 @@ module _ {A : Type 0} (step : A → Passing (Unit {0})) (forms : List A) (old : 
   pub each_ends : (i : ℕ) (done : Look) (now : Passed) → length forms ≤ i → IsLeftFrom i done now → each step forms old ≡ Ok (after tt done now)
   each_ends i done now all left =
       left ∙ at_drop_all (λ fs. behind_marks done (each step fs now)) forms i all ∙ ap (λ look. Ok (after tt look now)) (append-nil done)
+
+pub ruleset one_site_more = (site_added, sites_counted)

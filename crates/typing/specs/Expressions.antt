@@ -1,6 +1,7 @@
 -- The typing of expressions (ISO 7185:1990, 6.7): of each form the first rule that it breaks, or its type, how its
 -- typed form looks, and its sites. What asks for a site of its own at an expression's first token (a width) hands its
--- kind in, as the leading kind: that site stands behind the token's own, and before all others. It says nothing of what a program does.
+-- kind in, as the leading kind: that site stands behind the token's own, and before all others. It says nothing of what
+-- a program does.
 use Rattle.std.specs.Prelude.{ℕ, ◌&&◌, Bool, true, false, List, [], ◌∷◌, Option, Some, None, Ok, Err, pos, if◌then◌else◌, nat_le}
 use Rattle.place.specs.declared.Place.{Place}
 use Rattle.syntax_tree.specs.declared.Name.{Name}

@@ -38,7 +38,7 @@ impl Typer {
     }
 
     /// The id of a new site. Sites come in the order of their tokens.
-    #[tactic(auto, using(crate::proofs::Rows::site_added, crate::proofs::Rows::sites_counted), unfolding(crate::specs::Steps::site))]
+    #[tactic(auto, using(crate::proofs::Rows::one_site_more), unfolding(crate::specs::Steps::site))]
     pub fn site(&mut self, kind: SiteKind, place: Place) -> Result<u32, TypeFault>
         ensures { Takes (spec.site kind place self.old) result self.new }
     {
