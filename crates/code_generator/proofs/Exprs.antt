@@ -217,7 +217,7 @@ module _ (tree : Tree) (code : List Instr) (variables limit size : ℕ) (input :
           (subst (λ p. Comes plain_sites code (at one place output) (at one p output)) e (comes_nowhere plain_sites code (at one place output)), fit, still, room)
       operated_runs monadic.Minus has well =
           one_given instr.Negate (int_wrapping_neg w32) (neg_ℤ n) has.0 refl (negated_is n fit) (fits_negated n fit)
-      operated_runs monadic.Not has well = truth_given instr.Complement (λ v. not (frames.is_true v)) has.0 refl
+      operated_runs monadic.Not has well = truth_given instr.Not (λ v. not (frames.is_true v)) has.0 refl
       operated_runs monadic.Abs has well =
           one_given instr.Absolute (λ v. cast_signed w32 (unsigned_abs v)) (magnitude n) has.0 refl (magnitude_is n fit) (fits_magnitude n fit)
       operated_runs (monadic.Sqr overflow) has well =
@@ -278,8 +278,8 @@ module _ (tree : Tree) (code : List Instr) (variables limit size : ℕ) (input :
           quotient_runs by_zero has.0 has.1.0 (ltb-true by_zero (length tree.sites.items) well)
       combined_runs (dyadic.Mod by_zero_or_less) has well =
           remainder_runs by_zero_or_less has.0 has.1.0 (ltb-true by_zero_or_less (length tree.sites.items) well)
-      combined_runs dyadic.And has well = truths_given instr.Both (λ x y. frames.is_true x && frames.is_true y) has.0 refl
-      combined_runs dyadic.Or has well = truths_given instr.Either (λ x y. frames.is_true x || frames.is_true y) has.0 refl
+      combined_runs dyadic.And has well = truths_given instr.And (λ x y. frames.is_true x && frames.is_true y) has.0 refl
+      combined_runs dyadic.Or has well = truths_given instr.Or (λ x y. frames.is_true x || frames.is_true y) has.0 refl
       combined_runs (dyadic.Relation r) has well = relation_runs r has.0
 
     -- an operator and its right operand

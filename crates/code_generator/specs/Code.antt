@@ -47,7 +47,7 @@ variable_offset root = operand (root + 4)
 abbrev pub monadic_code : Monadic → List Instr
 monadic_code monadic.Plus = []
 monadic_code monadic.Minus = instr.Negate ∷ []
-monadic_code monadic.Not = instr.Complement ∷ []
+monadic_code monadic.Not = instr.Not ∷ []
 monadic_code monadic.Abs = instr.Absolute ∷ []
 monadic_code (monadic.Sqr overflow) = instr.CheckSquare overflow ∷ instr.Square ∷ []
 monadic_code monadic.Odd = instr.Odd ∷ []
@@ -72,8 +72,8 @@ dyadic_code (dyadic.Minus overflow) = instr.CheckDifference overflow ∷ instr.S
 dyadic_code (dyadic.Times overflow) = instr.CheckProduct overflow ∷ instr.Multiply ∷ []
 dyadic_code (dyadic.Div by_zero) = instr.CheckZero by_zero ∷ instr.Divide ∷ []
 dyadic_code (dyadic.Mod by_zero_or_less) = check_positive by_zero_or_less ∷ instr.Modulo ∷ []
-dyadic_code dyadic.And = instr.Both ∷ []
-dyadic_code dyadic.Or = instr.Either ∷ []
+dyadic_code dyadic.And = instr.And ∷ []
+dyadic_code dyadic.Or = instr.Or ∷ []
 dyadic_code (dyadic.Relation r) = relation_instr r ∷ []
 
 -- the value of a variable, checked

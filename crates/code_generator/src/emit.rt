@@ -195,7 +195,7 @@ fn emit_monadic(code: &mut Vec<Instr>, operation: Monadic) -> Result<(), AllocEr
     match operation {
         Monadic::Plus => Ok(()),
         Monadic::Minus => put(code, Instr::Negate),
-        Monadic::Not => put(code, Instr::Complement),
+        Monadic::Not => put(code, Instr::Not),
         Monadic::Abs => put(code, Instr::Absolute),
         Monadic::Sqr { overflow } => put_checked(
             code,
@@ -230,8 +230,8 @@ fn emit_dyadic(code: &mut Vec<Instr>, operation: Dyadic) -> Result<(), AllocErro
         Dyadic::Mod { by_zero_or_less } => {
             put_checked(code, positive_at(by_zero_or_less), Instr::Modulo)
         }
-        Dyadic::And => put(code, Instr::Both),
-        Dyadic::Or => put(code, Instr::Either),
+        Dyadic::And => put(code, Instr::And),
+        Dyadic::Or => put(code, Instr::Or),
         Dyadic::Relation(relation) => put(code, comparison_of(relation)),
     }
 }

@@ -420,11 +420,11 @@ fn compares(rt: HostRuntime) -> Result<(), Fail> {
     all_hold(rt.alloc(), &RELATIONS, operators_told)
 }
 
-const JOINS: &[Instr] = &[Instr::Both, Instr::Either];
+const JOINS: &[Instr] = &[Instr::And, Instr::Or];
 
 /// 0 is false, and all else is true.
 static TRUTHS: [(OperatorRow, &str); 7] = [
-    ((&[Instr::Complement], &[0], &[0, 1, 2, -1]), "1 0 0 0 "),
+    ((&[Instr::Not], &[0], &[0, 1, 2, -1]), "1 0 0 0 "),
     ((JOINS, &[0], &[0]), "0 0 "),
     ((JOINS, &[0], &[1]), "0 1 "),
     ((JOINS, &[1], &[0]), "0 1 "),

@@ -12,7 +12,7 @@ pub enum Monadic {
     Absolute,
     Square,
     Odd,
-    Complement,
+    Not,
 }
 
 /// An operator of two numbers that is never at fault (ISO 7185:1990, 6.7.2.2, 6.7.2.3 and 6.7.2.5).
@@ -21,8 +21,8 @@ pub enum Dyadic {
     Add,
     Subtract,
     Multiply,
-    Both,
-    Either,
+    And,
+    Or,
     Equal,
     NotEqual,
     Less,
@@ -41,7 +41,7 @@ impl Monadic {
             Monadic::Absolute => value.wrapping_abs(),
             Monadic::Square => value.wrapping_mul(value),
             Monadic::Odd => truth(is_odd(value)),
-            Monadic::Complement => truth(!is_true(value)),
+            Monadic::Not => truth(!is_true(value)),
         }
     }
 }
@@ -55,8 +55,8 @@ impl Dyadic {
             Dyadic::Add => left.wrapping_add(right),
             Dyadic::Subtract => left.wrapping_sub(right),
             Dyadic::Multiply => left.wrapping_mul(right),
-            Dyadic::Both => truth(is_true(left) & is_true(right)),
-            Dyadic::Either => truth(is_true(left) | is_true(right)),
+            Dyadic::And => truth(is_true(left) & is_true(right)),
+            Dyadic::Or => truth(is_true(left) | is_true(right)),
             Dyadic::Equal => truth(left == right),
             Dyadic::NotEqual => truth(left != right),
             Dyadic::Less => truth(left < right),
