@@ -1,7 +1,9 @@
 -- The code of a typed tree: of an expression (ISO 7185:1990, 6.7), of a statement (6.8) and of a program (6.10), as
--- functions of the tree. It does not say what the code does: that is for the machine to say.
+-- functions of the tree, of where in a frame its variables lie and, for a statement, of its place in the code. It does
+-- not say what the code does: that is for the machine to say.
 use Rattle.std.specs.Prelude.{ℕ, pos, ◌+◌, max, min, Bool, true, false, List, [], ◌∷◌, ◌++◌, Option, Some, None, length, map, slice_get, fold}
 use Rattle.std.specs.List.{flat_map}
+use Rattle.code_generator.specs.declared.scope.Scope.{Scope}
 use Rattle.pcode_assembler.specs.declared.instr.Instr.{Instr}
 use Rattle.pcode_assembler.specs.declared.instr.Instr.TheVariants as instr
 use Rattle.typed_tree.specs.declared.tree.Tree.{Tree}
@@ -31,17 +33,26 @@ use Rattle.typed_tree.specs.declared.tree.Stmt.TheFolds.{fold-Stmt}
 abbrev pub joined : List (List Instr) → List Instr
 joined pieces = flat_map (λ piece. piece) pieces
 
+-- pieces that are made for their places, one after another from this place on
+abbrev pub placed : List (ℕ → List Instr) → ℕ → List Instr
+placed [] place = []
+placed (piece ∷ pieces) place = piece place ++ placed pieces (place + length (piece place))
+
 -- the greatest of some numbers, or 0
 abbrev pub greatest : List ℕ → ℕ
 greatest depths = fold max 0 depths
 
--- a number as an operand, or the greatest operand
-abbrev pub operand : ℕ → ℕ
-operand n = min n 4294967295
+-- a number as an offset, or the greatest offset
+abbrev pub offset : ℕ → ℕ
+offset n = min n 16777215
 
--- where a variable stands in the program's frame: behind the four links
-abbrev pub variable_offset : ℕ → ℕ
-variable_offset root = operand (root + 4)
+-- a number of cells as a count, or the greatest count
+abbrev pub count : ℕ → ℕ
+count n = min n 16777216
+
+-- where a variable lies in its block's frame
+abbrev pub variable_offset : Scope → ℕ → ℕ
+variable_offset scope root = offset (scope.variables + root)
 
 -- what an operation does to the value before it, checked
 abbrev pub monadic_code : Monadic → List Instr
@@ -77,31 +88,32 @@ dyadic_code dyadic.Or = instr.Or ∷ []
 dyadic_code (dyadic.Relation r) = relation_instr r ∷ []
 
 -- the value of a variable, checked
-abbrev pub variable_code : ℕ → ℕ → List Instr
-variable_code root defined = instr.Load 0 (variable_offset root) ∷ instr.CheckDefined defined 1 ∷ []
+abbrev pub variable_code : Scope → ℕ → ℕ → List Instr
+variable_code scope root defined = instr.Load 0 (variable_offset scope root) ∷ instr.CheckDefined defined 1 ∷ []
 
-abbrev pub expr_step : Expr-F (List Instr) (List Instr) → List Instr
-expr_step (Constant number value) = instr.LoadConstant value ∷ []
-expr_step (Variable access defined) = variable_code access.root defined
-expr_step (MonadicOf number operation operand) = operand.value ++ monadic_code operation
-expr_step (Chain first rest) = first.value ++ joined rest.items
+abbrev pub expr_step : Scope → Expr-F (List Instr) (List Instr) → List Instr
+expr_step scope (Constant number value) = instr.LoadConstant value ∷ []
+expr_step scope (Variable access defined) = variable_code scope access.root defined
+expr_step scope (MonadicOf number operation operand) = operand.value ++ monadic_code operation
+expr_step scope (Chain first rest) = first.value ++ joined rest.items
 
 abbrev pub link_step : Link-F (List Instr) (List Instr) → List Instr
 link_step link = link.operand ++ dyadic_code link.operation
 
 -- the code of an expression, which pushes its value
-abbrev pub expr_code : Expr → List Instr
-expr_code = fold-Expr (List Instr) (List Instr) expr_step link_step
+abbrev pub expr_code : Scope → Expr → List Instr
+expr_code scope = fold-Expr (List Instr) (List Instr) (expr_step scope) link_step
 
 -- the code of an operator and its right operand
-abbrev pub link_code : Link → List Instr
-link_code = fold-Link (List Instr) (List Instr) expr_step link_step
+abbrev pub link_code : Scope → Link → List Instr
+link_code scope = fold-Link (List Instr) (List Instr) (expr_step scope) link_step
 
 -- the code of an assignment: the value, its check, and the store
-abbrev pub assign_code : ℕ → RangeTest → Expr → List Instr
-assign_code root fits value =
-    expr_code value
-    ++ (instr.CheckRange fits.site fits.range.first fits.range.last ∷ instr.Store 0 (variable_offset root) ∷ [])
+abbrev pub assign_code : Scope → ℕ → RangeTest → Expr → List Instr
+assign_code scope root fits value =
+    expr_code scope value
+    ++ (instr.CheckRange fits.site fits.range.first fits.range.last
+    ∷ instr.Store 0 (variable_offset scope root) ∷ [])
 
 -- the width of a value that has none
 abbrev pub default_width : Representation → Instr
@@ -109,9 +121,9 @@ default_width representation.Integer = instr.LoadConstant (pos 10)
 default_width representation.Boolean = instr.LoadConstant (pos 5)
 
 -- the code of a width, checked
-abbrev pub width_code : Option Width → Representation → List Instr
-width_code None representation = default_width representation ∷ []
-width_code (Some width) representation = expr_code width.value ++ (check_positive width.site ∷ [])
+abbrev pub width_code : Scope → Option Width → Representation → List Instr
+width_code scope None representation = default_width representation ∷ []
+width_code scope (Some width) representation = expr_code scope width.value ++ (check_positive width.site ∷ [])
 
 -- what writes a value, its width on top
 abbrev pub write_instr : Representation → Instr
@@ -119,10 +131,10 @@ write_instr representation.Integer = instr.WriteInteger
 write_instr representation.Boolean = instr.WriteBoolean
 
 -- the code that writes a value
-abbrev pub parameter_code : WriteParameter → List Instr
-parameter_code parameter =
-    expr_code parameter.value
-    ++ (width_code parameter.width parameter.representation ++ (write_instr parameter.representation ∷ []))
+abbrev pub parameter_code : Scope → WriteParameter → List Instr
+parameter_code scope parameter =
+    expr_code scope parameter.value
+    ++ (width_code scope parameter.width parameter.representation ++ (write_instr parameter.representation ∷ []))
 
 -- a line end behind a writeln
 abbrev pub line_end_code : Bool → List Instr
@@ -130,18 +142,22 @@ line_end_code true = instr.WriteLine ∷ []
 line_end_code false = []
 
 -- the code of a write or writeln: each value in turn
-abbrev pub write_code : List WriteParameter → Bool → List Instr
-write_code parameters ends_line = flat_map parameter_code parameters ++ line_end_code ends_line
+abbrev pub write_code : Scope → List WriteParameter → Bool → List Instr
+write_code scope parameters ends_line = flat_map (parameter_code scope) parameters ++ line_end_code ends_line
 
-abbrev pub stmt_step : Stmt-F (List Instr) → List Instr
-stmt_step (Empty number) = []
-stmt_step (Assign number becomes target fits value) = assign_code target.root fits value
-stmt_step (Write number name parameters ends_line) = write_code parameters.items ends_line
-stmt_step (Compound number statements) = joined statements.items
+-- what is known where the code of a statement is made: its block's scope, and its place
+abbrev pub Placed : Type 0
+Placed = Scope → ℕ → List Instr
 
--- the code of a statement
-abbrev pub stmt_code : Stmt → List Instr
-stmt_code = fold-Stmt (List Instr) stmt_step
+abbrev pub stmt_step : Stmt-F Placed → Placed
+stmt_step (Empty number) scope place = []
+stmt_step (Assign number becomes target fits value) scope place = assign_code scope target.root fits value
+stmt_step (Write number name parameters ends_line) scope place = write_code scope parameters.items ends_line
+stmt_step (Compound number statements) scope place = placed (map (λ code. code scope) statements.items) place
+
+-- the code of a statement at a place
+abbrev pub stmt_code : Stmt → Placed
+stmt_code = fold-Stmt Placed stmt_step
 
 abbrev pub expr_depth_step : Expr-F ℕ ℕ → ℕ
 expr_depth_step (Constant number value) = 1
@@ -179,16 +195,21 @@ stmt_depth_step (Compound number statements) = greatest statements.items
 abbrev pub stmt_depth : Stmt → ℕ
 stmt_depth = fold-Stmt ℕ stmt_depth_step
 
--- the code of a block with so many variables
-abbrev pub block_code : ℕ → Stmt → List Instr
-block_code variables body = instr.Enter variables (operand (stmt_depth body)) ∷ stmt_code body
+-- the scope of the program's block: its variables lie behind the four links of the frame, and nothing is held above
+abbrev pub program_scope : Scope
+program_scope = record { variables = 4; height = 0 }
+
+-- the code of a block with so many variables, at a place
+abbrev pub block_code : ℕ → Stmt → Placed
+block_code variables body scope place =
+    instr.Enter variables (count (stmt_depth body)) ∷ stmt_code body scope (place + 1)
 
 -- the code of the program's block; a tree that has none does nothing
 abbrev pub body_code : ℕ → Option Block → List Instr
 body_code variables None = instr.Enter variables 0 ∷ []
-body_code variables (Some block) = block_code variables block.body
+body_code variables (Some block) = block_code variables block.body program_scope 0
 
 -- the code of a program: its block, and the end of the run
 abbrev pub program_code : Tree → List Instr
 program_code tree =
-    body_code (operand (length tree.variables.items)) (slice_get tree.blocks.items 0) ++ (instr.Stop ∷ [])
+    body_code (count (length tree.variables.items)) (slice_get tree.blocks.items 0) ++ (instr.Stop ∷ [])
