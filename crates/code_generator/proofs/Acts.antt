@@ -1,4 +1,4 @@
--- What each instruction does to a store whose topmost cells are known, in the program's own frame.
+-- What each instruction does to a store whose topmost cells are known, in a frame that begins anywhere.
 use Rattle.std.proofs.Common.{◌≡◌, ℕ, ◌+◌, ◌-◌, ◌<◌, ◌≤◌, List, [], ◌∷◌, ◌++◌, length, take, drop, Some, None, Ok, Err, ap, ◌∙◌, arith, append_assoc, length-append, Bool, true}
 use Rattle.std.specs.Prelude.{slice_get, slice_set, ℤ, pos, ◌+ℤ◌, ◌-ℤ◌, ◌*ℤ◌, int_le, ◌&&◌, if◌then◌else◌}
 use Rattle.std.specs.Int.{w32, int_wrapping_div, int_rem_euclid}
@@ -9,7 +9,7 @@ use Rattle.std.proofs.lemmas.Option.{slice_get-get_or}
 use Rattle.stack_machine.specs.declared.cell.Cell.{Cell}
 use Rattle.stack_machine.specs.declared.cell.Cell.TheVariants.{Undefined, Number}
 use Rattle.stack_machine.specs.declared.stop.MachineFault.TheVariants.{Underflow, OutOfBounds, WrongDivisor}
-use Rattle.stack_machine.specs.Frames.{Frames, ◌>>=◌, unless_fault, has, has_room_after, number, number_at, popped, pushed, in_use, variable, cell_at, load_constant, load, store, two_numbers, on_one, operands, on_two, divide, modulo, top_two, is_integer, is_true, is_defined, top_is_in_range, top_is_not_zero, top_is_defined, sum_is_integer, difference_is_integer, product_is_integer, square_is_integer}
+use Rattle.stack_machine.specs.Frames.{Frames, ◌>>=◌, unless_fault, has, has_room_after, number, number_at, base, popped, pushed, in_use, variable, cell_at, load_constant, load, store, two_numbers, on_one, operands, on_two, divide, modulo, top_two, is_integer, is_true, is_defined, top_is_in_range, top_is_not_zero, top_is_defined, sum_is_integer, difference_is_integer, product_is_integer, square_is_integer}
 
 -- the element behind the first ones
 pub slice_get_seam : {A : Type 0} (below : List A) (a : A) (above : List A) → slice_get (below ++ a ∷ above) (length below) ≡ Some a
@@ -24,34 +24,34 @@ length_two below a b = omega (arith, length-append below (a ∷ []), length-appe
 pub length_one : {A : Type 0} (below : List A) (a : A) → length (below ++ a ∷ []) ≡ length below + 1
 length_one below a = omega (arith, length-append below (a ∷ []))
 
-module _ (limit size : ℕ) where
-  -- the program's frame with these cells
+module _ (frame limit size : ℕ) where
+  -- the store in this frame with these cells
   abbrev pub framed : List Cell → Frames
-  framed cells = record { cells = cells; frame = 0; limit = limit; size = size }
+  framed cells = record { cells = cells; frame = frame; limit = limit; size = size }
 
-  has_some : (count : ℕ) (cells : List Cell) → 4 + count ≤ length cells → has count (framed cells) ≡ Ok tt
-  has_some count cells h = ap (λ b. unless_fault b Underflow) (le-leb (4 + count) (length cells) h)
+  has_some : (count : ℕ) (cells : List Cell) → frame + 4 + count ≤ length cells → has count (framed cells) ≡ Ok tt
+  has_some count cells h = ap (λ b. unless_fault b Underflow) (le-leb (frame + 4 + count) (length cells) h)
 
   has_room : (count : ℕ) (cells : List Cell) → length cells - count < limit → has_room_after count (framed cells) ≡ Ok tt
   has_room count cells h = ap (λ b. unless_fault b OutOfBounds) (lt-ltb (length cells - count) limit h)
 
-  in_use_is : (offset used : ℕ) → offset < used → in_use (0 + offset) used ≡ Ok offset
-  in_use_is offset used h =
-      let e : 0 + offset ≡ offset = omega arith in
-      ap (λ n. in_use n used) e ∙ ap (λ b. if b then Ok offset else Err OutOfBounds) (lt-ltb offset used h)
+  in_use_is : (address used : ℕ) → address < used → in_use address used ≡ Ok address
+  in_use_is address used h = ap (λ b. if b then Ok address else Err OutOfBounds) (lt-ltb address used h)
 
   -- a push
   pub pushes : (cells : List Cell) (value : ℤ) → length cells < limit → load_constant value (framed cells) ≡ Ok (framed (cells ++ Number value ∷ []))
   pushes cells value h = ap (λ r. r >>= λ _. Ok (pushed (Number value) (framed cells))) (has_room 0 cells (omega arith))
 
-  -- the value of a variable
-  pub loads : (cells : List Cell) (offset : ℕ) (cell : Cell) → length cells < limit → offset < length cells → slice_get cells offset ≡ Some cell → load 0 offset (framed cells) ≡ Ok (framed (cells ++ cell ∷ []))
-  loads cells offset cell room h e =
-      ap (λ r. r >>= λ _. variable 0 offset (framed cells) >>= λ a. Ok (pushed (cell_at a (framed cells)) (framed cells))) (has_room 0 cells (omega arith))
-      ∙ ap (λ r. r >>= λ a. Ok (pushed (cell_at a (framed cells)) (framed cells))) (in_use_is offset (length cells) h)
+  -- the value of a variable, whose frame so many static links lead to
+  pub loads : (cells : List Cell) (level offset owner : ℕ) (cell : Cell) → length cells < limit → base level frame cells ≡ Ok owner
+      → owner + offset < length cells → slice_get cells (owner + offset) ≡ Some cell → load level offset (framed cells) ≡ Ok (framed (cells ++ cell ∷ []))
+  loads cells level offset owner cell room leads h e =
+      ap (λ r. r >>= λ _. variable level offset (framed cells) >>= λ a. Ok (pushed (cell_at a (framed cells)) (framed cells))) (has_room 0 cells (omega arith))
+      ∙ ap (λ r. (r >>= λ f. in_use (f + offset) (length cells)) >>= λ a. Ok (pushed (cell_at a (framed cells)) (framed cells))) leads
+      ∙ ap (λ r. r >>= λ a. Ok (pushed (cell_at a (framed cells)) (framed cells))) (in_use_is (owner + offset) (length cells) h)
       ∙ ap (λ o. Ok (framed (cells ++ (elim o as (λ _. Cell) [ Some there ↦ there | None ↦ Undefined ]) ∷ []))) e
 
-  module _ (below : List Cell) (linked : 4 ≤ length below) where
+  module _ (below : List Cell) (linked : frame + 4 ≤ length below) where
     -- the topmost cell
     top_at : (cell : Cell) → slice_get (below ++ cell ∷ []) (length (below ++ cell ∷ []) - 1) ≡ Some cell
     top_at cell =
@@ -79,12 +79,14 @@ module _ (limit size : ℕ) where
     on_one_is f n room =
         let s = framed (below ++ Number n ∷ []) in
         ap (λ r. r >>= λ _. has_room_after 1 s >>= λ _. number_at 1 s >>= λ v. Ok (pushed (Number (f v)) (popped 1 s))) (has_one (Number n))
-        ∙ ap (λ r. r >>= λ _. number_at 1 s >>= λ v. Ok (pushed (Number (f v)) (popped 1 s))) (has_room 1 (below ++ Number n ∷ []) (omega (arith, length_one below (Number n))))
+        ∙ ap (λ r. r >>= λ _. number_at 1 s >>= λ v. Ok (pushed (Number (f v)) (popped 1 s)))
+        (has_room 1 (below ++ Number n ∷ []) (omega (arith, length_one below (Number n))))
         ∙ ap (λ o. number o >>= λ v. Ok (pushed (Number (f v)) (popped 1 s))) (top_at (Number n))
         ∙ ap (λ cs. Ok (framed (cs ++ Number (f n) ∷ []))) (one_popped (Number n))
 
     -- a test of the number at the top
-    top_tests : (test : ℤ → Bool) (n : ℤ) → (has 1 (framed (below ++ Number n ∷ [])) >>= λ _. number_at 1 (framed (below ++ Number n ∷ [])) >>= λ v. Ok (test v)) ≡ Ok (test n)
+    top_tests : (test : ℤ → Bool) (n : ℤ) → (has 1 (framed (below ++ Number n ∷ [])) >>= λ _. number_at 1 (framed (below ++ Number n ∷ [])) >>= λ v. Ok (test
+        v)) ≡ Ok (test n)
     top_tests test n =
         let s = framed (below ++ Number n ∷ []) in
         ap (λ r. r >>= λ _. number_at 1 s >>= λ v. Ok (test v)) (has_one (Number n))
@@ -99,13 +101,16 @@ module _ (limit size : ℕ) where
     pub squares : (n : ℤ) → square_is_integer (framed (below ++ Number n ∷ [])) ≡ Ok (is_integer (n *ℤ n))
     squares n = top_tests (λ v. is_integer (v *ℤ v)) n
 
-    pub stores : (cell : Cell) (offset : ℕ) → offset < length below → store 0 offset (framed (below ++ cell ∷ [])) ≡ Ok (framed (slice_set below offset cell))
-    stores cell offset h =
+    pub stores : (cell : Cell) (level offset owner : ℕ) → base level frame below ≡ Ok owner → owner + offset < length below
+        → store level offset (framed (below ++ cell ∷ [])) ≡ Ok (framed (slice_set below (owner + offset) cell))
+    stores cell level offset owner leads h =
         let s = framed (below ++ cell ∷ []) in
-        ap (λ r. r >>= λ _. variable 0 offset (popped 1 s) >>= λ a. Ok (record (popped 1 s) { cells = slice_set (popped 1 s).cells a (cell_at (length s.cells - 1) s) })) (has_one cell)
-        ∙ ap (λ cs. variable 0 offset (framed cs) >>= λ a. Ok (framed (slice_set cs a (cell_at (length s.cells - 1) s)))) (one_popped cell)
-        ∙ ap (λ r. r >>= λ a. Ok (framed (slice_set below a (cell_at (length s.cells - 1) s)))) (in_use_is offset (length below) h)
-        ∙ ap (λ o. Ok (framed (slice_set below offset (elim o as (λ _. Cell) [ Some there ↦ there | None ↦ Undefined ])))) (top_at cell)
+        ap (λ r. r >>= λ _. variable level offset (popped 1 s) >>= λ a. Ok
+        (record (popped 1 s) { cells = slice_set (popped 1 s).cells a (cell_at (length s.cells - 1) s) })) (has_one cell)
+        ∙ ap (λ cs. variable level offset (framed cs) >>= λ a. Ok (framed (slice_set cs a (cell_at (length s.cells - 1) s)))) (one_popped cell)
+        ∙ ap (λ r. (r >>= λ f. in_use (f + offset) (length below)) >>= λ a. Ok (framed (slice_set below a (cell_at (length s.cells - 1) s)))) leads
+        ∙ ap (λ r. r >>= λ a. Ok (framed (slice_set below a (cell_at (length s.cells - 1) s)))) (in_use_is (owner + offset) (length below) h)
+        ∙ ap (λ o. Ok (framed (slice_set below (owner + offset) (elim o as (λ _. Cell) [ Some there ↦ there | None ↦ Undefined ])))) (top_at cell)
 
     -- two numbers at the top
     module _ (a b : ℤ) where
@@ -120,12 +125,14 @@ module _ (limit size : ℕ) where
       left_at : slice_get two (length two - 2) ≡ Some (Number a)
       left_at =
           let e : length two - 2 ≡ length below = omega (arith, length_two below (Number a) (Number b)) in
-          ap (slice_get two) e ∙ ap (λ cs. slice_get cs (length below)) (append_assoc below (Number a ∷ []) (Number b ∷ [])) ∙ slice_get_seam below (Number a) (Number b ∷ [])
+          ap (slice_get two) e ∙ ap (λ cs. slice_get cs (length below)) (append_assoc below (Number a ∷ []) (Number b ∷ []))
+          ∙ slice_get_seam below (Number a) (Number b ∷ [])
 
       pub two_popped : take (length two - 2) two ≡ below
       two_popped =
           let e : length two - 2 ≡ length below = omega (arith, length_two below (Number a) (Number b)) in
-          ap (λ n. take n two) e ∙ ap (take (length below)) (append_assoc below (Number a ∷ []) (Number b ∷ [])) ∙ take-append_seam below (Number a ∷ Number b ∷ [])
+          ap (λ n. take n two) e ∙ ap (take (length below)) (append_assoc below (Number a ∷ []) (Number b ∷ []))
+          ∙ take-append_seam below (Number a ∷ Number b ∷ [])
 
       has_two : has 2 (framed two) ≡ Ok tt
       has_two = has_some 2 two (omega (arith, length_two below (Number a) (Number b)))
@@ -161,7 +168,9 @@ module _ (limit size : ℕ) where
           ∙ ap (λ cs. Ok (framed (cs ++ Number (f a b) ∷ []))) two_popped
 
       -- two numbers give way to a third, unless the divisor is wrong
-      divisor_is : (test : ℤ → Bool) (f : ℤ → ℤ → ℤ) → length below < limit → test b ≡ true → (operands (framed two) >>= λ ns. unless_fault (test ns.1) WrongDivisor >>= λ _. Ok (pushed (Number (f ns.0 ns.1)) (popped 2 (framed two)))) ≡ Ok (framed (below ++ Number (f a b) ∷ []))
+      divisor_is : (test : ℤ → Bool) (f : ℤ → ℤ → ℤ) → length below < limit → test b ≡ true
+          → (operands (framed two) >>= λ ns. unless_fault (test ns.1) WrongDivisor >>= λ _. Ok (pushed (Number (f ns.0 ns.1)) (popped 2 (framed two)))) ≡ Ok
+          (framed (below ++ Number (f a b) ∷ []))
       divisor_is test f room good =
           ap (λ r. r >>= λ ns. unless_fault (test ns.1) WrongDivisor >>= λ _. Ok (pushed (Number (f ns.0 ns.1)) (popped 2 (framed two)))) (operands_are room)
           ∙ ap (λ t. unless_fault t WrongDivisor >>= λ _. Ok (pushed (Number (f a b)) (popped 2 (framed two)))) good

@@ -68,7 +68,8 @@ pub record IsApart (world : World) : Type 0 where
   -- no scalar lies in one of the four links of a frame
   pub links : (p : Place) (c : ℕ) (a : Activation) → LiesIn world p c → Contains world a → (c < a.frame) ⊎ (a.frame + 4 ≤ c)
   -- no scalar lies in the cell of a variable parameter
-  pub references : (p q : Place) (c : ℕ) (a : Activation) (root offset : ℕ) → LiesIn world p c → Contains world a → a.refers root ≡ Some (offset, q) → c ≡ a.frame + offset → ⊥
+  pub references : (p q : Place) (c : ℕ) (a : Activation) (root offset : ℕ) → LiesIn world p c → Contains world a → a.refers root ≡ Some (offset, q)
+      → c ≡ a.frame + offset → ⊥
 
 -- each variable parameter stands for a scalar of a living activation
 pub record IsClosed (world : World) : Type 0 where
@@ -85,7 +86,8 @@ pub record Alike (world : World) (store : Store) (cells : List Cell) : Type 0 wh
   -- the first of them leads to the frame that it is to lead to
   pub links : (a : Activation) (outer : ℕ) → Contains world a → a.outer ≡ Some outer → slice_get cells a.frame ≡ Some (Number (pos outer))
   -- the cell of each variable parameter holds the address of the cell of its place
-  pub references : (a : Activation) (root offset : ℕ) (p : Place) (c : ℕ) → Contains world a → a.refers root ≡ Some (offset, p) → LiesIn world p c → slice_get cells (a.frame + offset) ≡ Some (Number (pos c))
+  pub references : (a : Activation) (root offset : ℕ) (p : Place) (c : ℕ) → Contains world a → a.refers root ≡ Some (offset, p) → LiesIn world p c
+      → slice_get cells (a.frame + offset) ≡ Some (Number (pos c))
 
 -- cells that were there before others came above them
 slice_get-front : {A : Type 0} (xs ys : List A) (i : ℕ) (x : A) → slice_get xs i ≡ Some x → slice_get (xs ++ ys) i ≡ Some x
@@ -121,7 +123,8 @@ alike_above world store cells more alike = record {
 }
 
 -- an assignment of an integer to a scalar
-module _ (world : World) (store : Store) (cells : List Cell) (p : Place) (c : ℕ) (n : ℤ) (apart : IsApart world) (at : LiesIn world p c) (fit : Fits n) (alike : Alike world store cells) where
+module _ (world : World) (store : Store) (cells : List Cell) (p : Place) (c : ℕ) (n : ℤ) (apart : IsApart world) (at : LiesIn world p c) (fit : Fits n)
+    (alike : Alike world store cells) where
   abbrev after : Store
   after = written store p (value.Number n)
 
@@ -154,9 +157,11 @@ module _ (world : World) (store : Store) (cells : List Cell) (p : Place) (c : �
 
   link_kept : (a : Activation) → Contains world a → slice_get set_cells a.frame ≡ slice_get cells a.frame
   link_kept a lives =
-      set_other cells c a.frame (Number n) (λ e. ⊎_elim (λ (below : c < a.frame). omega arith) (λ (above : a.frame + 4 ≤ c). omega arith) (apart.links p c a at lives))
+      set_other cells c a.frame (Number n) (λ e. ⊎_elim (λ (below : c < a.frame). omega arith) (λ (above : a.frame + 4 ≤ c). omega arith) (apart.links p c a
+      at lives))
 
-  reference_kept : (a : Activation) (root offset : ℕ) (q : Place) → Contains world a → a.refers root ≡ Some (offset, q) → slice_get set_cells (a.frame + offset) ≡ slice_get cells (a.frame + offset)
+  reference_kept : (a : Activation) (root offset : ℕ) (q : Place) → Contains world a → a.refers root ≡ Some (offset, q)
+      → slice_get set_cells (a.frame + offset) ≡ slice_get cells (a.frame + offset)
   reference_kept a root offset q lives e =
       set_other cells c (a.frame + offset) (Number n) (apart.references p q c a root offset at lives e)
 
@@ -183,7 +188,8 @@ leads_to world zero a b l = subst (Contains world) l.1 l.0
 leads_to world (suc level) a b l = leads_to world level l.0 b l.3
 
 -- the machine finds that activation's frame
-pub base_is : (world : World) (store : Store) (cells : List Cell) (level : ℕ) (a b : Activation) → Alike world store cells → Leads world level a b → base level a.frame cells ≡ Ok b.frame
+pub base_is : (world : World) (store : Store) (cells : List Cell) (level : ℕ) (a b : Activation) → Alike world store cells → Leads world level a b
+    → base level a.frame cells ≡ Ok b.frame
 base_is world store cells zero a b alike l = ap (λ (x : Activation). Ok x.frame) l.1
 base_is world store cells (suc level) a c alike l =
     let b = l.0 in
@@ -214,7 +220,8 @@ abbrev pub HasCell : Environment → World → ℕ → ℕ → Type 0
 HasCell env world root cell = (p : Place) × (env root ≡ Some p) × LiesIn world p cell
 
 -- a variable that is reached directly is a scalar and lies where it is looked for
-pub direct_lies : (env : Environment) (world : World) (a : Activation) (root level offset : ℕ) → Shown env world a root (Direct level offset) → (b : Activation) × Leads world level a b × HasCell env world root (b.frame + offset)
+pub direct_lies : (env : Environment) (world : World) (a : Activation) (root level offset : ℕ) → Shown env world a root (Direct level offset)
+    → (b : Activation) × Leads world level a b × HasCell env world root (b.frame + offset)
 direct_lies env world a root level offset s =
     let b = s.0 in
     let whole : Place = record { activation = b.number; variable = root; steps = [] } in
@@ -223,7 +230,9 @@ direct_lies env world a root level offset s =
     (b, s.1, (whole, s.3, there))
 
 -- where a variable is reached by its address, that is the address of its cell
-pub address_lies : (env : Environment) (world : World) (store : Store) (cells : List Cell) (a : Activation) (root level offset : ℕ) → IsClosed world → Alike world store cells → Shown env world a root (ByAddress level offset) → (b : Activation) × Leads world level a b × (c : ℕ) × HasCell env world root c × (slice_get cells (b.frame + offset) ≡ Some (Number (pos c)))
+pub address_lies : (env : Environment) (world : World) (store : Store) (cells : List Cell) (a : Activation) (root level offset : ℕ) → IsClosed world
+    → Alike world store cells → Shown env world a root (ByAddress level offset)
+    → (b : Activation) × Leads world level a b × (c : ℕ) × HasCell env world root c × (slice_get cells (b.frame + offset) ≡ Some (Number (pos c)))
 address_lies env world store cells a root level offset closed alike s =
     let b = s.0 in
     let lives = leads_to world level a b s.1 in

@@ -1,7 +1,11 @@
--- The code of a well formed tree follows its program.
-use Rattle.std.proofs.Common.{◌≡◌, ℕ, zero, suc, nat_eq, ◌+◌, ◌<◌, ◌≤◌, ◌⊎◌, List, [], ◌∷◌, ◌++◌, length, Option, Some, None, refl, sym, ap, ◌∙◌, subst, inl, inr, ⊎_elim, arith, length-append, Bool, true}
+-- The code of a well formed tree follows its program, in full and without the checks of sites at which it never errs.
+use Rattle.std.proofs.Common.{◌≡◌, ℕ, zero, suc, nat_eq, ◌+◌, ◌<◌, ◌≤◌, ◌⊎◌, List, [], ◌∷◌, ◌++◌, length, Option, Some, None, refl, sym, ap, ◌∙◌, subst, inl, inr, ⊎_elim, arith, length-append, append_assoc, append-nil, ◌-◌, Bool, true, false}
 use Rattle.std.specs.Prelude.{slice_get, if◌then◌else◌}
 use Rattle.std.specs.List.{list_all}
+use Rattle.std.specs.Option.{option_map_or}
+use Rattle.std.proofs.Math.Seq.{get_or-append_seam}
+use Rattle.std.proofs.lemmas.List.Sums.{count_by_more_yes, count_by_more_no}
+use Rattle.std.proofs.lemmas.Option.{slice_get-get_or, get_or_from_slice_get}
 use Rattle.std.proofs.lemmas.Bool.{and_parts, cases_lt, lt-ltb, le-ltb, le-leb, lt-leb}
 use Rattle.pcode_assembler.specs.declared.code.Code.{Code}
 use Rattle.pcode_assembler.specs.declared.code.Site.{Site as Plain}
@@ -20,27 +24,28 @@ use Rattle.stack_machine.specs.declared.stop.Stop.{Stop}
 use Rattle.stack_machine.specs.declared.stop.Stop.TheVariants as stop
 use Rattle.stack_machine.specs.Frames.{first_frames}
 use Rattle.stack_machine.specs.Machine as machines
-use Rattle.stack_machine.specs.Machine.{State}
+use Rattle.stack_machine.specs.Machine.{State, Next}
 use Rattle.stack_machine.specs.Run as runs
 use Rattle.stack_machine.specs.Run.{Outcome, machine, steps}
-use Rattle.code_generator.specs.Code.{operand, stmt_code, stmt_depth, body_code, program_code}
+use Rattle.check_remover.specs.Strip.{check_site, is_among, stays, moved, moved_place, KeepsInstructions}
+use Rattle.code_generator.specs.Code.{count, variable_offset, program_scope, stmt_code, stmt_depth, body_code, program_code}
 use Rattle.code_generator.specs.Follows.{BeginsWith, StopsAs, DoesAll, DoesAsMuch, IsExplained, Follows}
+use Rattle.code_generator.specs.Laws.{StrippedFollows}
 use Rattle.code_generator.specs.Need.{body_need, program_need}
 use Rattle.code_generator.specs.Tables.{site_table}
 use Rattle.typed_tree.specs.WellFormed.{is_well_formed_block, IsWellFormed}
-use Rattle.code_generator.proofs.Reach.{HasAt, has_front, has_back, has_all, Comes, IsOver, comes_by, comes_nowhere, stops_on, stops_by, longer, one_end, grows_to}
+use Rattle.code_generator.proofs.Reach.{Target, StandsAt, Stands, stands_front, stands_back, Comes, IsOver, comes_by, comes_on, comes_less, stays_here, stops_on, stops_by, longer, one_end, grows_to}
+use Rattle.code_generator.proofs.Setting.{Setting, on, Based, Halts, Ends, Executes, done}
 use Rattle.stack_machine.proofs.Growing.{begins_itself}
 use Rattle.code_generator.proofs.Depths.{Within, stmt_within}
-use Rattle.code_generator.proofs.Alike.{Alike}
-use Rattle.code_generator.proofs.ProgramWorld.{program_world, entered_cells, length_entered, program_begins, ShowsProgram, shows_program}
-use Rattle.code_generator.proofs.Exprs.{operand_is}
-use Rattle.code_generator.proofs.Stmts as stmts
+use Rattle.code_generator.proofs.Alike.{Shown, Direct}
+use Rattle.code_generator.proofs.ProgramWorld.{program_activation, program_world, program_lives, program_apart, entered_cells, length_entered, program_begins, ShowsProgram, shows_program}
 use Rattle.code_generator.proofs.Stmts.{stmt_runs}
 
 -- the instructions of a block's statement, and its depth
 abbrev body_instructions : Option Block → List Instr
 body_instructions None = []
-body_instructions (Some block) = stmt_code block.body
+body_instructions (Some block) = stmt_code block.body program_scope 1
 
 abbrev body_depth : Option Block → ℕ
 body_depth None = 0
@@ -48,9 +53,9 @@ body_depth (Some block) = stmt_depth block.body
 
 body_within : (o : Option Block) → Within (body_depth o) (body_instructions o) (body_need o)
 body_within None = record { code_is = omega arith; need_is = omega arith }
-body_within (Some block) = stmt_within block.body
+body_within (Some block) = stmt_within block.body program_scope 1
 
-body_code_is : (variables : ℕ) (o : Option Block) → body_code variables o ≡ instr.Enter variables (operand (body_depth o)) ∷ body_instructions o
+body_code_is : (variables : ℕ) (o : Option Block) → body_code variables o ≡ instr.Enter variables (count (body_depth o)) ∷ body_instructions o
 body_code_is variables None = refl
 body_code_is variables (Some block) = refl
 
@@ -60,7 +65,8 @@ is_well_formed_body variables sites None = true
 is_well_formed_body variables sites (Some block) = is_well_formed_block variables sites block
 
 -- that of the first block is, where those of all are
-first_is_well_formed : (variables sites : ℕ) (blocks : List Block) → list_all (is_well_formed_block variables sites) blocks ≡ true → is_well_formed_body variables sites (slice_get blocks 0) ≡ true
+first_is_well_formed : (variables sites : ℕ) (blocks : List Block) → list_all (is_well_formed_block variables sites) blocks ≡ true
+    → is_well_formed_body variables sites (slice_get blocks 0) ≡ true
 first_is_well_formed variables sites [] good = refl
 first_is_well_formed variables sites (block ∷ blocks) good =
     (and_parts (is_well_formed_block variables sites block) (list_all (is_well_formed_block variables sites) blocks) good).0
@@ -105,11 +111,19 @@ end_over (stop.Fault fault) h = tt
 end_over stop.ReadFailed h = tt
 end_over stop.WriteFailed h = tt
 
-as_much : (tree : Tree) (output : List ℕ) (e : Ending) (run : Outcome) → DoesAll tree (record { output = output; ending = e }) run → DoesAsMuch tree (record { output = output; ending = e }) run
+as_much : (tree : Tree) (output : List ℕ) (e : Ending) (run : Outcome) → DoesAll tree (record { output = output; ending = e }) run
+    → DoesAsMuch tree (record { output = output; ending = e }) run
 as_much tree output ending.Finished run h = h
 as_much tree output (ending.Error id) run h = h
 as_much tree output (ending.Input id fault) run h = h
 as_much tree output ending.More run h = absurd h.1
+
+as_much_more : (tree : Tree) (output : List ℕ) (e : Ending) (run : Outcome) → e ≡ ending.More → BeginsWith run.output output
+    → DoesAsMuch tree (record { output = output; ending = e }) run
+as_much_more tree output ending.Finished run is begins = cc
+as_much_more tree output (ending.Error id) run is begins = cc
+as_much_more tree output (ending.Input id fault) run is begins = cc
+as_much_more tree output ending.More run is begins = begins
 
 nothing_before : (xs ys : List ℕ) → [] ≡ xs ++ ys → xs ≡ []
 nothing_before [] ys e = refl
@@ -120,21 +134,21 @@ record Leads (run last : Outcome) : Type 0 where
   over : IsOver run.stop → run ≡ last
   begins : BeginsWith last.output run.output
 
-module _ (tree : Tree) (cells : ℕ) (means : ℕ → Meaning) where
-  done_there : (run last : Outcome) → Leads run last → DoesAll tree (means 0) last → IsOver run.stop → DoesAll tree (means 0) run
-  done_there run last l d over = subst (DoesAll tree (means 0)) (sym (l.over over)) d
+module _ (tree : Tree) (cells : ℕ) (means : ℕ → Meaning) (turns : ℕ) where
+  done_there : (run last : Outcome) → Leads run last → DoesAll tree (means turns) last → IsOver run.stop → DoesAll tree (means turns) run
+  done_there run last l d over = subst (DoesAll tree (means turns)) (sym (l.over over)) d
 
-  not_there : (run last : Outcome) (s : Stop) → Leads run last → DoesAll tree (means 0) last → run.stop ≡ s → IsOver s → (IsEnd s → ⊥) → ⊥
+  not_there : (run last : Outcome) (s : Stop) → Leads run last → DoesAll tree (means turns) last → run.stop ≡ s → IsOver s → (IsEnd s → ⊥) → ⊥
   not_there run last s l d e over other =
       let d' = done_there run last l d (subst IsOver (sym e) over) in
-      other (subst IsEnd e (stops_end tree (means 0).ending run.stop d'.1))
+      other (subst IsEnd e (stops_end tree (means turns).ending run.stop d'.1))
 
   -- a run where the program's frame fits
-  explained_done : (run last : Outcome) (s : Stop) → run.stop ≡ s → Leads run last → DoesAll tree (means 0) last → IsExplained tree cells means run s
-  explained_done run last stop.Finished e l d = (0, done_there run last l d (subst IsOver (sym e) tt))
-  explained_done run last (stop.Error site) e l d = (0, done_there run last l d (subst IsOver (sym e) tt))
-  explained_done run last (stop.Input point fault) e l d = (0, done_there run last l d (subst IsOver (sym e) tt))
-  explained_done run last stop.More e l d = (0, subst (λ o. BeginsWith o run.output) d.0 l.begins)
+  explained_done : (run last : Outcome) (s : Stop) → run.stop ≡ s → Leads run last → DoesAll tree (means turns) last → IsExplained tree cells means run s
+  explained_done run last stop.Finished e l d = (turns, done_there run last l d (subst IsOver (sym e) tt))
+  explained_done run last (stop.Error site) e l d = (turns, done_there run last l d (subst IsOver (sym e) tt))
+  explained_done run last (stop.Input point fault) e l d = (turns, done_there run last l d (subst IsOver (sym e) tt))
+  explained_done run last stop.More e l d = (turns, subst (λ o. BeginsWith o run.output) d.0 l.begins)
   explained_done run last stop.StoreFull e l d = absurd (not_there run last stop.StoreFull l d e tt (λ x. x))
   explained_done run last (stop.Fault fault) e l d = not_there run last (stop.Fault fault) l d e tt (λ x. x)
   explained_done run last stop.ReadFailed e l d = not_there run last stop.ReadFailed l d e tt (λ x. x)
@@ -150,20 +164,40 @@ module _ (tree : Tree) (cells : ℕ) (means : ℕ → Meaning) where
       subst IsFull (sym (ap (λ o. o.stop) same) ∙ e) tt
 
   -- a run where it doesn't
-  explained_full : (run last : Outcome) (s : Stop) → run.stop ≡ s → Leads run last → last ≡ record { output = []; stop = stop.StoreFull } → cells < program_need tree → IsExplained tree cells means run s
+  explained_full : (run last : Outcome) (s : Stop) → run.stop ≡ s → Leads run last → last ≡ record { output = []; stop = stop.StoreFull }
+      → cells < program_need tree → IsExplained tree cells means run s
   explained_full run last stop.Finished e l f few = absurd (full_there run last stop.Finished l f e tt)
   explained_full run last (stop.Error site) e l f few = absurd (full_there run last (stop.Error site) l f e tt)
   explained_full run last (stop.Input point fault) e l f few = absurd (full_there run last (stop.Input point fault) l f e tt)
   explained_full run last stop.More e l f few =
       let none = nothing_before run.output l.begins.0 (sym (ap (λ o. o.output) f) ∙ l.begins.1) in
-      (0, ((means 0).output, ap (λ o. o ++ (means 0).output) (sym none)))
+      (turns, ((means turns).output, ap (λ o. o ++ (means turns).output) (sym none)))
   explained_full run last stop.StoreFull e l f few =
       let same = l.over (subst IsOver (sym e) tt) ∙ f in (ap (λ o. o.output) same, few)
   explained_full run last (stop.Fault fault) e l f few = full_there run last (stop.Fault fault) l f e tt
   explained_full run last stop.ReadFailed e l f few = full_there run last stop.ReadFailed l f e tt
   explained_full run last stop.WriteFailed e l f few = full_there run last stop.WriteFailed l f e tt
 
-leads_to : (sites : List Plain) (code : List Instr) (b j : ℕ) (m : State) → IsOver (steps sites code j m).stop → Leads (steps sites code b m) (steps sites code j m)
+  -- it isn't over
+  goes_on : (run last : Outcome) (s : Stop) → run.stop ≡ s → Leads run last → last.stop ≡ stop.More → IsOver s → ⊥
+  goes_on run last s e l more over =
+      let same = l.over (subst IsOver (sym e) over) in
+      subst IsOver (sym e ∙ ap (λ (o : Outcome). o.stop) same ∙ more) over
+
+  -- a run that begins one which goes on as long as the program has turns
+  explained_more : (run last : Outcome) (s : Stop) → run.stop ≡ s → Leads run last → last.stop ≡ stop.More → last.output ≡ (means turns).output
+      → IsExplained tree cells means run s
+  explained_more run last stop.Finished e l more out = absurd (goes_on run last stop.Finished e l more tt)
+  explained_more run last (stop.Error site) e l more out = absurd (goes_on run last (stop.Error site) e l more tt)
+  explained_more run last (stop.Input point fault) e l more out = absurd (goes_on run last (stop.Input point fault) e l more tt)
+  explained_more run last stop.More e l more out = (turns, subst (λ o. BeginsWith o run.output) out l.begins)
+  explained_more run last stop.StoreFull e l more out = absurd (goes_on run last stop.StoreFull e l more tt)
+  explained_more run last (stop.Fault fault) e l more out = goes_on run last (stop.Fault fault) e l more tt
+  explained_more run last stop.ReadFailed e l more out = goes_on run last stop.ReadFailed e l more tt
+  explained_more run last stop.WriteFailed e l more out = goes_on run last stop.WriteFailed e l more tt
+
+leads_to : (sites : List Plain) (code : List Instr) (b j : ℕ) (m : State) → IsOver (steps sites code j m).stop
+    → Leads (steps sites code b m) (steps sites code j m)
 leads_to sites code b j m over = record {
   over = λ over'. one_end sites code b j m over' over;
   begins = ⊎_elim
@@ -172,12 +206,16 @@ leads_to sites code b j m over = record {
       (cases_lt b j);
 }
 
-module _ (tree : Tree) (well : IsWellFormed tree) (short : length (program_code tree) ≤ 4294967295) where
-  abbrev sites : List Plain
-  sites = site_table tree.sites.items
+leads_before : (sites : List Plain) (code : List Instr) (b j : ℕ) (m : State) → b ≤ j → Leads (steps sites code b m) (steps sites code j m)
+leads_before sites code b j m le =
+    record { over = longer sites code b j le m; begins = grows_to sites code b j le m }
 
-  abbrev count : ℕ
-  count = length tree.variables.items
+-- a program whose code stands in the machine's code, with the checks of some sites left out at which it never errs
+module _ (tree : Tree) (well : IsWellFormed tree) (short : length (program_code tree) ≤ 1000000) (target : Target)
+    (sites_are : target.sites ≡ site_table tree.sites.items) (stands : Stands target 0 (program_code tree)) (starts : target.to 0 ≡ 0)
+    (never : (input : List ℕ) (turns site : ℕ) → (meaning tree input turns).ending ≡ ending.Error site → target.is_open site ≡ false → ⊥) where
+  abbrev variables : ℕ
+  variables = length tree.variables.items
 
   abbrev first : Option Block
   first = slice_get tree.blocks.items 0
@@ -188,119 +226,308 @@ module _ (tree : Tree) (well : IsWellFormed tree) (short : length (program_code 
   abbrev depth : ℕ
   depth = body_depth first
 
-  -- the code, with its operands as they are
+  -- the code, with its counts as they are
   abbrev whole : List Instr
-  whole = instr.Enter count depth ∷ (body ++ instr.Stop ∷ [])
+  whole = instr.Enter variables depth ∷ (body ++ instr.Stop ∷ [])
 
-  few : count ≤ 4294967291
-  few = let bounded = well.few_variables in omega arith
+  few : variables ≤ 65536
+  few = well.few_variables
 
-  shallow : depth ≤ 4294967295
+  shallow : depth ≤ 16777216
   shallow =
       let w = (body_within first).code_is in
-      let e = ap length (body_code_is (operand count) first) in
-      omega (arith, length-append (body_code (operand count) first) (instr.Stop ∷ []))
+      let e = ap length (body_code_is (count variables) first) in
+      omega (arith, length-append (body_code (count variables) first) (instr.Stop ∷ []))
+
+  count_is : (n : ℕ) → n ≤ 16777216 → count n ≡ n
+  count_is n h = omega arith
 
   whole_is : program_code tree ≡ whole
   whole_is =
       let fits = few in
-      ap (λ c. c ++ (instr.Stop ∷ [])) (body_code_is (operand count) first)
-      ∙ ap (λ n. instr.Enter n (operand depth) ∷ (body ++ instr.Stop ∷ [])) (operand_is count (omega arith))
-      ∙ ap (λ n. instr.Enter count n ∷ (body ++ instr.Stop ∷ [])) (operand_is depth shallow)
+      ap (λ c. c ++ (instr.Stop ∷ [])) (body_code_is (count variables) first)
+      ∙ ap (λ n. instr.Enter n (count depth) ∷ (body ++ instr.Stop ∷ [])) (count_is variables (omega arith))
+      ∙ ap (λ n. instr.Enter variables n ∷ (body ++ instr.Stop ∷ [])) (count_is depth shallow)
 
-  has_body : HasAt whole 1 (body ++ instr.Stop ∷ [])
-  has_body = has_all (body ++ instr.Stop ∷ []) (instr.Enter count depth ∷ [])
+  whole_stands : Stands target 0 whole
+  whole_stands = subst (Stands target 0) whole_is stands
+
+  abbrev needed_cells : ℕ
+  needed_cells = 4 + variables + depth
+
+  -- where the code finds a variable
+  shown_at : (root : ℕ) → root < variables → Shown (program_environment tree) (program_world variables) (program_activation variables) root
+      (Direct 0 (variable_offset program_scope root))
+  shown_at root h =
+      let fits = few in
+      let e : root + 4 ≡ variable_offset program_scope root = omega arith in
+      let way = ap (λ b. if b then Some (Direct 0 (root + 4)) else None) (lt-ltb root variables h) in
+      subst (λ offset. Shown (program_environment tree) (program_world variables) (program_activation variables) root (Direct 0 offset)) e
+      ((shown_in tree well).each root (Direct 0 (root + 4)) way)
 
   module _ (input : List ℕ) (cells : ℕ) where
+    -- the program's block as it runs
+    abbrev setting : Setting
+    setting = record {
+      tree = tree;
+      target = target;
+      sites_are = sites_are;
+      input = input;
+      size = cells;
+      limit = needed_cells;
+      world = program_world variables;
+      running = program_activation variables;
+      lives = program_lives variables;
+      apart = program_apart variables;
+      below = 4 + variables;
+      scope = program_scope;
+      environment = program_environment tree;
+      shows = shown_at;
+    }
+
     abbrev start : State
     start = runs.first_state input cells
 
     -- the state behind the entry
     abbrev inside : State
-    inside = stmts.on tree whole count (4 + count + depth) cells input (program_environment tree) few (shown_in tree well) (entered_cells count) 1 []
+    inside = on setting (entered_cells variables ++ []) 1 []
 
-    enters : 4 + count + depth ≤ cells → Comes sites whole start inside
+    first_based : Based setting [] (entered_cells variables)
+    first_based = record { full = length_entered variables; alike = program_begins variables }
+
+    -- the first instruction
+    entry : slice_get target.code 0 ≡ Some (instr.Enter variables depth)
+    entry = ap (slice_get target.code) (sym starts) ∙ whole_stands.0.0
+
+    second : target.to 1 ≡ 1
+    second = whole_stands.0.1 ∙ ap (λ n. n + 1) starts
+
+    -- the frame, if it fits
+    abbrev entered_by : Bool → Next
+    entered_by fits = machines.with_frame (record start { place = 1 })
+        (if fits then Some (record (first_frames cells) { cells = entered_cells variables; limit = needed_cells }) else None)
+
+    enters : needed_cells ≤ cells → Comes target 1 start inside
     enters h =
-        comes_by sites whole (instr.Enter count depth) start inside refl (ap (λ b. machines.with_frame (record start { place = 1 }) (if b then Some (record (first_frames cells) { cells = entered_cells count; limit = 4 + count + depth }) else None)) (le-leb (4 + count + depth) cells h))
+        let there : State = record start { frames = record (first_frames cells) { cells = entered_cells variables; limit = needed_cells }; place = 1 } in
+        let came = comes_by target (instr.Enter variables depth) start there entry (ap entered_by (le-leb needed_cells cells h)) in
+        subst (λ cs. Comes target 1 start (on setting cs 1 [])) (sym (append-nil (entered_cells variables)))
+        (subst (λ index. Comes target 1 start (record there { place = index })) (sym second) came)
 
-    refuses : cells < 4 + count + depth → steps sites whole 1 start ≡ record { output = []; stop = stop.StoreFull }
+    refuses : cells < needed_cells → steps target.sites target.code 1 start ≡ record { output = []; stop = stop.StoreFull }
     refuses h =
-        ap (λ b. runs.outcome_of (machines.with_frame (record start { place = 1 }) (if b then Some (record (first_frames cells) { cells = entered_cells count; limit = 4 + count + depth }) else None)) [] (steps sites whole 0)) (lt-leb (4 + count + depth) cells h)
+        ap (λ o. runs.outcome_of (machines.taken target.sites o start) [] (steps target.sites target.code 0)) entry
+        ∙ ap (λ b. runs.outcome_of (entered_by b) [] (steps target.sites target.code 0)) (lt-leb needed_cells cells h)
 
-    body_runs : (o : Option Block) (place : ℕ) (s : effect.State) → HasAt whole place (body_instructions o) → is_well_formed_body count (length tree.sites.items) o ≡ true → Alike (program_world count) s.store (entered_cells count) → 4 + count + body_depth o ≤ 4 + count + depth → stmts.Executes tree whole count (4 + count + depth) cells input (program_environment tree) few (shown_in tree well) (stmts.on tree whole count (4 + count + depth) cells input (program_environment tree) few (shown_in tree well) (entered_cells count) place s.output) (place + length (body_instructions o)) (meant.run_of o (program_environment tree) s)
-    body_runs None place s has good alike deep =
-        let e : place ≡ place + 0 = omega arith in
-        (entered_cells count, length_entered count, alike, subst (λ p. Comes sites whole (stmts.on tree whole count (4 + count + depth) cells input (program_environment tree) few (shown_in tree well) (entered_cells count) place s.output) (stmts.on tree whole count (4 + count + depth) cells input (program_environment tree) few (shown_in tree well) (entered_cells count) p s.output)) e (comes_nowhere sites whole _))
-    body_runs (Some block) place s has good alike deep =
-        let full = length_entered count in
-        stmt_runs tree whole count (4 + count + depth) cells input (program_environment tree) few (shown_in tree well) block.body place (entered_cells count) s has good alike full (omega arith)
+    body_runs : (o : Option Block) (s : effect.State) → Stands target 1 (body_instructions o)
+        → is_well_formed_body variables (length tree.sites.items) o ≡ true → Based setting s.store (entered_cells variables)
+        → 4 + variables + body_depth o ≤ needed_cells
+        → Executes setting s.turns (on setting (entered_cells variables ++ []) 1 s.output) [] (1 + length (body_instructions o))
+        (meant.run_of o (program_environment tree) s)
+    body_runs None s stands good based deep = done setting 0 _ (entered_cells variables) [] 1 s based (stays_here target _)
+    body_runs (Some block) s stands good based deep = stmt_runs block.body setting 1 (entered_cells variables) [] s stands good based refl (omega arith)
+
+    -- what a run of the machine comes to for so many turns: it stops as the program ends, or the turns were used up, and
+    -- it goes on by as many instructions at least
+    abbrev Arrives : ℕ → Meaning → Type 0
+    Arrives turns m = ((j : ℕ) × DoesAll tree m (steps target.sites target.code j start)) ⊎
+        ((m.ending ≡ ending.More) × (there : State) × Comes target turns start there × (there.output ≡ m.output))
+
+    halted : (turns : ℕ) (m : State) (end : Ending) (output : List ℕ) → Comes target 1 start m → Halts setting m end output
+        → Arrives turns (record { output = output; ending = end })
+    halted turns m end output l h =
+        let u = stops_on target 1 start m _ l h.stops in
+        inl (u.budget, (ap (λ o. o.output) u.so, subst (StopsAs tree end) (sym (ap (λ o. o.stop) u.so)) h.so))
+
+    arrives_at : (turns : ℕ) (m : State) (end : Ending) (output : List ℕ) → Comes target 1 start m → Ends setting turns m end output
+        → ((site : ℕ) → end ≡ ending.Error site → target.is_open site ≡ false → ⊥) → Arrives turns (record { output = output; ending = end })
+    arrives_at turns m ending.Finished output l e open_alone = halted turns m ending.Finished output l e
+    arrives_at turns m (ending.Error site) output l (inl e) open_alone = halted turns m (ending.Error site) output l e
+    arrives_at turns m (ending.Error site) output l (inr closed) open_alone = absurd (open_alone site refl closed)
+    arrives_at turns m (ending.Input point fault) output l e open_alone = halted turns m (ending.Input point fault) output l e
+    arrives_at turns m ending.More output l e open_alone =
+        inr (refl, e.0, comes_less target turns (1 + turns) start e.0 (omega arith) (comes_on target 1 turns start m e.0 l e.1), e.2)
 
     -- the end of the body is the end of the run
-    finishes : (m : State) (place : ℕ) (r : Reply (Unit {0})) → slice_get whole place ≡ Some instr.Stop → Comes sites whole start m → stmts.Executes tree whole count (4 + count + depth) cells input (program_environment tree) few (shown_in tree well) m place r → (j : ℕ) × DoesAll tree (ended r) (steps sites whole j start)
-    finishes m place (Gives done s) has l e =
-        let t = stops_by sites whole instr.Stop (stmts.on tree whole count (4 + count + depth) cells input (program_environment tree) few (shown_in tree well) e.0 place s.output) stop.Finished has refl in
-        let u = stops_on sites whole start m _ l (stops_on sites whole m _ _ e.3 t) in
-        (u.budget, (ap (λ o. o.output) u.so, ap (λ o. o.stop) u.so))
-    finishes m place (effect.Stops end s) has l e =
-        let u = stops_on sites whole start m _ l e.stops in
-        (u.budget, (ap (λ o. o.output) u.so, subst (StopsAs tree end) (sym (ap (λ o. o.stop) u.so)) e.so))
+    finishes : (turns : ℕ) (m : State) (place : ℕ) (r : Reply (Unit {0})) → Stands target place (instr.Stop ∷ []) → Comes target 1 start m
+        → Executes setting turns m [] place r → ((site : ℕ) → (ended r).ending ≡ ending.Error site → target.is_open site ≡ false → ⊥) → Arrives turns (ended r)
+    finishes turns m place (Gives tt s) behind l e open_alone =
+        let last = on setting (e.0 ++ []) place s.output in
+        let t = stops_by target instr.Stop last stop.Finished behind.0.0 refl in
+        let u = stops_on target 1 start m _ l (stops_on target (turns - s.turns) m last _ e.2 t) in
+        inl (u.budget, (ap (λ o. o.output) u.so, ap (λ o. o.stop) u.so))
+    finishes turns m place (effect.Stops end s) behind l e open_alone = arrives_at turns m end s.output l e open_alone
 
-    done : (turns : ℕ) → 4 + count + depth ≤ cells → (j : ℕ) × DoesAll tree (meaning tree input turns) (steps sites whole j start)
-    done turns h =
-        finishes inside (1 + length body) (meant.run tree input turns) (has_back whole 1 body (instr.Stop ∷ []) has_body).0 (enters h) (body_runs first 1 (meant.first_state input turns) (has_front whole 1 body (instr.Stop ∷ []) has_body) (first_is_well_formed count (length tree.sites.items) tree.blocks.items well.blocks) (program_begins count) (omega arith))
+    arrives : (turns : ℕ) → needed_cells ≤ cells → Arrives turns (meaning tree input turns)
+    arrives turns h =
+        finishes turns inside (1 + length body) (meant.run tree input turns) (stands_back target 1 body (instr.Stop ∷ []) whole_stands.1) (enters h)
+        (body_runs first (meant.first_state input turns) (stands_front target 1 body (instr.Stop ∷ []) whole_stands.1)
+        (first_is_well_formed variables (length tree.sites.items) tree.blocks.items well.blocks) first_based (omega arith))
+        (never input turns)
 
-    needed : cells < 4 + count + depth → cells < program_need tree
+    needed : cells < needed_cells → cells < program_need tree
     needed h = let w = (body_within first).need_is in omega arith
 
-    explained : (budget : ℕ) → 4 ≤ cells → IsExplained tree cells (meaning tree input) (steps sites whole budget start) (steps sites whole budget start).stop
-    explained budget h =
+    -- a run of so many instructions
+    abbrev made : ℕ → Outcome
+    made budget = steps target.sites target.code budget start
+
+    explained_large : (budget : ℕ) → Arrives (suc budget) (meaning tree input (suc budget))
+        → IsExplained tree cells (meaning tree input) (made budget) (made budget).stop
+    explained_large budget (inl d) =
+        explained_done tree cells (meaning tree input) (suc budget) (made budget) (made d.0) (made budget).stop refl
+        (leads_to target.sites target.code budget d.0 start (end_over _ (stops_end tree (meaning tree input (suc budget)).ending (made d.0).stop d.1.1))) d.1
+    explained_large budget (inr more) =
+        let x = more.2.by 0 in
+        explained_more tree cells (meaning tree input) (suc budget) (made budget) (made x.0) (made budget).stop refl
+        (leads_before target.sites target.code budget x.0 start (omega (arith, x.1))) (ap (λ (o : Outcome). o.stop) x.2)
+        (ap (λ (o : Outcome). o.output) x.2 ∙ more.3)
+
+    explained : (budget : ℕ) → IsExplained tree cells (meaning tree input) (made budget) (made budget).stop
+    explained budget =
         ⊎_elim
         (λ small.
         let f = refuses small in
-        explained_full tree cells (meaning tree input) (steps sites whole budget start) (steps sites whole 1 start) (steps sites whole budget start).stop refl (leads_to sites whole budget 1 start (subst (λ o. IsOver o.stop) (sym f) tt)) f (needed small))
-        (λ large.
-        let d = done 0 large in
-        explained_done tree cells (meaning tree input) (steps sites whole budget start) (steps sites whole d.0 start) (steps sites whole budget start).stop refl (leads_to sites whole budget d.0 start (end_over _ (stops_end tree (meaning tree input 0).ending (steps sites whole d.0 start).stop d.1.1))) d.1)
-        (cases_lt cells (4 + count + depth))
+        explained_full tree cells (meaning tree input) 0 (made budget) (made 1) (made budget).stop refl
+        (leads_to target.sites target.code budget 1 start (subst (λ o. IsOver o.stop) (sym f) tt)) f (needed small))
+        (λ large. explained_large budget (arrives (suc budget) large))
+        (cases_lt cells needed_cells)
 
-    -- the run of so many instructions
+    -- the run of so many instructions, by the number of cells
     abbrev run : ℕ → Outcome
-    run budget = runs.run_of sites whole input cells budget
+    run budget = runs.run_of target.sites target.code input cells budget
 
     run_small : (budget : ℕ) → cells < 4 → run budget ≡ record { output = []; stop = stop.StoreFull }
-    run_small budget h = ap (λ b. if b then record { output = []; stop = stop.StoreFull } else steps sites whole budget start) (lt-ltb cells 4 h)
+    run_small budget h = ap (λ b. if b then record { output = []; stop = stop.StoreFull } else made budget) (lt-ltb cells 4 h)
 
-    run_large : (budget : ℕ) → 4 ≤ cells → run budget ≡ steps sites whole budget start
-    run_large budget h = ap (λ b. if b then record { output = []; stop = stop.StoreFull } else steps sites whole budget start) (le-ltb cells 4 h)
+    run_large : (budget : ℕ) → 4 ≤ cells → run budget ≡ made budget
+    run_large budget h = ap (λ b. if b then record { output = []; stop = stop.StoreFull } else made budget) (le-ltb cells 4 h)
 
     sound : (budget : ℕ) → IsExplained tree cells (meaning tree input) (run budget) (run budget).stop
     sound budget =
         ⊎_elim
-        (λ small. subst (λ r. IsExplained tree cells (meaning tree input) r r.stop) (sym (run_small budget small)) (refl, (let h : cells < 4 + count + depth = omega arith in needed h)))
-        (λ large. subst (λ r. IsExplained tree cells (meaning tree input) r r.stop) (sym (run_large budget large)) (explained budget large))
+        (λ small. subst (λ r. IsExplained tree cells (meaning tree input) r r.stop) (sym (run_small budget small))
+        (refl, (let h : cells < needed_cells = omega arith in needed h)))
+        (λ large. subst (λ r. IsExplained tree cells (meaning tree input) r r.stop) (sym (run_large budget large)) (explained budget))
         (cases_lt cells 4)
 
     abbrev Completes : ℕ → Type 0
     Completes turns = ((budget : ℕ) × DoesAsMuch tree (meaning tree input turns) (run budget)) ⊎ ((budget : ℕ) × ((run budget).stop ≡ stop.StoreFull))
 
+    completed_by : (turns : ℕ) → 4 ≤ cells → Arrives turns (meaning tree input turns) → Completes turns
+    completed_by turns h (inl d) =
+        inl (
+          d.0,
+          subst (DoesAsMuch tree (meaning tree input turns)) (sym (run_large d.0 h))
+              (as_much tree (meaning tree input turns).output (meaning tree input turns).ending (made d.0) d.1),
+        )
+    completed_by turns h (inr more) =
+        let x = more.2.by 0 in
+        let wrote : (made x.0).output ≡ (meaning tree input turns).output = ap (λ (o : Outcome). o.output) x.2 ∙ more.3 in
+        inl (
+          x.0,
+          subst (DoesAsMuch tree (meaning tree input turns)) (sym (run_large x.0 h))
+              (as_much_more tree (meaning tree input turns).output (meaning tree input turns).ending (made x.0) more.0
+              (subst (λ o. BeginsWith o (meaning tree input turns).output) (sym wrote) (begins_itself (meaning tree input turns).output))),
+        )
+
     complete_large : (turns : ℕ) → 4 ≤ cells → Completes turns
     complete_large turns h =
         ⊎_elim
         (λ small. inr (1, ap (λ o. o.stop) (run_large 1 h ∙ refuses small)))
-        (λ large.
-        let d = done turns large in
-        inl (d.0, subst (DoesAsMuch tree (meaning tree input turns)) (sym (run_large d.0 h)) (as_much tree (meaning tree input turns).output (meaning tree input turns).ending (steps sites whole d.0 start) d.1)))
-        (cases_lt cells (4 + count + depth))
+        (λ large. completed_by turns h (arrives turns large))
+        (cases_lt cells needed_cells)
 
     complete : (turns : ℕ) → Completes turns
     complete turns = ⊎_elim (λ small. inr (0, ap (λ o. o.stop) (run_small 0 small))) (complete_large turns) (cases_lt cells 4)
 
+  -- code with these instructions and sites follows the program
+  pub follows_there : (code : Code) → code.instructions.items ≡ target.code → code.sites.items ≡ site_table tree.sites.items → Follows code tree
+  follows_there code is sites =
+      let same : (input : List ℕ) (cells budget : ℕ) → machine code input cells budget ≡ run input cells budget =
+      λ input cells budget. ap (λ s. runs.run_of s code.instructions.items input cells budget) (sites ∙ sym sites_are)
+      ∙ ap (λ i. runs.run_of target.sites i input cells budget) is in
+      record {
+        sound = λ input cells budget. subst (λ r. IsExplained tree cells (meaning tree input) r r.stop) (sym (same input cells budget))
+            (sound input cells budget);
+        complete = λ input cells turns. subst (λ (f : ℕ → Outcome). ((budget : ℕ) × DoesAsMuch tree (meaning tree input turns) (f budget)) ⊎ ((budget : ℕ) ×
+            ((f budget).stop ≡ stop.StoreFull))) (sym (λ i budget. same input cells budget i)) (complete input cells turns);
+      }
+
+-- ---- the full code, and the code without the checks of some sites
+
+-- where no place moves, each instruction stays as it is
+unmoved : (i : Instr) → moved (λ place. place) i ≡ i
+unmoved (instr.Jump target) = refl
+unmoved (instr.JumpIfFalse target) = refl
+unmoved (instr.CallProcedure length target) = refl
+unmoved i = refl
+
+all_open : (site : Option ℕ) → option_map_or (λ (_ : ℕ). true) site true ≡ true
+all_open None = refl
+all_open (Some site) = refl
+
+-- the full code as it stands
+abbrev as_it_is : List Plain → List Instr → Target
+as_it_is sites code = record { sites = sites; code = code; to = λ place. place; is_open = λ _. true }
+
+stands_itself : (sites : List Plain) (is before : List Instr) → Stands (as_it_is sites (before ++ is)) (length before) is
+stands_itself sites [] before = tt
+stands_itself sites (i ∷ is) before =
+    let t = as_it_is sites (before ++ i ∷ is) in
+    let within : length before < length (before ++ i ∷ is) = omega (arith, length-append before (i ∷ is)) in
+    let here = slice_get-get_or (before ++ i ∷ is) (length before) i within ∙ ap Some (get_or-append_seam before i is i) in
+    let n : length (before ++ i ∷ []) ≡ length before + 1 = omega (arith, length-append before (i ∷ [])) in
+    let rest = stands_itself sites is (before ++ i ∷ []) in
+    let rest' = subst (λ l. Stands (as_it_is sites l) (length (before ++ i ∷ [])) is) (append_assoc before (i ∷ []) is) rest in (
+      subst (StandsAt t (length before) i) (sym (all_open (check_site i))) (here ∙ ap Some (sym (unmoved i)), refl),
+      subst (λ m. Stands t m is) n rest',
+    )
+
 -- the code of a well formed tree follows its program
-pub follows : (code : Code) (tree : Tree) → code.instructions.items ≡ program_code tree → code.sites.items ≡ site_table tree.sites.items → length (program_code tree) ≤ 4294967295 → IsWellFormed tree → Follows code tree
+pub follows : (code : Code) (tree : Tree) → code.instructions.items ≡ program_code tree → code.sites.items ≡ site_table tree.sites.items
+    → length (program_code tree) ≤ 1000000 → IsWellFormed tree → Follows code tree
 follows code tree is sites_are short well =
-    let same : (input : List ℕ) (cells budget : ℕ) → machine code input cells budget ≡ runs.run_of (site_table tree.sites.items) (whole tree well short) input cells budget =
-    λ input cells budget. ap (λ s. runs.run_of s code.instructions.items input cells budget) sites_are ∙ ap (λ i. runs.run_of (site_table tree.sites.items) i input cells budget) (is ∙ whole_is tree well short) in
-    record {
-      sound = λ input cells budget. subst (λ r. IsExplained tree cells (meaning tree input) r r.stop) (sym (same input cells budget)) (sound tree well short input cells budget);
-      complete = λ input cells turns. subst (λ (f : ℕ → Outcome). ((budget : ℕ) × DoesAsMuch tree (meaning tree input turns) (f budget)) ⊎ ((budget : ℕ) × ((f budget).stop ≡ stop.StoreFull))) (sym (λ i budget. same input cells budget i)) (complete tree well short input cells turns);
-    }
+    follows_there tree well short (as_it_is (site_table tree.sites.items) (program_code tree)) refl
+    (stands_itself (site_table tree.sites.items) (program_code tree) []) refl (λ input turns site errs closed. cc) code is sites_are
+
+-- the code as a remover of checks leaves it
+abbrev without : List Plain → List Plain → List Instr → List Instr → Target
+without sites open_sites whole code = record { sites = sites; code = code; to = moved_place (is_among open_sites) whole; is_open = is_among open_sites }
+
+module _ (sites open_sites : List Plain) (whole code : List Instr) (keeps : KeepsInstructions open_sites whole code) where
+  abbrev stays_there : Instr → Bool
+  stays_there = stays (is_among open_sites)
+
+  stood_by : (place : ℕ) (i : Instr) (stayed : Bool) → stays_there i ≡ stayed → place < length whole → slice_get whole place ≡ Some i
+      → StandsAt (without sites open_sites whole code) place i stayed
+  stood_by place i true stayed within here =
+      let same = get_or_from_slice_get whole place i i here in
+      (keeps place i here stayed, count_by_more_yes stays_there whole place i within (ap stays_there same ∙ stayed))
+  stood_by place i false stayed within here =
+      let same = get_or_from_slice_get whole place i i here in
+      count_by_more_no stays_there whole place i within (ap stays_there same ∙ stayed)
+
+  stands_without : (is before : List Instr) → before ++ is ≡ whole → Stands (without sites open_sites whole code) (length before) is
+  stands_without [] before split = tt
+  stands_without (i ∷ is) before split =
+      let within : length before < length (before ++ i ∷ is) = omega (arith, length-append before (i ∷ is)) in
+      let here = slice_get-get_or (before ++ i ∷ is) (length before) i within ∙ ap Some (get_or-append_seam before i is i) in
+      let n : length (before ++ i ∷ []) ≡ length before + 1 = omega (arith, length-append before (i ∷ [])) in
+      let rest = stands_without is (before ++ i ∷ []) (append_assoc before (i ∷ []) is ∙ split) in (
+        stood_by (length before) i (stays_there i) refl (subst (λ l. length before < length l) split within)
+            (subst (λ l. slice_get l (length before) ≡ Some i) split here),
+        subst (λ m. Stands (without sites open_sites whole code) m is) n rest,
+      )
+
+is_false : (b : Bool) → b ≡ true → b ≡ false → ⊥
+is_false b is isnt = cc
+
+-- the code without the checks of sites at which the program never errs follows it too
+pub stripped_follows : StrippedFollows
+stripped_follows tree open_sites code well short sites_are keeps never =
+    let whole = program_code tree in
+    let sites = site_table tree.sites.items in
+    follows_there tree well short (without sites open_sites whole code.instructions.items) refl
+    (stands_without sites open_sites whole code.instructions.items keeps whole [] refl) refl
+    (λ input turns site errs closed. is_false (is_among open_sites site) (never input turns site errs) closed) code refl sites_are

@@ -152,7 +152,8 @@ program_begins n = record {
 }
 
 -- an environment that has each variable of the program shows it
-pub shows_program : (n : ℕ) (env : Environment) → ((root : ℕ) → root < n → env root ≡ Some (record { activation = 0; variable = root; steps = [] })) → ShowsProgram n env
+pub shows_program : (n : ℕ) (env : Environment) → ((root : ℕ) → root < n → env root ≡ Some (record { activation = 0; variable = root; steps = [] }))
+    → ShowsProgram n env
 shows_program n env has = record {
   each = λ root way e.
       let c = cond_some (nat_lt root n) (Direct 0 (root + 4)) way e in

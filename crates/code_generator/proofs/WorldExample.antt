@@ -42,7 +42,8 @@ store = (second, Some (value.Number (pos 7))) ∷ (own, Some (value.Number (pos 
 -- the program's links and variables, two cells of its evaluation, the routine's links, its variable and the address
 abbrev cells : List Cell
 cells =
-    Number (pos 0) ∷ Number (pos 0) ∷ Undefined ∷ Undefined ∷ Undefined ∷ Number (pos 7) ∷ Number (pos 30) ∷ Number (pos 31) ∷ Number (pos 0) ∷ Number (pos 0) ∷ Number (pos 99) ∷ Number (pos 8) ∷ Number (pos 3) ∷ Number (pos 5) ∷ []
+    Number (pos 0) ∷ Number (pos 0) ∷ Undefined ∷ Undefined ∷ Undefined ∷ Number (pos 7) ∷ Number (pos 30) ∷ Number (pos 31) ∷ Number (pos 0) ∷ Number (pos 0)
+    ∷ Number (pos 99) ∷ Number (pos 8) ∷ Number (pos 3) ∷ Number (pos 5) ∷ []
 
 cases_at : {A : Type 0} (x : A) (xs : List A) (y : A) (k : ℕ) → k < length (x ∷ xs) → slice_index_or (x ∷ xs) k y ≡ y → (x ≡ y) ⊎ Contains xs y
 cases_at x xs y zero h e = inl e
@@ -165,7 +166,8 @@ closed = record {
 -- the program's second variable lies in cell 5 alone
 second_at : (p : Place) (c : ℕ) → LiesIn world p c → second ≡ p → 5 ≡ c
 second_at p c l =
-    for_each (λ p c. second ≡ p → 5 ≡ c) (λ e. absurd (let v : 1 ≡ 0 = ap (λ (x : Place). x.variable) e in omega arith)) (λ e. refl) (λ e. absurd (let v : 1 ≡ 2 = ap (λ (x : Place). x.variable) e in omega arith)) p c l
+    for_each (λ p c. second ≡ p → 5 ≡ c) (λ e. absurd (let v : 1 ≡ 0 = ap (λ (x : Place). x.variable) e in omega arith)) (λ e. refl)
+    (λ e. absurd (let v : 1 ≡ 2 = ap (λ (x : Place). x.variable) e in omega arith)) p c l
 
 -- the store and the cells are alike
 alike : Alike world store cells

@@ -5,5 +5,7 @@ mod depth;
 mod emit;
 pub mod fault;
 pub mod generate;
+pub mod laws;
+mod scope;
 mod size;
 mod tables;
