@@ -1,3 +1,2 @@
-pub mod LeftOut
-pub mod StrippedFollows
-pub mod RefusalLemmas
+mod OpenSites
+mod RefusalLemmas

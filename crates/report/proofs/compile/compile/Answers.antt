@@ -1,28 +1,30 @@
-use Rattle.std.proofs.Common.{rules, ◌∙◌, ap, Err}
+use Rattle.std.proofs.Common.{rules, ◌∙◌, ap, subst, Err}
 use Rattle.std.proofs.lemmas.Result.{err_from_is_err_and}
 use Rattle.report.specs.Refusals.{text_of}
 use Rattle.report.proofs.RefusalLemmas.{refused_by, certificate-refusal, checking-refusal, generation-refusal}
-use Rattle.check_remover.specs.Strip.{strip}
-use Rattle.report.proofs.StrippedFollows.{stripped-follows}
+use Rattle.check_remover.specs.Strip.{strip, KeepsInstructions}
+use Rattle.code_generator.specs.Code.{program_code}
+use Rattle.code_generator.specs.Tables.{site_table}
+use Rattle.code_generator.proofs.Program.{stripped_follows}
+use Rattle.report.proofs.OpenSites.{errs_at_open}
 use Rattle.report.proofs.compile.compile.Goals as goal
 
--- the code of the generator follows the tree, and so does what the remover leaves of it
+-- the checks that the remover takes out are of sites at which the program never errs
 pub returns-clause-headline : goal.returns-clause-headline
 returns-clause-headline c =
+    let tree = c.in_ok-tree.tree in
     let full = c.in_ok-full.full in
     let stripped = c.in_ok-stripped.stripped in
-    let open_sites = c.deref.ensures.value ∙ c.in_ok-open_sites.ensures in
-    let never = c.in_ok-verdict.ensures.closed_never_err c.in_ok-tree.ensures.well_formed c.in_ok-tree.ensures.in_order in
+    let open_sites = c.in_ok-verdict.verdict.open_sites.items in
+    let well = c.in_ok-tree.ensures.well_formed in
+    let never = c.in_ok-verdict.ensures.closed_never_err well c.in_ok-tree.ensures.in_order in
+    let listed = c.deref.ensures.value ∙ c.in_ok-open_sites.ensures in
+    let keeps = subst (λ sites. KeepsInstructions sites (program_code tree) stripped.instructions.items) listed
+    (subst (λ code. KeepsInstructions c.deref.result.now code stripped.instructions.items) c.in_ok-full.ensures.instructions c.in_ok-stripped.ensures.kept) in
     record {
       closed_never_err = never;
-      follows = stripped-follows c.in_ok-tree.tree c.in_ok-verdict.verdict.open_sites.items full stripped c.in_ok-tree.ensures.in_order never
-          (record { instructions = c.in_ok-full.ensures.instructions; sites = c.in_ok-full.ensures.sites })
-          (record {
-            instructions = c.in_ok-stripped.ensures.instructions ∙ ap (λ sites. strip sites full.instructions.items) open_sites ∙ ap (strip _) c.in_ok-full.ensures.instructions;
-            sites = c.in_ok-stripped.ensures.sites ∙ c.in_ok-full.ensures.sites;
-            points = c.in_ok-stripped.ensures.points ∙ c.in_ok-full.ensures.points;
-          })
-          (c.in_ok-full.ensures.follows c.in_ok-tree.ensures.well_formed);
+      follows = stripped_follows tree (site_table open_sites) stripped well c.in_ok-full.ensures.short
+          (c.in_ok-stripped.ensures.sites ∙ c.in_ok-full.ensures.sites) keeps (errs_at_open tree open_sites never);
     }
 
 pub returns-in_err-tree-clause-refused : goal.returns-in_err-tree-clause-refused
