@@ -1,4 +1,5 @@
 pub mod Counted
+pub mod Deeds
 pub mod Does
 pub mod Failures
 pub mod Frames
@@ -7,4 +8,5 @@ pub mod Machine
 pub mod Output
 pub mod Run
 pub mod Told
+pub mod Texts
 pub mod View

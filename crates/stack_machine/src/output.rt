@@ -1,7 +1,7 @@
 ghost use Rattle.std.specs.Prelude.{◌≡◌, ◌+◌, ◌^◌, ◌-◌, ◌<◌, [], ◌∷◌, ◌++◌, replicate, IfOk, IsOkUnless, vec_len};
 ghost use Rattle.stack_machine.specs.declared.output.TheConstants.{PIECE};
 ghost use Rattle.stack_machine.specs.Failures.{failures_told};
-ghost use Rattle.stack_machine.specs.Machine as words;
+ghost use Rattle.stack_machine.specs.Texts as words;
 ghost use Rattle.stack_machine.specs.Told.{PassesOrLoses, all_told};
 
 use crate::arithmetic::is_true;

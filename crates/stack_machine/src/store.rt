@@ -1,6 +1,7 @@
 ghost use Rattle.std.specs.Prelude.{◌≡◌, ◌+◌, ◌-◌, ◌<◌, ◌≤◌, ◌++◌, nat_le, if◌then◌else◌, replicate, take, IfOk, OnOk, vec_len};
 ghost use Rattle.stack_machine.specs.declared.cell.Cell.TheVariants.{Undefined};
 ghost use Rattle.std.specs.List.{list_all};
+ghost use Rattle.stack_machine.specs.Deeds.{acted, deed_of};
 ghost use Rattle.stack_machine.specs.Frames as frames;
 
 use crate::arithmetic::{Dyadic, Monadic, is_true, modulo, product, quotient};
@@ -90,7 +91,7 @@ impl Store {
 
     /// An instruction of the store alone; another is at fault.
     pub fn act(&mut self, instr: Instr) -> Result<(), MachineFault>
-        ensures { Acts result (view self.old) (view self.new) (frames.acted instr (view self.old)) }
+        ensures { Acts result (view self.old) (view self.new) (acted (deed_of instr) (view self.old)) }
     {
         match instr {
             Instr::LoadConstant { value } => self.load_constant(value),
