@@ -9,7 +9,7 @@ use Rattle.std.proofs.lemmas.Option.{slice_get-get_or}
 use Rattle.stack_machine.specs.declared.cell.Cell.{Cell}
 use Rattle.stack_machine.specs.declared.cell.Cell.TheVariants.{Undefined, Number}
 use Rattle.stack_machine.specs.declared.stop.MachineFault.TheVariants.{Underflow, OutOfBounds, WrongDivisor}
-use Rattle.stack_machine.specs.Frames.{Frames, ◌>>=◌, unless_fault, has, has_room_after, number, number_at, base, popped, pushed, in_use, variable, cell_at, load_constant, load, store, two_numbers, on_one, operands, on_two, divide, modulo, top_two, is_integer, is_true, is_defined, top_is_in_range, top_is_not_zero, top_is_defined, sum_is_integer, difference_is_integer, product_is_integer, square_is_integer}
+use Rattle.stack_machine.specs.Frames.{Frames, Attempt, ◌>>=◌, unless_fault, has, has_room_after, number, number_at, base, popped, pushed, in_use, variable, cell_at, load_constant, load, store, two_numbers, on_one, operands, on_two, divide, modulo, top_two, is_integer, is_true, is_defined, top_is_in_range, top_is_not_zero, top_is_defined, sum_is_integer, difference_is_integer, product_is_integer, square_is_integer}
 
 -- the element behind the first ones
 pub slice_get_seam : {A : Type 0} (below : List A) (a : A) (above : List A) → slice_get (below ++ a ∷ above) (length below) ≡ Some a
@@ -144,6 +144,13 @@ module _ (frame limit size : ℕ) where
 
       pub top_is : top_two (framed two) ≡ Ok (a, b)
       top_is = ap (λ r. r >>= λ _. two_numbers (framed two)) has_two ∙ numbers_are
+
+      -- they give way to a text
+      abbrev pub text_written : (ℤ → ℤ → List ℕ) → ℤ × ℤ → Attempt (Frames × List ℕ)
+      text_written text numbers = Ok (popped 2 (framed two), text numbers.0 numbers.1)
+
+      pub writes : (text : ℤ → ℤ → List ℕ) → (top_two (framed two) >>= text_written text) ≡ Ok (framed below, text a b)
+      writes text = ap (λ r. r >>= text_written text) top_is ∙ ap (λ cs. Ok (framed cs, text a b)) two_popped
 
       pub sums : sum_is_integer (framed two) ≡ Ok (is_integer (a +ℤ b))
       sums = ap (λ r. r >>= λ ns. Ok (is_integer (ns.0 +ℤ ns.1))) top_is

@@ -28,26 +28,28 @@ use Rattle.meaning.specs.Meaning.{Execution, value_of, width_of, effect_of, effe
 use Rattle.stack_machine.specs.declared.cell.Cell.{Cell}
 use Rattle.stack_machine.specs.declared.cell.Cell.TheVariants.{Number}
 use Rattle.stack_machine.specs.Frames as frames
+use Rattle.stack_machine.specs.Frames.{Attempt}
 use Rattle.stack_machine.specs.Machine as machine
-use Rattle.stack_machine.specs.Machine.{State, Next, number_written, truth_written}
+use Rattle.stack_machine.specs.Machine.{State, with_text}
+use Rattle.stack_machine.specs.Texts as texts
 use Rattle.code_generator.specs.declared.scope.Scope.{Scope}
 use Rattle.code_generator.specs.Code.{Placed, placed, greatest, variable_offset, expr_code, width_code, write_instr, parameter_code, line_end_code, write_code, stmt_code, stmt_step, stmt_depth, stmt_depth_step, expr_depth, parameter_depth}
 use Rattle.typed_tree.specs.WellFormed.{all_hold, is_well_formed_expr, is_well_formed_width, is_well_formed_parameter, is_well_formed_stmt, stmt_is_well_formed}
 use Rattle.code_generator.proofs.Reach.{Stands, stands_front, stands_back, Comes, stays_here}
 use Rattle.code_generator.proofs.Setting.{Setting, on, Based, linked, Here, goes_on, acts, passes, fails, Executes, done, executes_from, then_executes, after_value}
-use Rattle.code_generator.proofs.Acts.{framed, length_one, stores, is_in_range, top_is, two_popped}
+use Rattle.code_generator.proofs.Acts.{framed, length_one, stores, is_in_range, writes}
 use Rattle.code_generator.proofs.Numbers.{Fits, same_range}
 use Rattle.code_generator.proofs.Exprs.{start_within, expr_runs, width_runs, one_held}
 use Rattle.code_generator.proofs.Alike.{Activation, Alike, Leads, HasCell, alike_written, alike_above, base_is, cell_within, direct_lies}
 
 -- what the machine writes in a width is what the program writes
-same_integer_text : (n width : ℤ) → machine.integer_text n width ≡ effect.integer_text n width
+same_integer_text : (n width : ℤ) → texts.integer_text n width ≡ effect.integer_text n width
 same_integer_text n (pos w) = refl
 same_integer_text n (negsuc w) =
     let none : 0 ≡ 0 - length (signed_decimal n) = omega arith in
     ap (λ blanks. replicate blanks 32 ++ signed_decimal n) none
 
-same_string_text : (text : List ℕ) (width : ℤ) → machine.string_text text width ≡ effect.string_text text width
+same_string_text : (text : List ℕ) (width : ℤ) → texts.string_text text width ≡ effect.string_text text width
 same_string_text text (pos w) = refl
 same_string_text text (negsuc w) =
     let none : 0 ≡ 0 - length text = omega arith in
@@ -175,31 +177,28 @@ module _ (g : Setting) where
       (ltb-true target.root variables parts.0) fit based2)))
 
   -- a value and its width give way to a text
-  text_runs : (write : Instr) (text : List ℕ) (written : ℤ × ℤ → Next) (place : ℕ) (cells : List Cell) (n w : ℤ) (output : List ℕ) → Here g place write
-      → machine.obeyed g.target.sites write (fetched_at ((cells ++ Number n ∷ []) ++ Number w ∷ []) place output) ≡ machine.and_then
-      (frames.top_two (frames_of ((cells ++ Number n ∷ []) ++ Number w ∷ []))) written
-      → written (n, w) ≡ Ok (record (fetched_at ((cells ++ Number n ∷ []) ++ Number w ∷ []) place (output ++ text))
-      { frames = frames.popped 2 (frames_of ((cells ++ Number n ∷ []) ++ Number w ∷ [])) }) → g.running.frame + 4 ≤ length cells
-      → Comes g.target 1 (on g ((cells ++ Number n ∷ []) ++ Number w ∷ []) place output) (on g cells (place + 1) (output ++ text))
-  text_runs write text written place cells n w output here rule does in_frame =
-      let two = (cells ++ Number n ∷ []) ++ Number w ∷ [] in
-      goes_on g write two cells place output (output ++ text) here
-      (rule ∙ ap (λ r. machine.and_then r written) (top_is g.running.frame g.limit g.size cells in_frame n w) ∙ does
-      ∙ ap (λ cs. Ok (fetched_at cs place (output ++ text))) (two_popped g.running.frame g.limit g.size cells in_frame n w))
+  text_runs : (write : Instr) (text : List ℕ) (place : ℕ) (cells after : List Cell) (output : List ℕ) (attempt : Attempt (frames.Frames × List ℕ))
+      → Here g place write → machine.obeyed g.target.sites write (fetched_at cells place output) ≡ machine.and_then attempt
+      (with_text (fetched_at cells place output))
+      → attempt ≡ Ok (frames_of after, text) → Comes g.target 1 (on g cells place output) (on g after (place + 1) (output ++ text))
+  text_runs write text place cells after output attempt here rule does =
+      goes_on g write cells after place output (output ++ text) here (rule ∙ ap (λ r. machine.and_then r (with_text (fetched_at cells place output))) does)
 
   written_runs : (r : Representation) (place : ℕ) (cells : List Cell) (n w : ℤ) (output : List ℕ) → Stands g.target place (write_instr r ∷ [])
-      → g.running.frame + 4 ≤ length cells → Comes g.target 1 (on g ((cells ++ Number n ∷ []) ++ Number w ∷ []) place output)
+      → g.running.frame + 4 ≤ length cells
+      → Comes g.target 1 (on g ((cells ++ Number n ∷ []) ++ Number w ∷ []) place output)
       (on g cells (place + 1) (output ++ effect.text_of r (value.Number n) (value.Number w)))
   written_runs representation.Integer place cells n w output stands in_frame =
       let two = (cells ++ Number n ∷ []) ++ Number w ∷ [] in
       subst (λ t. Comes g.target 1 (on g two place output) (on g cells (place + 1) (output ++ t))) (same_integer_text n w)
-      (text_runs instr.WriteInteger (machine.integer_text n w) (number_written (fetched_at two place output)) place cells n w output stands.0 refl refl
-      in_frame)
+      (text_runs instr.WriteInteger (texts.integer_text n w) place two cells output _ stands.0 refl
+      (writes g.running.frame g.limit g.size cells in_frame n w texts.integer_text))
   written_runs representation.Boolean place cells n w output stands in_frame =
       let two = (cells ++ Number n ∷ []) ++ Number w ∷ [] in
       subst (λ t. Comes g.target 1 (on g two place output) (on g cells (place + 1) (output ++ t)))
       (same_string_text (if frames.is_true n then codes "true" else codes "false") w)
-      (text_runs instr.WriteBoolean (machine.boolean_text n w) (truth_written (fetched_at two place output)) place cells n w output stands.0 refl refl in_frame)
+      (text_runs instr.WriteBoolean (texts.boolean_text n w) place two cells output _ stands.0 refl
+      (writes g.running.frame g.limit g.size cells in_frame n w texts.boolean_text))
 
   -- a value that is written, and its width
   abbrev ParameterRuns : WriteParameter → Type 0

@@ -47,7 +47,12 @@ DoesAll tree m run = (run.output ≡ m.output) × StopsAs tree m.ending run.stop
 
 -- the run did what the program does up to its last turn, or all of it
 abbrev pub DoesAsMuch : Tree → Meaning → Outcome → Type 0
-DoesAsMuch tree m run = elim m.ending [ ending.More ↦ BeginsWith run.output m.output | _ ↦ DoesAll tree m run ]
+DoesAsMuch tree m run = elim m.ending [
+  | ending.More ↦ BeginsWith run.output m.output
+  | ending.Finished ↦ DoesAll tree m run
+  | ending.Error id ↦ DoesAll tree m run
+  | ending.Input id fault ↦ DoesAll tree m run
+]
 
 -- What a run's stop says of the program, seen for each number of turns: no fault; a used up budget, with a beginning of
 -- some meaning's output; a full store before any output, with fewer cells than the need; or an end of some meaning.
@@ -58,7 +63,9 @@ IsExplained tree cells means run stop.More = (turns : ℕ) × BeginsWith (means 
 IsExplained tree cells means run stop.StoreFull = (run.output ≡ []) × (cells < program_need tree)
 IsExplained tree cells means run stop.ReadFailed = ⊥
 IsExplained tree cells means run stop.WriteFailed = ⊥
-IsExplained tree cells means run _ = (turns : ℕ) × DoesAll tree (means turns) run
+IsExplained tree cells means run stop.Finished = (turns : ℕ) × DoesAll tree (means turns) run
+IsExplained tree cells means run (stop.Error site) = (turns : ℕ) × DoesAll tree (means turns) run
+IsExplained tree cells means run (stop.Input point fault) = (turns : ℕ) × DoesAll tree (means turns) run
 
 -- the code follows the program
 pub record Follows (code : Code) (tree : Tree) : Type 0 where
