@@ -1,7 +1,18 @@
-//! What holds of the code of every program. The law is the contract of a function that does nothing.
-ghost use Rattle.code_generator.specs.Laws.{StrippedFollows};
+//! What holds of the code of every program. Each law is the contract of a function that does nothing.
+ghost use Rattle.code_generator.specs.Laws.{ErrorsCome, FramesFit, StrippedFollows};
 
 /// The checks of sites at which a program never errs can be left out of its code: it follows the program then too.
 pub fn stripped_follows()
     ensures { StrippedFollows }
+{}
+
+/// The first frame of code that follows a program takes no more cells than the program may need.
+pub fn frames_fit()
+    ensures { FramesFit }
+{}
+
+/// Where a program errs, a run of code that follows it writes the same and stops with the error of that site, if the
+/// machine has as many cells as the program may need.
+pub fn errors_come()
+    ensures { ErrorsCome }
 {}
