@@ -13,7 +13,7 @@ use Rattle.check_remover.specs.Strip.{strip}
 use Rattle.code_generator.specs.Code.{program_code}
 use Rattle.code_generator.specs.Tables.{site_table, point_table}
 use Rattle.stack_machine.specs.declared.stop.Stop.{Stop}
-use Rattle.stack_machine.specs.Does.{Tells}
+use Rattle.stack_machine.specs.Does.{Ran}
 use Rattle.stack_machine.specs.Run.{machine}
 use Rattle.report.specs.Headline.{Headline, IsTypedTreeOf}
 
@@ -38,4 +38,4 @@ pub record RunsStripped (source text : List ℕ) (verdict : Verdict) (stop : Sto
   pub stripped : IsStripped tree verdict.open_sites.items code
   pub headline : Headline tree verdict.open_sites.items code
   -- for every input, since no instruction asks for any yet
-  pub ran : (input : List ℕ) → Tells stop (machine code input cells budget) before after
+  pub ran : (input : List ℕ) → Ran stop (machine code input cells budget) before after

@@ -6,7 +6,7 @@ pub mod Frames
 pub mod Laws
 pub mod Machine
 pub mod Output
+pub mod Ports
 pub mod Run
-pub mod Told
 pub mod Texts
 pub mod View

@@ -1,7 +1,7 @@
 use crate::output::PIECE;
 use std::alloc::{AllocError, Global};
 
-/// The input that a run holds. No instruction of those built asks for any.
+/// The input that a run holds: nothing, until reading comes, since no instruction of those built asks for any.
 #[derive(Drop)]
 pub struct Input {
     bytes: Vec<u8>,

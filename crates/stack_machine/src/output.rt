@@ -1,8 +1,8 @@
 ghost use Rattle.std.specs.Prelude.{◌≡◌, ◌+◌, ◌^◌, ◌-◌, ◌<◌, [], ◌∷◌, ◌++◌, replicate, IfOk, IsOkUnless, vec_len};
 ghost use Rattle.stack_machine.specs.declared.output.TheConstants.{PIECE};
-ghost use Rattle.stack_machine.specs.Failures.{failures_told};
+ghost use Rattle.stack_machine.specs.Failures.{failures_in};
 ghost use Rattle.stack_machine.specs.Texts as words;
-ghost use Rattle.stack_machine.specs.Told.{PassesOrLoses, all_told};
+ghost use Rattle.stack_machine.specs.Ports.{PassesOrLoses, none_held};
 
 use crate::arithmetic::is_true;
 use crate::bytes::Sink;
@@ -23,7 +23,7 @@ pub struct Output {
 }
 
 impl Output {
-    ghost use Rattle.stack_machine.specs.Output.{told};
+    ghost use Rattle.stack_machine.specs.Output.{ports};
 
     /// Holds nothing.
     pub fn new(alloc: Global) -> Result<Output, AllocError>
@@ -46,9 +46,9 @@ impl Output {
     pub fn put<W: Sink>(&mut self, byte: u8, writer: &mut W) -> Result<(), Stop>
         requires { W.failures writer.old < 2 ^ 64 - 1 }
         ensures only { IsOkUnless result Stop.WriteFailed }
-        ensures failures { W.failures writer.new ≡ W.failures writer.old + failures_told result }
-        ensures bytes { PassesOrLoses result (told (W.contents writer.old) self.old)
-            (told (W.contents writer.new) self.new) (byte ∷ []) }
+        ensures failures { W.failures writer.new ≡ W.failures writer.old + failures_in result }
+        ensures bytes { PassesOrLoses result (ports (W.contents writer.old) self.old)
+            (ports (W.contents writer.new) self.new) (byte ∷ []) }
     {
         let held = self.held;
         self.bytes[held] = byte;
@@ -64,9 +64,9 @@ impl Output {
     pub fn put_all<W: Sink>(&mut self, bytes: &[u8], writer: &mut W) -> Result<(), Stop>
         requires { W.failures writer.old < 2 ^ 64 - 1 }
         ensures only { IsOkUnless result Stop.WriteFailed }
-        ensures failures { W.failures writer.new ≡ W.failures writer.old + failures_told result }
-        ensures bytes { PassesOrLoses result (told (W.contents writer.old) self.old)
-            (told (W.contents writer.new) self.new) bytes.now }
+        ensures failures { W.failures writer.new ≡ W.failures writer.old + failures_in result }
+        ensures bytes { PassesOrLoses result (ports (W.contents writer.old) self.old)
+            (ports (W.contents writer.new) self.new) bytes.now }
     {
         for byte in bytes {
             self.put(*byte, writer)?;
@@ -78,9 +78,9 @@ impl Output {
     pub fn put_blanks<W: Sink>(&mut self, count: usize, writer: &mut W) -> Result<(), Stop>
         requires { W.failures writer.old < 2 ^ 64 - 1 }
         ensures only { IsOkUnless result Stop.WriteFailed }
-        ensures failures { W.failures writer.new ≡ W.failures writer.old + failures_told result }
-        ensures bytes { PassesOrLoses result (told (W.contents writer.old) self.old)
-            (told (W.contents writer.new) self.new) (replicate count 32) }
+        ensures failures { W.failures writer.new ≡ W.failures writer.old + failures_in result }
+        ensures bytes { PassesOrLoses result (ports (W.contents writer.old) self.old)
+            (ports (W.contents writer.new) self.new) (replicate count 32) }
     {
         for _blank in 0..count {
             self.put(b' ', writer)?;
@@ -97,9 +97,9 @@ impl Output {
     ) -> Result<(), Stop>
         requires { W.failures writer.old < 2 ^ 64 - 1 }
         ensures only { IsOkUnless result Stop.WriteFailed }
-        ensures failures { W.failures writer.new ≡ W.failures writer.old + failures_told result }
-        ensures bytes { PassesOrLoses result (told (W.contents writer.old) self.old)
-            (told (W.contents writer.new) self.new) (replicate blanks 32 ++ text.now) }
+        ensures failures { W.failures writer.new ≡ W.failures writer.old + failures_in result }
+        ensures bytes { PassesOrLoses result (ports (W.contents writer.old) self.old)
+            (ports (W.contents writer.new) self.new) (replicate blanks 32 ++ text.now) }
     {
         self.put_blanks(blanks, writer)?;
         self.put_all(text, writer)
@@ -114,9 +114,9 @@ impl Output {
     ) -> Result<(), Stop>
         requires { W.failures writer.old < 2 ^ 64 - 1 }
         ensures only { IsOkUnless result Stop.WriteFailed }
-        ensures failures { W.failures writer.new ≡ W.failures writer.old + failures_told result }
-        ensures bytes { PassesOrLoses result (told (W.contents writer.old) self.old)
-            (told (W.contents writer.new) self.new) (words.integer_text value width) }
+        ensures failures { W.failures writer.new ≡ W.failures writer.old + failures_in result }
+        ensures bytes { PassesOrLoses result (ports (W.contents writer.old) self.old)
+            (ports (W.contents writer.new) self.new) (words.integer_text value width) }
     {
         let mut buffer = Buffer::new();
         let text = buffer.format(value).as_bytes();
@@ -132,9 +132,9 @@ impl Output {
     ) -> Result<(), Stop>
         requires { W.failures writer.old < 2 ^ 64 - 1 }
         ensures only { IsOkUnless result Stop.WriteFailed }
-        ensures failures { W.failures writer.new ≡ W.failures writer.old + failures_told result }
-        ensures bytes { PassesOrLoses result (told (W.contents writer.old) self.old)
-            (told (W.contents writer.new) self.new) (words.boolean_text value width) }
+        ensures failures { W.failures writer.new ≡ W.failures writer.old + failures_in result }
+        ensures bytes { PassesOrLoses result (ports (W.contents writer.old) self.old)
+            (ports (W.contents writer.new) self.new) (words.boolean_text value width) }
     {
         let text = if is_true(value) { "true" } else { "false" };
         self.put_string(text.as_bytes(), width, writer)
@@ -145,9 +145,9 @@ impl Output {
     fn put_string<W: Sink>(&mut self, text: &[u8], width: i32, writer: &mut W) -> Result<(), Stop>
         requires { W.failures writer.old < 2 ^ 64 - 1 }
         ensures only { IsOkUnless result Stop.WriteFailed }
-        ensures failures { W.failures writer.new ≡ W.failures writer.old + failures_told result }
-        ensures bytes { PassesOrLoses result (told (W.contents writer.old) self.old)
-            (told (W.contents writer.new) self.new) (words.string_text text.now width) }
+        ensures failures { W.failures writer.new ≡ W.failures writer.old + failures_in result }
+        ensures bytes { PassesOrLoses result (ports (W.contents writer.old) self.old)
+            (ports (W.contents writer.new) self.new) (words.string_text text.now width) }
     {
         let shown = text.len().min(places_of(width));
         self.put_after_blanks(blanks_before(text.len(), width), &text[..shown], writer)
@@ -157,9 +157,9 @@ impl Output {
     pub fn write_out<W: Sink>(&mut self, writer: &mut W) -> Result<(), Stop>
         requires { W.failures writer.old < 2 ^ 64 - 1 }
         ensures only { IsOkUnless result Stop.WriteFailed }
-        ensures failures { W.failures writer.new ≡ W.failures writer.old + failures_told result }
-        ensures bytes { PassesOrLoses result (told (W.contents writer.old) self.old)
-            (told (W.contents writer.new) self.new) [] }
+        ensures failures { W.failures writer.new ≡ W.failures writer.old + failures_in result }
+        ensures bytes { PassesOrLoses result (ports (W.contents writer.old) self.old)
+            (ports (W.contents writer.new) self.new) [] }
         ensures nothing_held { self.new.held ≡ 0 }
     {
         let held = self.held;
@@ -172,9 +172,9 @@ impl Output {
 fn write_all<W: Sink>(piece: &[u8], writer: &mut W) -> Result<(), Stop>
     requires { W.failures writer.old < 2 ^ 64 - 1 }
     ensures only { IsOkUnless result Stop.WriteFailed }
-    ensures failures { W.failures writer.new ≡ W.failures writer.old + failures_told result }
+    ensures failures { W.failures writer.new ≡ W.failures writer.old + failures_in result }
     ensures bytes { PassesOrLoses result
-        (all_told (W.contents writer.old)) (all_told (W.contents writer.new)) piece.now }
+        (none_held (W.contents writer.old)) (none_held (W.contents writer.new)) piece.now }
 {
     let mut rest = piece;
     while !rest.is_empty() {

@@ -4,7 +4,7 @@ use Rattle.std.specs.Prelude.{◌≡◌, ℕ, List, [], ◌++◌, Some, ◌==◌
 use Rattle.stack_machine.specs.declared.stop.Stop.{Stop}
 use Rattle.stack_machine.specs.declared.stop.Stop.TheVariants as stop
 use Rattle.stack_machine.specs.declared.stop.MachineFault.TheVariants as machine
-use Rattle.stack_machine.specs.Does.{Tells}
+use Rattle.stack_machine.specs.Does.{Ran}
 use Rattle.stack_machine.specs.Run.{Outcome}
 
 -- the word of a stop; none where the run finished. Of the errors that of the first site has a word of its own.
@@ -25,4 +25,4 @@ word_of _ = codes "another stop"
 abbrev pub IsToldRun : List ℕ → (List ℕ → Outcome) → Type 0
 IsToldRun text run =
     (stop : Stop) × (bytes : List ℕ) × (text ≡ bytes ++ word_of stop)
-    × ((input : List ℕ) → Tells stop (run input) (Some []) (Some bytes))
+    × ((input : List ℕ) → Ran stop (run input) (Some []) (Some bytes))

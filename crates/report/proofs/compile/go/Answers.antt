@@ -2,7 +2,7 @@ use Rattle.std.proofs.lemmas.Result.{err_from_is_err_and}
 use Rattle.report.specs.Refusals.{text_of}
 use Rattle.report.proofs.RefusalLemmas.{refused_by}
 use Rattle.std.proofs.Common.{rules, subst}
-use Rattle.stack_machine.specs.Does.{Tells}
+use Rattle.stack_machine.specs.Does.{Ran}
 use Rattle.stack_machine.specs.Run.{machine}
 use Rattle.report.proofs.compile.go.Goals as goal
 
@@ -21,9 +21,9 @@ returns-clause-ran g c =
       stripped = c.in_ok-compiled.ensures.stripped;
       headline = c.in_ok-compiled.ensures.headline;
       ran = λ input. subst
-          (λ n. Tells c.run-stop.result (machine compiled.stripped input n c.args.budget) (g.W.Sink.contents c.args.writer.now) (g.W.Sink.contents c.run-stop.new.writer))
+          (λ n. Ran c.run-stop.result (machine compiled.stripped input n c.args.budget) (g.W.Sink.contents c.args.writer.now) (g.W.Sink.contents c.run-stop.new.writer))
           c.in_ok-machine.ensures
-          (c.run-stop.ensures.tells input);
+          (c.run-stop.ensures.ran input);
     }
 
 pub returns-in_err-compiled-clause-refused : goal.returns-in_err-compiled-clause-refused

@@ -1,5 +1,5 @@
 use Rattle.std.proofs.Common.{◌++◌, ◌∙◌, ap, subst, sym, ℕ, List, Some, []}
-use Rattle.stack_machine.specs.Does.{Tells, cell_count}
+use Rattle.stack_machine.specs.Does.{Ran, cell_count}
 use Rattle.stack_machine.specs.Run.{machine}
 use Rattle.test_words.proofs.machines.run_told.Goals as goal
 
@@ -17,7 +17,7 @@ returns c =
       bytes,
       c.in_ok-push_str.ensures.bytes ∙ ap (λ text. text ++ word) (ap (λ v. v.items) c.in_ok-told.ensures.ok) ∙ ap (λ w. bytes ++ w) c.word_of-word.ensures,
       λ input.
-          subst (λ n. Tells stop (run input n) (Some []) (Some bytes)) c.in_ok-machine.ensures
-          (subst (λ after. Tells stop (run input cells) (Some []) (Some after)) held
-          (subst (λ before. Tells stop (run input cells) (Some before) (Some c.run.new.writer.inner.items)) empty (c.run.ensures.tells input))),
+          subst (λ n. Ran stop (run input n) (Some []) (Some bytes)) c.in_ok-machine.ensures
+          (subst (λ after. Ran stop (run input cells) (Some []) (Some after)) held
+          (subst (λ before. Ran stop (run input cells) (Some before) (Some c.run.new.writer.inner.items)) empty (c.run.ensures.ran input))),
     )

@@ -1,8 +1,8 @@
 use Rattle.std.proofs.Common.{◌≡◌, replicate}
-use Rattle.stack_machine.specs.Output.{told}
-use Rattle.stack_machine.specs.Told.{Passes}
+use Rattle.stack_machine.specs.Output.{ports}
+use Rattle.stack_machine.specs.Ports.{Passes}
 use Rattle.stack_machine.proofs.output.Output.put_blanks.Given as goal
 
 abbrev pub invariant-loop-blank : goal.invariant-loop-blank
 invariant-loop-blank g l =
-    (g.W.Sink.failures l.writer ≡ g.W.Sink.failures l.initial.writer) × Passes (told (g.W.Sink.contents l.initial.writer) l.initial.self) (told (g.W.Sink.contents l.writer) l.self) (replicate l._blank 32)
+    (g.W.Sink.failures l.writer ≡ g.W.Sink.failures l.initial.writer) × Passes (ports (g.W.Sink.contents l.initial.writer) l.initial.self) (ports (g.W.Sink.contents l.writer) l.self) (replicate l._blank 32)
