@@ -50,12 +50,12 @@ one_place_more to places more kept n next long each last place within =
 pub one_longer : (places more : List ℕ) (kept n : ℕ) → more ≡ places ++ kept ∷ [] → length places ≡ n → length more ≡ n + 1
 one_longer places more kept n next long = ap length next ∙ length-append places (kept ∷ []) ∙ ap (λ m. m + 1) long
 
--- what is kept by a test of ids and a list of new places is the stripped code of the test that it computes
-pub kept-strip_by : (test is_open : ℕ → Bool) (code rest : List Instr) (places : List ℕ) → ((id : ℕ) → test id ≡ is_open id) → IsPlaces (moved_place test code) (length code) places → rest ≡ map (moved (new_place places)) (filter (stays test) code) → rest ≡ strip_by is_open code
-kept-strip_by test is_open code rest places same h e =
-    let to : new_place places ≡ moved_place test code = fun_ext (new_place-moved test code places h) in
-    let tests : test ≡ is_open = fun_ext same in
-    e ∙ ap (λ f. map (moved f) (filter (stays test) code)) to ∙ ap (λ t. strip_by t code) tests
+-- what is kept by a list of new places is the stripped code
+pub kept-strip_by : (is_open : ℕ → Bool) (code rest : List Instr) (places : List ℕ) → IsPlaces (moved_place is_open code) (length code) places
+    → rest ≡ map (moved (new_place places)) (filter (stays is_open) code) → rest ≡ strip_by is_open code
+kept-strip_by is_open code rest places h e =
+    let to : new_place places ≡ moved_place is_open code = fun_ext (new_place-moved is_open code places h) in
+    e ∙ ap (λ f. map (moved f) (filter (stays is_open) code)) to
 
 -- one instruction more is kept
 pub kept_more : (test : Instr → Bool) (to : Instr → Instr) (code before after : List Instr) (i : ℕ) (d : Instr) → i < length code → before ≡ map to (filter test (take i code)) → test (get_or code i d) ≡ true → after ≡ before ++ to (get_or code i d) ∷ [] → after ≡ map to (filter test (take (i + 1) code))

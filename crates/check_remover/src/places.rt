@@ -1,27 +1,25 @@
-ghost use Rattle.std.specs.Prelude.{◌≡◌, ℕ, ◌+◌, ◌-◌, ◌<◌, ◌≤◌, ◌^◌, nat_eq, IfOk, count_by, length, take, slice_index, vec_len};
-ghost use Rattle.std.specs.HashSet.{contains};
+ghost use Rattle.std.specs.Prelude.{◌≡◌, ℕ, ◌+◌, ◌-◌, ◌<◌, ◌≤◌, ◌^◌, IfOk, count_by, length, take, slice_index, vec_len};
 ghost use Rattle.check_remover.specs.Places.{IsPlaces, new_place};
-ghost use Rattle.check_remover.specs.Strip.{moved, moved_place};
+ghost use Rattle.check_remover.specs.Strip.{is_among, moved, moved_place};
 
-use crate::sites::is_kept;
+use crate::sites::OpenSites;
 use pcode_assembler::instr::Instr;
 use std::alloc::{AllocError, Global};
-use std::collections::HashSet;
 
 /// For each place of the code, and for the one past its end, how many instructions before it stay.
 pub fn places_of(
     alloc: Global,
     code: &[Instr],
-    open_ids: &HashSet<u32>,
+    open_sites: &OpenSites,
 ) -> Result<Vec<usize>, AllocError>
     ensures { IfOk result (λ places.
-        IsPlaces (moved_place (contains nat_eq open_ids.now) code.now) (length code.now) places.items) }
+        IsPlaces (moved_place (is_among open_sites.now) code.now) (length code.now) places.items) }
 {
-    let mut places = Vec::new(alloc);
+    let mut places = Vec::with_capacity(alloc, code.len() + 1)?;
     let mut kept = 0;
     for instr in code {
         places.push(kept)?;
-        if is_kept(instr, open_ids) {
+        if open_sites.keep(instr) {
             kept += 1;
         }
     }

@@ -1,31 +1,71 @@
-ghost use Rattle.std.specs.Prelude.{◌≡◌, ℕ, nat_eq, IfOk};
-ghost use Rattle.std.specs.HashSet.{contains};
+ghost use Rattle.std.specs.Prelude.{◌≡◌, List, IfOk};
+ghost use Rattle.pcode_assembler.specs.declared.code.Site.{Site};
+ghost use Rattle.check_remover.specs.Open.{AreFlagsOf};
 ghost use Rattle.check_remover.specs.Strip.{check_site, is_among, stays};
 
 use pcode_assembler::code::Site;
 use pcode_assembler::instr::Instr;
 use std::alloc::{AllocError, Global};
-use std::collections::HashSet;
+use std::marker::Model;
 
-/// The ids of the sites.
-pub fn ids_of(alloc: Global, sites: &[Site]) -> Result<HashSet<u32>, AllocError>
-    ensures { IfOk result (λ ids. (id : ℕ) → contains nat_eq ids id ≡ is_among sites.now id) }
-{
-    let mut ids = HashSet::new(alloc);
-    for site in sites {
-        ids.insert(site.id)?;
-    }
-    Ok(ids)
+/// Open sites, found by their ids: at once where the id is below the length of a table, else one by one.
+#[derive(Drop)]
+pub struct OpenSites<'s> {
+    sites: &'s [Site],
+    // By id.
+    flags: Vec<bool>,
+    ghost flagged: { AreFlagsOf sites.now flags.items },
 }
 
-/// Whether the instruction is no check, or the check of an open site.
-pub fn is_kept(instr: &Instr, open_ids: &HashSet<u32>) -> bool
-    ensures { result ≡ stays (contains nat_eq open_ids.now) instr.now }
-{
-    match site_of(instr) {
-        Some(site) => open_ids.contains(&site),
-        None => true,
+impl<'s> Model for OpenSites<'s> {
+    ghost Value = { List Site };
+
+    ghost view = { λ s. s.sites.now };
+}
+
+impl<'s> OpenSites<'s> {
+    /// The sites, where a table has this length.
+    pub fn new(alloc: Global, sites: &'s [Site], length: usize) -> Result<OpenSites<'s>, AllocError>
+        ensures { IfOk result (λ made. made ≡ sites.now) }
+    {
+        let flags = flags_of(alloc, sites, length)?;
+        Ok(OpenSites { sites, flags })
     }
+
+    /// Whether one of the sites has this id.
+    fn has(&self, id: u32) -> bool
+        ensures { result ≡ is_among self.now id }
+    {
+        let place = id as usize;
+        if place < self.flags.len() {
+            return self.flags[place];
+        }
+        self.sites.iter().any(|site| site.id == id)
+    }
+
+    /// Whether the instruction is no check, or the check of an open site.
+    pub fn keep(&self, instr: &Instr) -> bool
+        ensures { result ≡ stays (is_among self.now) instr.now }
+    {
+        match site_of(instr) {
+            Some(site) => self.has(site),
+            None => true,
+        }
+    }
+}
+
+// For each id below a length, whether one of the sites has it.
+fn flags_of(alloc: Global, sites: &[Site], length: usize) -> Result<Vec<bool>, AllocError>
+    ensures { IfOk result (λ flags. AreFlagsOf sites.now flags.items) }
+{
+    let mut flags = vec![in alloc; false; length]?;
+    for site in sites {
+        let place = site.id as usize;
+        if place < flags.len() {
+            flags[place] = true;
+        }
+    }
+    Ok(flags)
 }
 
 /// The id of a check's site.

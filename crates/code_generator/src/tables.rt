@@ -9,7 +9,7 @@ use typed_tree::site::{Point, Site};
 pub fn sites_of(alloc: Global, sites: &[Site]) -> Result<Vec<plain::Site>, AllocError>
     ensures { IfOk result (λ table. table.items ≡ site_table sites.now) }
 {
-    let mut table = Vec::new(alloc);
+    let mut table = Vec::with_capacity(alloc, sites.len())?;
     for site in sites {
         table.push(plain_site(*site))?;
     }
@@ -20,7 +20,7 @@ pub fn sites_of(alloc: Global, sites: &[Site]) -> Result<Vec<plain::Site>, Alloc
 pub fn points_of(alloc: Global, points: &[Point]) -> Result<Vec<plain::Point>, AllocError>
     ensures { IfOk result (λ table. table.items ≡ point_table points.now) }
 {
-    let mut table = Vec::new(alloc);
+    let mut table = Vec::with_capacity(alloc, points.len())?;
     for point in points {
         table.push(plain_point(*point))?;
     }

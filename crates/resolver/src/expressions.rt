@@ -201,7 +201,7 @@ fn chain(alloc: Global, first: Typed, rest: TypedLinks) -> Result<Typed, TypeFau
 fn links(typer: &mut Typer, left: TypeId, rest: &[syntax::Link]) -> Result<TypedLinks, TypeFault>
     ensures { MakesLinks (spec.links left (map spec.written_link rest.now) typer.old) result typer.new }
 {
-    let mut links = Vec::new(typer.alloc);
+    let mut links = Vec::with_capacity(typer.alloc, rest.len())?;
     let mut type_id = left;
     for written in rest {
         let next = link(typer, type_id, written)?;

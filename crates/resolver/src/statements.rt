@@ -52,7 +52,7 @@ pub(crate) fn compound(typer: &mut Typer, written: &[syntax::Stmt]) -> Result<St
 fn statements(typer: &mut Typer, written: &[syntax::Stmt]) -> Result<Vec<Stmt>, TypeFault>
     ensures { MakesStmts (each (λ s. s) (map spec.statement written.now) typer.old) result typer.new }
 {
-    let mut statements = Vec::new(typer.alloc);
+    let mut statements = Vec::with_capacity(typer.alloc, written.len())?;
     for next in written {
         statements.push(statement(typer, next)?)?;
     }
@@ -178,7 +178,7 @@ fn parameters(
 ) -> Result<Vec<WriteParameter>, TypeFault>
     ensures { MakesParameters (each spec.parameter (map written_actual values.now) typer.old) result typer.new }
 {
-    let mut parameters = Vec::new(typer.alloc);
+    let mut parameters = Vec::with_capacity(typer.alloc, values.len())?;
     for value in values {
         parameters.push(parameter(typer, value)?)?;
     }

@@ -1,5 +1,5 @@
 -- A table as the region that it is: what it says of a name, and what it is after an insert.
-use Rattle.std.proofs.Common.{◌≡◌, ℕ, ◌+◌, ◌-◌, ◌<◌, Bool, true, false, cond, if◌then◌else◌, List, [], ◌∷◌, ◌++◌, Option, Some, None, Vec, nat_eq, map, take, length, slice_index_or, slice_set, get_or, reverse, Result, Ok, Err, refl, sym, ap, ◌∙◌, arith}
+use Rattle.std.proofs.Common.{◌≡◌, ℕ, ◌+◌, ◌-◌, ◌<◌, Bool, true, false, cond, if◌then◌else◌, List, [], ◌∷◌, ◌++◌, Option, Some, None, Vec, nat_eq, map, take, length, slice_index_or, slice_set, get_or, reverse, Ok, Err, refl, sym, ap, ◌∙◌, arith}
 use Rattle.std.specs.Map.{lookup}
 use Rattle.std.specs.HashMap.{HashMap, get, get_by}
 use Rattle.std.specs.Cmp.Lexicographic.{pointwise}
@@ -8,7 +8,6 @@ use Rattle.std.proofs.lemmas.List.{map-append, reverse-append, take_all, take_mo
 use Rattle.std.proofs.lemmas.List.Sums.{fold-append}
 use Rattle.indexmap.specs.IndexMap.{insert_entry}
 use Rattle.scopes.specs.declared.denotation.Denotation.{Denotation}
-use Rattle.scopes.specs.declared.fault.ScopeFault.{ScopeFault}
 use Rattle.scopes.specs.declared.fault.ScopeFault.TheVariants as fault
 use Rattle.scopes.specs.Scopes.{Region, said, decided, found, put, opened, opened_with, is_defined, define, region_of}
 
@@ -69,16 +68,12 @@ module _ {A B : Type 0} (f : A → B) where
       written = sym (take_all (n - 1 + 1) (slice_set xs (n - 1) y) (omega (arith, length-set {A = A}))) ∙ take_more_set xs (n - 1) y (omega arith)
 
 module _ {S : Type 0} where
-  -- one region more decides over a name
-  pub decides_more : (tables : List (Table S)) (i : ℕ) (table : Table S) (name : List ℕ) (was : Result Denotation ScopeFault)
-      → i < length tables → table ≡ get_or tables i table → was ≡ found (reverse (map region_of (take i tables))) name
-      → decided (get_by (is_key name) table) was ≡ found (reverse (map region_of (take (i + 1) tables))) name
-  decides_more tables i table name was within is said_before =
-      ap (decided (get_by (is_key name) table)) said_before
-      ∙ ap (λ o. decided o (found (reverse (map region_of (take i tables))) name)) (sym (said_of table name))
-      ∙ ap (λ t. decided (said (region_of t) name) (found (reverse (map region_of (take i tables))) name)) is
-      ∙ ap (λ rs. found rs name) (sym (reverse_more region_of (take i tables) (get_or tables i table)))
-      ∙ ap (λ ts. found (reverse (map region_of ts)) name) (sym (take_more tables i table within))
+  -- the innermost region decides over a name
+  pub decides_last : (tables outer : List (Table S)) (table : Table S) (name : List ℕ) → tables ≡ outer ++ table ∷ []
+      → found (reverse (map region_of tables)) name ≡ decided (get_by (is_key name) table) (found (reverse (map region_of outer)) name)
+  decides_last tables outer table name is =
+      ap (λ ts. found (reverse (map region_of ts)) name) is ∙ ap (λ rs. found rs name) (reverse_more region_of outer table)
+      ∙ ap (λ says. decided says (found (reverse (map region_of outer)) name)) (said_of table name)
 
   -- a region of some names, and one name more
   pub opens_more : (keys : List (Vec ℕ Global)) (i : ℕ) (item key : Vec ℕ Global) (before after : Table S)

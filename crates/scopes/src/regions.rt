@@ -1,7 +1,7 @@
 ghost use Rattle.std.specs.Prelude.{◌≡◌, ◌⊎◌, ◌∷◌, List, [], Ok, Err, OnOk, OnErr, IfOk, IfErr, MatchResult, drop, map, nat_eq, reverse};
 ghost use Rattle.std.specs.Cmp.Lexicographic.{pointwise};
 ghost use Rattle.std.specs.HashMap.{get_by};
-ghost use Rattle.scopes.specs.Scopes.{Region, decided, is_defined, opened, opened_with, region_of};
+ghost use Rattle.scopes.specs.Scopes.{Region, is_defined, opened, opened_with, region_of};
 ghost use Rattle.scopes.specs.declared.fault.ScopeFault.TheVariants.{Memory};
 
 use crate::denotation::Denotation;
@@ -93,11 +93,14 @@ impl Scopes {
     pub fn find(&self, name: &[u8]) -> Result<Denotation, ScopeFault>
         ensures { result ≡ found self.now name.now }
     {
-        let mut found = Err(ScopeFault::NotDeclared);
-        for region in &self.blocks {
-            found = decided(region, name, found);
+        let mut regions = self.blocks.as_slice();
+        while let Some((innermost, outer)) = regions.split_last() {
+            if let Some(says) = innermost.get(name) {
+                return says.ok_or(ScopeFault::UsedBeforeDeclared);
+            }
+            regions = outer;
         }
-        found
+        Err(ScopeFault::NotDeclared)
     }
 }
 
@@ -139,19 +142,4 @@ fn is_defined(region: &Region, name: &[u8]) -> bool
     ensures { result ≡ is_defined (get_by (λ key. pointwise nat_eq name.now key.items) region.now) }
 {
     matches!(region.get(name), Some(Some(_)))
-}
-
-// What a region says of a name, where the regions round it say `outer`.
-fn decided(
-    region: &Region,
-    name: &[u8],
-    outer: Result<Denotation, ScopeFault>,
-) -> Result<Denotation, ScopeFault>
-    ensures { result ≡ decided (get_by (λ key. pointwise nat_eq name.now key.items) region.now) outer }
-{
-    match region.get(name).copied() {
-        Some(Some(denotation)) => Ok(denotation),
-        Some(None) => Err(ScopeFault::UsedBeforeDeclared),
-        None => outer,
-    }
 }

@@ -1,4 +1,4 @@
-ghost use Rattle.std.specs.Prelude.{◌≡◌, IfOk};
+ghost use Rattle.std.specs.Prelude.{◌≡◌, IfOk, OnOk};
 ghost use Rattle.typing.specs.Names.{folded, is_among};
 
 use scopes::{Denotation, RequiredFunction, RequiredProcedure};
@@ -13,6 +13,16 @@ pub fn folded(alloc: Global, name: &[u8]) -> Result<Vec<u8>, AllocError>
     name.iter()
         .map(|letter| letter.to_ascii_lowercase())
         .collect(alloc)
+}
+
+// The same, in place of what the key was.
+pub(crate) fn fold_into(key: &mut Vec<u8>, name: &[u8]) -> Result<(), AllocError>
+    ensures { OnOk result (key.new.items ≡ folded name.now) }
+{
+    key.clear();
+    key.extend_from_slice(name)?;
+    key.make_ascii_lowercase();
+    Ok(())
 }
 
 // Whether a name is among others.

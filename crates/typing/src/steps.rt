@@ -3,7 +3,7 @@ ghost use Rattle.scopes.specs.Scopes.{Knows};
 ghost use Rattle.typing.specs.Names.{folded};
 ghost use Rattle.typing.specs.Passing.{after};
 
-use crate::names::{REQUIRED, folded};
+use crate::names::{REQUIRED, fold_into, folded};
 use crate::rules::placed;
 use crate::typer::{MOST_ENTRIES, MOST_SITES, Typer};
 use place::Place;
@@ -56,8 +56,8 @@ impl Typer {
     pub fn find(&mut self, name: &Name) -> Result<Denotation, TypeFault>
         ensures { Takes (spec.find name.now self.old) result self.new }
     {
-        let key = folded(self.alloc, name.text)?;
-        let denotation = placed(self.scopes.find(key.as_slice()), name.place)?;
+        fold_into(&mut self.key, name.text)?;
+        let denotation = placed(self.scopes.find(&self.key), name.place)?;
         self.latest = name.place;
         Ok(denotation)
     }

@@ -40,6 +40,8 @@ pub struct Typer {
     pub(crate) entries: u32,
     // The place of the latest token that the syntax tree tells.
     pub(crate) latest: Place,
+    // The name that was looked up last, in small letters. It is kept, so that the use of a name asks for no memory.
+    pub(crate) key: Vec<u8>,
     ghost in_order: { AreInOrder sites.items },
     ghost few_sites: { vec_len sites ≤ MOST_SITES },
     ghost few_entries: { entries ≤ MOST_ENTRIES },
@@ -80,6 +82,7 @@ impl Typer {
             sites: Vec::new(alloc),
             entries: 0,
             latest: start,
+            key: Vec::new(alloc),
         })
     }
 

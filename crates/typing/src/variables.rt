@@ -3,7 +3,7 @@ ghost use Rattle.scopes.specs.Scopes.{Knows};
 ghost use Rattle.typing.specs.Names.{folded};
 ghost use Rattle.typing.specs.Typing.{named_type};
 
-use crate::names::{folded, is_among};
+use crate::names::{fold_into, is_among};
 use crate::typer::{MOST_CELLS, Typer};
 use place::Place;
 use scopes::{Denotation, ScopeFault};
@@ -28,8 +28,8 @@ impl Typer {
         ensures { Takes (spec.denoted_type names.now denoter.now self.old) result self.new }
     {
         let TypeDenoter::Name(name) = denoter;
-        let key = folded(self.alloc, name.text)?;
-        let type_id = named_type(names, name, self.scopes.find(key.as_slice()))?;
+        fold_into(&mut self.key, name.text)?;
+        let type_id = named_type(names, name, self.scopes.find(&self.key))?;
         self.latest = name.place;
         Ok(type_id)
     }

@@ -5,7 +5,7 @@ use Rattle.code_generator.proofs.Pieces.{map_one_more}
 use Rattle.code_generator.proofs.tables.points_of.Goals as goal
 
 pub loop-point-init : goal.loop-point-init
-loop-point-init c = c.new-table.ensures.items
+loop-point-init c = c.in_ok-table.ensures.items
 
 pub loop-point-preserved : goal.loop-point-preserved
 loop-point-preserved c =

@@ -5,7 +5,7 @@ use Rattle.code_generator.proofs.Pieces.{map_one_more}
 use Rattle.code_generator.proofs.tables.sites_of.Goals as goal
 
 pub loop-site-init : goal.loop-site-init
-loop-site-init c = c.new-table.ensures.items
+loop-site-init c = c.in_ok-table.ensures.items
 
 pub loop-site-preserved : goal.loop-site-preserved
 loop-site-preserved c =
