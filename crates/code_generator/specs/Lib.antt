@@ -1,4 +1,5 @@
 pub mod Code
 pub mod Follows
 pub mod Need
+pub mod Sizes
 pub mod Tables

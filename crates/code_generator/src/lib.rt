@@ -5,5 +5,6 @@ mod depth;
 mod emit;
 pub mod fault;
 pub mod generate;
+mod scope;
 mod size;
 mod tables;
