@@ -1,6 +1,6 @@
 -- How many cells an evaluation needs at once is no more than its code has instructions, nor than the count that a full
 -- store is judged by.
-use Rattle.std.proofs.Common.{◌≡◌, ℕ, ◌+◌, ◌≤◌, max, List, [], ◌∷◌, ◌++◌, length, map, Option, Some, None, sym, subst, arith, length-append, ap}
+use Rattle.std.proofs.Common.{◌≡◌, ℕ, ◌+◌, ◌≤◌, max, List, [], ◌∷◌, ◌++◌, length, map, Option, Some, None, ap, sym, subst, arith, length-append}
 use Rattle.std.specs.Prelude.{fold, sum, sum_by}
 use Rattle.std.specs.List.{flat_map}
 use Rattle.std.proofs.lemmas.List.Sums.{sum_by-cons}
@@ -22,7 +22,7 @@ use Rattle.typed_tree.specs.declared.tree.Stmt.TheOpen.Stmt-F.{Empty, Assign, Wr
 use Rattle.typed_tree.specs.declared.tree.Stmt.TheViews.{roll-Stmt}
 use Rattle.typed_tree.specs.declared.tree.Stmt.TheFolds.{map-Stmt, fold-roll-Stmt, ind-Stmt}
 use Rattle.code_generator.specs.declared.scope.Scope.{Scope}
-use Rattle.code_generator.specs.Code.{Placed, placed, joined, monadic_code, dyadic_code, expr_code, link_code, expr_step, link_step, expr_depth, link_depth, expr_depth_step, link_depth_step, width_depth, width_code, parameter_depth, parameter_code, write_instr, line_end_code, stmt_code, stmt_step, stmt_depth, stmt_depth_step}
+use Rattle.code_generator.specs.Code.{joined, placed, Placed, monadic_code, dyadic_code, expr_code, link_code, expr_step, link_step, expr_depth, link_depth, expr_depth_step, link_depth_step, width_depth, width_code, parameter_depth, parameter_code, write_instr, line_end_code, stmt_code, stmt_step, stmt_depth, stmt_depth_step}
 use Rattle.code_generator.specs.Need.{expr_need, expr_need_step, link_need_step, width_need, parameter_need, stmt_need, stmt_need_step}
 
 -- a depth is within the length of some code and within a need
@@ -37,6 +37,12 @@ same_within d d' c c' n n' p q r w =
 -- the need of an operator and its right operand
 abbrev link_need : Link → ℕ
 link_need = fold-Link ℕ ℕ expr_need_step link_need_step
+
+abbrev ExprWithin : Scope → Expr → Type 0
+ExprWithin scope e = Within (expr_depth e) (expr_code scope e) (expr_need e)
+
+abbrev LinkWithin : Scope → Link → Type 0
+LinkWithin scope l = Within (link_depth l) (link_code scope l) (link_need l)
 
 sum-cons : (n : ℕ) (ns : List ℕ) → sum (n ∷ ns) ≡ n + sum ns
 sum-cons n ns = sum_by-cons (λ x. x) n ns
@@ -62,165 +68,150 @@ row_within f c g (x ∷ xs) depth first need w =
       need_is = omega arith;
     }
 
--- the code of an expression in some scope
 module _ (scope : Scope) where
-  abbrev ExprWithin : Expr → Type 0
-  ExprWithin e = Within (expr_depth e) (expr_code scope e) (expr_need e)
-
-  abbrev LinkWithin : Link → Type 0
-  LinkWithin l = Within (link_depth l) (link_code scope l) (link_need l)
-
   rolled_expr : (x : Expr-F Expr Link) → Within (expr_depth_step (map-Expr Expr Link ℕ ℕ expr_depth link_depth x))
       (expr_step scope (map-Expr Expr Link (List Instr) (List Instr) (expr_code scope) (link_code scope) x))
-      (expr_need_step (map-Expr Expr Link ℕ ℕ expr_need link_need x)) → ExprWithin (roll-Expr x)
+      (expr_need_step (map-Expr Expr Link ℕ ℕ expr_need link_need x)) → ExprWithin scope (roll-Expr x)
   rolled_expr x =
       same_within _ _ _ _ _ _ (fold-roll-Expr ℕ ℕ expr_depth_step link_depth_step x) (fold-roll-Expr (List Instr) (List Instr) (expr_step scope) link_step x)
-      (fold-roll-Expr ℕ ℕ expr_need_step link_need_step x)
+          (fold-roll-Expr ℕ ℕ expr_need_step link_need_step x)
 
   rolled_link : (x : Link-F Expr Link) → Within (link_depth_step (map-Link Expr Link ℕ ℕ expr_depth link_depth x))
       (link_step (map-Link Expr Link (List Instr) (List Instr) (expr_code scope) (link_code scope) x))
-      (link_need_step (map-Link Expr Link ℕ ℕ expr_need link_need x)) → LinkWithin (roll-Link x)
+      (link_need_step (map-Link Expr Link ℕ ℕ expr_need link_need x)) → LinkWithin scope (roll-Link x)
   rolled_link x =
       same_within _ _ _ _ _ _ (fold-roll-Link ℕ ℕ expr_depth_step link_depth_step x) (fold-roll-Link (List Instr) (List Instr) (expr_step scope) link_step x)
-      (fold-roll-Link ℕ ℕ expr_need_step link_need_step x)
+          (fold-roll-Link ℕ ℕ expr_need_step link_need_step x)
 
-  -- each operation on two operands has an instruction
-  dyadic_has_one : (operation : Dyadic) → 1 ≤ length (dyadic_code operation)
-  dyadic_has_one (dyadic.Plus overflow) = omega arith
-  dyadic_has_one (dyadic.Minus overflow) = omega arith
-  dyadic_has_one (dyadic.Times overflow) = omega arith
-  dyadic_has_one (dyadic.Div by_zero) = omega arith
-  dyadic_has_one (dyadic.Mod by_zero_or_less) = omega arith
-  dyadic_has_one dyadic.And = omega arith
-  dyadic_has_one dyadic.Or = omega arith
-  dyadic_has_one (dyadic.Relation r) = omega arith
+-- each operation on two operands has an instruction
+dyadic_has_one : (operation : Dyadic) → 1 ≤ length (dyadic_code operation)
+dyadic_has_one (dyadic.Plus overflow) = omega arith
+dyadic_has_one (dyadic.Minus overflow) = omega arith
+dyadic_has_one (dyadic.Times overflow) = omega arith
+dyadic_has_one (dyadic.Div by_zero) = omega arith
+dyadic_has_one (dyadic.Mod by_zero_or_less) = omega arith
+dyadic_has_one dyadic.And = omega arith
+dyadic_has_one dyadic.Or = omega arith
+dyadic_has_one (dyadic.Relation r) = omega arith
 
-  expr_layer : (y : Expr-F ((e : Expr) × ExprWithin e) ((l : Link) × LinkWithin l))
-      → ExprWithin (roll-Expr (map-Expr ((e : Expr) × ExprWithin e) ((l : Link) × LinkWithin l) Expr Link (λ e. e.0) (λ l. l.0) y))
-  expr_layer (Constant number n) = rolled_expr (Constant number n) (record { code_is = omega arith; need_is = omega arith })
-  expr_layer (Variable access defined) = rolled_expr (Variable access defined) (record { code_is = omega arith; need_is = omega arith })
+module _ (scope : Scope) where
+  expr_layer : (y : Expr-F ((e : Expr) × ExprWithin scope e) ((l : Link) × LinkWithin scope l))
+      → ExprWithin scope (roll-Expr (map-Expr ((e : Expr) × ExprWithin scope e) ((l : Link) × LinkWithin scope l) Expr Link (λ e. e.0) (λ l. l.0) y))
+  expr_layer (Constant number n) = rolled_expr scope (Constant number n) (record { code_is = omega arith; need_is = omega arith })
+  expr_layer (Variable access defined) = rolled_expr scope (Variable access defined) (record { code_is = omega arith; need_is = omega arith })
   expr_layer (MonadicOf number operation operand) =
       let a = operand.value.1.code_is in let b = operand.value.1.need_is in
-      rolled_expr (map-Expr ((e : Expr) × ExprWithin e) ((l : Link) × LinkWithin l) Expr Link (λ e. e.0) (λ l. l.0) (MonadicOf number operation operand))
-      (record { code_is = omega (arith, length-append (expr_code scope operand.value.0) (monadic_code operation)); need_is = omega arith })
+      rolled_expr scope (map-Expr ((e : Expr) × ExprWithin scope e) ((l : Link) × LinkWithin scope l) Expr Link (λ e. e.0) (λ l. l.0)
+          (MonadicOf number operation operand)) (record { code_is = omega (arith, length-append (expr_code scope operand.value.0) (monadic_code operation));
+          need_is = omega arith })
   expr_layer (Chain first rest) =
-      rolled_expr (map-Expr ((e : Expr) × ExprWithin e) ((l : Link) × LinkWithin l) Expr Link (λ e. e.0) (λ l. l.0) (Chain first rest))
-      (row_within link_depth (link_code scope) link_need rest.items (expr_depth first.value.0) (expr_code scope first.value.0) (expr_need first.value.0)
-      first.value.1)
+      rolled_expr scope (map-Expr ((e : Expr) × ExprWithin scope e) ((l : Link) × LinkWithin scope l) Expr Link (λ e. e.0) (λ l. l.0) (Chain first rest))
+          (row_within link_depth (link_code scope) link_need rest.items (expr_depth first.value.0) (expr_code scope first.value.0) (expr_need first.value.0)
+          first.value.1)
 
-  link_layer : (y : Link-F ((e : Expr) × ExprWithin e) ((l : Link) × LinkWithin l))
-      → LinkWithin (roll-Link (map-Link ((e : Expr) × ExprWithin e) ((l : Link) × LinkWithin l) Expr Link (λ e. e.0) (λ l. l.0) y))
+  link_layer : (y : Link-F ((e : Expr) × ExprWithin scope e) ((l : Link) × LinkWithin scope l))
+      → LinkWithin scope (roll-Link (map-Link ((e : Expr) × ExprWithin scope e) ((l : Link) × LinkWithin scope l) Expr Link (λ e. e.0) (λ l. l.0) y))
   link_layer y =
       let a = y.operand.1.code_is in let b = y.operand.1.need_is in
-      rolled_link (map-Link ((e : Expr) × ExprWithin e) ((l : Link) × LinkWithin l) Expr Link (λ e. e.0) (λ l. l.0) y)
-      (record {
-        code_is = omega (arith, length-append (expr_code scope y.operand.0) (dyadic_code y.operation), dyadic_has_one y.operation);
-        need_is =
-            omega arith;
-      })
+      rolled_link scope (map-Link ((e : Expr) × ExprWithin scope e) ((l : Link) × LinkWithin scope l) Expr Link (λ e. e.0) (λ l. l.0) y)
+          (record { code_is = omega (arith, length-append (expr_code scope y.operand.0) (dyadic_code y.operation), dyadic_has_one y.operation); need_is =
+          omega arith })
 
-  pub expr_within : (e : Expr) → ExprWithin e
+  pub expr_within : (e : Expr) → ExprWithin scope e
   expr_within =
-      ind-Expr ExprWithin LinkWithin (λ x y is. subst (λ z. ExprWithin (roll-Expr z)) is (expr_layer y))
-      (λ x y is. subst (λ z. LinkWithin (roll-Link z)) is (link_layer y))
+      ind-Expr (ExprWithin scope) (LinkWithin scope) (λ x y is. subst (λ z. ExprWithin scope (roll-Expr z)) is (expr_layer y))
+          (λ x y is. subst (λ z. LinkWithin scope (roll-Link z)) is (link_layer y))
 
-  -- a width, beside the value that is written in it
-  record WidthWithin (width : Option Width) (representation : Representation) : Type 0 where
-    code_is : width_depth width ≤ length (width_code scope width representation)
-    need_is : width_depth width ≤ width_need width + 1
-    has_one : 1 ≤ length (width_code scope width representation)
+-- a width, beside the value that is written in it
+record WidthWithin (scope : Scope) (width : Option Width) (representation : Representation) : Type 0 where
+  code_is : width_depth width ≤ length (width_code scope width representation)
+  need_is : width_depth width ≤ width_need width + 1
+  has_one : 1 ≤ length (width_code scope width representation)
 
-  width_within : (width : Option Width) (representation : Representation) → WidthWithin width representation
-  width_within None representation = record { code_is = omega arith; need_is = omega arith; has_one = omega arith }
-  width_within (Some width) representation =
-      let v = expr_within width.value in
-      let a = v.code_is in let b = v.need_is in
-      record {
-        code_is = omega (arith, length-append {A = Instr});
-        need_is = omega arith;
-        has_one = omega (arith, length-append {A = Instr});
-      }
+width_within : (scope : Scope) (width : Option Width) (representation : Representation) → WidthWithin scope width representation
+width_within scope None representation = record { code_is = omega arith; need_is = omega arith; has_one = omega arith }
+width_within scope (Some width) representation =
+    let v = expr_within scope width.value in
+    let a = v.code_is in let b = v.need_is in
+    record {
+      code_is = omega (arith, length-append {A = Instr});
+      need_is = omega arith;
+      has_one = omega (arith, length-append {A = Instr});
+    }
 
-  -- a value that is written, and its width
-  record ParameterWithin (p : WriteParameter) : Type 0 where
-    code_is : parameter_depth p ≤ length (parameter_code scope p)
-    need_is : parameter_depth p ≤ parameter_need p + 2
+-- a value that is written, and its width
+record ParameterWithin (scope : Scope) (p : WriteParameter) : Type 0 where
+  code_is : parameter_depth p ≤ length (parameter_code scope p)
+  need_is : parameter_depth p ≤ parameter_need p + 2
 
-  parameter_within : (p : WriteParameter) → ParameterWithin p
-  parameter_within p =
-      let v = expr_within p.value in
-      let a = v.code_is in let b = v.need_is in
-      let w = width_within p.width p.representation in
-      let a' = w.code_is in let b' = w.need_is in let c' = w.has_one in
-      let writing = width_code scope p.width p.representation ++ (write_instr p.representation ∷ []) in
-      record {
-        code_is = omega (
-          arith,
-          length-append (expr_code scope p.value) writing,
-          length-append (width_code scope p.width p.representation)
-              (write_instr p.representation ∷ []),
-        );
-        need_is = omega arith;
-      }
+parameter_within : (scope : Scope) (p : WriteParameter) → ParameterWithin scope p
+parameter_within scope p =
+    let v = expr_within scope p.value in
+    let a = v.code_is in let b = v.need_is in
+    let w = width_within scope p.width p.representation in
+    let a' = w.code_is in let b' = w.need_is in let c' = w.has_one in
+    let writing = width_code scope p.width p.representation ++ (write_instr p.representation ∷ []) in
+    record {
+      code_is = omega (arith, length-append (expr_code scope p.value) writing, length-append (width_code scope p.width p.representation)
+          (write_instr p.representation ∷ []));
+      need_is = omega arith;
+    }
 
-  -- the values of a write
-  parameters_within : (ps : List WriteParameter) (depth : ℕ) (first : List Instr) (need : ℕ) → 2 ≤ need → Within depth first need
-      → Within (fold max depth (map parameter_depth ps)) (first ++ flat_map (parameter_code scope) ps) (need + sum_by parameter_need ps)
-  parameters_within [] depth first need h w =
-      let a = w.code_is in let b = w.need_is in record { code_is = omega (arith, length-append first []); need_is = omega arith }
-  parameters_within (p ∷ ps) depth first need h w =
-      let a = w.code_is in let b = w.need_is in
-      let v = parameter_within p in
-      let a' = v.code_is in let b' = v.need_is in
-      let rest = flat_map (parameter_code scope) ps in
-      let needs = sum_by parameter_need ps in
-      let both = length-append first (parameter_code scope p) in
-      let w' : Within (max depth (parameter_depth p)) (first ++ parameter_code scope p) (need + parameter_need p) = record
-      { code_is = omega arith; need_is = omega arith } in
-      let r = parameters_within ps (max depth (parameter_depth p)) (first ++ parameter_code scope p) (need + parameter_need p) (omega arith) w' in
-      let u = r.code_is in let q = r.need_is in
-      let all = sum_by-cons parameter_need p ps in
-      record {
-        code_is = omega (
-          arith,
-          length-append (first ++ parameter_code scope p) rest,
-          length-append first (parameter_code scope p ++ rest),
-          length-append
-              (parameter_code scope p) rest,
-        );
-        need_is = omega arith;
-      }
+-- the values of a write
+parameters_within : (scope : Scope) (ps : List WriteParameter) (depth : ℕ) (first : List Instr) (need : ℕ) → 2 ≤ need → Within depth first need
+    → Within (fold max depth (map parameter_depth ps)) (first ++ flat_map (parameter_code scope) ps) (need + sum_by parameter_need ps)
+parameters_within scope [] depth first need h w =
+    let a = w.code_is in let b = w.need_is in record { code_is = omega (arith, length-append first []); need_is = omega arith }
+parameters_within scope (p ∷ ps) depth first need h w =
+    let a = w.code_is in let b = w.need_is in
+    let v = parameter_within scope p in
+    let a' = v.code_is in let b' = v.need_is in
+    let rest = flat_map (parameter_code scope) ps in
+    let needs = sum_by parameter_need ps in
+    let both = length-append first (parameter_code scope p) in
+    let w' : Within (max depth (parameter_depth p)) (first ++ parameter_code scope p) (need + parameter_need p) = record
+        { code_is = omega arith; need_is = omega arith } in
+    let r = parameters_within scope ps (max depth (parameter_depth p)) (first ++ parameter_code scope p) (need + parameter_need p) (omega arith) w' in
+    let u = r.code_is in let q = r.need_is in
+    let all = sum_by-cons parameter_need p ps in
+    record {
+      code_is = omega (arith, length-append (first ++ parameter_code scope p) rest, length-append first (parameter_code scope p ++ rest), length-append
+          (parameter_code scope p) rest);
+      need_is = omega arith;
+    }
 
 abbrev StmtWithin : Stmt → Type 0
 StmtWithin s = (scope : Scope) (place : ℕ) → Within (stmt_depth s) (stmt_code s scope place) (stmt_need s)
 
--- statements one after another, behind a first piece
-statements_within : (scope : Scope) (ss : List ((s : Stmt) × StmtWithin s)) (depth place : ℕ) (first : List Instr) (need : ℕ) → Within depth first need
-    → Within (fold max depth (map stmt_depth (map (λ x. x.0) ss)))
-    (first ++ placed (map (λ (code : Placed). code scope) (map stmt_code (map (λ x. x.0) ss))) place) (need + sum (map stmt_need (map (λ x. x.0) ss)))
-statements_within scope [] depth place first need w =
-    let a = w.code_is in let b = w.need_is in record { code_is = omega (arith, length-append first []); need_is = omega arith }
-statements_within scope (s ∷ ss) depth place first need w =
-    let a = w.code_is in let b = w.need_is in
-    let c = stmt_code s.0 scope place in
-    let own = s.1 scope place in
-    let a' = own.code_is in let b' = own.need_is in
-    let rest = placed (map (λ (code : Placed). code scope) (map stmt_code (map (λ x. x.0) ss))) (place + length c) in
-    let both = length-append first c in
-    let w' : Within (max depth (stmt_depth s.0)) (first ++ c) (need + stmt_need s.0) = record { code_is = omega arith; need_is = omega arith } in
-    let r = statements_within scope ss (max depth (stmt_depth s.0)) (place + length c) (first ++ c) (need + stmt_need s.0) w' in
-    let p = r.code_is in let q = r.need_is in
-    let all = sum-cons (stmt_need s.0) (map stmt_need (map (λ x. x.0) ss)) in
-    record {
-      code_is = omega (arith, length-append (first ++ c) rest, length-append first (c ++ rest), length-append c rest);
-      need_is = omega arith;
-    }
-
 rolled_stmt : (x : Stmt-F Stmt) → ((scope : Scope) (place : ℕ) → Within (stmt_depth_step (map-Stmt Stmt ℕ stmt_depth x)) (stmt_step (map-Stmt Stmt Placed
     stmt_code x) scope place) (stmt_need_step (map-Stmt Stmt ℕ stmt_need x))) → StmtWithin (roll-Stmt x)
 rolled_stmt x within scope place =
-    same_within _ _ _ _ _ _ (fold-roll-Stmt ℕ stmt_depth_step x) (ap (λ (code : Placed). code scope place) (fold-roll-Stmt Placed stmt_step x))
-    (fold-roll-Stmt ℕ stmt_need_step x) (within scope place)
+    same_within _ _ _ _ _ _ (fold-roll-Stmt ℕ stmt_depth_step x) (ap (λ code. code scope place) (fold-roll-Stmt Placed stmt_step x))
+        (fold-roll-Stmt ℕ stmt_need_step x) (within scope place)
+
+-- the statements of a compound statement, behind a first code
+stmts_within : (scope : Scope) (xs : List ((s : Stmt) × StmtWithin s)) (place depth : ℕ) (first : List Instr) (need : ℕ) → Within depth first need
+    → Within (fold max depth (map stmt_depth (map (λ x. x.0) xs))) (first ++ placed (map (λ code. code scope) (map stmt_code (map (λ x. x.0) xs))) place)
+    (need + sum (map stmt_need (map (λ x. x.0) xs)))
+stmts_within scope [] place depth first need w =
+    let a = w.code_is in let b = w.need_is in record { code_is = omega (arith, length-append first []); need_is = omega arith }
+stmts_within scope (x ∷ xs) place depth first need w =
+    let code = stmt_code x.0 scope place in
+    let a = w.code_is in let b = w.need_is in
+    let v = x.1 scope place in
+    let a' = v.code_is in let b' = v.need_is in
+    let next = place + length code in
+    let rest = placed (map (λ c. c scope) (map stmt_code (map (λ y. y.0) xs))) next in
+    let needs = sum (map stmt_need (map (λ y. y.0) xs)) in
+    let both = length-append first code in
+    let w' : Within (max depth (stmt_depth x.0)) (first ++ code) (need + stmt_need x.0) = record { code_is = omega arith; need_is = omega arith } in
+    let r = stmts_within scope xs next (max depth (stmt_depth x.0)) (first ++ code) (need + stmt_need x.0) w' in
+    let p = r.code_is in let q = r.need_is in
+    let all = sum-cons (stmt_need x.0) (map stmt_need (map (λ y. y.0) xs)) in
+    record {
+      code_is = omega (arith, length-append (first ++ code) rest, length-append first (code ++ rest), length-append code rest);
+      need_is = omega arith;
+    }
 
 stmt_layer : (y : Stmt-F ((s : Stmt) × StmtWithin s)) → StmtWithin (roll-Stmt (map-Stmt ((s : Stmt) × StmtWithin s) Stmt (λ s. s.0) y))
 stmt_layer (Empty number) = rolled_stmt (Empty number) (λ scope place. record { code_is = omega arith; need_is = omega arith })
@@ -236,9 +227,9 @@ stmt_layer (Write number name parameters ends_line) =
     let a = w.code_is in let b = w.need_is in
     record { code_is = omega (arith, length-append (flat_map (parameter_code scope) parameters.items) (line_end_code ends_line)); need_is = b })
 stmt_layer (Compound number statements) =
+    rolled_stmt (map-Stmt ((s : Stmt) × StmtWithin s) Stmt (λ s. s.0) (Compound number statements)) (λ scope place.
     let none : Within 0 [] 8 = record { code_is = omega arith; need_is = omega arith } in
-    rolled_stmt (map-Stmt ((s : Stmt) × StmtWithin s) Stmt (λ s. s.0) (Compound number statements))
-    (λ scope place. statements_within scope statements.items 0 place [] 8 none)
+    stmts_within scope statements.items place 0 [] 8 none)
 
 -- the same of a statement
 pub stmt_within : (s : Stmt) → StmtWithin s

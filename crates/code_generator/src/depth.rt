@@ -1,11 +1,12 @@
 ghost use Rattle.std.specs.Prelude.{◌≡◌, map};
-ghost use Rattle.code_generator.specs.Code.{expr_depth, greatest, operand, parameter_depth, stmt_depth, width_depth};
+ghost use Rattle.code_generator.specs.Code.{expr_depth, greatest, parameter_depth, stmt_depth, width_depth};
+ghost use Rattle.code_generator.specs.Sizes.{capped};
 
 use typed_tree::tree::{Expr, Stmt, WriteParameter};
 
-/// How many cells the evaluation of the statement needs at once, or the greatest operand.
+/// How many cells the evaluation of the statement needs at once, or the greatest number of 32 bits.
 pub fn needed_by(stmt: &Stmt) -> u32
-    ensures { result ≡ operand (stmt_depth stmt.now) }
+    ensures { result ≡ capped (stmt_depth stmt.now) }
 {
     match stmt {
         Stmt::Empty { .. } => 0,
@@ -23,7 +24,7 @@ pub fn needed_by(stmt: &Stmt) -> u32
 
 /// The same of the values of a write or writeln.
 fn needed_by_parameters(parameters: &[WriteParameter]) -> u32
-    ensures { result ≡ operand (greatest (map parameter_depth parameters.now)) }
+    ensures { result ≡ capped (greatest (map parameter_depth parameters.now)) }
 {
     let mut depth = 0;
     for parameter in parameters {
@@ -34,7 +35,7 @@ fn needed_by_parameters(parameters: &[WriteParameter]) -> u32
 
 /// The same of a value that is written: its width is evaluated beside it.
 fn needed_by_parameter(parameter: &WriteParameter) -> u32
-    ensures { result ≡ operand (parameter_depth parameter.now) }
+    ensures { result ≡ capped (parameter_depth parameter.now) }
 {
     let width = needed_by_width(parameter).saturating_add(1);
     needed_by_expr(&parameter.value).max(width)
@@ -42,7 +43,7 @@ fn needed_by_parameter(parameter: &WriteParameter) -> u32
 
 /// The same of the width alone.
 fn needed_by_width(parameter: &WriteParameter) -> u32
-    ensures { result ≡ operand (width_depth parameter.now.width) }
+    ensures { result ≡ capped (width_depth parameter.now.width) }
 {
     match &parameter.width {
         None => 1,
@@ -52,7 +53,7 @@ fn needed_by_width(parameter: &WriteParameter) -> u32
 
 /// How many cells the evaluation of the expression needs at once, that of its value among them.
 pub fn needed_by_expr(expr: &Expr) -> u32
-    ensures { result ≡ operand (expr_depth expr.now) }
+    ensures { result ≡ capped (expr_depth expr.now) }
 {
     match expr {
         Expr::Constant { .. } | Expr::Variable { .. } => 1,

@@ -1,6 +1,7 @@
-ghost use Rattle.std.specs.Prelude.{◌≡◌, [], ◌∷◌, ◌++◌, OnOk};
+ghost use Rattle.std.specs.Prelude.{◌≡◌, [], ◌∷◌, ◌++◌, OnOk, length};
 ghost use Rattle.code_generator.specs.Code.{assign_code, check_positive, default_width, dyadic_code, expr_code, line_end_code, link_code, monadic_code, parameter_code, relation_instr, stmt_code, variable_code, variable_offset, width_code, write_code, write_instr};
 
+use crate::scope::Scope;
 use pcode_assembler::instr::Instr;
 use std::alloc::AllocError;
 use typed_tree::tree::{
@@ -16,12 +17,13 @@ const INTEGER_WIDTH: i32 = 10;
 /// The total width of a Boolean that is written without one.
 const BOOLEAN_WIDTH: i32 = 5;
 
-/// How many cells a frame has before its variables.
-const LINKS: u32 = 4;
+/// The greatest offset that an instruction may have.
+const GREATEST_OFFSET: u32 = 16777215;
 
 /// The instructions of a statement.
-pub fn emit_stmt(code: &mut Vec<Instr>, stmt: &Stmt) -> Result<(), AllocError>
-    ensures { OnOk result (code.new.items ≡ code.old.items ++ stmt_code stmt.now) }
+pub fn emit_stmt(code: &mut Vec<Instr>, scope: Scope, stmt: &Stmt) -> Result<(), AllocError>
+    ensures { OnOk result (
+        code.new.items ≡ code.old.items ++ stmt_code stmt.now scope (length code.old.items)) }
 {
     match stmt {
         Stmt::Empty { .. } => Ok(()),
@@ -30,15 +32,15 @@ pub fn emit_stmt(code: &mut Vec<Instr>, stmt: &Stmt) -> Result<(), AllocError>
             fits,
             value,
             ..
-        } => emit_assign(code, *target, *fits, value),
+        } => emit_assign(code, scope, *target, *fits, value),
         Stmt::Write {
             parameters,
             ends_line,
             ..
-        } => emit_write(code, parameters.as_slice(), *ends_line),
+        } => emit_write(code, scope, parameters.as_slice(), *ends_line),
         Stmt::Compound { statements, .. } => {
             for statement in statements {
-                emit_stmt(code, statement)?;
+                emit_stmt(code, scope, statement)?;
             }
             Ok(())
         }
@@ -48,14 +50,15 @@ pub fn emit_stmt(code: &mut Vec<Instr>, stmt: &Stmt) -> Result<(), AllocError>
 /// The value, its check, and the assignment.
 fn emit_assign(
     code: &mut Vec<Instr>,
+    scope: Scope,
     target: Access,
     fits: RangeTest,
     value: &Expr,
 ) -> Result<(), AllocError>
-    ensures { OnOk result (code.new.items ≡ code.old.items ++ assign_code target.root fits value.now) }
+    ensures { OnOk result (code.new.items ≡ code.old.items ++ assign_code scope target.root fits value.now) }
 {
-    let offset = offset_of(target);
-    emit_expr(code, value)?;
+    let offset = offset_of(scope, target);
+    emit_expr(code, scope, value)?;
     put(
         code,
         Instr::CheckRange {
@@ -70,35 +73,44 @@ fn emit_assign(
 /// Each value that is written, and a line end behind a writeln.
 fn emit_write(
     code: &mut Vec<Instr>,
+    scope: Scope,
     parameters: &[WriteParameter],
     ends_line: bool,
 ) -> Result<(), AllocError>
-    ensures { OnOk result (code.new.items ≡ code.old.items ++ write_code parameters.now ends_line) }
+    ensures { OnOk result (code.new.items ≡ code.old.items ++ write_code scope parameters.now ends_line) }
 {
     for parameter in parameters {
-        emit_parameter(code, parameter)?;
+        emit_parameter(code, scope, parameter)?;
     }
     emit_line_end(code, ends_line)
 }
 
 /// A value that is written: it, its width, and the output of both.
-fn emit_parameter(code: &mut Vec<Instr>, parameter: &WriteParameter) -> Result<(), AllocError>
-    ensures { OnOk result (code.new.items ≡ code.old.items ++ parameter_code parameter.now) }
+fn emit_parameter(
+    code: &mut Vec<Instr>,
+    scope: Scope,
+    parameter: &WriteParameter,
+) -> Result<(), AllocError>
+    ensures { OnOk result (code.new.items ≡ code.old.items ++ parameter_code scope parameter.now) }
 {
-    emit_expr(code, &parameter.value)?;
-    emit_width(code, parameter)?;
+    emit_expr(code, scope, &parameter.value)?;
+    emit_width(code, scope, parameter)?;
     put(code, output_of(parameter.representation))
 }
 
 /// The width of a value that is written, checked, or the default one.
-fn emit_width(code: &mut Vec<Instr>, parameter: &WriteParameter) -> Result<(), AllocError>
+fn emit_width(
+    code: &mut Vec<Instr>,
+    scope: Scope,
+    parameter: &WriteParameter,
+) -> Result<(), AllocError>
     ensures { OnOk result (
-        code.new.items ≡ code.old.items ++ width_code parameter.now.width parameter.now.representation) }
+        code.new.items ≡ code.old.items ++ width_code scope parameter.now.width parameter.now.representation) }
 {
     match &parameter.width {
         None => put(code, width_without(parameter.representation)),
         Some(width) => {
-            emit_expr(code, &width.value)?;
+            emit_expr(code, scope, &width.value)?;
             put(code, positive_at(width.site))
         }
     }
@@ -140,24 +152,24 @@ fn output_of(representation: Representation) -> Instr
 
 /// The instructions of an expression: its value is pushed.
 #[cycle(emit_expr)]
-pub fn emit_expr(code: &mut Vec<Instr>, expr: &Expr) -> Result<(), AllocError>
-    ensures { OnOk result (code.new.items ≡ code.old.items ++ expr_code expr.now) }
+pub fn emit_expr(code: &mut Vec<Instr>, scope: Scope, expr: &Expr) -> Result<(), AllocError>
+    ensures { OnOk result (code.new.items ≡ code.old.items ++ expr_code scope expr.now) }
 {
     match expr {
         Expr::Constant { value, .. } => put(code, Instr::LoadConstant { value: *value }),
-        Expr::Variable { access, defined } => emit_variable(code, *access, *defined),
+        Expr::Variable { access, defined } => emit_variable(code, scope, *access, *defined),
         Expr::Monadic {
             operation,
             operand,
             ..
         } => {
-            emit_expr(code, operand)?;
+            emit_expr(code, scope, operand)?;
             emit_monadic(code, *operation)
         }
         Expr::Chain { first, rest } => {
-            emit_expr(code, first)?;
+            emit_expr(code, scope, first)?;
             for link in rest {
-                emit_link(code, link)?;
+                emit_link(code, scope, link)?;
             }
             Ok(())
         }
@@ -166,18 +178,23 @@ pub fn emit_expr(code: &mut Vec<Instr>, expr: &Expr) -> Result<(), AllocError>
 
 /// The right operand, and the operation.
 #[cycle(emit_expr)]
-fn emit_link(code: &mut Vec<Instr>, link: &Link) -> Result<(), AllocError>
-    ensures { OnOk result (code.new.items ≡ code.old.items ++ link_code link.now) }
+fn emit_link(code: &mut Vec<Instr>, scope: Scope, link: &Link) -> Result<(), AllocError>
+    ensures { OnOk result (code.new.items ≡ code.old.items ++ link_code scope link.now) }
 {
-    emit_expr(code, &link.operand)?;
+    emit_expr(code, scope, &link.operand)?;
     emit_dyadic(code, link.operation)
 }
 
 /// The value of a variable, and its check.
-fn emit_variable(code: &mut Vec<Instr>, access: Access, defined: u32) -> Result<(), AllocError>
-    ensures { OnOk result (code.new.items ≡ code.old.items ++ variable_code access.root defined) }
+fn emit_variable(
+    code: &mut Vec<Instr>,
+    scope: Scope,
+    access: Access,
+    defined: u32,
+) -> Result<(), AllocError>
+    ensures { OnOk result (code.new.items ≡ code.old.items ++ variable_code scope access.root defined) }
 {
-    let offset = offset_of(access);
+    let offset = offset_of(scope, access);
     put(code, Instr::Load { level: 0, offset })?;
     put(
         code,
@@ -261,11 +278,12 @@ fn positive_at(site: u32) -> Instr
     }
 }
 
-/// Where a variable stands in the program's frame, or the greatest operand.
-fn offset_of(access: Access) -> u32
-    ensures { result ≡ variable_offset access.root }
+/// Where a variable lies in its block's frame, or the greatest offset.
+fn offset_of(scope: Scope, access: Access) -> u32
+    ensures { result ≡ variable_offset scope access.root }
 {
-    access.root.saturating_add(LINKS)
+    let offset = scope.variables.saturating_add(access.root);
+    offset.min(GREATEST_OFFSET)
 }
 
 /// A check, and the instruction that it is for.

@@ -1,5 +1,7 @@
-ghost use Rattle.std.specs.Prelude.{◌≡◌, ◌<◌, ◌↔◌, length, ◌++◌, IfOk, OnOk, vec_len};
-ghost use Rattle.code_generator.specs.Code.{block_code, operand, program_code};
+ghost use Rattle.std.specs.Prelude.{◌≡◌, ◌<◌, ◌↔◌, true, length, ◌++◌, IfOk, OnOk, vec_len};
+ghost use Rattle.std.specs.List.{list_all};
+ghost use Rattle.pcode_assembler.specs.Bounds.{in_bounds};
+ghost use Rattle.code_generator.specs.Code.{block_code, count, program_code};
 ghost use Rattle.code_generator.specs.Follows.{Follows};
 ghost use Rattle.code_generator.specs.Tables.{point_table, site_table};
 ghost use Rattle.typed_tree.specs.WellFormed.{IsWellFormed};
@@ -7,6 +9,7 @@ ghost use Rattle.typed_tree.specs.WellFormed.{IsWellFormed};
 use crate::depth::needed_by;
 use crate::emit::{emit_stmt, put};
 use crate::fault::GenFault;
+use crate::scope::Scope;
 use crate::size::program_size;
 use crate::tables::{points_of, sites_of};
 use pcode_assembler::code::Code;
@@ -17,51 +20,68 @@ use typed_tree::tree::{Stmt, Tree};
 /// The most instructions that a code may have.
 const MOST: u32 = 1000000;
 
+/// The most cells that a frame or an evaluation is given.
+const MOST_CELLS: u32 = 16777216;
+
+/// The program's block: its variables lie behind the four links of the frame.
+const PROGRAM: Scope = Scope {
+    variables: 4,
+    height: 0,
+};
+
 /// The code of the program: its frame with its variables and as many cells further as its evaluation needs,
 /// its body, and the end of the run. Each check has its site. For every input and
 /// every number of cells the code follows the program, if the tree is well formed.
 pub fn generate(alloc: Global, tree: &Tree) -> Result<Code, GenFault>
     ensures instructions { IfOk result (λ code. code.instructions.items ≡ program_code tree.now) }
     ensures too_large { (result ≡ Err GenFault.TooLarge) ↔ (1000000 < length (program_code tree.now)) }
+    ensures in_bounds { IfOk result (λ code. list_all in_bounds code.instructions.items ≡ true) }
     ensures sites { IfOk result (λ code. code.sites.items ≡ site_table tree.now.sites.items) }
     ensures points { IfOk result (λ code. code.points.items ≡ point_table tree.now.points.items) }
     ensures follows { IfOk result (λ code. IsWellFormed tree.now → Follows code tree.now) }
 {
-    if program_size(tree) > MOST {
+    let size = program_size(tree);
+    if size > MOST {
         return Err(GenFault::TooLarge);
     }
-    let mut code = Vec::new(alloc);
-    emit_program(&mut code, tree)?;
     Ok(Code {
         sites: sites_of(alloc, tree.sites.as_slice())?,
         points: points_of(alloc, tree.points.as_slice())?,
-        instructions: code,
+        instructions: instructions_of(alloc, tree, size)?,
     })
 }
 
-/// The instructions of the program.
-fn emit_program(code: &mut Vec<Instr>, tree: &Tree) -> Result<(), AllocError>
-    ensures { OnOk result (code.new.items ≡ code.old.items ++ program_code tree.now) }
+/// The instructions of the program, for which there is room at once.
+fn instructions_of(alloc: Global, tree: &Tree, size: u32) -> Result<Vec<Instr>, AllocError>
+    ensures { IfOk result (λ code. code.items ≡ program_code tree.now) }
 {
+    let mut code = Vec::with_capacity(alloc, size as usize)?;
     let variables = variable_count(tree);
     match tree.blocks.first() {
-        Some(program) => emit_block(code, variables, &program.body)?,
+        Some(program) => emit_block(&mut code, variables, PROGRAM, &program.body)?,
         None => put(
-            code,
+            &mut code,
             Instr::Enter {
                 variables,
                 evaluation: 0,
             },
         )?,
     }
-    put(code, Instr::Stop)
+    put(&mut code, Instr::Stop)?;
+    Ok(code)
 }
 
 /// The instructions of a block with so many variables.
-fn emit_block(code: &mut Vec<Instr>, variables: u32, body: &Stmt) -> Result<(), AllocError>
-    ensures { OnOk result (code.new.items ≡ code.old.items ++ block_code variables body.now) }
+fn emit_block(
+    code: &mut Vec<Instr>,
+    variables: u32,
+    scope: Scope,
+    body: &Stmt,
+) -> Result<(), AllocError>
+    ensures { OnOk result (
+        code.new.items ≡ code.old.items ++ block_code variables body.now scope (length code.old.items)) }
 {
-    let evaluation = needed_by(body);
+    let evaluation = needed_by(body).min(MOST_CELLS);
     put(
         code,
         Instr::Enter {
@@ -69,12 +89,13 @@ fn emit_block(code: &mut Vec<Instr>, variables: u32, body: &Stmt) -> Result<(), 
             evaluation,
         },
     )?;
-    emit_stmt(code, body)
+    emit_stmt(code, scope, body)
 }
 
-/// How many variables the program has, or the greatest operand.
+/// How many variables the program has, or the most cells of a frame.
 fn variable_count(tree: &Tree) -> u32
-    ensures { result ≡ operand (vec_len tree.now.variables) }
+    ensures { result ≡ count (vec_len tree.now.variables) }
 {
-    u32::try_from(tree.variables.len()).unwrap_or(u32::MAX)
+    let variables = u32::try_from(tree.variables.len()).unwrap_or(u32::MAX);
+    variables.min(MOST_CELLS)
 }

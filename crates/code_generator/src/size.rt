@@ -1,12 +1,14 @@
-ghost use Rattle.std.specs.Prelude.{◌≡◌, length};
+ghost use Rattle.std.specs.Prelude.{◌≡◌, ℕ, length};
 ghost use Rattle.std.specs.List.{flat_map};
-ghost use Rattle.code_generator.specs.Code.{dyadic_code, expr_code, line_end_code, monadic_code, operand, parameter_code, program_code, stmt_code, width_code};
+ghost use Rattle.code_generator.specs.declared.scope.Scope.{Scope};
+ghost use Rattle.code_generator.specs.Code.{dyadic_code, expr_code, line_end_code, monadic_code, parameter_code, program_code, stmt_code, width_code};
+ghost use Rattle.code_generator.specs.Sizes.{capped};
 
 use typed_tree::tree::{Dyadic, Expr, Monadic, Stmt, Tree, WriteParameter};
 
-/// How many instructions the program has, or the greatest operand.
+/// How many instructions the program has, or the greatest number of 32 bits.
 pub fn program_size(tree: &Tree) -> u32
-    ensures { result ≡ operand (length (program_code tree.now)) }
+    ensures { result ≡ capped (length (program_code tree.now)) }
 {
     match tree.blocks.first() {
         Some(program) => stmt_size(&program.body).saturating_add(2),
@@ -14,9 +16,9 @@ pub fn program_size(tree: &Tree) -> u32
     }
 }
 
-/// How many instructions the statement has, or the greatest operand.
+/// How many instructions the statement has, or the greatest number of 32 bits.
 fn stmt_size(stmt: &Stmt) -> u32
-    ensures { result ≡ operand (length (stmt_code stmt.now)) }
+    ensures { (scope : Scope) (place : ℕ) → result ≡ capped (length (stmt_code stmt.now scope place)) }
 {
     match stmt {
         Stmt::Empty { .. } => 0,
@@ -38,7 +40,7 @@ fn stmt_size(stmt: &Stmt) -> u32
 
 /// The same of the values of a write or writeln.
 fn parameters_size(parameters: &[WriteParameter]) -> u32
-    ensures { result ≡ operand (length (flat_map parameter_code parameters.now)) }
+    ensures { (scope : Scope) → result ≡ capped (length (flat_map (parameter_code scope) parameters.now)) }
 {
     let mut size = 0u32;
     for parameter in parameters {
@@ -49,7 +51,7 @@ fn parameters_size(parameters: &[WriteParameter]) -> u32
 
 /// The same of a value that is written, and its width.
 fn parameter_size(parameter: &WriteParameter) -> u32
-    ensures { result ≡ operand (length (parameter_code parameter.now)) }
+    ensures { (scope : Scope) → result ≡ capped (length (parameter_code scope parameter.now)) }
 {
     expr_size(&parameter.value)
         .saturating_add(width_size(parameter))
@@ -58,7 +60,8 @@ fn parameter_size(parameter: &WriteParameter) -> u32
 
 /// The same of the width alone.
 fn width_size(parameter: &WriteParameter) -> u32
-    ensures { result ≡ operand (length (width_code parameter.now.width parameter.now.representation)) }
+    ensures { (scope : Scope) →
+        result ≡ capped (length (width_code scope parameter.now.width parameter.now.representation)) }
 {
     match &parameter.width {
         None => 1,
@@ -73,9 +76,9 @@ fn line_end_size(ends_line: bool) -> u32
     u32::from(ends_line)
 }
 
-/// How many instructions the expression has, or the greatest operand.
+/// How many instructions the expression has, or the greatest number of 32 bits.
 fn expr_size(expr: &Expr) -> u32
-    ensures { result ≡ operand (length (expr_code expr.now)) }
+    ensures { (scope : Scope) → result ≡ capped (length (expr_code scope expr.now)) }
 {
     match expr {
         Expr::Constant { .. } => 1,

@@ -1,7 +1,7 @@
-/// An instruction of the stack machine. `level` counts the static links to follow (0 to 15), `offset`
-/// and `length` count cells (0 to 16,777,215 and 0 to 65,536), `target` is the index of an instruction,
-/// `site` and `point` are ids of the code's tables. Where a name doesn't say what an instruction does, its
-/// mnemonic's line does.
+/// An instruction of the stack machine. `level` counts the static links to follow (0 to 15); `offset` counts
+/// cells (0 to 16,777,215), so do `length` and `size` (0 to 65,536), and `variables` and `evaluation` (0 to
+/// 16,777,216); `target` is the index of an instruction, `site` and `point` are ids of the code's tables. Where
+/// a name doesn't say what an instruction does, its mnemonic's line does.
 #[derive(Clone, Copy)]
 pub enum Instr {
     /// `ldc c`: push a number.

@@ -1,6 +1,7 @@
 use Rattle.std.proofs.Common.{◌≡◌, map, take}
-use Rattle.code_generator.specs.Code.{greatest, operand, stmt_depth}
+use Rattle.code_generator.specs.Code.{greatest, stmt_depth}
+use Rattle.code_generator.specs.Sizes.{capped}
 use Rattle.code_generator.proofs.depth.+needed_by.Given as goal
 
 abbrev pub invariant-loop-statement : goal.invariant-loop-statement
-invariant-loop-statement l = l.depth ≡ operand (greatest (map stmt_depth (take l.statement-index l.statement-items)))
+invariant-loop-statement l = l.depth ≡ capped (greatest (map stmt_depth (take l.statement-index l.statement-items)))

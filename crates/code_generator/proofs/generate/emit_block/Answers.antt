@@ -1,15 +1,20 @@
-use Rattle.std.proofs.Common.{[], ◌∷◌, ◌++◌, ap, ◌∙◌, append_assoc}
+use Rattle.std.proofs.Common.{◌≡◌, [], ◌∷◌, ◌++◌, ◌+◌, ap, ◌∙◌, length, length-append, append_assoc, arith}
 use Rattle.std.proofs.lemmas.Result.{IfOk-equal}
 use Rattle.pcode_assembler.specs.declared.instr.Instr.TheVariants as instr
-use Rattle.code_generator.specs.Code.{stmt_code, block_code}
+use Rattle.code_generator.specs.Code.{stmt_code, stmt_depth, block_code, count}
 use Rattle.code_generator.proofs.generate.emit_block.Goals as goal
 
 pub returns : goal.returns
 returns c =
     let before = c.args.code.now.items in
     let variables = c.args.variables in
+    let scope = c.args.scope in
     let body = c.args.body.now in
-    let code = stmt_code body in
-    let entered = instr.Enter variables c.needed_by-evaluation.result ∷ [] in
-    IfOk-equal c.emit_stmt.result c.emit_stmt.new.code.items (c.put.new.code.items ++ code) (before ++ block_code variables body) c.emit_stmt.ensures
-    (ap (λ p. p ++ code) c.in_ok-put.ensures ∙ append_assoc before entered code ∙ ap (λ cells. before ++ (instr.Enter variables cells ∷ code)) c.needed_by-evaluation.ensures)
+    let place = length before in
+    let entered = instr.Enter variables c.min-evaluation.result ∷ [] in
+    let code = stmt_code body scope (place + 1) in
+    let cells : c.min-evaluation.result ≡ count (stmt_depth body) = omega arith in
+    let grown = c.in_ok-put.ensures in
+    IfOk-equal c.emit_stmt.result c.emit_stmt.new.code.items (c.put.new.code.items ++ stmt_code body scope (length c.put.new.code.items)) (before ++ block_code variables body scope place) c.emit_stmt.ensures
+    (ap (λ p. p ++ stmt_code body scope (length p)) grown ∙ ap (λ n. (before ++ entered) ++ stmt_code body scope n) (length-append before entered) ∙ append_assoc before entered code
+    ∙ ap (λ cells. before ++ (instr.Enter variables cells ∷ code)) cells)

@@ -1,7 +1,9 @@
 use Rattle.std.proofs.Common.{◌≡◌, length, take}
+use Rattle.code_generator.specs.declared.scope.Scope.{Scope}
 use Rattle.std.specs.List.{flat_map}
-use Rattle.code_generator.specs.Code.{operand, parameter_code}
+use Rattle.code_generator.specs.Code.{parameter_code}
+use Rattle.code_generator.specs.Sizes.{capped}
 use Rattle.code_generator.proofs.size.parameters_size.Given as goal
 
 abbrev pub invariant-loop-parameter : goal.invariant-loop-parameter
-invariant-loop-parameter l = l.size ≡ operand (length (flat_map parameter_code (take l.parameter-index l.parameters)))
+invariant-loop-parameter l = (scope : Scope) → l.size ≡ capped (length (flat_map (parameter_code scope) (take l.parameter-index l.parameters)))

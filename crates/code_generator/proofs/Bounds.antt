@@ -1,0 +1,185 @@
+-- Each instruction of a program's code is in bounds.
+use Rattle.std.proofs.Common.{◌≡◌, ℕ, ◌+◌, min, Bool, true, false, ◌&&◌, nat_le, List, [], ◌∷◌, ◌++◌, length, map, Option, Some, None, refl, ap, sym, subst, ◌∙◌}
+use Rattle.std.specs.Prelude.{slice_get}
+use Rattle.std.specs.List.{list_all, flat_map}
+use Rattle.std.proofs.Math.Nat.{min-le_right}
+use Rattle.std.proofs.lemmas.Bool.{le-leb}
+use Rattle.std.proofs.lemmas.List.Folds.{list_all-append}
+use Rattle.pcode_assembler.specs.declared.instr.Instr.{Instr}
+use Rattle.pcode_assembler.specs.declared.instr.Instr.TheVariants as instr
+use Rattle.pcode_assembler.specs.Bounds.{in_bounds}
+use Rattle.typed_tree.specs.declared.tree.Tree.{Tree}
+use Rattle.typed_tree.specs.declared.tree.Block.{Block}
+use Rattle.typed_tree.specs.declared.tree.Monadic.{Monadic}
+use Rattle.typed_tree.specs.declared.tree.Monadic.TheVariants as monadic
+use Rattle.typed_tree.specs.declared.tree.Dyadic.{Dyadic}
+use Rattle.typed_tree.specs.declared.tree.Dyadic.TheVariants as dyadic
+use Rattle.typed_tree.specs.declared.tree.Relation.{Relation}
+use Rattle.typed_tree.specs.declared.tree.Relation.TheVariants as relation
+use Rattle.typed_tree.specs.declared.tree.Representation.{Representation}
+use Rattle.typed_tree.specs.declared.tree.Representation.TheVariants as representation
+use Rattle.typed_tree.specs.declared.tree.Width.{Width}
+use Rattle.typed_tree.specs.declared.tree.WriteParameter.{WriteParameter}
+use Rattle.typed_tree.specs.declared.tree.Expr.{Expr}
+use Rattle.typed_tree.specs.declared.tree.Link.{Link}
+use Rattle.typed_tree.specs.declared.tree.Expr.TheOpen.{Expr-F, Link-F}
+use Rattle.typed_tree.specs.declared.tree.Expr.TheOpen.Expr-F.{Constant, Variable, Monadic as MonadicOf, Chain}
+use Rattle.typed_tree.specs.declared.tree.Expr.TheViews.{roll-Expr, roll-Link}
+use Rattle.typed_tree.specs.declared.tree.Expr.TheFolds.{map-Expr, map-Link, fold-roll-Expr, fold-roll-Link, ind-Expr}
+use Rattle.typed_tree.specs.declared.tree.Stmt.{Stmt}
+use Rattle.typed_tree.specs.declared.tree.Stmt.TheOpen.{Stmt-F}
+use Rattle.typed_tree.specs.declared.tree.Stmt.TheOpen.Stmt-F.{Empty, Assign, Write, Compound}
+use Rattle.typed_tree.specs.declared.tree.Stmt.TheViews.{roll-Stmt}
+use Rattle.typed_tree.specs.declared.tree.Stmt.TheFolds.{map-Stmt, fold-roll-Stmt, ind-Stmt}
+use Rattle.code_generator.specs.declared.scope.Scope.{Scope}
+use Rattle.code_generator.specs.Code.{joined, placed, Placed, count, monadic_code, relation_instr, dyadic_code, expr_code, link_code, expr_step, link_step, width_code, parameter_code, write_instr, line_end_code, stmt_code, stmt_step, stmt_depth, program_scope, body_code, program_code}
+
+-- each instruction of some code is in bounds
+abbrev InBounds : List Instr → Type 0
+InBounds code = list_all in_bounds code ≡ true
+
+append_in_bounds : (xs ys : List Instr) → InBounds xs → InBounds ys → InBounds (xs ++ ys)
+append_in_bounds xs ys first then = list_all-append in_bounds xs ys ∙ ap (λ b. b && list_all in_bounds ys) first ∙ then
+
+-- what is cut at a bound is in it
+cut_at : (n bound : ℕ) → nat_le (min n bound) bound ≡ true
+cut_at n bound = le-leb (min n bound) bound (min-le_right n bound)
+
+monadic_in_bounds : (operation : Monadic) → InBounds (monadic_code operation)
+monadic_in_bounds monadic.Plus = refl
+monadic_in_bounds monadic.Minus = refl
+monadic_in_bounds monadic.Not = refl
+monadic_in_bounds monadic.Abs = refl
+monadic_in_bounds (monadic.Sqr overflow) = refl
+monadic_in_bounds monadic.Odd = refl
+
+relation_in_bounds : (r : Relation) → InBounds (relation_instr r ∷ [])
+relation_in_bounds relation.Equal = refl
+relation_in_bounds relation.NotEqual = refl
+relation_in_bounds relation.Less = refl
+relation_in_bounds relation.Greater = refl
+relation_in_bounds relation.LessOrEqual = refl
+relation_in_bounds relation.GreaterOrEqual = refl
+
+dyadic_in_bounds : (operation : Dyadic) → InBounds (dyadic_code operation)
+dyadic_in_bounds (dyadic.Plus overflow) = refl
+dyadic_in_bounds (dyadic.Minus overflow) = refl
+dyadic_in_bounds (dyadic.Times overflow) = refl
+dyadic_in_bounds (dyadic.Div by_zero) = refl
+dyadic_in_bounds (dyadic.Mod by_zero_or_less) = refl
+dyadic_in_bounds dyadic.And = refl
+dyadic_in_bounds dyadic.Or = refl
+dyadic_in_bounds (dyadic.Relation r) = relation_in_bounds r
+
+module _ (scope : Scope) where
+  abbrev ExprInBounds : Expr → Type 0
+  ExprInBounds e = InBounds (expr_code scope e)
+
+  abbrev LinkInBounds : Link → Type 0
+  LinkInBounds l = InBounds (link_code scope l)
+
+  links_in_bounds : (links : List ((l : Link) × LinkInBounds l)) → InBounds (joined (map (link_code scope) (map (λ l. l.0) links)))
+  links_in_bounds [] = refl
+  links_in_bounds (link ∷ links) = append_in_bounds (link_code scope link.0) (joined (map (link_code scope) (map (λ l. l.0) links))) link.1
+      (links_in_bounds links)
+
+  rolled_expr : (x : Expr-F Expr Link) → InBounds (expr_step scope (map-Expr Expr Link (List Instr) (List Instr) (expr_code scope) (link_code scope) x))
+      → ExprInBounds (roll-Expr x)
+  rolled_expr x = subst InBounds (sym (fold-roll-Expr (List Instr) (List Instr) (expr_step scope) link_step x))
+
+  rolled_link : (x : Link-F Expr Link) → InBounds (link_step (map-Link Expr Link (List Instr) (List Instr) (expr_code scope) (link_code scope) x))
+      → LinkInBounds (roll-Link x)
+  rolled_link x = subst InBounds (sym (fold-roll-Link (List Instr) (List Instr) (expr_step scope) link_step x))
+
+  expr_layer : (y : Expr-F ((e : Expr) × ExprInBounds e) ((l : Link) × LinkInBounds l))
+      → ExprInBounds (roll-Expr (map-Expr ((e : Expr) × ExprInBounds e) ((l : Link) × LinkInBounds l) Expr Link (λ e. e.0) (λ l. l.0) y))
+  expr_layer (Constant number n) = rolled_expr (Constant number n) refl
+  expr_layer (Variable access defined) =
+      rolled_expr (Variable access defined) (ap (λ b. b && true) (cut_at (scope.variables + access.root) 16777215))
+  expr_layer (MonadicOf number operation operand) =
+      rolled_expr (map-Expr ((e : Expr) × ExprInBounds e) ((l : Link) × LinkInBounds l) Expr Link (λ e. e.0) (λ l. l.0) (MonadicOf number operation operand))
+      (append_in_bounds (expr_code scope operand.value.0) (monadic_code operation) operand.value.1 (monadic_in_bounds operation))
+  expr_layer (Chain first rest) =
+      rolled_expr (map-Expr ((e : Expr) × ExprInBounds e) ((l : Link) × LinkInBounds l) Expr Link (λ e. e.0) (λ l. l.0) (Chain first rest))
+      (append_in_bounds (expr_code scope first.value.0) (joined (map (link_code scope) (map (λ l. l.0) rest.items))) first.value.1 (links_in_bounds rest.items))
+
+  link_layer : (y : Link-F ((e : Expr) × ExprInBounds e) ((l : Link) × LinkInBounds l))
+      → LinkInBounds (roll-Link (map-Link ((e : Expr) × ExprInBounds e) ((l : Link) × LinkInBounds l) Expr Link (λ e. e.0) (λ l. l.0) y))
+  link_layer y =
+      rolled_link (map-Link ((e : Expr) × ExprInBounds e) ((l : Link) × LinkInBounds l) Expr Link (λ e. e.0) (λ l. l.0) y)
+      (append_in_bounds (expr_code scope y.operand.0) (dyadic_code y.operation) y.operand.1 (dyadic_in_bounds y.operation))
+
+  expr_in_bounds : (e : Expr) → ExprInBounds e
+  expr_in_bounds =
+      ind-Expr ExprInBounds LinkInBounds (λ x y is. subst (λ z. ExprInBounds (roll-Expr z)) is (expr_layer y))
+          (λ x y is. subst (λ z. LinkInBounds (roll-Link z)) is (link_layer y))
+
+  width_in_bounds : (width : Option Width) (representation : Representation) → InBounds (width_code scope width representation)
+  width_in_bounds None representation.Integer = refl
+  width_in_bounds None representation.Boolean = refl
+  width_in_bounds (Some width) representation = append_in_bounds (expr_code scope width.value) _ (expr_in_bounds width.value) refl
+
+  write_in_bounds : (representation : Representation) → InBounds (write_instr representation ∷ [])
+  write_in_bounds representation.Integer = refl
+  write_in_bounds representation.Boolean = refl
+
+  parameters_in_bounds : (parameters : List WriteParameter) → InBounds (flat_map (parameter_code scope) parameters)
+  parameters_in_bounds [] = refl
+  parameters_in_bounds (p ∷ ps) =
+      let width = width_code scope p.width p.representation in
+      let last = write_instr p.representation ∷ [] in
+      append_in_bounds (parameter_code scope p) (flat_map (parameter_code scope) ps)
+      (append_in_bounds (expr_code scope p.value) (width ++ last) (expr_in_bounds p.value)
+          (append_in_bounds width last (width_in_bounds p.width p.representation) (write_in_bounds p.representation)))
+      (parameters_in_bounds ps)
+
+line_end_in_bounds : (ends_line : Bool) → InBounds (line_end_code ends_line)
+line_end_in_bounds true = refl
+line_end_in_bounds false = refl
+
+abbrev StmtInBounds : Stmt → Type 0
+StmtInBounds s = (scope : Scope) (place : ℕ) → InBounds (stmt_code s scope place)
+
+stmts_in_bounds : (scope : Scope) (statements : List ((s : Stmt) × StmtInBounds s)) (place : ℕ)
+    → InBounds (placed (map (λ code. code scope) (map stmt_code (map (λ s. s.0) statements))) place)
+stmts_in_bounds scope [] place = refl
+stmts_in_bounds scope (s ∷ statements) place =
+    let code = stmt_code s.0 scope place in
+    let next = place + length code in
+    append_in_bounds code (placed (map (λ c. c scope) (map stmt_code (map (λ s. s.0) statements))) next) (s.1 scope place)
+        (stmts_in_bounds scope statements next)
+
+rolled_stmt : (x : Stmt-F Stmt) → ((scope : Scope) (place : ℕ) → InBounds (stmt_step (map-Stmt Stmt Placed stmt_code x) scope place))
+    → StmtInBounds (roll-Stmt x)
+rolled_stmt x in_bounds scope place = subst (λ code. InBounds (code scope place)) (sym (fold-roll-Stmt Placed stmt_step x)) (in_bounds scope place)
+
+stmt_layer : (y : Stmt-F ((s : Stmt) × StmtInBounds s)) → StmtInBounds (roll-Stmt (map-Stmt ((s : Stmt) × StmtInBounds s) Stmt (λ s. s.0) y))
+stmt_layer (Empty number) = rolled_stmt (Empty number) (λ scope place. refl)
+stmt_layer (Assign number becomes target fits value) =
+    rolled_stmt (Assign number becomes target fits value) (λ scope place.
+    append_in_bounds (expr_code scope value) _ (expr_in_bounds scope value) (ap (λ b. b && true) (cut_at (scope.variables + target.root) 16777215)))
+stmt_layer (Write number name parameters ends_line) =
+    rolled_stmt (Write number name parameters ends_line) (λ scope place.
+    append_in_bounds (flat_map (parameter_code scope) parameters.items) (line_end_code ends_line) (parameters_in_bounds scope parameters.items)
+        (line_end_in_bounds ends_line))
+stmt_layer (Compound number statements) =
+    rolled_stmt (map-Stmt ((s : Stmt) × StmtInBounds s) Stmt (λ s. s.0) (Compound number statements))
+        (λ scope place. stmts_in_bounds scope statements.items place)
+
+stmt_in_bounds : (s : Stmt) → StmtInBounds s
+stmt_in_bounds = ind-Stmt StmtInBounds (λ x y is. subst (λ z. StmtInBounds (roll-Stmt z)) is (stmt_layer y))
+
+-- a frame with so many variables and so many cells for its evaluation
+frame_in_bounds : (variables cells : ℕ) → in_bounds (instr.Enter (count variables) (count cells)) ≡ true
+frame_in_bounds variables cells = ap (λ b. b && nat_le (count cells) 16777216) (cut_at variables 16777216) ∙ cut_at cells 16777216
+
+body_in_bounds : (variables : ℕ) (block : Option Block) → InBounds (body_code (count variables) block)
+body_in_bounds variables None = ap (λ b. b && true) (frame_in_bounds variables 0)
+body_in_bounds variables (Some block) =
+    ap (λ b. b && list_all in_bounds (stmt_code block.body program_scope 1)) (frame_in_bounds variables (stmt_depth block.body))
+        ∙ stmt_in_bounds block.body program_scope 1
+
+pub program_in_bounds : (tree : Tree) → list_all in_bounds (program_code tree) ≡ true
+program_in_bounds tree =
+    append_in_bounds (body_code (count (length tree.variables.items)) (slice_get tree.blocks.items 0)) (instr.Stop ∷ [])
+        (body_in_bounds (length tree.variables.items) (slice_get tree.blocks.items 0)) refl

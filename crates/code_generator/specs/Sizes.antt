@@ -1,0 +1,6 @@
+-- Numbers as the compiler counts them, in 32 bits.
+use Rattle.std.specs.Prelude.{ℕ, min}
+
+-- a number, or the greatest number of 32 bits
+abbrev pub capped : ℕ → ℕ
+capped n = min n 4294967295
