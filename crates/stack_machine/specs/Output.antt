@@ -7,6 +7,6 @@ use Rattle.stack_machine.specs.Ports.{Ports}
 abbrev pub held_by : Output → List ℕ
 held_by output = take output.held output.bytes.items
 
--- where the bytes are, of a writer with these known ones and of the output
-abbrev pub ports : Option (List ℕ) → Output → Ports
-ports known output = record { known = known; held = held_by output }
+-- a writer with these known bytes, which was offered these lengths, and the output
+abbrev pub ports : Option (List ℕ) → Option (List ℕ) → Output → Ports
+ports known offered output = record { known = known; offered = offered; held = held_by output }

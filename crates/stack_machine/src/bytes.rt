@@ -1,6 +1,6 @@
-ghost use Rattle.std.specs.Prelude.{◌≡◌, ℕ, ◌+◌, ◌^◌, ◌-◌, ◌<◌, List, Option, if◌then◌else◌};
+ghost use Rattle.std.specs.Prelude.{◌≡◌, ℕ, ◌+◌, ◌^◌, ◌-◌, ◌<◌, List, [], ◌∷◌, length, Option, None, if◌then◌else◌};
 ghost use Rattle.std.specs.Io.{ReadsAtMost, WritesAtMost};
-ghost use Rattle.std.specs.Io.KnownBytes.{ReadConsumes, WriteAppends};
+ghost use Rattle.std.specs.Io.KnownBytes.{Appends, ReadConsumes, WriteAppends};
 ghost use Rattle.stack_machine.specs.Failures.{read_failures, write_failures};
 
 use std::io;
@@ -26,6 +26,8 @@ pub trait Feed {
 pub trait Sink {
     /// The bytes that it holds, where they are known.
     ghost contents: { Self → Option (List ℕ) };
+    /// How long the pieces were that it was offered, where that is known.
+    ghost offered: { Self → Option (List ℕ) } = { λ _. None };
     /// How many calls have failed: with an error, or by taking no byte of a piece that isn't empty.
     ghost failures: { Self → ℕ };
 
@@ -34,6 +36,7 @@ pub trait Sink {
         requires { failures self.old < 2 ^ 64 - 1 }
         ensures bound { WritesAtMost result piece.now }
         ensures bytes { WriteAppends (contents self.old) (contents self.new) result piece.now }
+        ensures offered { Appends (offered self.old) (offered self.new) (length piece.now ∷ []) }
         ensures counted { failures self.new ≡ failures self.old + write_failures piece.now result };
 }
 

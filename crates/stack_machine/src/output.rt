@@ -1,8 +1,8 @@
-ghost use Rattle.std.specs.Prelude.{◌≡◌, ◌+◌, ◌^◌, ◌-◌, ◌<◌, [], ◌∷◌, ◌++◌, replicate, IfOk, IsOkUnless, vec_len};
+ghost use Rattle.std.specs.Prelude.{◌≡◌, ◌+◌, ◌^◌, ◌-◌, ◌<◌, [], ◌∷◌, ◌++◌, replicate, length, IfOk, IsOkUnless, vec_len};
 ghost use Rattle.stack_machine.specs.declared.output.TheConstants.{PIECE};
 ghost use Rattle.stack_machine.specs.Failures.{failures_in};
 ghost use Rattle.stack_machine.specs.Texts as words;
-ghost use Rattle.stack_machine.specs.Ports.{PassesOrLoses, none_held};
+ghost use Rattle.stack_machine.specs.Ports.{AppendsOrLoses, Offers, PassesOrLoses, piece_of};
 
 use crate::arithmetic::is_true;
 use crate::bytes::Sink;
@@ -23,7 +23,7 @@ pub struct Output {
 }
 
 impl Output {
-    ghost use Rattle.stack_machine.specs.Output.{ports};
+    ghost use Rattle.stack_machine.specs.Output.{held_by, ports};
 
     /// Holds nothing.
     pub fn new(alloc: Global) -> Result<Output, AllocError>
@@ -47,8 +47,8 @@ impl Output {
         requires { W.failures writer.old < 2 ^ 64 - 1 }
         ensures only { IsOkUnless result Stop.WriteFailed }
         ensures failures { W.failures writer.new ≡ W.failures writer.old + failures_in result }
-        ensures bytes { PassesOrLoses result (ports (W.contents writer.old) self.old)
-            (ports (W.contents writer.new) self.new) (byte ∷ []) }
+        ensures bytes { PassesOrLoses result (ports (W.contents writer.old) (W.offered writer.old) self.old)
+            (ports (W.contents writer.new) (W.offered writer.new) self.new) (byte ∷ []) }
     {
         let held = self.held;
         self.bytes[held] = byte;
@@ -65,8 +65,8 @@ impl Output {
         requires { W.failures writer.old < 2 ^ 64 - 1 }
         ensures only { IsOkUnless result Stop.WriteFailed }
         ensures failures { W.failures writer.new ≡ W.failures writer.old + failures_in result }
-        ensures bytes { PassesOrLoses result (ports (W.contents writer.old) self.old)
-            (ports (W.contents writer.new) self.new) bytes.now }
+        ensures bytes { PassesOrLoses result (ports (W.contents writer.old) (W.offered writer.old) self.old)
+            (ports (W.contents writer.new) (W.offered writer.new) self.new) bytes.now }
     {
         for byte in bytes {
             self.put(*byte, writer)?;
@@ -79,8 +79,8 @@ impl Output {
         requires { W.failures writer.old < 2 ^ 64 - 1 }
         ensures only { IsOkUnless result Stop.WriteFailed }
         ensures failures { W.failures writer.new ≡ W.failures writer.old + failures_in result }
-        ensures bytes { PassesOrLoses result (ports (W.contents writer.old) self.old)
-            (ports (W.contents writer.new) self.new) (replicate count 32) }
+        ensures bytes { PassesOrLoses result (ports (W.contents writer.old) (W.offered writer.old) self.old)
+            (ports (W.contents writer.new) (W.offered writer.new) self.new) (replicate count 32) }
     {
         for _blank in 0..count {
             self.put(b' ', writer)?;
@@ -98,8 +98,8 @@ impl Output {
         requires { W.failures writer.old < 2 ^ 64 - 1 }
         ensures only { IsOkUnless result Stop.WriteFailed }
         ensures failures { W.failures writer.new ≡ W.failures writer.old + failures_in result }
-        ensures bytes { PassesOrLoses result (ports (W.contents writer.old) self.old)
-            (ports (W.contents writer.new) self.new) (replicate blanks 32 ++ text.now) }
+        ensures bytes { PassesOrLoses result (ports (W.contents writer.old) (W.offered writer.old) self.old)
+            (ports (W.contents writer.new) (W.offered writer.new) self.new) (replicate blanks 32 ++ text.now) }
     {
         self.put_blanks(blanks, writer)?;
         self.put_all(text, writer)
@@ -115,8 +115,8 @@ impl Output {
         requires { W.failures writer.old < 2 ^ 64 - 1 }
         ensures only { IsOkUnless result Stop.WriteFailed }
         ensures failures { W.failures writer.new ≡ W.failures writer.old + failures_in result }
-        ensures bytes { PassesOrLoses result (ports (W.contents writer.old) self.old)
-            (ports (W.contents writer.new) self.new) (words.integer_text value width) }
+        ensures bytes { PassesOrLoses result (ports (W.contents writer.old) (W.offered writer.old) self.old)
+            (ports (W.contents writer.new) (W.offered writer.new) self.new) (words.integer_text value width) }
     {
         let mut buffer = Buffer::new();
         let text = buffer.format(value).as_bytes();
@@ -133,8 +133,8 @@ impl Output {
         requires { W.failures writer.old < 2 ^ 64 - 1 }
         ensures only { IsOkUnless result Stop.WriteFailed }
         ensures failures { W.failures writer.new ≡ W.failures writer.old + failures_in result }
-        ensures bytes { PassesOrLoses result (ports (W.contents writer.old) self.old)
-            (ports (W.contents writer.new) self.new) (words.boolean_text value width) }
+        ensures bytes { PassesOrLoses result (ports (W.contents writer.old) (W.offered writer.old) self.old)
+            (ports (W.contents writer.new) (W.offered writer.new) self.new) (words.boolean_text value width) }
     {
         let text = if is_true(value) { "true" } else { "false" };
         self.put_string(text.as_bytes(), width, writer)
@@ -146,8 +146,8 @@ impl Output {
         requires { W.failures writer.old < 2 ^ 64 - 1 }
         ensures only { IsOkUnless result Stop.WriteFailed }
         ensures failures { W.failures writer.new ≡ W.failures writer.old + failures_in result }
-        ensures bytes { PassesOrLoses result (ports (W.contents writer.old) self.old)
-            (ports (W.contents writer.new) self.new) (words.string_text text.now width) }
+        ensures bytes { PassesOrLoses result (ports (W.contents writer.old) (W.offered writer.old) self.old)
+            (ports (W.contents writer.new) (W.offered writer.new) self.new) (words.string_text text.now width) }
     {
         let shown = text.len().min(places_of(width));
         self.put_after_blanks(blanks_before(text.len(), width), &text[..shown], writer)
@@ -158,8 +158,9 @@ impl Output {
         requires { W.failures writer.old < 2 ^ 64 - 1 }
         ensures only { IsOkUnless result Stop.WriteFailed }
         ensures failures { W.failures writer.new ≡ W.failures writer.old + failures_in result }
-        ensures bytes { PassesOrLoses result (ports (W.contents writer.old) self.old)
-            (ports (W.contents writer.new) self.new) [] }
+        ensures bytes { AppendsOrLoses result (W.contents writer.old) (W.contents writer.new) (held_by self.old) }
+        ensures pieces { IfOk result
+            (λ _. Offers (W.offered writer.old) (W.offered writer.new) (piece_of self.old.held)) }
         ensures nothing_held { self.new.held ≡ 0 }
     {
         let held = self.held;
@@ -173,8 +174,9 @@ fn write_all<W: Sink>(piece: &[u8], writer: &mut W) -> Result<(), Stop>
     requires { W.failures writer.old < 2 ^ 64 - 1 }
     ensures only { IsOkUnless result Stop.WriteFailed }
     ensures failures { W.failures writer.new ≡ W.failures writer.old + failures_in result }
-    ensures bytes { PassesOrLoses result
-        (none_held (W.contents writer.old)) (none_held (W.contents writer.new)) piece.now }
+    ensures bytes { AppendsOrLoses result (W.contents writer.old) (W.contents writer.new) piece.now }
+    ensures pieces { IfOk result
+        (λ _. Offers (W.offered writer.old) (W.offered writer.new) (piece_of (length piece.now))) }
 {
     let mut rest = piece;
     while !rest.is_empty() {

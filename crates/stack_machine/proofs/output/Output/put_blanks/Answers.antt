@@ -1,6 +1,9 @@
-use Rattle.std.proofs.Common.{arith}
-use Rattle.stack_machine.proofs.Written.{Passes-same, Loses-same, PassesOrLoses-err}
+use Rattle.std.proofs.Common.{arith, refl}
+use Rattle.stack_machine.proofs.Written.{Passes-none, Passes-same, Loses-same, PassesOrLoses-err}
 use Rattle.stack_machine.proofs.output.Output.put_blanks.Goals as goal
+
+pub loop-blank-init : goal.loop-blank-init
+loop-blank-init g c = (refl, Passes-none _)
 
 pub returns-in_err-put-clause-bytes : goal.returns-in_err-put-clause-bytes
 returns-in_err-put-clause-bytes g c =
