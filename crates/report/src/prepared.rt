@@ -30,8 +30,7 @@ pub struct Prepared {
 /// A source whose report was told. Only then can it be run.
 #[derive(Drop)]
 pub struct Reported {
-    compiled: Compiled,
-    machine: Option<Machine>,
+    prepared: Prepared,
     /// Whether all of the report was taken.
     told: bool,
 }
@@ -82,18 +81,11 @@ impl Prepared {
         ensures told { Gets (page (E.contents errors.old) (E.failures errors.old))
             (page (E.contents errors.new) (E.failures errors.new)) self.report.items }
         ensures failures { E.failures errors.new ≡ E.failures errors.old + (if result.told then 0 else 1) }
-        ensures compiled { result.compiled ≡ self.compiled }
-        ensures machine { result.machine ≡ self.machine }
+        ensures prepared { result.prepared ≡ self }
     {
-        let Prepared {
-            compiled,
-            report,
-            machine,
-        } = self;
-        let told = put(&report, errors);
+        let told = put(&self.report, errors);
         Reported {
-            compiled,
-            machine,
+            prepared: self,
             told,
         }
     }
@@ -119,11 +111,12 @@ impl Reported {
             × (result ≡ status_of end) }
         ensures input_left { reader.new ≡ reader.old }
     {
-        let Reported {
+        let Reported { prepared, told } = self;
+        let Prepared {
             compiled,
+            report: _,
             machine,
-            told,
-        } = self;
+        } = prepared;
         let report_status = report_status(&compiled.verdict.open_sites);
         match machine {
             None => report_status,

@@ -1,21 +1,21 @@
-use Rattle.std.proofs.Common.{rules, subst}
+use Rattle.std.proofs.Common.{rules, ap, subst, sym}
 use Rattle.report.specs.Messages.{Gets, page}
-use Rattle.report.specs.Program.{Refused}
-use Rattle.report.proofs.MessagesLemmas.{Gets-then, seen}
-use Rattle.report.proofs.ProgramLemmas.{comes_to, messages_of}
+use Rattle.report.specs.Refusals.{text_of}
+use Rattle.report.specs.Program.{Refused, IsPrepared, last_line}
+use Rattle.report.proofs.MessagesLemmas.{seen}
+use Rattle.report.proofs.ProgramLemmas.{does}
 use Rattle.report.proofs.program.run_program.Goals as goal
 
 pub returns-in-Ok-clause-does : goal.returns-in-Ok-clause-does
 returns-in-Ok-clause-does g c =
-    let ends = c.run.ensures.ends in
-    let prepared = c.in-Ok.ensures.prepared in
-    record {
-      end = ends.0;
-      comes = comes_to (λ w. page (g.W.Sink.contents w) (g.W.Sink.failures w)) _ _ _ c.in-Ok.prepared c.report_to.result ends.0 _ _ prepared c.report_to.ensures.compiled c.report_to.ensures.machine ends.1;
-      told = subst (Gets _ _) (messages_of (λ w. page (g.W.Sink.contents w) (g.W.Sink.failures w)) _ _ _ c.in-Ok.prepared c.report_to.result ends.0 _ _ prepared c.report_to.ensures.compiled ends.1)
-          (Gets-then _ _ _ c.in-Ok.prepared.report.items _ c.report_to.result.told c.report_to.ensures.told c.report_to.ensures.failures (seen c.report_to.result.told _ _ _ (λ e. page (g.E.Sink.contents e) (g.E.Sink.failures e)) ends.2));
-      answer = ends.3;
-    }
+    let reported = c.report_to.result in
+    let end = c.run.ensures.ends.0 in
+    let prepared = subst (IsPrepared c.args.source.now (text_of c.args.certificate) c.args.go) (sym c.report_to.ensures.prepared) c.in-Ok.ensures.prepared in
+    let view = λ (w : g.row.W.Denot). page (g.W.Sink.contents w) (g.W.Sink.failures w) in
+    let page_of = λ (e : g.row.E.Denot). page (g.E.Sink.contents e) (g.E.Sink.failures e) in
+    does view c.args.source.now (text_of c.args.certificate) c.args.go c.run.result reported end c.args.writer.now c.run.new.writer (page_of c.args.errors.now) (page_of c.report_to.new.errors) (page_of c.run.new.errors) prepared
+    (subst (Gets (page_of c.args.errors.now) (page_of c.report_to.new.errors)) (ap (λ p. p.report.items) (sym c.report_to.ensures.prepared)) c.report_to.ensures.told) c.report_to.ensures.failures c.run.ensures.ends.1
+    (seen reported.told (last_line end) c.report_to.new.errors c.run.new.errors page_of c.run.ensures.ends.2) c.run.ensures.ends.3
 
 pub returns-in-Err-clause-does : goal.returns-in-Err-clause-does
 returns-in-Err-clause-does g c = record {
