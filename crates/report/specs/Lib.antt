@@ -4,3 +4,5 @@ pub mod Headline
 pub mod Whole
 pub mod Refusals
 pub mod Typed
+pub mod Messages
+pub mod Program

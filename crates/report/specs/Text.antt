@@ -27,9 +27,16 @@ use Rattle.stack_machine.specs.declared.stop.MachineFault.{MachineFault}
 use Rattle.stack_machine.specs.declared.stop.MachineFault.TheVariants as machine
 use Rattle.report.specs.declared.fault.Fault.{Fault}
 use Rattle.report.specs.declared.fault.Fault.TheVariants as fault
-use Rattle.report.specs.declared.text.Code.{Code}
+use Rattle.report.specs.declared.text.RuleCode.{RuleCode}
 use Rattle.report.specs.declared.text.Refusal.{Refusal}
 use Rattle.report.specs.declared.text.Refusal.TheVariants.{Memory, At, Certificate, Whole}
+
+-- how many digits a number of 64 bits has at most, and how long the name of an error or a fault is
+abbrev pub number_size : ℕ
+number_size = 20
+
+abbrev pub name_size : ℕ
+name_size = 22
 
 -- `LINE:COLUMN`
 abbrev pub place_text : ℕ → ℕ → List ℕ
@@ -40,8 +47,34 @@ abbrev pub open_line : Site → List ℕ
 open_line site =
     place_text site.place.line site.place.column ++ codes ": possible error: " ++ name_of site.kind ++ 10 ∷ []
 
+-- the letters of the rules: L of tokens, P of syntax, S of names, K of types and kinds, Y of cells, F of a certificate's
+-- text, C of its claims, G of the code
+abbrev pub letter_l : ℕ
+letter_l = 76
+
+abbrev pub letter_p : ℕ
+letter_p = 80
+
+abbrev pub letter_s : ℕ
+letter_s = 83
+
+abbrev pub letter_k : ℕ
+letter_k = 75
+
+abbrev pub letter_y : ℕ
+letter_y = 89
+
+abbrev pub letter_f : ℕ
+letter_f = 70
+
+abbrev pub letter_c : ℕ
+letter_c = 67
+
+abbrev pub letter_g : ℕ
+letter_g = 71
+
 -- a letter and a number
-abbrev pub code_text : Code → List ℕ
+abbrev pub code_text : RuleCode → List ℕ
 code_text code = code.letter ∷ [] ++ decimal code.number
 
 -- a rule at a place
@@ -50,38 +83,38 @@ at place letter number = At place (record { letter = letter; number = number })
 
 abbrev pub lexer_refusal : LexFault → Refusal
 lexer_refusal lex.Memory = Memory
-lexer_refusal (lex.UnknownByte place) = at place 76 1
-lexer_refusal (lex.OpenComment place) = at place 76 2
-lexer_refusal (lex.OpenString place) = at place 76 3
-lexer_refusal (lex.EmptyString place) = at place 76 4
-lexer_refusal (lex.LargeNumber place) = at place 76 5
-lexer_refusal (lex.TouchingLetter place) = at place 76 6
-lexer_refusal (lex.LongText place) = at place 76 7
-lexer_refusal (lex.StringByte place) = at place 76 8
+lexer_refusal (lex.UnknownByte place) = at place letter_l 1
+lexer_refusal (lex.OpenComment place) = at place letter_l 2
+lexer_refusal (lex.OpenString place) = at place letter_l 3
+lexer_refusal (lex.EmptyString place) = at place letter_l 4
+lexer_refusal (lex.LargeNumber place) = at place letter_l 5
+lexer_refusal (lex.TouchingLetter place) = at place letter_l 6
+lexer_refusal (lex.LongText place) = at place letter_l 7
+lexer_refusal (lex.StringByte place) = at place letter_l 8
 
 abbrev pub parser_refusal : ParseFault → Refusal
 parser_refusal parse.Memory = Memory
-parser_refusal (parse.NoProgram place) = at place 80 1
-parser_refusal (parse.TooDeep place) = at place 80 2
-parser_refusal (parse.LeftOut place) = at place 80 3
+parser_refusal (parse.NoProgram place) = at place letter_p 1
+parser_refusal (parse.TooDeep place) = at place letter_p 2
+parser_refusal (parse.LeftOut place) = at place letter_p 3
 
 abbrev pub typing_refusal : TypeFault → Refusal
 typing_refusal typing.Memory = Memory
-typing_refusal (typing.DeclaredTwice place) = at place 83 1
-typing_refusal (typing.UsedBeforeDeclared place) = at place 83 2
-typing_refusal (typing.NotDeclared place) = at place 83 3
-typing_refusal (typing.Mismatch place) = at place 75 1
-typing_refusal (typing.NotVariable place) = at place 75 2
-typing_refusal (typing.WrongParameters place) = at place 75 3
-typing_refusal (typing.NotProgramParameter place) = at place 75 8
-typing_refusal (typing.TooMany place) = at place 75 10
-typing_refusal (typing.TooManyCells place) = at place 89 2
+typing_refusal (typing.DeclaredTwice place) = at place letter_s 1
+typing_refusal (typing.UsedBeforeDeclared place) = at place letter_s 2
+typing_refusal (typing.NotDeclared place) = at place letter_s 3
+typing_refusal (typing.Mismatch place) = at place letter_k 1
+typing_refusal (typing.NotVariable place) = at place letter_k 2
+typing_refusal (typing.WrongParameters place) = at place letter_k 3
+typing_refusal (typing.NotProgramParameter place) = at place letter_k 8
+typing_refusal (typing.TooMany place) = at place letter_k 10
+typing_refusal (typing.TooManyCells place) = at place letter_y 2
 
 abbrev pub certificate_refusal : ReadFault → Refusal
 certificate_refusal read.Memory = Memory
-certificate_refusal (read.FirstLine line) = Certificate line (record { letter = 70; number = 1 })
-certificate_refusal (read.NotInGrammar line) = Certificate line (record { letter = 70; number = 2 })
-certificate_refusal (read.Unended line) = Certificate line (record { letter = 70; number = 5 })
+certificate_refusal (read.FirstLine line) = Certificate line (record { letter = letter_f; number = 1 })
+certificate_refusal (read.NotInGrammar line) = Certificate line (record { letter = letter_f; number = 2 })
+certificate_refusal (read.Unended line) = Certificate line (record { letter = letter_f; number = 5 })
 
 -- the number of a rule of certificates
 abbrev pub rule_number : Rule → ℕ
@@ -94,11 +127,11 @@ rule_number rule.Changes = 7
 
 abbrev pub checker_refusal : CheckFault → Refusal
 checker_refusal check.Memory = Memory
-checker_refusal (check.Broken broken place) = at place 67 (rule_number broken)
+checker_refusal (check.Broken broken place) = at place letter_c (rule_number broken)
 
 abbrev pub generator_refusal : GenFault → Refusal
 generator_refusal generate.Memory = Memory
-generator_refusal generate.TooLarge = Whole (record { letter = 71; number = 1 })
+generator_refusal generate.TooLarge = Whole (record { letter = letter_g; number = 1 })
 
 -- what a fault says
 abbrev pub refusal_of : Fault → Refusal

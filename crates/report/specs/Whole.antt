@@ -4,9 +4,7 @@ use Rattle.std.specs.Prelude.{◌≡◌, ℕ, List, Option, length}
 use Rattle.typed_tree.specs.declared.tree.Tree.{Tree}
 use Rattle.typed_tree.specs.declared.site.Site.{Site}
 use Rattle.typed_tree.specs.Entries.{entries_of}
-use Rattle.certificate.specs.declared.Certificate.{Certificate}
 use Rattle.certificate.specs.Text.{spelling}
-use Rattle.cert_checker.specs.declared.Verdict.{Verdict}
 use Rattle.cert_checker.specs.Promise.{Valid}
 use Rattle.pcode_assembler.specs.declared.code.Code.{Code}
 use Rattle.check_remover.specs.Strip.{strip}
@@ -15,6 +13,7 @@ use Rattle.code_generator.specs.Tables.{site_table, point_table}
 use Rattle.stack_machine.specs.declared.stop.Stop.{Stop}
 use Rattle.stack_machine.specs.Does.{Ran}
 use Rattle.stack_machine.specs.Run.{machine}
+use Rattle.report.specs.declared.compile.Compiled.{Compiled}
 use Rattle.report.specs.Headline.{Headline, IsTypedTreeOf}
 
 -- the code of a tree, without the checks of the sites that aren't open
@@ -23,19 +22,19 @@ pub record IsStripped (tree : Tree) (open_sites : List Site) (code : Code) : Typ
   pub sites : code.sites.items ≡ site_table tree.sites.items
   pub points : code.points.items ≡ point_table tree.points.items
 
--- The typed tree of a source was checked by the certificate of a text, with this verdict, for whose open sites the
--- headline holds, and its code without the other checks was run: the stop is that of the run, and the writer's known
--- bytes grew by its output, or by a beginning of it where the writer failed.
-pub record RunsStripped (source text : List ℕ) (verdict : Verdict) (stop : Stop) (cells budget : ℕ)
-    (before after : Option (List ℕ)) : Type 0 where
-  pub tree : Tree
-  pub typed : IsTypedTreeOf tree source
-  pub certificate : Certificate
-  pub code : Code
-  pub spelled : text ≡ spelling certificate
-  pub valid : Valid tree certificate verdict.open_sites.items
-  pub entered : verdict.visits ≡ length (entries_of tree)
-  pub stripped : IsStripped tree verdict.open_sites.items code
-  pub headline : Headline tree verdict.open_sites.items code
-  -- for every input, since no instruction asks for any yet
-  pub ran : (input : List ℕ) → Ran stop (machine code input cells budget) before after
+-- a source with a certificate's text was compiled: the typed tree is checked by the certificate, with this verdict, for
+-- whose open sites the headline holds of the code without the other checks
+pub record IsCompiled (source text : List ℕ) (compiled : Compiled) : Type 0 where
+  pub typed : IsTypedTreeOf compiled.tree source
+  pub spelled : text ≡ spelling compiled.certificate
+  pub valid : Valid compiled.tree compiled.certificate compiled.verdict.open_sites.items
+  pub entered : compiled.verdict.visits ≡ length (entries_of compiled.tree)
+  pub stripped : IsStripped compiled.tree compiled.verdict.open_sites.items compiled.stripped
+  pub headline : Headline compiled.tree compiled.verdict.open_sites.items compiled.stripped
+
+-- The code without the other checks was run, on so many cells and for at most so many instructions: the stop is that of
+-- the run, and the writer's known bytes grew by its output, or by a beginning of it where the writer failed. This holds
+-- for every input, since no instruction asks for any yet.
+abbrev pub RunsStripped : Compiled → Stop → ℕ → ℕ → Option (List ℕ) → Option (List ℕ) → Type 0
+RunsStripped compiled stop cells budget before after =
+    (input : List ℕ) → Ran stop (machine compiled.stripped input cells budget) before after

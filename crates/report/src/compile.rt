@@ -1,4 +1,4 @@
-ghost use Rattle.std.specs.Prelude.{◌≡◌, ◌≤◌, ◌<◌, ◌+◌, ◌-◌, ◌^◌, ℕ, List, length, map, IfOk, IfErr, MatchResult, OnErr};
+ghost use Rattle.std.specs.Prelude.{◌≡◌, ℕ, List, length, map, IfOk, IfErr, MatchResult};
 ghost use Rattle.certificate.specs.Text.{spelling};
 ghost use Rattle.cert_checker.specs.Promise.{Valid, StatesHold};
 ghost use Rattle.code_generator.specs.Code.{program_code};
@@ -7,11 +7,10 @@ ghost use Rattle.code_generator.specs.Tables.{site_table, point_table};
 ghost use Rattle.report.specs.Headline.{Headline, IsTypedTreeOf};
 ghost use Rattle.report.specs.Refusals.{IsRefusal, text_of};
 ghost use Rattle.report.specs.Typed.{IsSoundTreeOf};
-ghost use Rattle.stack_machine.specs.Failures.{write_failures_of};
 ghost use Rattle.typed_tree.specs.Entries.{entries_of};
 ghost use Rattle.typed_tree.specs.Ids.{AreByPlace};
 ghost use Rattle.typing.specs.Sound.{stands};
-ghost use Rattle.report.specs.Whole.{IsStripped, RunsStripped};
+ghost use Rattle.report.specs.Whole.{IsStripped};
 
 use crate::fault::Fault;
 use cert_checker::{Verdict, check};
@@ -22,9 +21,6 @@ use lexer::tokens;
 use parser::parse;
 use pcode_assembler::code::{Code, Site};
 use resolver::resolve;
-use stack_machine::bytes::{Feed, Sink};
-use stack_machine::machine::Machine;
-use stack_machine::stop::Stop;
 use std::alloc::{AllocError, Global};
 use typed_tree::tree::Tree;
 
@@ -92,36 +88,6 @@ pub fn compile(alloc: Global, source: &[u8], certificate: Option<&[u8]>) -> Resu
         full,
         stripped,
     })
-}
-
-/// Compiles a source and runs the code without the checks of the sites that aren't open, on a machine with
-/// so many cells (1 to 16,777,216) and for at most `budget` instructions.
-///
-/// # Errors
-/// Those of `compile`, and want of memory for the machine. The writer is then as it was.
-pub fn go<R: Feed, W: Sink>(
-    alloc: Global,
-    source: &[u8],
-    certificate: Option<&[u8]>,
-    reader: &mut R,
-    writer: &mut W,
-    cells: u32,
-    budget: u64,
-) -> Result<(Verdict, Stop), Fault>
-    requires cells { (1 ≤ cells) × (cells ≤ 16777216) }
-    requires reader_counts { R.failures reader.old < 2 ^ 64 - 1 }
-    requires writer_counts { W.failures writer.old < 2 ^ 64 - 1 }
-    ensures ran { IfOk result (λ r. RunsStripped source.now (text_of certificate.entry)
-        r.0 r.1 cells budget (W.contents writer.old) (W.contents writer.new)) }
-    ensures write_failed { IfOk result (λ r. W.failures writer.new ≡ W.failures writer.old + write_failures_of r.1) }
-    ensures input_left { reader.new ≡ reader.old }
-    ensures refused { IfErr result (IsRefusal source.now (text_of certificate.entry)) }
-    ensures unwritten { OnErr result (writer.new ≡ writer.old) }
-{
-    let compiled = compile(alloc, source, certificate)?;
-    let mut machine = Machine::new(alloc, cells)?;
-    let stop = machine.run(&compiled.stripped, reader, writer, budget);
-    Ok((compiled.verdict, stop))
 }
 
 // The typed tree of a source, whatever its certificate.

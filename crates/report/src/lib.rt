@@ -3,4 +3,9 @@
 
 pub mod compile;
 pub mod fault;
+pub mod messages;
+pub mod prepared;
+pub mod program;
 pub mod text;
+
+pub use command_line::{PcomWords, WordsFault, pcom_words};

@@ -1,6 +1,7 @@
-ghost use Rattle.std.specs.Prelude.{◌≡◌, ℕ, ◌+◌, ◌<◌, ◌≤◌, ◌^◌, [], ◌∷◌, ◌++◌, length, decimal, codes, IfOk};
+ghost use Rattle.std.specs.Prelude.{◌≡◌, ℕ, ◌+◌, ◌*◌, ◌<◌, ◌≤◌, ◌^◌, [], ◌∷◌, ◌++◌, length, decimal, codes, IfOk};
 ghost use Rattle.std.specs.List.{flat_map};
-ghost use Rattle.report.specs.Text.{place_text, open_line, refusal_of, refusal_line, refusal_status, stop_line, stop_status, error_name, input_name, machine_text, code_text};
+ghost use Rattle.report.specs.declared.text.TheConstants.{LINE_SIZE};
+ghost use Rattle.report.specs.Text.{name_size, number_size, place_text, open_line, refusal_of, refusal_line, refusal_status, stop_line, stop_status, error_name, input_name, machine_text, code_text};
 ghost use Rattle.report.specs.Text.{lexer_refusal, parser_refusal, typing_refusal, certificate_refusal, checker_refusal, rule_number, generator_refusal};
 
 use crate::fault::Fault;
@@ -18,8 +19,11 @@ use token_cursor::fault::ParseFault;
 use typed_tree::fault::TypeFault;
 use typed_tree::site::{Site, SiteKind};
 
+/// How many bytes a line takes at most.
+pub const LINE_SIZE: usize = 96;
+
 /// A line with its line end, kept in place: none that a program prints is longer.
-pub type Line = SmallVec<u8, 96>;
+pub type Line = SmallVec<u8, LINE_SIZE>;
 
 /// The lines of a verdict, one for each open site, in order: `LINE:COLUMN: possible error: NAME`.
 pub fn lines(alloc: Global, verdict: &Verdict) -> Result<Vec<u8>, AllocError>
@@ -83,7 +87,7 @@ pub fn stop_text(alloc: Global, stop: &Stop) -> (Line, u8)
 
 /// The letter and the number of a rule that a source breaks.
 #[derive(Clone, Copy)]
-pub struct Code {
+pub struct RuleCode {
     pub letter: u8,
     pub number: u8,
 }
@@ -93,11 +97,11 @@ pub struct Code {
 pub enum Refusal {
     Memory,
     /// At a place of the source.
-    At { place: Place, code: Code },
+    At { place: Place, code: RuleCode },
     /// At a line of the certificate.
-    Certificate { line: u64, code: Code },
+    Certificate { line: u64, code: RuleCode },
     /// Of the program as a whole.
-    Whole(Code),
+    Whole(RuleCode),
 }
 
 /// What a fault says.
@@ -120,7 +124,7 @@ fn at(place: Place, letter: u8, number: u8) -> Refusal
 {
     Refusal::At {
         place,
-        code: Code { letter, number },
+        code: RuleCode { letter, number },
     }
 }
 
@@ -179,7 +183,7 @@ fn certificate_refusal(fault: ReadFault) -> Refusal
     };
     Refusal::Certificate {
         line,
-        code: Code {
+        code: RuleCode {
             letter: b'F',
             number,
         },
@@ -213,7 +217,7 @@ fn generator_refusal(fault: GenFault) -> Refusal
 {
     match fault {
         GenFault::Memory => Refusal::Memory,
-        GenFault::TooLarge => Refusal::Whole(Code {
+        GenFault::TooLarge => Refusal::Whole(RuleCode {
             letter: b'G',
             number: 1,
         }),
@@ -222,7 +226,7 @@ fn generator_refusal(fault: GenFault) -> Refusal
 
 fn error_text(kind: u8) -> &'static str
     ensures name { result.now ≡ error_name kind }
-    ensures short { length result.now ≤ 19 }
+    ensures short { length result.now ≤ name_size }
 {
     match SiteKind::with_number(kind) {
         Some(kind) => kind.name(),
@@ -232,7 +236,7 @@ fn error_text(kind: u8) -> &'static str
 
 fn input_text(fault: InputFault) -> &'static str
     ensures name { result.now ≡ input_name fault }
-    ensures short { length result.now ≤ 22 }
+    ensures short { length result.now ≤ name_size }
 {
     match fault {
         InputFault::EndOfInput => "end of input",
@@ -245,7 +249,7 @@ fn input_text(fault: InputFault) -> &'static str
 
 fn fault_name(fault: MachineFault) -> &'static str
     ensures name { result.now ≡ machine_text fault }
-    ensures short { length result.now ≤ 2 }
+    ensures short { length result.now ≤ name_size }
 {
     match fault {
         MachineFault::Underflow => "M1",
@@ -265,29 +269,29 @@ fn open_site(alloc: Global, site: Site) -> Line
 // `LINE:COLUMN`
 fn placed(alloc: Global, line: u32, column: u32) -> Line
     ensures text { result.items ≡ place_text line column }
-    ensures capacity { result.capacity ≡ 96 }
-    ensures short { length result.items ≤ 41 }
+    ensures capacity { result.capacity ≡ LINE_SIZE }
+    ensures short { length result.items ≤ 2 * number_size + 1 }
 {
     let start = numbered(Line::new(alloc), u64::from(line));
     numbered(append(start, ":"), u64::from(column))
 }
 
 fn numbered(line: Line, number: u64) -> Line
-    requires capacity { line.capacity ≡ 96 }
-    requires short { length line.items ≤ 60 }
+    requires capacity { line.capacity ≡ LINE_SIZE }
+    requires short { length line.items + number_size ≤ LINE_SIZE }
     ensures text { result.items ≡ line.items ++ decimal number }
-    ensures capacity { result.capacity ≡ 96 }
-    ensures short { length result.items ≤ length line.items + 20 }
+    ensures capacity { result.capacity ≡ LINE_SIZE }
+    ensures short { length result.items ≤ length line.items + number_size }
 {
     let mut buffer = Buffer::new();
     append(line, buffer.format(number))
 }
 
 fn sentence_start(line: Line, words: &str) -> Line
-    requires capacity { line.capacity ≡ 96 }
-    requires short { length line.items + length words.now ≤ 60 }
+    requires capacity { line.capacity ≡ LINE_SIZE }
+    requires short { length line.items + length words.now ≤ LINE_SIZE }
     ensures text { result.items ≡ line.items ++ words.now }
-    ensures capacity { result.capacity ≡ 96 }
+    ensures capacity { result.capacity ≡ LINE_SIZE }
     ensures short { length result.items ≡ length line.items + length words.now }
 {
     append(line, words)
@@ -295,17 +299,17 @@ fn sentence_start(line: Line, words: &str) -> Line
 
 // The words, a name and the line end.
 fn sentence(line: Line, words: &str, name: &str) -> Line
-    requires capacity { line.capacity ≡ 96 }
-    requires short { length line.items + length words.now + length name.now ≤ 90 }
+    requires capacity { line.capacity ≡ LINE_SIZE }
+    requires short { length line.items + length words.now + length name.now < LINE_SIZE }
     ensures { result.items ≡ line.items ++ words.now ++ name.now ++ 10 ∷ [] }
 {
     append(append(append(line, words), name), "\n")
 }
 
 // The code and the line end.
-fn refused(line: Line, code: Code) -> Line
-    requires capacity { line.capacity ≡ 96 }
-    requires short { length line.items ≤ 59 }
+fn refused(line: Line, code: RuleCode) -> Line
+    requires capacity { line.capacity ≡ LINE_SIZE }
+    requires short { length line.items + number_size + 2 ≤ LINE_SIZE }
     ensures { result.items ≡ line.items ++ code_text code ++ 10 ∷ [] }
 {
     let mut line = line;
@@ -314,10 +318,10 @@ fn refused(line: Line, code: Code) -> Line
 }
 
 fn append(mut line: Line, text: &str) -> Line
-    requires capacity { line.capacity ≡ 96 }
-    requires short { length line.items + length text.now ≤ 96 }
+    requires capacity { line.capacity ≡ LINE_SIZE }
+    requires short { length line.items + length text.now ≤ LINE_SIZE }
     ensures text { result.items ≡ line.items ++ text.now }
-    ensures capacity { result.capacity ≡ 96 }
+    ensures capacity { result.capacity ≡ LINE_SIZE }
 {
     let _fits = line.extend_from_slice(text.as_bytes());
     line

@@ -9,6 +9,8 @@ mod large;
 #[cfg(test)]
 mod memory;
 #[cfg(test)]
+mod programs;
+#[cfg(test)]
 mod rows;
 #[cfg(test)]
 mod shown;

@@ -1,8 +1,5 @@
-use crate::shown::run_into;
-use cert_checker::Verdict;
+use crate::programs::{Told, run};
 use report::compile::PLAIN_CERTIFICATE;
-use report::fault::Fault;
-use stack_machine::stop::Stop;
 use std::test::Fail;
 
 // A program of every form, in small.
@@ -16,27 +13,26 @@ const EVERY_FORM: &str = "program p(output); var x, y: integer; b: boolean;
 // By hand: x is 3; sqr(3) * abs(3) is 27 and mod 5 gives 2, so y is -1; 3 < -1 is false, so b is true.
 const WRITTEN: &str = "  3 true -1tr\n";
 
-// Whether a run that had ample memory did what it should, and one that had not said so and wrote nothing.
-fn is_as_it_should(ran: &Result<(Verdict, Stop), Fault>, written: &[u8]) -> bool {
-    match ran {
-        Ok((verdict, stop)) => {
-            verdict.visits == 40 && matches!(stop, Stop::Finished) && written == WRITTEN.as_bytes()
-        }
-        Err(fault) => matches!(fault, Fault::Memory) && written.is_empty(),
+// Whether a run that had ample memory did what it should, and one that had not said so and wrote nothing else.
+fn is_as_it_should(told: &Told) -> bool {
+    let (output, errors) = (told.output.as_slice(), told.errors.as_slice());
+    match told.status {
+        0 => errors.is_empty() && output == WRITTEN.as_bytes(),
+        status => status == 3 && errors == b"no memory\n".as_slice() && output.is_empty(),
     }
 }
 
 // With ample memory the program runs. With an allocation refused, as by
-// `rt try --test --fail-alloc N -- a_refused_allocation_is_want_of_memory`, the answer is `Memory` and nothing is
-// written.
+// `rt try --test --fail-alloc N -- a_refused_allocation_is_want_of_memory`, the program says `no memory` and nothing
+// else is written.
 #[test]
 fn a_refused_allocation_is_want_of_memory(rt: HostRuntime) -> Result<(), Fail> {
     let alloc = rt.alloc();
-    let Ok(output) = Vec::with_capacity(alloc, 64) else {
+    let (Ok(output), Ok(errors)) = (Vec::with_capacity(alloc, 64), Vec::with_capacity(alloc, 64))
+    else {
         return Ok(());
     };
     let (source, certificate) = (EVERY_FORM.as_bytes(), Some(PLAIN_CERTIFICATE));
-    let (ran, written) = run_into(alloc, output, source, certificate, 100, u64::MAX);
-    assert!(rt; is_as_it_should(&ran, &written));
+    assert!(rt; is_as_it_should(&run(alloc, source, certificate, true, output, errors)));
     Ok(())
 }

@@ -5,10 +5,11 @@ ghost use Rattle.std.specs.Prelude.{◌≤◌};
 use cert_checker::Verdict;
 use meaning::interpret;
 use meaning::outcome::{Ending, Outcome};
-use report::compile::{compile, go};
+use report::compile::compile;
 use report::fault::Fault;
 use report::text::{fault_text, lines, stop_text};
 use stack_machine::bytes::Counted;
+use stack_machine::machine::Machine;
 use stack_machine::stop::Stop;
 use std::alloc::{AllocError, Global};
 use std::test::Fail;
@@ -23,43 +24,21 @@ pub(crate) struct Shown {
     pub(crate) stop: Stop,
 }
 
-// Compiles and runs a source without input, and gives the output back behind what was written to it.
-pub(crate) fn run_into(
-    alloc: Global,
-    output: Vec<u8>,
-    source: &[u8],
-    certificate: Option<&[u8]>,
-    cells: u32,
-    budget: u64,
-) -> (Result<(Verdict, Stop), Fault>, Vec<u8>)
-    requires { (1 ≤ cells) × (cells ≤ 16777216) }
-{
-    let mut reader = Counted::new(b"".as_slice());
-    let mut writer = Counted::new(output);
-    let ran = go(
-        alloc,
-        source,
-        certificate,
-        &mut reader,
-        &mut writer,
-        cells,
-        budget,
-    );
-    (ran, writer.into_inner())
-}
-
 // Compiles and runs a source without input. The writer is a vector, so it fails for want of memory alone.
 pub(crate) fn show(alloc: Global, source: &[u8], cells: u32, budget: u64) -> Result<Shown, Fault>
     requires { (1 ≤ cells) × (cells ≤ 16777216) }
 {
-    let (ran, output) = run_into(alloc, Vec::new(alloc), source, None, cells, budget);
-    let (verdict, stop) = ran?;
+    let compiled = compile(alloc, source, None)?;
+    let mut machine = Machine::new(alloc, cells)?;
+    let mut reader = Counted::new(b"".as_slice());
+    let mut writer = Counted::new(Vec::new(alloc));
+    let stop = machine.run(&compiled.stripped, &mut reader, &mut writer, budget);
     if matches!(stop, Stop::WriteFailed) {
         return Err(Fault::Memory);
     }
     Ok(Shown {
-        verdict,
-        output,
+        verdict: compiled.verdict,
+        output: writer.into_inner(),
         stop,
     })
 }
@@ -97,7 +76,7 @@ pub(crate) fn agreed(alloc: Global, source: &[u8], cells: u32) -> Result<Shown, 
 }
 
 // A text that a call gave as bytes.
-fn text_of(bytes: &[u8]) -> &str {
+pub(crate) fn text_of(bytes: &[u8]) -> &str {
     str::from_utf8(bytes).unwrap_or("no text")
 }
 

@@ -1,0 +1,157 @@
+ghost use Rattle.std.specs.Prelude.{◌≡◌, ◌<◌, ◌+◌, ◌-◌, ◌^◌, ◌==◌, ℕ, if◌then◌else◌, true, IfOk, IfErr, MatchBool};
+ghost use Rattle.report.specs.Messages.{Gets, page};
+ghost use Rattle.report.specs.Program.{End, Finishes, IsPrepared, last_line, status_of, report_status};
+ghost use Rattle.report.specs.Refusals.{IsRefusal, text_of};
+ghost use Rattle.report.specs.Text.{refusal_line, refusal_of, refusal_status, stop_line, stop_status};
+
+use crate::compile::{Compiled, compile};
+use crate::fault::Fault;
+use crate::messages::put;
+use crate::text::{fault_text, lines, stop_text};
+use stack_machine::bytes::{Feed, Sink};
+use stack_machine::machine::Machine;
+use stack_machine::stop::Stop;
+use std::alloc::Global;
+use typed_tree::site::Site;
+
+/// How many cells a run has.
+const CELLS: u32 = 1_000_000;
+
+/// A source that is compiled, its report not yet told.
+#[derive(Drop)]
+pub struct Prepared {
+    compiled: Compiled,
+    /// The lines of the open sites.
+    report: Vec<u8>,
+    /// None where the code isn't to be run.
+    machine: Option<Machine>,
+}
+
+/// A source whose report was told. Only then can it be run.
+#[derive(Drop)]
+pub struct Reported {
+    prepared: Prepared,
+    /// Whether all of the report was taken.
+    told: bool,
+}
+
+/// Compiles a source, with the text of a certificate or with the plain one, and makes all that takes memory.
+///
+/// # Errors
+/// Those of `compile`, and want of memory.
+pub fn prepare(
+    alloc: Global,
+    source: &[u8],
+    certificate: Option<&[u8]>,
+    go: bool,
+) -> Result<Prepared, Fault>
+    ensures prepared { IfOk result (IsPrepared source.now (text_of certificate.entry) go) }
+    ensures refused { IfErr result (IsRefusal source.now (text_of certificate.entry)) }
+{
+    let compiled = compile(alloc, source, certificate)?;
+    let report = lines(alloc, &compiled.verdict)?;
+    let machine = if go {
+        Some(Machine::new(alloc, CELLS)?)
+    } else {
+        None
+    };
+    Ok(Prepared {
+        compiled,
+        report,
+        machine,
+    })
+}
+
+/// Tells why a source is refused, and answers the status.
+pub fn refuse<E: Sink>(alloc: Global, fault: &Fault, errors: &mut E) -> u8
+    requires { E.failures errors.old < 2 ^ 64 - 1 }
+    ensures told { Gets (page (E.contents errors.old) (E.failures errors.old))
+        (page (E.contents errors.new) (E.failures errors.new)) (refusal_line (refusal_of fault.now)) }
+    ensures status { result ≡ refusal_status (refusal_of fault.now) }
+{
+    let (line, status) = fault_text(alloc, fault);
+    put(line.as_slice(), errors);
+    status
+}
+
+impl Prepared {
+    /// Tells the report, which comes before the run.
+    pub fn report_to<E: Sink>(self, errors: &mut E) -> Reported
+        requires { E.failures errors.old < 2 ^ 64 - 1 }
+        ensures told { Gets (page (E.contents errors.old) (E.failures errors.old))
+            (page (E.contents errors.new) (E.failures errors.new)) self.report.items }
+        ensures failures { E.failures errors.new ≡ E.failures errors.old + (if result.told then 0 else 1) }
+        ensures prepared { result.prepared ≡ self }
+    {
+        let told = put(&self.report, errors);
+        Reported {
+            prepared: self,
+            told,
+        }
+    }
+}
+
+impl Reported {
+    /// Runs the code without the checks of the sites that aren't open, where it is to be run, and tells how it
+    /// stopped. The status is the stop's, but the report's where the run finished or where there was none.
+    pub fn run<R: Feed, W: Sink, E: Sink>(
+        self,
+        alloc: Global,
+        reader: &mut R,
+        writer: &mut W,
+        errors: &mut E,
+    ) -> u8
+        requires reader_counts { R.failures reader.old < 2 ^ 64 - 1 }
+        requires writer_counts { W.failures writer.old < 2 ^ 64 - 1 }
+        requires errors_count { self.told ≡ true → E.failures errors.old < 2 ^ 64 - 1 }
+        ensures ends { (end : End)
+            × Finishes self end (λ w. page (W.contents w) (W.failures w)) writer.old writer.new
+            × MatchBool self.told (Gets (page (E.contents errors.old) (E.failures errors.old))
+            (page (E.contents errors.new) (E.failures errors.new)) (last_line end)) (errors.new ≡ errors.old)
+            × (result ≡ status_of end) }
+        ensures input_left { reader.new ≡ reader.old }
+    {
+        let Reported { prepared, told } = self;
+        let Prepared {
+            compiled,
+            report: _,
+            machine,
+        } = prepared;
+        let report_status = report_status(&compiled.verdict.open_sites);
+        match machine {
+            None => report_status,
+            Some(mut machine) => {
+                let stop = machine.run(&compiled.stripped, reader, writer, u64::MAX);
+                run_status(report_status, tell_stop(alloc, &stop, told, errors))
+            }
+        }
+    }
+}
+
+/// Tells a stop, where the lines before it were taken, and answers its status.
+fn tell_stop<E: Sink>(alloc: Global, stop: &Stop, told: bool, errors: &mut E) -> u8
+    requires { told ≡ true → E.failures errors.old < 2 ^ 64 - 1 }
+    ensures told { MatchBool told (Gets (page (E.contents errors.old) (E.failures errors.old))
+        (page (E.contents errors.new) (E.failures errors.new)) (stop_line stop.now)) (errors.new ≡ errors.old) }
+    ensures status { result ≡ stop_status stop.now }
+{
+    let (line, status) = stop_text(alloc, stop);
+    if told {
+        put(line.as_slice(), errors);
+    }
+    status
+}
+
+/// The status of a run: the stop's, but the report's where the run finished.
+fn run_status(report: u8, stop: u8) -> u8
+    ensures { result ≡ (if stop == 0 then report else stop) }
+{
+    if stop == 0 { report } else { stop }
+}
+
+/// The status of a report: 1 where a site is open.
+fn report_status(open_sites: &[Site]) -> u8
+    ensures { result ≡ report_status open_sites.now }
+{
+    u8::from(!open_sites.is_empty())
+}

@@ -1,0 +1,38 @@
+ghost use Rattle.std.specs.Prelude.{◌≡◌, ◌<◌, ◌-◌, ◌^◌};
+ghost use Rattle.report.specs.Messages.{page};
+ghost use Rattle.report.specs.Program.{Does};
+ghost use Rattle.report.specs.Refusals.{text_of};
+
+use crate::prepared::{prepare, refuse};
+use stack_machine::bytes::{Feed, Sink};
+use std::alloc::Global;
+
+/// Compiles a source, with the text of a certificate or with the plain one, tells its open sites and then, where `go`
+/// says so, runs it on 1,000,000 cells for at most `u64::MAX` instructions. Answers the status of the program.
+///
+/// Standard error has got the report before the run begins. What takes memory comes before the first line. Once
+/// standard error has failed it gets nothing more; the status tells the same.
+pub fn run_program<R: Feed, W: Sink, E: Sink>(
+    alloc: Global,
+    source: &[u8],
+    certificate: Option<&[u8]>,
+    go: bool,
+    reader: &mut R,
+    writer: &mut W,
+    errors: &mut E,
+) -> u8
+    requires reader_counts { R.failures reader.old < 2 ^ 64 - 1 }
+    requires writer_counts { W.failures writer.old < 2 ^ 64 - 1 }
+    requires errors_count { E.failures errors.old < 2 ^ 64 - 1 }
+    ensures does { Does (λ w. page (W.contents w) (W.failures w)) source.now (text_of certificate.entry) go result
+        writer.old writer.new (page (E.contents errors.old) (E.failures errors.old))
+        (page (E.contents errors.new) (E.failures errors.new)) }
+    ensures input_left { reader.new ≡ reader.old }
+{
+    match prepare(alloc, source, certificate, go) {
+        Ok(prepared) => prepared
+            .report_to(errors)
+            .run(alloc, reader, writer, errors),
+        Err(fault) => refuse(alloc, &fault, errors),
+    }
+}
