@@ -56,7 +56,8 @@ fn links<'a>(
     ensures exact { ReadsDeep levels (BeginsLinks (level_number level)) (Ends (level_number level))
         cursor.old cursor.new result }
 {
-    let mut links = Vec::new(alloc);
+    // Most chains have one operator.
+    let mut links = Vec::with_capacity(alloc, 1)?;
     while let Some((operator, place)) = next_operator(cursor, level, &links) {
         let operand = operand(alloc, cursor, levels, level)?;
         links.push(Link {
@@ -232,7 +233,8 @@ fn actual_list<'a>(
         (λ found. Read (BeginsActualList levels) cursor.old cursor.new found.items) (Refused levels cursor.old) }
     ensures exact { ReadsDeep levels BeginsActualList Closes cursor.old cursor.new result }
 {
-    let mut actuals = Vec::new(alloc);
+    // Most lists have one parameter.
+    let mut actuals = Vec::with_capacity(alloc, 1)?;
     loop {
         put(&mut actuals, actual(alloc, cursor, levels))?;
         let Some(_) = cursor.take_symbol(Symbol::Comma) else {

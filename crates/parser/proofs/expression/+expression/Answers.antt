@@ -100,7 +100,7 @@ expression-returns-clause-exact t c = λ depth e others h ends.
 -- ---- operators and their operands
 
 pub links-loop-operator-init : goal.links-loop-operator-init
-links-loop-operator-init t c = links_first c.args.level c.args.levels c.args.cursor.now c.new-links.result.items c.new-links.ensures.items
+links-loop-operator-init t c = links_first c.args.level c.args.levels c.args.cursor.now c.in_ok-links.links.items c.in_ok-links.ensures.items
 
 pub links-loop-operator-preserved : goal.links-loop-operator-preserved
 links-loop-operator-preserved t c =
@@ -117,7 +117,7 @@ links-loop-operator-smaller t c =
 
 pub links-returns-in_err-operand-clause-exact : goal.links-returns-in_err-operand-clause-exact
 links-returns-in_err-operand-clause-exact t c = λ depth links others h ends.
-    handed_on _ _ c.from_residual.result c.in_err-operand.field-0.0 c.from_residual.ensures
+    handed_on _ _ c.from_residual-in_err-operand.result c.in_err-operand.field-0.0 c.from_residual-in_err-operand.ensures
     (operand_stops c.args.level c.args.levels c.args.cursor.now c.loop-operator.cursor c.next_operator.new.cursor c.operand.new.cursor
     c.loop-operator.links.items
     c.in-Some.operator c.in-Some.place c.in_err-operand.field-0.0 c.loop-operator.invariant
@@ -129,7 +129,7 @@ links-returns-in_err-operand-clause-given t c =
     let n = c.args.levels + 1 in
     let now = c.loop-operator.cursor in
     let fault = c.in_err-operand.field-0.0 in
-    handed_on _ _ c.from_residual.result fault c.from_residual.ensures
+    handed_on _ _ c.from_residual-in_err-operand.result fault c.from_residual-in_err-operand.ensures
     (refused_behind n c.args.cursor.now now (joined (map link_spelling c.loop-operator.links.items)) fault c.loop-operator.invariant.so_far.spelled
     (refused_behind n now c.next_operator.new.cursor (operator c.in-Some.operator c.in-Some.place ∷ []) fault c.in-Some.ensures.goes_on.spelled
     c.in_err-operand.ensures.given))
@@ -525,7 +525,7 @@ actuals-returns-clause-exact t c = λ depth actuals others h ends.
 
 pub actual_list-loop-actuals-init : goal.actual_list-loop-actuals-init
 actual_list-loop-actuals-init t c = (
-  emptied (λ xs. ActualsGrow c.args.levels c.args.cursor.now c.args.cursor.now xs) c.new-actuals.result.items c.new-actuals.ensures.items
+  emptied (λ xs. ActualsGrow c.args.levels c.args.cursor.now c.args.cursor.now xs) c.in_ok-actuals.actuals.items c.in_ok-actuals.ensures.items
       (actuals_grow_first c.args.levels c.args.cursor.now),
   actual_list_begins c.args.cursor.now.rest.now,
   front_none c.args.cursor.now.rest.now,
@@ -567,13 +567,13 @@ actual_list-returns-in_err-put-clause-given t c =
     let fault = c.in_err-put.field-0.0 in
     let refused : Refused c.args.levels start fault = not_kept (Read (BeginsActual c.args.levels) start c.actual.new.cursor) (Refused c.args.levels start)
     c.actual.result fault (memory_refused c.args.levels start) c.actual.ensures.given c.in_err-put.ensures.given in
-    handed_on _ _ c.from_residual.result fault c.from_residual.ensures
+    handed_on _ _ c.from_residual-in_err-put.result fault c.from_residual-in_err-put.ensures
     (refused_behind_front c.args.levels c.args.cursor.now start fault c.loop-actuals.invariant.2 refused)
 
 pub actual_list-returns-in_err-put-clause-exact : goal.actual_list-returns-in_err-put-clause-exact
 actual_list-returns-in_err-put-clause-exact t c = λ depth actuals others h ends.
     let p = c.loop-actuals.invariant.1 depth actuals others h ends in
-    handed_on _ _ c.from_residual.result c.in_err-put.field-0.0 c.from_residual.ensures
+    handed_on _ _ c.from_residual-in_err-put.result c.in_err-put.field-0.0 c.from_residual-in_err-put.ensures
     (not_kept (λ _. c.actual.new.cursor.rest.now ≡ p.middle) (Stops c.args.levels depth) c.actual.result c.in_err-put.field-0.0 tt
     (actual_answer c.args.levels depth c.loop-actuals.cursor c.actual.new.cursor others c.actual.result p ends c.actual.ensures.exact)
     c.in_err-put.ensures.given)
