@@ -78,41 +78,50 @@ module _ (scope : Scope) where
   abbrev LinkInBounds : Link → Type 0
   LinkInBounds l = InBounds (link_code scope l)
 
-  links_in_bounds : (links : List ((l : Link) × LinkInBounds l)) → InBounds (joined (map (link_code scope) (map (λ l. l.0) links)))
-  links_in_bounds [] = refl
-  links_in_bounds (link ∷ links) = append_in_bounds (link_code scope link.0) (joined (map (link_code scope) (map (λ l. l.0) links))) link.1
-      (links_in_bounds links)
+  -- trees whose parts are known to have code in bounds, and the trees alone
+  abbrev ProvedExpr : Type 0
+  ProvedExpr = (e : Expr) × ExprInBounds e
 
-  rolled_expr : (x : Expr-F Expr Link) → InBounds (expr_step scope (map-Expr Expr Link (List Instr) (List Instr) (expr_code scope) (link_code scope) x))
-      → ExprInBounds (roll-Expr x)
+  abbrev ProvedLink : Type 0
+  ProvedLink = (l : Link) × LinkInBounds l
+
+  abbrev bare_expr : Expr-F ProvedExpr ProvedLink → Expr-F Expr Link
+  bare_expr = map-Expr ProvedExpr ProvedLink Expr Link (λ e. e.0) (λ l. l.0)
+
+  abbrev bare_link : Link-F ProvedExpr ProvedLink → Link-F Expr Link
+  bare_link = map-Link ProvedExpr ProvedLink Expr Link (λ e. e.0) (λ l. l.0)
+
+  links_in_bounds : (links : List ProvedLink) → InBounds (joined (map (link_code scope) (map (λ l. l.0) links)))
+  links_in_bounds [] = refl
+  links_in_bounds (link ∷ links) =
+      append_in_bounds (link_code scope link.0) (joined (map (link_code scope) (map (λ l. l.0) links))) link.1 (links_in_bounds links)
+
+  rolled_expr : (x : Expr-F Expr Link) → InBounds (expr_step scope (map-Expr Expr Link (List Instr) (List Instr) (expr_code scope) (link_code scope) x)) → ExprInBounds (roll-Expr x)
   rolled_expr x = subst InBounds (sym (fold-roll-Expr (List Instr) (List Instr) (expr_step scope) link_step x))
 
-  rolled_link : (x : Link-F Expr Link) → InBounds (link_step (map-Link Expr Link (List Instr) (List Instr) (expr_code scope) (link_code scope) x))
-      → LinkInBounds (roll-Link x)
+  rolled_link : (x : Link-F Expr Link) → InBounds (link_step (map-Link Expr Link (List Instr) (List Instr) (expr_code scope) (link_code scope) x)) → LinkInBounds (roll-Link x)
   rolled_link x = subst InBounds (sym (fold-roll-Link (List Instr) (List Instr) (expr_step scope) link_step x))
 
-  expr_layer : (y : Expr-F ((e : Expr) × ExprInBounds e) ((l : Link) × LinkInBounds l))
-      → ExprInBounds (roll-Expr (map-Expr ((e : Expr) × ExprInBounds e) ((l : Link) × LinkInBounds l) Expr Link (λ e. e.0) (λ l. l.0) y))
+  expr_layer : (y : Expr-F ProvedExpr ProvedLink) → ExprInBounds (roll-Expr (bare_expr y))
   expr_layer (Constant number n) = rolled_expr (Constant number n) refl
   expr_layer (Variable access defined) =
       rolled_expr (Variable access defined) (ap (λ b. b && true) (cut_at (scope.variables + access.root) 16777215))
   expr_layer (MonadicOf number operation operand) =
-      rolled_expr (map-Expr ((e : Expr) × ExprInBounds e) ((l : Link) × LinkInBounds l) Expr Link (λ e. e.0) (λ l. l.0) (MonadicOf number operation operand))
+      rolled_expr (bare_expr (MonadicOf number operation operand))
       (append_in_bounds (expr_code scope operand.value.0) (monadic_code operation) operand.value.1 (monadic_in_bounds operation))
   expr_layer (Chain first rest) =
-      rolled_expr (map-Expr ((e : Expr) × ExprInBounds e) ((l : Link) × LinkInBounds l) Expr Link (λ e. e.0) (λ l. l.0) (Chain first rest))
+      rolled_expr (bare_expr (Chain first rest))
       (append_in_bounds (expr_code scope first.value.0) (joined (map (link_code scope) (map (λ l. l.0) rest.items))) first.value.1 (links_in_bounds rest.items))
 
-  link_layer : (y : Link-F ((e : Expr) × ExprInBounds e) ((l : Link) × LinkInBounds l))
-      → LinkInBounds (roll-Link (map-Link ((e : Expr) × ExprInBounds e) ((l : Link) × LinkInBounds l) Expr Link (λ e. e.0) (λ l. l.0) y))
+  link_layer : (y : Link-F ProvedExpr ProvedLink) → LinkInBounds (roll-Link (bare_link y))
   link_layer y =
-      rolled_link (map-Link ((e : Expr) × ExprInBounds e) ((l : Link) × LinkInBounds l) Expr Link (λ e. e.0) (λ l. l.0) y)
+      rolled_link (bare_link y)
       (append_in_bounds (expr_code scope y.operand.0) (dyadic_code y.operation) y.operand.1 (dyadic_in_bounds y.operation))
 
   expr_in_bounds : (e : Expr) → ExprInBounds e
   expr_in_bounds =
       ind-Expr ExprInBounds LinkInBounds (λ x y is. subst (λ z. ExprInBounds (roll-Expr z)) is (expr_layer y))
-          (λ x y is. subst (λ z. LinkInBounds (roll-Link z)) is (link_layer y))
+      (λ x y is. subst (λ z. LinkInBounds (roll-Link z)) is (link_layer y))
 
   width_in_bounds : (width : Option Width) (representation : Representation) → InBounds (width_code scope width representation)
   width_in_bounds None representation.Integer = refl
@@ -128,10 +137,9 @@ module _ (scope : Scope) where
   parameters_in_bounds (p ∷ ps) =
       let width = width_code scope p.width p.representation in
       let last = write_instr p.representation ∷ [] in
-      append_in_bounds (parameter_code scope p) (flat_map (parameter_code scope) ps)
-      (append_in_bounds (expr_code scope p.value) (width ++ last) (expr_in_bounds p.value)
-          (append_in_bounds width last (width_in_bounds p.width p.representation) (write_in_bounds p.representation)))
-      (parameters_in_bounds ps)
+      let behind = append_in_bounds width last (width_in_bounds p.width p.representation) (write_in_bounds p.representation) in
+      let whole = append_in_bounds (expr_code scope p.value) (width ++ last) (expr_in_bounds p.value) behind in
+      append_in_bounds (parameter_code scope p) (flat_map (parameter_code scope) ps) whole (parameters_in_bounds ps)
 
 line_end_in_bounds : (ends_line : Bool) → InBounds (line_end_code ends_line)
 line_end_in_bounds true = refl
@@ -140,31 +148,34 @@ line_end_in_bounds false = refl
 abbrev StmtInBounds : Stmt → Type 0
 StmtInBounds s = (scope : Scope) (place : ℕ) → InBounds (stmt_code s scope place)
 
-stmts_in_bounds : (scope : Scope) (statements : List ((s : Stmt) × StmtInBounds s)) (place : ℕ)
-    → InBounds (placed (map (λ code. code scope) (map stmt_code (map (λ s. s.0) statements))) place)
+abbrev ProvedStmt : Type 0
+ProvedStmt = (s : Stmt) × StmtInBounds s
+
+abbrev bare_stmt : Stmt-F ProvedStmt → Stmt-F Stmt
+bare_stmt = map-Stmt ProvedStmt Stmt (λ s. s.0)
+
+stmts_in_bounds : (scope : Scope) (statements : List ProvedStmt) (place : ℕ) → InBounds (placed (map (λ code. code scope) (map stmt_code (map (λ s. s.0) statements))) place)
 stmts_in_bounds scope [] place = refl
 stmts_in_bounds scope (s ∷ statements) place =
     let code = stmt_code s.0 scope place in
     let next = place + length code in
     append_in_bounds code (placed (map (λ c. c scope) (map stmt_code (map (λ s. s.0) statements))) next) (s.1 scope place)
-        (stmts_in_bounds scope statements next)
+    (stmts_in_bounds scope statements next)
 
-rolled_stmt : (x : Stmt-F Stmt) → ((scope : Scope) (place : ℕ) → InBounds (stmt_step (map-Stmt Stmt Placed stmt_code x) scope place))
-    → StmtInBounds (roll-Stmt x)
+rolled_stmt : (x : Stmt-F Stmt) → ((scope : Scope) (place : ℕ) → InBounds (stmt_step (map-Stmt Stmt Placed stmt_code x) scope place)) → StmtInBounds (roll-Stmt x)
 rolled_stmt x in_bounds scope place = subst (λ code. InBounds (code scope place)) (sym (fold-roll-Stmt Placed stmt_step x)) (in_bounds scope place)
 
-stmt_layer : (y : Stmt-F ((s : Stmt) × StmtInBounds s)) → StmtInBounds (roll-Stmt (map-Stmt ((s : Stmt) × StmtInBounds s) Stmt (λ s. s.0) y))
+stmt_layer : (y : Stmt-F ProvedStmt) → StmtInBounds (roll-Stmt (bare_stmt y))
 stmt_layer (Empty number) = rolled_stmt (Empty number) (λ scope place. refl)
 stmt_layer (Assign number becomes target fits value) =
     rolled_stmt (Assign number becomes target fits value) (λ scope place.
     append_in_bounds (expr_code scope value) _ (expr_in_bounds scope value) (ap (λ b. b && true) (cut_at (scope.variables + target.root) 16777215)))
 stmt_layer (Write number name parameters ends_line) =
     rolled_stmt (Write number name parameters ends_line) (λ scope place.
-    append_in_bounds (flat_map (parameter_code scope) parameters.items) (line_end_code ends_line) (parameters_in_bounds scope parameters.items)
-        (line_end_in_bounds ends_line))
+    append_in_bounds (flat_map (parameter_code scope) parameters.items) (line_end_code ends_line)
+    (parameters_in_bounds scope parameters.items) (line_end_in_bounds ends_line))
 stmt_layer (Compound number statements) =
-    rolled_stmt (map-Stmt ((s : Stmt) × StmtInBounds s) Stmt (λ s. s.0) (Compound number statements))
-        (λ scope place. stmts_in_bounds scope statements.items place)
+    rolled_stmt (bare_stmt (Compound number statements)) (λ scope place. stmts_in_bounds scope statements.items place)
 
 stmt_in_bounds : (s : Stmt) → StmtInBounds s
 stmt_in_bounds = ind-Stmt StmtInBounds (λ x y is. subst (λ z. StmtInBounds (roll-Stmt z)) is (stmt_layer y))
@@ -177,9 +188,10 @@ body_in_bounds : (variables : ℕ) (block : Option Block) → InBounds (body_cod
 body_in_bounds variables None = ap (λ b. b && true) (frame_in_bounds variables 0)
 body_in_bounds variables (Some block) =
     ap (λ b. b && list_all in_bounds (stmt_code block.body program_scope 1)) (frame_in_bounds variables (stmt_depth block.body))
-        ∙ stmt_in_bounds block.body program_scope 1
+    ∙ stmt_in_bounds block.body program_scope 1
 
 pub program_in_bounds : (tree : Tree) → list_all in_bounds (program_code tree) ≡ true
 program_in_bounds tree =
-    append_in_bounds (body_code (count (length tree.variables.items)) (slice_get tree.blocks.items 0)) (instr.Stop ∷ [])
-        (body_in_bounds (length tree.variables.items) (slice_get tree.blocks.items 0)) refl
+    let variables = length tree.variables.items in
+    let block = slice_get tree.blocks.items 0 in
+    append_in_bounds (body_code (count variables) block) (instr.Stop ∷ []) (body_in_bounds variables block) refl

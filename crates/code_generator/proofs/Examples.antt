@@ -16,6 +16,7 @@ use Rattle.typed_tree.specs.declared.tree.Link.{Link}
 use Rattle.typed_tree.specs.declared.tree.Expr.TheViews.{roll-Expr}
 use Rattle.typed_tree.specs.declared.tree.Expr.TheFolds.{fold-roll-Expr}
 use Rattle.typed_tree.specs.declared.tree.Stmt.{Stmt}
+use Rattle.typed_tree.specs.declared.tree.Stmt.TheOpen.{Stmt-F}
 use Rattle.typed_tree.specs.declared.tree.Stmt.TheOpen.Stmt-F.{Assign, Write, Compound}
 use Rattle.typed_tree.specs.declared.tree.Stmt.TheViews.{roll-Stmt}
 use Rattle.typed_tree.specs.declared.tree.Stmt.TheFolds.{fold-roll-Stmt}
@@ -93,53 +94,60 @@ b_in_seven = record { value = b; representation = representation.Integer; width 
 
 -- begin a := 7; writeln(b : 7) end, whatever vectors hold the statements and the value
 module _ (becomes name : Place) (parameters : Vec WriteParameter) (writes : parameters.items ≡ b_in_seven ∷ []) where
+  abbrev assign_layer : Stmt-F Stmt
+  assign_layer =
+      Assign 2 becomes (record { number = 3; root = 0 }) (record { site = 0; range = record { first = negsuc 0; last = pos 8 } }) seven
+
+  abbrev write_layer : Stmt-F Stmt
+  write_layer = Write 5 name parameters true
+
   abbrev assign : Stmt
-  assign = roll-Stmt (Assign 2 becomes (record { number = 3; root = 0 }) (record { site = 0; range = record { first = negsuc 0; last = pos 8 } }) seven)
+  assign = roll-Stmt assign_layer
 
   abbrev write : Stmt
-  write = roll-Stmt (Write 5 name parameters true)
+  write = roll-Stmt write_layer
 
   abbrev assigned : List Instr
   assigned = instr.LoadConstant (pos 7) ∷ instr.CheckRange 0 (negsuc 0) (pos 8) ∷ instr.Store 0 4 ∷ []
 
   abbrev written : List Instr
-  written = instr.Load 0 5 ∷ instr.CheckDefined 1 1 ∷ instr.LoadConstant (pos 7) ∷ instr.CheckRange 2 (pos 1) (pos 2147483647) ∷ instr.WriteInteger ∷
-      instr.WriteLine ∷ []
+  written =
+      instr.Load 0 5 ∷ instr.CheckDefined 1 1 ∷ instr.LoadConstant (pos 7) ∷ instr.CheckRange 2 (pos 1) (pos 2147483647)
+      ∷ instr.WriteInteger ∷ instr.WriteLine ∷ []
 
   assign_code_is : (place : ℕ) → stmt_code assign program_scope place ≡ assigned
   assign_code_is place =
-      ap (λ code. code program_scope place) (fold-roll-Stmt Placed stmt_step (Assign 2 becomes (record { number = 3; root = 0 }) (record { site = 0; range =
-          record { first = negsuc 0; last = pos 8 } }) seven))
+      ap (λ code. code program_scope place) (fold-roll-Stmt Placed stmt_step assign_layer)
       ∙ ap (λ value. value ++ (instr.CheckRange 0 (negsuc 0) (pos 8) ∷ instr.Store 0 4 ∷ [])) (seven_code program_scope)
+
+  -- of the codes of its value and of its width
+  abbrev made : List Instr → List Instr → List Instr
+  made value width = ((value ++ ((width ++ (check_positive 2 ∷ [])) ++ (instr.WriteInteger ∷ []))) ++ []) ++ (instr.WriteLine ∷ [])
 
   write_code_is : (place : ℕ) → stmt_code write program_scope place ≡ written
   write_code_is place =
-      ap (λ code. code program_scope place) (fold-roll-Stmt Placed stmt_step (Write 5 name parameters true))
+      ap (λ code. code program_scope place) (fold-roll-Stmt Placed stmt_step write_layer)
       ∙ ap (λ ps. write_code program_scope ps true) writes
-      ∙ ap (λ value. ((value ++ ((expr_code program_scope seven ++ (check_positive 2 ∷ [])) ++ (instr.WriteInteger ∷ []))) ++ []) ++ (instr.WriteLine ∷ []))
-          b_code
-      ∙ ap (λ width. (((instr.Load 0 5 ∷ instr.CheckDefined 1 1 ∷ []) ++ ((width ++ (check_positive 2 ∷ [])) ++ (instr.WriteInteger ∷ []))) ++ []) ++
-          (instr.WriteLine ∷ [])) (seven_code program_scope)
+      ∙ ap (λ value. made value (expr_code program_scope seven)) b_code
+      ∙ ap (made (instr.Load 0 5 ∷ instr.CheckDefined 1 1 ∷ [])) (seven_code program_scope)
 
   assign_depth : stmt_depth assign ≡ 1
   assign_depth =
-      fold-roll-Stmt ℕ stmt_depth_step (Assign 2 becomes (record { number = 3; root = 0 }) (record { site = 0; range = record { first = negsuc 0; last = pos 8
-          } }) seven) ∙ seven_depth
+      fold-roll-Stmt ℕ stmt_depth_step assign_layer ∙ seven_depth
 
   write_depth : stmt_depth write ≡ 2
   write_depth =
-      fold-roll-Stmt ℕ stmt_depth_step (Write 5 name parameters true) ∙ ap (λ ps. greatest (map parameter_depth ps)) writes
+      fold-roll-Stmt ℕ stmt_depth_step write_layer ∙ ap (λ ps. greatest (map parameter_depth ps)) writes
       ∙ ap (λ n. greatest (max n (expr_depth seven + 1) ∷ [])) b_depth ∙ ap (λ n. greatest (max 1 (n + 1) ∷ [])) seven_depth
 
   assign_need : stmt_need assign ≡ 26
   assign_need =
-      fold-roll-Stmt ℕ stmt_need_step (Assign 2 becomes (record { number = 3; root = 0 }) (record { site = 0; range = record { first = negsuc 0; last = pos 8
-          } }) seven)
+      fold-roll-Stmt ℕ stmt_need_step assign_layer
       ∙ ap (λ n. 17 + n) seven_need
 
   write_need : stmt_need write ≡ 26
   write_need =
-      fold-roll-Stmt ℕ stmt_need_step (Write 5 name parameters true) ∙ ap (λ ps. 8 + sum_by parameter_need ps) writes
+      fold-roll-Stmt ℕ stmt_need_step write_layer ∙ ap (λ ps. 8 + sum_by parameter_need ps) writes
       ∙ ap (λ n. 8 + sum ((n + expr_need seven) ∷ [])) b_need ∙ ap (λ n. 8 + sum ((9 + n) ∷ [])) seven_need
 
   module _ (statements : Vec Stmt) (are : statements.items ≡ assign ∷ write ∷ []) where
@@ -165,8 +173,7 @@ module _ (becomes name : Place) (parameters : Vec WriteParameter) (writes : para
         ∙ ap (λ n. 8 + sum (n ∷ stmt_need write ∷ [])) assign_need ∙ ap (λ n. 8 + sum (26 ∷ n ∷ [])) write_need
 
     -- a program with two variables
-    module _ (tree : Tree) (first other : Declared) (declares : tree.variables.items ≡ first ∷ other ∷ []) (end : Place)
-        (does : tree.blocks.items ≡ record { body = body; end = end } ∷ []) where
+    module _ (tree : Tree) (first other : Declared) (declares : tree.variables.items ≡ first ∷ other ∷ []) (end : Place) (does : tree.blocks.items ≡ record { body = body; end = end } ∷ []) where
       program_code_is : program_code tree ≡ instr.Enter 2 2 ∷ (assigned ++ (written ++ (instr.Stop ∷ [])))
       program_code_is =
           ap (λ vs. body_code (count (length vs)) (slice_get tree.blocks.items 0) ++ (instr.Stop ∷ [])) declares

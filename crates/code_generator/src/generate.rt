@@ -30,8 +30,8 @@ const PROGRAM: Scope = Scope {
 };
 
 /// The code of the program: its frame with its variables and as many cells further as its evaluation needs,
-/// its body, and the end of the run. Each check has its site. For every input and
-/// every number of cells the code follows the program, if the tree is well formed.
+/// its body, and the end of the run. Each check has its site, and the text of a code has room for each operand.
+/// For every input and every number of cells the code follows the program, if the tree is well formed.
 pub fn generate(alloc: Global, tree: &Tree) -> Result<Code, GenFault>
     ensures instructions { IfOk result (λ code. code.instructions.items ≡ program_code tree.now) }
     ensures too_large { (result ≡ Err GenFault.TooLarge) ↔ (1000000 < length (program_code tree.now)) }

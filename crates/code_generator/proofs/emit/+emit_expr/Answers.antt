@@ -1,7 +1,7 @@
-use Rattle.std.proofs.Common.{◌++◌, ap, ◌∙◌, sym, append_assoc, append-nil}
+use Rattle.std.proofs.Common.{◌≡◌, ◌++◌, ap, ◌∙◌, sym, append_assoc, append-nil}
 use Rattle.std.proofs.lemmas.Result.{IfOk-equal}
 use Rattle.std.specs.List.{flat_map}
-use Rattle.code_generator.specs.Code.{expr_code, link_code, variable_code, monadic_code, dyadic_code}
+use Rattle.code_generator.specs.Code.{expr_code, link_code, monadic_code, dyadic_code}
 use Rattle.code_generator.proofs.Pieces.{expr_code-Variable, expr_code-Monadic, expr_code-Chain, link_code-is, joined_one_more, joined_at_end}
 use Rattle.code_generator.proofs.emit.+emit_expr.Goals as goal
 
@@ -10,7 +10,7 @@ emit_expr-returns-in-Variable t c =
     let before = c.args.code.now.items in
     let access = c.in-Variable.access in
     let defined = c.in-Variable.defined in
-    IfOk-equal c.emit_variable.result c.emit_variable.new.code.items (before ++ variable_code c.args.scope access.root defined) (before ++ expr_code c.args.scope c.args.expr.now) c.emit_variable.ensures
+    IfOk-equal c.emit_variable.result c.emit_variable.new.code.items _ _ c.emit_variable.ensures
     (ap (λ p. before ++ p) (sym (ap (expr_code c.args.scope) c.in-Variable.is ∙ expr_code-Variable c.args.scope access defined)))
 
 pub emit_expr-returns-in_ok-emit_expr-in-Monadic : goal.emit_expr-returns-in_ok-emit_expr-in-Monadic
@@ -19,8 +19,8 @@ emit_expr-returns-in_ok-emit_expr-in-Monadic t c =
     let operation = monadic_code c.in-Monadic.operation in
     let operand = expr_code c.args.scope c.in-Monadic.operand.value in
     let whole = ap (expr_code c.args.scope) c.in-Monadic.is ∙ expr_code-Monadic c.args.scope c.in-Monadic.number c.in-Monadic.operation c.in-Monadic.operand in
-    let valued = c.in_ok-emit_expr-in-Monadic.ensures ∙ ap (λ e. before ++ expr_code c.args.scope e) c.deref.ensures in
-    IfOk-equal c.emit_monadic.result c.emit_monadic.new.code.items (c.emit_expr.new.code.items ++ operation) (before ++ expr_code c.args.scope c.args.expr.now) c.emit_monadic.ensures
+    let valued : c.emit_expr.new.code.items ≡ before ++ operand = c.in_ok-emit_expr-in-Monadic.ensures ∙ ap (λ e. before ++ expr_code c.args.scope e) c.deref.ensures in
+    IfOk-equal c.emit_monadic.result c.emit_monadic.new.code.items _ _ c.emit_monadic.ensures
     (ap (λ p. p ++ operation) valued ∙ append_assoc before operand operation ∙ ap (λ p. before ++ p) (sym whole))
 
 pub emit_expr-loop-link-init : goal.emit_expr-loop-link-init

@@ -1,6 +1,6 @@
 use Rattle.std.proofs.Common.{◌++◌, ◌+◌, ap, ◌∙◌, sym, length, length-append, take, append-nil, append_assoc}
 use Rattle.std.proofs.lemmas.Result.{IfOk-equal}
-use Rattle.code_generator.specs.Code.{stmt_code, assign_code, write_code}
+use Rattle.code_generator.specs.Code.{stmt_code, write_code}
 use Rattle.code_generator.proofs.Pieces.{stmts_code, stmt_code-Empty, stmt_code-Assign, stmt_code-Write, stmt_code-Compound, stmts_one_more, all_stmts}
 use Rattle.code_generator.proofs.emit.+emit_stmt.Goals as goal
 
@@ -44,8 +44,7 @@ returns-in-Assign t c =
     let fits = c.in-Assign.fits in
     let value = c.in-Assign.value in
     let whole = ap (λ s. stmt_code s scope place) c.in-Assign.is ∙ stmt_code-Assign scope place c.in-Assign.number c.in-Assign.becomes target fits value in
-    IfOk-equal c.emit_assign.result c.emit_assign.new.code.items (before ++ assign_code scope target.root fits value) (before ++ stmt_code c.args.stmt.now scope place) c.emit_assign.ensures
-    (ap (λ p. before ++ p) (sym whole))
+    IfOk-equal c.emit_assign.result c.emit_assign.new.code.items _ _ c.emit_assign.ensures (ap (λ p. before ++ p) (sym whole))
 
 pub returns-in-Write : goal.returns-in-Write
 returns-in-Write t c =
@@ -55,7 +54,7 @@ returns-in-Write t c =
     let parameters = c.in-Write.parameters in
     let ends_line = c.in-Write.ends_line in
     let whole = ap (λ s. stmt_code s scope place) c.in-Write.is ∙ stmt_code-Write scope place c.in-Write.number c.in-Write.name parameters ends_line in
-    IfOk-equal c.emit_write.result c.emit_write.new.code.items (before ++ write_code scope c.as_slice.result.now ends_line) (before ++ stmt_code c.args.stmt.now scope place) c.emit_write.ensures
+    IfOk-equal c.emit_write.result c.emit_write.new.code.items _ _ c.emit_write.ensures
     (ap (λ ps. before ++ write_code scope ps ends_line) c.as_slice.ensures.value ∙ ap (λ p. before ++ p) (sym whole))
 
 pub loop-statement-init : goal.loop-statement-init

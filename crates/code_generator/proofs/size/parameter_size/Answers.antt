@@ -9,4 +9,6 @@ returns c = λ scope.
     let last = write_instr parameter.representation ∷ [] in
     let value = c.expr_size.ensures scope in
     let wide = c.width_size.ensures scope in
-    grind (arith, value, wide, length-append (expr_code scope parameter.value) (width ++ last), length-append width last, c.saturating_add.ensures, c.saturating_add-2.ensures)
+    let all = length-append (expr_code scope parameter.value) (width ++ last) in
+    let behind = length-append width last in
+    grind (arith, value, wide, all, behind, c.saturating_add.ensures, c.saturating_add-2.ensures)
