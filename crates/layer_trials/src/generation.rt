@@ -1,6 +1,7 @@
 use crate::sources::tree_of;
 use code_generator::fault::GenFault;
 use code_generator::generate::generate;
+use code_generator::laws;
 use pcode_assembler::code::Code;
 use std::alloc::Global;
 use std::test::Fail;
@@ -40,4 +41,12 @@ static RUNS: [((&str, u32), &str); 7] = [
 #[test]
 fn code_runs(rt: HostRuntime) -> Result<(), Fail> {
     all_hold(rt.alloc(), &RUNS, code_run_told)
+}
+
+#[test]
+fn laws_of_code_are_called(_rt: HostRuntime) -> Result<(), Fail> {
+    laws::stripped_follows();
+    laws::frames_fit();
+    laws::errors_come();
+    Ok(())
 }

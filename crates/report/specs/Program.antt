@@ -67,9 +67,11 @@ pub record IsPrepared (source text : List ℕ) (go : Bool) (prepared : Prepared)
 abbrev pub Finishes : {W : Type 0} → Reported → End → (W → Page) → W → W → Type 0
 Finishes reported (Refused fault) view old new = ⊥
 Finishes reported (Listed open_sites) view old new =
-    (reported.prepared.machine ≡ None) × (reported.prepared.compiled.verdict.open_sites.items ≡ open_sites) × (new ≡ old)
+    (reported.prepared.machine ≡ None) × (reported.prepared.compiled.verdict.open_sites.items ≡ open_sites)
+    × (new ≡ old)
 Finishes reported (Ran open_sites stop) view old new =
-    (m : Machine) × (reported.prepared.machine ≡ Some m) × (reported.prepared.compiled.verdict.open_sites.items ≡ open_sites)
+    (m : Machine) × (reported.prepared.machine ≡ Some m)
+    × (reported.prepared.compiled.verdict.open_sites.items ≡ open_sites)
     × RunsStripped reported.prepared.compiled stop (cell_count m) budget (view old).known (view new).known
     × ((view new).failures ≡ (view old).failures + write_failures_of stop)
 
