@@ -15,7 +15,7 @@ pub returns-clause-ends : goal.returns-clause-ends
 returns-clause-ends g c =
     let open_sites = c.args.self.prepared.compiled.verdict.open_sites.items in (
       Ran open_sites c.run-stop.result,
-      (c.in-Some.machine, c.in-Some.is, refl {a = open_sites}, c.run-stop.ensures.tells, c.run-stop.ensures.write_failed),
+      (c.in-Some.machine, c.in-Some.is, refl {a = open_sites}, c.run-stop.ensures.ran, c.run-stop.ensures.write_failed),
       c.tell_stop.ensures.told,
       run_answer open_sites _ c.run-stop.result _ _ _ c.deref.ensures.value c.report_status-report_status.ensures c.tell_stop.ensures.status c.run_status.ensures,
     )
