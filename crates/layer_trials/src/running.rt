@@ -172,8 +172,10 @@ const WIDER: &[Instr] = &[
 
 const ONE_LINE: &[Instr] = &[ENTER, Instr::WriteLine, Instr::Stop];
 
+const TWO_LINES: &[Instr] = &[ENTER, Instr::WriteLine, Instr::WriteLine, Instr::Stop];
+
 /// The machine writes in pieces of 4096 bytes and the rest at the stop; what a call leaves is offered again.
-static NARROW: [(NarrowRow, &str); 4] = [
+static NARROW: [(NarrowRow, &str); 5] = [
     (
         (WIDE, 1000, 10000),
         "5000 Some(55) of [4096, 3096, 2096, 1096, 96, 904], failures: 0 ",
@@ -187,6 +189,7 @@ static NARROW: [(NarrowRow, &str); 4] = [
         "2000 Some(32) of [4096, 3096, 2096], failures: 1 failed",
     ),
     ((ONE_LINE, 1000, 0), "0 None of [1], failures: 1 failed"),
+    ((TWO_LINES, 1000, 2), "2 Some(10) of [2], failures: 0 "),
 ];
 
 #[test]
