@@ -67,7 +67,7 @@ static PROGRAMS: [((&str, bool), &str); 7] = [
     (("program p; begin x end.", false), "1:18: refused S3\n||2"),
 ];
 
-fn told(alloc: Global, row: &(&str, bool)) -> Result<String, Fail> {
+fn told_of(alloc: Global, row: &(&str, bool)) -> Result<String, Fail> {
     let (source, go) = *row;
     let told = run(
         alloc,
@@ -87,5 +87,5 @@ fn told(alloc: Global, row: &(&str, bool)) -> Result<String, Fail> {
 
 #[test]
 fn programs_are_told_and_run(rt: HostRuntime) -> Result<(), Fail> {
-    all_hold(rt.alloc(), &PROGRAMS, told)
+    all_hold(rt.alloc(), &PROGRAMS, told_of)
 }
