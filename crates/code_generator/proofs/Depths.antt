@@ -74,14 +74,14 @@ module _ (scope : Scope) where
       (expr_need_step (map-Expr Expr Link ℕ ℕ expr_need link_need x)) → ExprWithin scope (roll-Expr x)
   rolled_expr x =
       same_within _ _ _ _ _ _ (fold-roll-Expr ℕ ℕ expr_depth_step link_depth_step x) (fold-roll-Expr (List Instr) (List Instr) (expr_step scope) link_step x)
-          (fold-roll-Expr ℕ ℕ expr_need_step link_need_step x)
+      (fold-roll-Expr ℕ ℕ expr_need_step link_need_step x)
 
   rolled_link : (x : Link-F Expr Link) → Within (link_depth_step (map-Link Expr Link ℕ ℕ expr_depth link_depth x))
       (link_step (map-Link Expr Link (List Instr) (List Instr) (expr_code scope) (link_code scope) x))
       (link_need_step (map-Link Expr Link ℕ ℕ expr_need link_need x)) → LinkWithin scope (roll-Link x)
   rolled_link x =
       same_within _ _ _ _ _ _ (fold-roll-Link ℕ ℕ expr_depth_step link_depth_step x) (fold-roll-Link (List Instr) (List Instr) (expr_step scope) link_step x)
-          (fold-roll-Link ℕ ℕ expr_need_step link_need_step x)
+      (fold-roll-Link ℕ ℕ expr_need_step link_need_step x)
 
 -- each operation on two operands has an instruction
 dyadic_has_one : (operation : Dyadic) → 1 ≤ length (dyadic_code operation)
@@ -102,25 +102,30 @@ module _ (scope : Scope) where
   expr_layer (MonadicOf number operation operand) =
       let a = operand.value.1.code_is in let b = operand.value.1.need_is in
       rolled_expr scope (map-Expr ((e : Expr) × ExprWithin scope e) ((l : Link) × LinkWithin scope l) Expr Link (λ e. e.0) (λ l. l.0)
-          (MonadicOf number operation operand)) (record { code_is = omega (arith, length-append (expr_code scope operand.value.0) (monadic_code operation));
-          need_is = omega arith })
+      (MonadicOf number operation operand)) (record {
+        code_is = omega (arith, length-append (expr_code scope operand.value.0) (monadic_code operation));
+        need_is = omega arith;
+      })
   expr_layer (Chain first rest) =
       rolled_expr scope (map-Expr ((e : Expr) × ExprWithin scope e) ((l : Link) × LinkWithin scope l) Expr Link (λ e. e.0) (λ l. l.0) (Chain first rest))
-          (row_within link_depth (link_code scope) link_need rest.items (expr_depth first.value.0) (expr_code scope first.value.0) (expr_need first.value.0)
-          first.value.1)
+      (row_within link_depth (link_code scope) link_need rest.items (expr_depth first.value.0) (expr_code scope first.value.0) (expr_need first.value.0)
+      first.value.1)
 
   link_layer : (y : Link-F ((e : Expr) × ExprWithin scope e) ((l : Link) × LinkWithin scope l))
       → LinkWithin scope (roll-Link (map-Link ((e : Expr) × ExprWithin scope e) ((l : Link) × LinkWithin scope l) Expr Link (λ e. e.0) (λ l. l.0) y))
   link_layer y =
       let a = y.operand.1.code_is in let b = y.operand.1.need_is in
       rolled_link scope (map-Link ((e : Expr) × ExprWithin scope e) ((l : Link) × LinkWithin scope l) Expr Link (λ e. e.0) (λ l. l.0) y)
-          (record { code_is = omega (arith, length-append (expr_code scope y.operand.0) (dyadic_code y.operation), dyadic_has_one y.operation); need_is =
-          omega arith })
+      (record {
+        code_is = omega (arith, length-append (expr_code scope y.operand.0) (dyadic_code y.operation), dyadic_has_one y.operation);
+        need_is =
+            omega arith;
+      })
 
   pub expr_within : (e : Expr) → ExprWithin scope e
   expr_within =
       ind-Expr (ExprWithin scope) (LinkWithin scope) (λ x y is. subst (λ z. ExprWithin scope (roll-Expr z)) is (expr_layer y))
-          (λ x y is. subst (λ z. LinkWithin scope (roll-Link z)) is (link_layer y))
+      (λ x y is. subst (λ z. LinkWithin scope (roll-Link z)) is (link_layer y))
 
 -- a width, beside the value that is written in it
 record WidthWithin (scope : Scope) (width : Option Width) (representation : Representation) : Type 0 where
@@ -152,8 +157,12 @@ parameter_within scope p =
     let a' = w.code_is in let b' = w.need_is in let c' = w.has_one in
     let writing = width_code scope p.width p.representation ++ (write_instr p.representation ∷ []) in
     record {
-      code_is = omega (arith, length-append (expr_code scope p.value) writing, length-append (width_code scope p.width p.representation)
-          (write_instr p.representation ∷ []));
+      code_is = omega (
+        arith,
+        length-append (expr_code scope p.value) writing,
+        length-append (width_code scope p.width p.representation)
+            (write_instr p.representation ∷ []),
+      );
       need_is = omega arith;
     }
 
@@ -170,13 +179,18 @@ parameters_within scope (p ∷ ps) depth first need h w =
     let needs = sum_by parameter_need ps in
     let both = length-append first (parameter_code scope p) in
     let w' : Within (max depth (parameter_depth p)) (first ++ parameter_code scope p) (need + parameter_need p) = record
-        { code_is = omega arith; need_is = omega arith } in
+    { code_is = omega arith; need_is = omega arith } in
     let r = parameters_within scope ps (max depth (parameter_depth p)) (first ++ parameter_code scope p) (need + parameter_need p) (omega arith) w' in
     let u = r.code_is in let q = r.need_is in
     let all = sum_by-cons parameter_need p ps in
     record {
-      code_is = omega (arith, length-append (first ++ parameter_code scope p) rest, length-append first (parameter_code scope p ++ rest), length-append
-          (parameter_code scope p) rest);
+      code_is = omega (
+        arith,
+        length-append (first ++ parameter_code scope p) rest,
+        length-append first (parameter_code scope p ++ rest),
+        length-append
+            (parameter_code scope p) rest,
+      );
       need_is = omega arith;
     }
 
@@ -187,7 +201,7 @@ rolled_stmt : (x : Stmt-F Stmt) → ((scope : Scope) (place : ℕ) → Within (s
     stmt_code x) scope place) (stmt_need_step (map-Stmt Stmt ℕ stmt_need x))) → StmtWithin (roll-Stmt x)
 rolled_stmt x within scope place =
     same_within _ _ _ _ _ _ (fold-roll-Stmt ℕ stmt_depth_step x) (ap (λ code. code scope place) (fold-roll-Stmt Placed stmt_step x))
-        (fold-roll-Stmt ℕ stmt_need_step x) (within scope place)
+    (fold-roll-Stmt ℕ stmt_need_step x) (within scope place)
 
 -- the statements of a compound statement, behind a first code
 stmts_within : (scope : Scope) (xs : List ((s : Stmt) × StmtWithin s)) (place depth : ℕ) (first : List Instr) (need : ℕ) → Within depth first need
