@@ -54,7 +54,9 @@ pub record Offering (before after : Option (List ℕ)) (whole rest : ℕ) : Type
 pub Offering-none : (a : Option (List ℕ)) (whole : ℕ) → Offering a a whole whole
 Offering-none a whole = record { lengths = []; grew = Appends-none a; begun = inl (refl, refl) }
 
-offered_more : (lengths : List ℕ) (whole rest : ℕ) → 0 < rest → ((lengths ≡ []) × (rest ≡ whole)) ⊎ ((more : List ℕ) × (lengths ≡ whole ∷ more) × (0 < whole) × (total more ≡ 0 → more ≡ [])) → (more : List ℕ) × (lengths ++ rest ∷ [] ≡ whole ∷ more) × (0 < whole) × (total more ≡ 0 → more ≡ [])
+offered_more : (lengths : List ℕ) (whole rest : ℕ) → 0 < rest → ((lengths ≡ []) × (rest ≡ whole)) ⊎
+    ((more : List ℕ) × (lengths ≡ whole ∷ more) × (0 < whole) × (total more ≡ 0 → more ≡ []))
+    → (more : List ℕ) × (lengths ++ rest ∷ [] ≡ whole ∷ more) × (0 < whole) × (total more ≡ 0 → more ≡ [])
 offered_more lengths whole rest some (inl h) = ([], ap (λ l. l ++ rest ∷ []) h.0 ∙ ap (λ n. n ∷ []) h.1, subst (λ n. 0 < n) h.1 some, λ e. refl)
 offered_more lengths whole rest some (inr h) =
     (h.0 ++ rest ∷ [], ap (λ l. l ++ rest ∷ []) h.1, h.2, λ e. let sums = total-append h.0 (rest ∷ []) in absurd (omega (arith, sums, some, e)))
@@ -67,7 +69,8 @@ Offering-more a b c whole rest rest' some h grew = record {
   begun = inr (offered_more h.lengths whole rest some h.begun);
 }
 
-done_offering : (a b : Option (List ℕ)) (lengths : List ℕ) (whole : ℕ) → Appends a b lengths → ((lengths ≡ []) × (0 ≡ whole)) ⊎ ((more : List ℕ) × (lengths ≡ whole ∷ more) × (0 < whole) × (total more ≡ 0 → more ≡ [])) → Offers a b (piece_of whole)
+done_offering : (a b : Option (List ℕ)) (lengths : List ℕ) (whole : ℕ) → Appends a b lengths
+    → ((lengths ≡ []) × (0 ≡ whole)) ⊎ ((more : List ℕ) × (lengths ≡ whole ∷ more) × (0 < whole) × (total more ≡ 0 → more ≡ [])) → Offers a b (piece_of whole)
 done_offering a b lengths zero grew (inl h) = record { lengths = []; grew = subst (Appends a b) h.0 grew; enough = omega arith; at_once = λ e. refl }
 done_offering a b lengths zero grew (inr h) = absurd (omega (arith, h.2))
 done_offering a b lengths (suc n) grew (inl h) = absurd (omega (arith, h.1))
@@ -81,7 +84,8 @@ done_offering a b lengths (suc n) grew (inr h) = record {
 -- nothing is left of the piece
 pub Offering-done : (a b : Option (List ℕ)) (whole rest : ℕ) → rest ≡ 0 → Offering a b whole rest → Offers a b (piece_of whole)
 Offering-done a b whole rest e h =
-    let none = subst (λ n. ((h.lengths ≡ []) × (n ≡ whole)) ⊎ ((more : List ℕ) × (h.lengths ≡ whole ∷ more) × (0 < whole) × (total more ≡ 0 → more ≡ []))) e h.begun in
+    let none = subst (λ n. ((h.lengths ≡ []) × (n ≡ whole)) ⊎ ((more : List ℕ) × (h.lengths ≡ whole ∷ more) × (0 < whole) × (total more ≡ 0 → more ≡ []))) e
+    h.begun in
     done_offering a b h.lengths whole h.grew none
 
 -- to pass nothing
@@ -96,7 +100,8 @@ Passes-none a = record {
 }
 
 -- more is held back
-pub Passes-held : (known offered : Option (List ℕ)) (held held' bytes : List ℕ) → held' ≡ held ++ bytes → Passes (record { known = known; offered = offered; held = held }) (record { known = known; offered = offered; held = held' }) bytes
+pub Passes-held : (known offered : Option (List ℕ)) (held held' bytes : List ℕ) → held' ≡ held ++ bytes
+    → Passes (record { known = known; offered = offered; held = held }) (record { known = known; offered = offered; held = held' }) bytes
 Passes-held known offered held held' bytes e = record {
   done = [];
   grew = Appends-none known;
@@ -111,19 +116,23 @@ pub Passes-then : (a b c : Ports) (xs ys : List ℕ) → Passes a b xs → Passe
 Passes-then a b c xs ys h k = record {
   done = h.done ++ k.done;
   grew = Appends-then a.known b.known c.known h.done k.done h.grew k.grew;
-  in_order = append_assoc h.done k.done c.held ∙ ap (λ l. h.done ++ l) k.in_order ∙ sym (append_assoc h.done b.held ys) ∙ ap (λ l. l ++ ys) h.in_order ∙ append_assoc a.held xs ys;
+  in_order = append_assoc h.done k.done c.held ∙ ap (λ l. h.done ++ l) k.in_order ∙ sym (append_assoc h.done b.held ys) ∙ ap (λ l. l ++ ys) h.in_order
+      ∙ append_assoc a.held xs ys;
   pieces = h.pieces + k.pieces;
   whole = omega (arith, length-append h.done k.done, h.whole, k.whole);
-  offers = subst (Offers a.offered c.offered) (replicate-append-replicate h.pieces k.pieces 4096) (Offers-then a.offered b.offered c.offered (replicate h.pieces 4096) (replicate k.pieces 4096) h.offers k.offers);
+  offers = subst (Offers a.offered c.offered) (replicate-append-replicate h.pieces k.pieces 4096)
+      (Offers-then a.offered b.offered c.offered (replicate h.pieces 4096) (replicate k.pieces 4096) h.offers k.offers);
 }
 
 -- the writer fails after some bytes
-pub Loses-then : (a b : Ports) (known : Option (List ℕ)) (xs ys : List ℕ) → Passes a b xs → Loses b.known known (b.held ++ ys) → Loses a.known known (a.held ++ (xs ++ ys))
+pub Loses-then : (a b : Ports) (known : Option (List ℕ)) (xs ys : List ℕ) → Passes a b xs → Loses b.known known (b.held ++ ys)
+    → Loses a.known known (a.held ++ (xs ++ ys))
 Loses-then a b known xs ys h k = record {
   done = h.done ++ k.done;
   lost = k.lost;
   grew = Appends-then a.known b.known known h.done k.done h.grew k.grew;
-  in_order = sym (append_assoc a.held xs ys) ∙ ap (λ l. l ++ ys) (sym h.in_order) ∙ append_assoc h.done b.held ys ∙ ap (λ l. h.done ++ l) k.in_order ∙ sym (append_assoc h.done k.done k.lost);
+  in_order = sym (append_assoc a.held xs ys) ∙ ap (λ l. l ++ ys) (sym h.in_order) ∙ append_assoc h.done b.held ys ∙ ap (λ l. h.done ++ l) k.in_order
+      ∙ sym (append_assoc h.done k.done k.lost);
 }
 
 -- more bytes are lost
@@ -136,12 +145,15 @@ Loses-more known known' held xs ys h = record {
 }
 
 -- some bytes, and then more or a failure
-pub PassesOrLoses-then : {A E : Type 0} (answer : Result A E) (a b c : Ports) (xs ys : List ℕ) → Passes a b xs → PassesOrLoses answer b c ys → PassesOrLoses answer a c (xs ++ ys)
+pub PassesOrLoses-then : {A E : Type 0} (answer : Result A E) (a b c : Ports) (xs ys : List ℕ) → Passes a b xs → PassesOrLoses answer b c ys
+    → PassesOrLoses answer a c (xs ++ ys)
 PassesOrLoses-then (Ok value) a b c xs ys h k = Passes-then a b c xs ys h k
 PassesOrLoses-then (Err error) a b c xs ys h k = Loses-then a b c.known xs ys h k
 
 -- a whole piece goes out: what was held back, and some bytes with it
-pub PassesOrLoses-piece : {A E : Type 0} (answer : Result A E) (a b : Ports) (bytes piece : List ℕ) → b.held ≡ [] → piece ≡ a.held ++ bytes → length piece ≡ 4096 → AppendsOrLoses answer a.known b.known piece → IfOk answer (λ _. Offers a.offered b.offered (piece_of (length piece))) → PassesOrLoses answer a b bytes
+pub PassesOrLoses-piece : {A E : Type 0} (answer : Result A E) (a b : Ports) (bytes piece : List ℕ) → b.held ≡ [] → piece ≡ a.held ++ bytes
+    → length piece ≡ 4096 → AppendsOrLoses answer a.known b.known piece → IfOk answer (λ _. Offers a.offered b.offered (piece_of (length piece)))
+    → PassesOrLoses answer a b bytes
 PassesOrLoses-piece (Ok value) a b bytes piece none e full h offers = record {
   done = piece;
   grew = h;
@@ -153,7 +165,8 @@ PassesOrLoses-piece (Ok value) a b bytes piece none e full h offers = record {
 PassesOrLoses-piece (Err error) a b bytes piece none e full h offers = subst (Loses a.known b.known) e h
 
 -- what is held back goes out behind the pieces
-pub Offers-rest : (a b : Ports) (offered : Option (List ℕ)) (bytes : List ℕ) → a.held ≡ [] → length b.held < 4096 → Passes a b bytes → Offers b.offered offered (piece_of (length b.held)) → Offers a.offered offered (pieces_of (length bytes))
+pub Offers-rest : (a b : Ports) (offered : Option (List ℕ)) (bytes : List ℕ) → a.held ≡ [] → length b.held < 4096 → Passes a b bytes
+    → Offers b.offered offered (piece_of (length b.held)) → Offers a.offered offered (pieces_of (length bytes))
 Offers-rest a b offered bytes none few h out =
     let order = ap length (h.in_order ∙ ap (λ l. l ++ bytes) none) in
     let sum = length-append h.done b.held in
@@ -164,7 +177,8 @@ Offers-rest a b offered bytes none few h out =
     (Offers-then a.offered b.offered offered (replicate h.pieces 4096) (piece_of (length b.held)) h.offers out))
 
 -- a part of a piece goes out
-pub Loses-part : (a b c : Option (List ℕ)) (bytes part rest rest' : List ℕ) (h : Loses a b bytes) → h.lost ≡ rest → Appends b c part → rest ≡ part ++ rest' → (got : Loses a c bytes) × (got.lost ≡ rest')
+pub Loses-part : (a b c : Option (List ℕ)) (bytes part rest rest' : List ℕ) (h : Loses a b bytes) → h.lost ≡ rest → Appends b c part → rest ≡ part ++ rest'
+    → (got : Loses a c bytes) × (got.lost ≡ rest')
 Loses-part a b c bytes part rest rest' h at grew e = (
   record {
     done = h.done ++ part;
@@ -176,22 +190,26 @@ Loses-part a b c bytes part rest rest' h at grew e = (
 )
 
 -- an answer that is an error
-pub PassesOrLoses-err : {A E : Type 0} (answer : Result A E) (a c : Ports) (bytes : List ℕ) → IsErr answer → Loses a.known c.known (a.held ++ bytes) → PassesOrLoses answer a c bytes
+pub PassesOrLoses-err : {A E : Type 0} (answer : Result A E) (a c : Ports) (bytes : List ℕ) → IsErr answer → Loses a.known c.known (a.held ++ bytes)
+    → PassesOrLoses answer a c bytes
 PassesOrLoses-err (Ok value) a c bytes e h = cc
 PassesOrLoses-err (Err error) a c bytes e h = h
 
 -- one more byte of a row
-pub Passes-row : (a b c : Ports) (bytes : List ℕ) (index : ℕ) → index < length bytes → Passes a b (take index bytes) → Passes b c (get_or bytes index 0 ∷ []) → Passes a c (take (index + 1) bytes)
+pub Passes-row : (a b c : Ports) (bytes : List ℕ) (index : ℕ) → index < length bytes → Passes a b (take index bytes) → Passes b c (get_or bytes index 0 ∷ [])
+    → Passes a c (take (index + 1) bytes)
 Passes-row a b c bytes index h done one =
     subst (Passes a c) (sym (take_more bytes index 0 h)) (Passes-then a b c (take index bytes) (get_or bytes index 0 ∷ []) done one)
 
 -- the writer fails at a byte of a row
-pub Loses-row : (a b : Ports) (known : Option (List ℕ)) (bytes : List ℕ) (index : ℕ) → index < length bytes → Passes a b (take index bytes) → Loses b.known known (b.held ++ get_or bytes index 0 ∷ []) → Loses a.known known (a.held ++ bytes)
+pub Loses-row : (a b : Ports) (known : Option (List ℕ)) (bytes : List ℕ) (index : ℕ) → index < length bytes → Passes a b (take index bytes)
+    → Loses b.known known (b.held ++ get_or bytes index 0 ∷ []) → Loses a.known known (a.held ++ bytes)
 Loses-row a b known bytes index h done one =
     let upto = take index bytes ++ get_or bytes index 0 ∷ [] in
     let rest = drop (index + 1) bytes in
     let whole : upto ++ rest ≡ bytes = ap (λ xs. xs ++ rest) (sym (take_more bytes index 0 h)) ∙ take-append-drop (index + 1) bytes in
-    subst (λ l. Loses a.known known (a.held ++ l)) whole (Loses-more a.known known a.held upto rest (Loses-then a b known (take index bytes) (get_or bytes index 0 ∷ []) done one))
+    subst (λ l. Loses a.known known (a.held ++ l)) whole
+    (Loses-more a.known known a.held upto rest (Loses-then a b known (take index bytes) (get_or bytes index 0 ∷ []) done one))
 
 -- one more of the same bytes
 pub Passes-same : (a b c : Ports) (turn byte : ℕ) → Passes a b (replicate turn byte) → Passes b c (byte ∷ []) → Passes a c (replicate (turn + 1) byte)
@@ -199,13 +217,16 @@ Passes-same a b c turn byte done one =
     subst (Passes a c) (replicate_more turn byte) (Passes-then a b c (replicate turn byte) (byte ∷ []) done one)
 
 -- the writer fails at one of the same bytes
-pub Loses-same : (a b : Ports) (known : Option (List ℕ)) (count turn byte : ℕ) → turn < count → Passes a b (replicate turn byte) → Loses b.known known (b.held ++ byte ∷ []) → Loses a.known known (a.held ++ replicate count byte)
+pub Loses-same : (a b : Ports) (known : Option (List ℕ)) (count turn byte : ℕ) → turn < count → Passes a b (replicate turn byte)
+    → Loses b.known known (b.held ++ byte ∷ []) → Loses a.known known (a.held ++ replicate count byte)
 Loses-same a b known count turn byte h done one =
     let upto = replicate turn byte ++ byte ∷ [] in
     let rest = replicate (count - (turn + 1)) byte in
     let all : turn + 1 + (count - (turn + 1)) ≡ count = omega arith in
-    let whole : upto ++ rest ≡ replicate count byte = ap (λ xs. xs ++ rest) (replicate_more turn byte) ∙ replicate-append-replicate (turn + 1) (count - (turn + 1)) byte ∙ ap (λ n. replicate n byte) all in
-    subst (λ l. Loses a.known known (a.held ++ l)) whole (Loses-more a.known known a.held upto rest (Loses-then a b known (replicate turn byte) (byte ∷ []) done one))
+    let whole : upto ++ rest ≡ replicate count byte = ap (λ xs. xs ++ rest) (replicate_more turn byte)
+    ∙ replicate-append-replicate (turn + 1) (count - (turn + 1)) byte ∙ ap (λ n. replicate n byte) all in
+    subst (λ l. Loses a.known known (a.held ++ l)) whole
+    (Loses-more a.known known a.held upto rest (Loses-then a b known (replicate turn byte) (byte ∷ []) done one))
 
 -- the last byte of a piece
 pub last_byte : (bytes : List ℕ) (held byte : ℕ) → held + 1 ≡ length bytes → slice_set bytes held byte ≡ take held bytes ++ byte ∷ []

@@ -28,8 +28,3 @@ is_write_failed stop.WriteFailed = true
 -- how many failures of the writer a stop stands for: one, or none
 abbrev pub write_failures_of : Stop → ℕ
 write_failures_of why = if is_write_failed why then 1 else 0
-
--- the same of what a part of a run answers
-abbrev pub failures_in : {A : Type 0} → Result A Stop → ℕ
-failures_in (Ok value) = 0
-failures_in (Err why) = write_failures_of why

@@ -3,6 +3,7 @@ pub mod Deeds
 pub mod Does
 pub mod Failures
 pub mod Frames
+pub mod Halts
 pub mod Laws
 pub mod Machine
 pub mod Output

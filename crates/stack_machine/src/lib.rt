@@ -4,6 +4,7 @@
 mod arithmetic;
 pub mod bytes;
 pub mod cell;
+mod halt;
 mod input;
 pub mod laws;
 pub mod machine;

@@ -1,12 +1,12 @@
 ghost use Rattle.std.specs.Prelude.{◌≡◌, ◌+◌, ◌^◌, ◌-◌, ◌<◌, [], ◌∷◌, ◌++◌, replicate, length, IfOk, IsOkUnless, vec_len};
 ghost use Rattle.stack_machine.specs.declared.output.TheConstants.{PIECE};
-ghost use Rattle.stack_machine.specs.Failures.{failures_in};
+ghost use Rattle.stack_machine.specs.Halts.{failures_in};
 ghost use Rattle.stack_machine.specs.Texts as words;
 ghost use Rattle.stack_machine.specs.Ports.{AppendsOrLoses, Offers, PassesOrLoses, piece_of};
 
 use crate::arithmetic::is_true;
 use crate::bytes::Sink;
-use crate::stop::Stop;
+use crate::halt::Halt;
 use itoa::Buffer;
 use std::alloc::{AllocError, Global};
 
@@ -43,9 +43,9 @@ impl Output {
     }
 
     /// Takes a byte; a piece that is full by it goes out.
-    pub fn put<W: Sink>(&mut self, byte: u8, writer: &mut W) -> Result<(), Stop>
+    pub fn put<W: Sink>(&mut self, byte: u8, writer: &mut W) -> Result<(), Halt>
         requires { W.failures writer.old < 2 ^ 64 - 1 }
-        ensures only { IsOkUnless result Stop.WriteFailed }
+        ensures only { IsOkUnless result Halt.WriteFailed }
         ensures failures { W.failures writer.new ≡ W.failures writer.old + failures_in result }
         ensures bytes { PassesOrLoses result (ports (W.contents writer.old) (W.offered writer.old) self.old)
             (ports (W.contents writer.new) (W.offered writer.new) self.new) (byte ∷ []) }
@@ -61,9 +61,9 @@ impl Output {
     }
 
     /// Takes these bytes in turn.
-    pub fn put_all<W: Sink>(&mut self, bytes: &[u8], writer: &mut W) -> Result<(), Stop>
+    pub fn put_all<W: Sink>(&mut self, bytes: &[u8], writer: &mut W) -> Result<(), Halt>
         requires { W.failures writer.old < 2 ^ 64 - 1 }
-        ensures only { IsOkUnless result Stop.WriteFailed }
+        ensures only { IsOkUnless result Halt.WriteFailed }
         ensures failures { W.failures writer.new ≡ W.failures writer.old + failures_in result }
         ensures bytes { PassesOrLoses result (ports (W.contents writer.old) (W.offered writer.old) self.old)
             (ports (W.contents writer.new) (W.offered writer.new) self.new) bytes.now }
@@ -75,9 +75,9 @@ impl Output {
     }
 
     /// Takes so many blanks.
-    pub fn put_blanks<W: Sink>(&mut self, count: usize, writer: &mut W) -> Result<(), Stop>
+    pub fn put_blanks<W: Sink>(&mut self, count: usize, writer: &mut W) -> Result<(), Halt>
         requires { W.failures writer.old < 2 ^ 64 - 1 }
-        ensures only { IsOkUnless result Stop.WriteFailed }
+        ensures only { IsOkUnless result Halt.WriteFailed }
         ensures failures { W.failures writer.new ≡ W.failures writer.old + failures_in result }
         ensures bytes { PassesOrLoses result (ports (W.contents writer.old) (W.offered writer.old) self.old)
             (ports (W.contents writer.new) (W.offered writer.new) self.new) (replicate count 32) }
@@ -94,9 +94,9 @@ impl Output {
         blanks: usize,
         text: &[u8],
         writer: &mut W,
-    ) -> Result<(), Stop>
+    ) -> Result<(), Halt>
         requires { W.failures writer.old < 2 ^ 64 - 1 }
-        ensures only { IsOkUnless result Stop.WriteFailed }
+        ensures only { IsOkUnless result Halt.WriteFailed }
         ensures failures { W.failures writer.new ≡ W.failures writer.old + failures_in result }
         ensures bytes { PassesOrLoses result (ports (W.contents writer.old) (W.offered writer.old) self.old)
             (ports (W.contents writer.new) (W.offered writer.new) self.new) (replicate blanks 32 ++ text.now) }
@@ -111,9 +111,9 @@ impl Output {
         value: i32,
         width: i32,
         writer: &mut W,
-    ) -> Result<(), Stop>
+    ) -> Result<(), Halt>
         requires { W.failures writer.old < 2 ^ 64 - 1 }
-        ensures only { IsOkUnless result Stop.WriteFailed }
+        ensures only { IsOkUnless result Halt.WriteFailed }
         ensures failures { W.failures writer.new ≡ W.failures writer.old + failures_in result }
         ensures bytes { PassesOrLoses result (ports (W.contents writer.old) (W.offered writer.old) self.old)
             (ports (W.contents writer.new) (W.offered writer.new) self.new) (words.integer_text value width) }
@@ -129,9 +129,9 @@ impl Output {
         value: i32,
         width: i32,
         writer: &mut W,
-    ) -> Result<(), Stop>
+    ) -> Result<(), Halt>
         requires { W.failures writer.old < 2 ^ 64 - 1 }
-        ensures only { IsOkUnless result Stop.WriteFailed }
+        ensures only { IsOkUnless result Halt.WriteFailed }
         ensures failures { W.failures writer.new ≡ W.failures writer.old + failures_in result }
         ensures bytes { PassesOrLoses result (ports (W.contents writer.old) (W.offered writer.old) self.old)
             (ports (W.contents writer.new) (W.offered writer.new) self.new) (words.boolean_text value width) }
@@ -142,9 +142,9 @@ impl Output {
 
     /// Takes a string, set right in as many places as the width says, or its first characters where it is
     /// longer (ISO 7185:1990, 6.9.3.6).
-    fn put_string<W: Sink>(&mut self, text: &[u8], width: i32, writer: &mut W) -> Result<(), Stop>
+    fn put_string<W: Sink>(&mut self, text: &[u8], width: i32, writer: &mut W) -> Result<(), Halt>
         requires { W.failures writer.old < 2 ^ 64 - 1 }
-        ensures only { IsOkUnless result Stop.WriteFailed }
+        ensures only { IsOkUnless result Halt.WriteFailed }
         ensures failures { W.failures writer.new ≡ W.failures writer.old + failures_in result }
         ensures bytes { PassesOrLoses result (ports (W.contents writer.old) (W.offered writer.old) self.old)
             (ports (W.contents writer.new) (W.offered writer.new) self.new) (words.string_text text.now width) }
@@ -154,9 +154,9 @@ impl Output {
     }
 
     /// What it holds goes out, if it holds anything.
-    pub fn write_out<W: Sink>(&mut self, writer: &mut W) -> Result<(), Stop>
+    pub fn write_out<W: Sink>(&mut self, writer: &mut W) -> Result<(), Halt>
         requires { W.failures writer.old < 2 ^ 64 - 1 }
-        ensures only { IsOkUnless result Stop.WriteFailed }
+        ensures only { IsOkUnless result Halt.WriteFailed }
         ensures failures { W.failures writer.new ≡ W.failures writer.old + failures_in result }
         ensures bytes { AppendsOrLoses result (W.contents writer.old) (W.contents writer.new) (held_by self.old) }
         ensures pieces { IfOk result
@@ -170,9 +170,9 @@ impl Output {
 }
 
 /// Writes the piece, in the parts that the writer takes.
-fn write_all<W: Sink>(piece: &[u8], writer: &mut W) -> Result<(), Stop>
+fn write_all<W: Sink>(piece: &[u8], writer: &mut W) -> Result<(), Halt>
     requires { W.failures writer.old < 2 ^ 64 - 1 }
-    ensures only { IsOkUnless result Stop.WriteFailed }
+    ensures only { IsOkUnless result Halt.WriteFailed }
     ensures failures { W.failures writer.new ≡ W.failures writer.old + failures_in result }
     ensures bytes { AppendsOrLoses result (W.contents writer.old) (W.contents writer.new) piece.now }
     ensures pieces { IfOk result
@@ -182,7 +182,7 @@ fn write_all<W: Sink>(piece: &[u8], writer: &mut W) -> Result<(), Stop>
     while !rest.is_empty() {
         match writer.write(rest) {
             Ok(count) if count > 0 => rest = &rest[count..],
-            _ => return Err(Stop::WriteFailed),
+            _ => return Err(Halt::WriteFailed),
         }
     }
     Ok(())

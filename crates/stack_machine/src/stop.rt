@@ -1,6 +1,3 @@
-ghost use Rattle.std.specs.Prelude.{◌≡◌};
-ghost use Rattle.stack_machine.specs.declared.stop.Stop.TheVariants.{Fault};
-
 use pcode_assembler::code::{Point, Site};
 
 /// Why a run ended.
@@ -51,12 +48,4 @@ pub enum MachineFault {
     WrongKind,
     /// M4: a division by zero, or a modulo by zero or less.
     WrongDivisor,
-}
-
-impl From<MachineFault> for Stop {
-    ghost from_gives = { λ fault stop. stop ≡ Fault fault };
-
-    fn from(fault: MachineFault) -> Stop {
-        Stop::Fault(fault)
-    }
 }

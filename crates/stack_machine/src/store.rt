@@ -7,7 +7,6 @@ ghost use Rattle.stack_machine.specs.Frames as frames;
 use crate::arithmetic::{Dyadic, Monadic, is_true, modulo, product, quotient};
 use crate::cell::Cell;
 use crate::stop::MachineFault;
-use pcode_assembler::instr::Instr;
 use std::alloc::{AllocError, Global};
 
 /// The greatest value of the type integer (ISO 7185:1990, 6.4.2.2); the least is its negation.
@@ -89,38 +88,8 @@ impl Store {
         true
     }
 
-    /// An instruction of the store alone; another is at fault.
-    pub fn act(&mut self, instr: Instr) -> Result<(), MachineFault>
-        ensures { Acts result (view self.old) (view self.new) (acted (deed_of instr) (view self.old)) }
-    {
-        match instr {
-            Instr::LoadConstant { value } => self.load_constant(value),
-            Instr::Load { level, offset } => self.load(level, offset),
-            Instr::Store { level, offset } => self.store(level, offset),
-            Instr::Add => self.on_two(Dyadic::Add),
-            Instr::Subtract => self.on_two(Dyadic::Subtract),
-            Instr::Multiply => self.on_two(Dyadic::Multiply),
-            Instr::Divide => self.divide(),
-            Instr::Modulo => self.modulo(),
-            Instr::Negate => self.on_one(Monadic::Negate),
-            Instr::Absolute => self.on_one(Monadic::Absolute),
-            Instr::Square => self.on_one(Monadic::Square),
-            Instr::Odd => self.on_one(Monadic::Odd),
-            Instr::Not => self.on_one(Monadic::Not),
-            Instr::And => self.on_two(Dyadic::And),
-            Instr::Or => self.on_two(Dyadic::Or),
-            Instr::Equal => self.on_two(Dyadic::Equal),
-            Instr::NotEqual => self.on_two(Dyadic::NotEqual),
-            Instr::Less => self.on_two(Dyadic::Less),
-            Instr::LessOrEqual => self.on_two(Dyadic::LessOrEqual),
-            Instr::Greater => self.on_two(Dyadic::Greater),
-            Instr::GreaterOrEqual => self.on_two(Dyadic::GreaterOrEqual),
-            _ => Err(MachineFault::OutOfBounds),
-        }
-    }
-
     /// `ldc`
-    fn load_constant(&mut self, value: i32) -> Result<(), MachineFault>
+    pub fn load_constant(&mut self, value: i32) -> Result<(), MachineFault>
         ensures { Acts result (view self.old) (view self.new) (frames.load_constant value (view self.old)) }
     {
         self.has_room_after(0)?;
@@ -129,7 +98,7 @@ impl Store {
     }
 
     /// `lod`: its cell may be of any kind.
-    fn load(&mut self, level: u8, offset: u32) -> Result<(), MachineFault>
+    pub fn load(&mut self, level: u8, offset: u32) -> Result<(), MachineFault>
         ensures { Acts result (view self.old) (view self.new) (frames.load level offset (view self.old)) }
     {
         self.has_room_after(0)?;
@@ -141,7 +110,7 @@ impl Store {
     }
 
     /// `str`: the cell that it pops is out of use when the address is looked for.
-    fn store(&mut self, level: u8, offset: u32) -> Result<(), MachineFault>
+    pub fn store(&mut self, level: u8, offset: u32) -> Result<(), MachineFault>
         ensures { Acts result (view self.old) (view self.new) (frames.store level offset (view self.old)) }
     {
         self.has(1)?;
@@ -153,7 +122,7 @@ impl Store {
     }
 
     /// A number gives way to what the operator gives of it.
-    fn on_one(&mut self, operator: Monadic) -> Result<(), MachineFault>
+    pub fn on_one(&mut self, operator: Monadic) -> Result<(), MachineFault>
         ensures { Acts result (view self.old) (view self.new) (frames.on_one (frames.of_one operator) (view self.old)) }
     {
         self.has(1)?;
@@ -164,7 +133,7 @@ impl Store {
     }
 
     /// Two numbers give way to what the operator gives of them.
-    fn on_two(&mut self, operator: Dyadic) -> Result<(), MachineFault>
+    pub fn on_two(&mut self, operator: Dyadic) -> Result<(), MachineFault>
         ensures { Acts result (view self.old) (view self.new) (frames.on_two (frames.of_two operator) (view self.old)) }
     {
         let (left, right) = self.operands()?;
@@ -173,7 +142,7 @@ impl Store {
     }
 
     /// `dvi`
-    fn divide(&mut self) -> Result<(), MachineFault>
+    pub fn divide(&mut self) -> Result<(), MachineFault>
         ensures { Acts result (view self.old) (view self.new) (frames.divide (view self.old)) }
     {
         let (left, right) = self.operands()?;
@@ -183,7 +152,7 @@ impl Store {
     }
 
     /// `mod`
-    fn modulo(&mut self) -> Result<(), MachineFault>
+    pub fn modulo(&mut self) -> Result<(), MachineFault>
         ensures { Acts result (view self.old) (view self.new) (frames.modulo (view self.old)) }
     {
         let (left, right) = self.operands()?;

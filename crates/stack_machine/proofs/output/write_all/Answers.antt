@@ -4,8 +4,12 @@ use Rattle.stack_machine.proofs.Written.{Appends-none, Loses-part, Offering-none
 use Rattle.stack_machine.proofs.output.write_all.Goals as goal
 
 pub loop-rest-init : goal.loop-rest-init
-loop-rest-init g c =
-    (refl, (record { done = []; lost = c.args.piece.now; grew = Appends-none (g.W.Sink.contents c.args.writer.now); in_order = refl }, refl), Offering-none (g.W.Sink.offered c.args.writer.now) (length c.args.piece.now))
+loop-rest-init g c = (
+  refl,
+  (record { done = []; lost = c.args.piece.now; grew = Appends-none (g.W.Sink.contents c.args.writer.now); in_order = refl }, refl),
+  Offering-none
+      (g.W.Sink.offered c.args.writer.now) (length c.args.piece.now),
+)
 
 pub loop-rest-preserved : goal.loop-rest-preserved
 loop-rest-preserved g c =
@@ -14,5 +18,9 @@ loop-rest-preserved g c =
     let count = c.in-Ok.count in
     let none = none_failed rest count c.if-count-gt0.true in
     let some : 0 < length rest = omega (arith, c.in-Ok.ensures.bound, c.if-count-gt0.true) in
-    let whole = sym (take-append-drop count rest) ∙ ap (λ xs. take count rest ++ xs) (part_left rest count) in
-    (omega (arith, none, c.in-Ok.ensures.counted, kept.0), Loses-part _ _ _ c.args.piece.now (take count rest) rest _ kept.1.0 kept.1.1 c.in-Ok.ensures.bytes whole, Offering-more _ _ _ (length c.args.piece.now) (length rest) _ some kept.2 c.in-Ok.ensures.offered)
+    let whole = sym (take-append-drop count rest) ∙ ap (λ xs. take count rest ++ xs) (part_left rest count) in (
+      omega (arith, none, c.in-Ok.ensures.counted, kept.0),
+      Loses-part _ _ _ c.args.piece.now (take count rest) rest _ kept.1.0 kept.1.1 c.in-Ok.ensures.bytes
+          whole,
+      Offering-more _ _ _ (length c.args.piece.now) (length rest) _ some kept.2 c.in-Ok.ensures.offered,
+    )

@@ -4,7 +4,8 @@ use Rattle.stack_machine.proofs.output.Output.put_after_blanks.Goals as goal
 
 pub returns-in_err-put_blanks-clause-bytes : goal.returns-in_err-put_blanks-clause-bytes
 returns-in_err-put_blanks-clause-bytes g c =
-    PassesOrLoses-err c.from_residual.result _ _ _ c.from_residual.ensures.0 (Loses-more _ _ _ (replicate c.args.blanks 32) c.args.text.now c.in_err-put_blanks.ensures.bytes)
+    PassesOrLoses-err c.from_residual.result _ _ _ c.from_residual.ensures.0
+    (Loses-more _ _ _ (replicate c.args.blanks 32) c.args.text.now c.in_err-put_blanks.ensures.bytes)
 
 pub returns-clause-bytes : goal.returns-clause-bytes
 returns-clause-bytes g c =

@@ -5,4 +5,6 @@ use Rattle.stack_machine.proofs.output.Output.put_all.Given as goal
 
 abbrev pub invariant-loop-byte : goal.invariant-loop-byte
 invariant-loop-byte g l =
-    (g.W.Sink.failures l.writer ≡ g.W.Sink.failures l.initial.writer) × Passes (ports (g.W.Sink.contents l.initial.writer) (g.W.Sink.offered l.initial.writer) l.initial.self) (ports (g.W.Sink.contents l.writer) (g.W.Sink.offered l.writer) l.self) (take l.byte-index l.bytes)
+    (g.W.Sink.failures l.writer ≡ g.W.Sink.failures l.initial.writer) × Passes
+    (ports (g.W.Sink.contents l.initial.writer) (g.W.Sink.offered l.initial.writer) l.initial.self)
+    (ports (g.W.Sink.contents l.writer) (g.W.Sink.offered l.writer) l.self) (take l.byte-index l.bytes)

@@ -9,4 +9,6 @@ returns c =
     let s = c.args.self.now in
     let in_row : s.used ≤ length s.cells.items = omega arith in
     let few : c.args.length ≤ s.used = omega (arith, c.in_ok-has.ensures.within) in
-    are_defined-used s.cells.items s.used s.frame s.limit s.size c.args.length c.all_defined.result in_row few c.in_ok-has.ensures.value (c.all_defined.ensures ∙ ap (λ xs. list_all is_defined (take (s.used - (s.used - c.args.length)) (drop (s.used - c.args.length) xs))) c.as_slice.ensures.value)
+    are_defined-used s.cells.items s.used s.frame s.limit s.size c.args.length c.all_defined.result in_row few c.in_ok-has.ensures.value
+    (c.all_defined.ensures ∙ ap (λ xs. list_all is_defined (take (s.used - (s.used - c.args.length)) (drop (s.used - c.args.length) xs)))
+    c.as_slice.ensures.value)

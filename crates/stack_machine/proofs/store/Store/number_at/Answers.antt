@@ -7,4 +7,5 @@ pub returns : goal.returns
 returns c =
     let s = c.args.self.now in
     let in_row : s.used ≤ length s.cells.items = omega arith in
-    c.number.ensures ∙ ap frames.number (sym (slice_get-top s.cells.items s.used c.args.count c.index.result.now in_row c.requires.some c.requires.in_use c.index.ensures))
+    c.number.ensures ∙ ap frames.number (sym (slice_get-top s.cells.items s.used c.args.count c.index.result.now in_row c.requires.some c.requires.in_use
+    c.index.ensures))
