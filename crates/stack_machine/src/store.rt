@@ -1,7 +1,6 @@
 ghost use Rattle.std.specs.Prelude.{◌≡◌, ◌+◌, ◌-◌, ◌<◌, ◌≤◌, ◌++◌, nat_le, if◌then◌else◌, replicate, take, IfOk, OnOk, vec_len};
 ghost use Rattle.stack_machine.specs.declared.cell.Cell.TheVariants.{Undefined};
 ghost use Rattle.std.specs.List.{list_all};
-ghost use Rattle.stack_machine.specs.Deeds.{acted, deed_of};
 ghost use Rattle.stack_machine.specs.Frames as frames;
 
 use crate::arithmetic::{Dyadic, Monadic, is_true, modulo, product, quotient};
