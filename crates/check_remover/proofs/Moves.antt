@@ -18,7 +18,8 @@ moved_place-min is_open code place =
     ap (λ n. count_by (stays is_open) (take n code)) flip ∙ ap (count_by (stays is_open)) (take_min place code)
 
 -- a list of new places gives each place its new one
-pub new_place-moved : (is_open : ℕ → Bool) (code : List Instr) (places : List ℕ) → IsPlaces (moved_place is_open code) (length code) places → (place : ℕ) → new_place places place ≡ moved_place is_open code place
+pub new_place-moved : (is_open : ℕ → Bool) (code : List Instr) (places : List ℕ) → IsPlaces (moved_place is_open code) (length code) places → (place : ℕ)
+    → new_place places place ≡ moved_place is_open code place
 new_place-moved is_open code places h place =
     let last : length places - 1 ≡ length code = omega (arith, h.count) in
     let within : min (length code) place ≤ length code = omega arith in
@@ -31,7 +32,8 @@ moved_place-le is_open code place =
     let b = length-take place code in
     omega arith
 
-pub new_place-le : (is_open : ℕ → Bool) (code : List Instr) (places : List ℕ) → IsPlaces (moved_place is_open code) (length code) places → (place : ℕ) → new_place places place ≤ place
+pub new_place-le : (is_open : ℕ → Bool) (code : List Instr) (places : List ℕ) → IsPlaces (moved_place is_open code) (length code) places → (place : ℕ)
+    → new_place places place ≤ place
 new_place-le is_open code places h place = rw (new_place-moved is_open code places h place) (moved_place-le is_open code place)
 
 -- new places of the first places, and of one more
@@ -58,7 +60,9 @@ kept-strip_by is_open code rest places h e =
     e ∙ ap (λ f. map (moved f) (filter (stays is_open) code)) to
 
 -- one instruction more is kept
-pub kept_more : (test : Instr → Bool) (to : Instr → Instr) (code before after : List Instr) (i : ℕ) (d : Instr) → i < length code → before ≡ map to (filter test (take i code)) → test (get_or code i d) ≡ true → after ≡ before ++ to (get_or code i d) ∷ [] → after ≡ map to (filter test (take (i + 1) code))
+pub kept_more : (test : Instr → Bool) (to : Instr → Instr) (code before after : List Instr) (i : ℕ) (d : Instr) → i < length code
+    → before ≡ map to (filter test (take i code)) → test (get_or code i d) ≡ true → after ≡ before ++ to (get_or code i d) ∷ []
+    → after ≡ map to (filter test (take (i + 1) code))
 kept_more test to code before after i d within so_far stays more =
     let front = filter test (take i code) in
     let x = get_or code i d in
@@ -66,7 +70,8 @@ kept_more test to code before after i d within so_far stays more =
     ∙ ap (λ b. map to (front ++ cond b (x ∷ []) [])) (sym stays) ∙ ap (map to) (sym (filter_more test code i d within))
 
 -- one instruction more is left out
-pub left_out : (test : Instr → Bool) (to : Instr → Instr) (code before after : List Instr) (i : ℕ) (d : Instr) → i < length code → before ≡ map to (filter test (take i code)) → test (get_or code i d) ≡ false → after ≡ before → after ≡ map to (filter test (take (i + 1) code))
+pub left_out : (test : Instr → Bool) (to : Instr → Instr) (code before after : List Instr) (i : ℕ) (d : Instr) → i < length code
+    → before ≡ map to (filter test (take i code)) → test (get_or code i d) ≡ false → after ≡ before → after ≡ map to (filter test (take (i + 1) code))
 left_out test to code before after i d within so_far goes same =
     let front = filter test (take i code) in
     let x = get_or code i d in

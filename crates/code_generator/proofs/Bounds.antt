@@ -96,10 +96,12 @@ module _ (scope : Scope) where
   links_in_bounds (link ∷ links) =
       append_in_bounds (link_code scope link.0) (joined (map (link_code scope) (map (λ l. l.0) links))) link.1 (links_in_bounds links)
 
-  rolled_expr : (x : Expr-F Expr Link) → InBounds (expr_step scope (map-Expr Expr Link (List Instr) (List Instr) (expr_code scope) (link_code scope) x)) → ExprInBounds (roll-Expr x)
+  rolled_expr : (x : Expr-F Expr Link) → InBounds (expr_step scope (map-Expr Expr Link (List Instr) (List Instr) (expr_code scope) (link_code scope) x))
+      → ExprInBounds (roll-Expr x)
   rolled_expr x = subst InBounds (sym (fold-roll-Expr (List Instr) (List Instr) (expr_step scope) link_step x))
 
-  rolled_link : (x : Link-F Expr Link) → InBounds (link_step (map-Link Expr Link (List Instr) (List Instr) (expr_code scope) (link_code scope) x)) → LinkInBounds (roll-Link x)
+  rolled_link : (x : Link-F Expr Link) → InBounds (link_step (map-Link Expr Link (List Instr) (List Instr) (expr_code scope) (link_code scope) x))
+      → LinkInBounds (roll-Link x)
   rolled_link x = subst InBounds (sym (fold-roll-Link (List Instr) (List Instr) (expr_step scope) link_step x))
 
   expr_layer : (y : Expr-F ProvedExpr ProvedLink) → ExprInBounds (roll-Expr (bare_expr y))
@@ -154,7 +156,8 @@ ProvedStmt = (s : Stmt) × StmtInBounds s
 abbrev bare_stmt : Stmt-F ProvedStmt → Stmt-F Stmt
 bare_stmt = map-Stmt ProvedStmt Stmt (λ s. s.0)
 
-stmts_in_bounds : (scope : Scope) (statements : List ProvedStmt) (place : ℕ) → InBounds (placed (map (λ code. code scope) (map stmt_code (map (λ s. s.0) statements))) place)
+stmts_in_bounds : (scope : Scope) (statements : List ProvedStmt) (place : ℕ)
+    → InBounds (placed (map (λ code. code scope) (map stmt_code (map (λ s. s.0) statements))) place)
 stmts_in_bounds scope [] place = refl
 stmts_in_bounds scope (s ∷ statements) place =
     let code = stmt_code s.0 scope place in
@@ -162,7 +165,8 @@ stmts_in_bounds scope (s ∷ statements) place =
     append_in_bounds code (placed (map (λ c. c scope) (map stmt_code (map (λ s. s.0) statements))) next) (s.1 scope place)
     (stmts_in_bounds scope statements next)
 
-rolled_stmt : (x : Stmt-F Stmt) → ((scope : Scope) (place : ℕ) → InBounds (stmt_step (map-Stmt Stmt Placed stmt_code x) scope place)) → StmtInBounds (roll-Stmt x)
+rolled_stmt : (x : Stmt-F Stmt) → ((scope : Scope) (place : ℕ) → InBounds (stmt_step (map-Stmt Stmt Placed stmt_code x) scope place))
+    → StmtInBounds (roll-Stmt x)
 rolled_stmt x in_bounds scope place = subst (λ code. InBounds (code scope place)) (sym (fold-roll-Stmt Placed stmt_step x)) (in_bounds scope place)
 
 stmt_layer : (y : Stmt-F ProvedStmt) → StmtInBounds (roll-Stmt (bare_stmt y))

@@ -173,7 +173,8 @@ module _ (becomes name : Place) (parameters : Vec WriteParameter) (writes : para
         ∙ ap (λ n. 8 + sum (n ∷ stmt_need write ∷ [])) assign_need ∙ ap (λ n. 8 + sum (26 ∷ n ∷ [])) write_need
 
     -- a program with two variables
-    module _ (tree : Tree) (first other : Declared) (declares : tree.variables.items ≡ first ∷ other ∷ []) (end : Place) (does : tree.blocks.items ≡ record { body = body; end = end } ∷ []) where
+    module _ (tree : Tree) (first other : Declared) (declares : tree.variables.items ≡ first ∷ other ∷ []) (end : Place)
+        (does : tree.blocks.items ≡ record { body = body; end = end } ∷ []) where
       program_code_is : program_code tree ≡ instr.Enter 2 2 ∷ (assigned ++ (written ++ (instr.Stop ∷ [])))
       program_code_is =
           ap (λ vs. body_code (count (length vs)) (slice_get tree.blocks.items 0) ++ (instr.Stop ∷ [])) declares

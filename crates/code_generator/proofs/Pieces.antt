@@ -32,7 +32,8 @@ joined-map piece_of [] = refl
 joined-map piece_of (x ∷ xs) = ap (λ rest. piece_of x ++ rest) (joined-map piece_of xs)
 
 -- a chain: its first operand, and each of its links
-pub expr_code-Chain : (scope : Scope) (first : Box Expr) (rest : Vec Link) → expr_code scope (Chain first rest) ≡ expr_code scope first.value ++ flat_map (link_code scope) rest.items
+pub expr_code-Chain : (scope : Scope) (first : Box Expr) (rest : Vec Link)
+    → expr_code scope (Chain first rest) ≡ expr_code scope first.value ++ flat_map (link_code scope) rest.items
 expr_code-Chain scope first rest =
     ap (expr_code scope) (sym (rolls-Chain first rest)) ∙ fold-roll-Expr (List Instr) (List Instr) (expr_step scope) link_step (Chain-layer first rest)
     ∙ ap (λ p. expr_code scope first.value ++ p) (joined-map (link_code scope) rest.items)
@@ -47,7 +48,8 @@ abbrev pub stmts_code : Scope → List Stmt → ℕ → List Instr
 stmts_code scope statements place = placed (map (λ s. stmt_code s scope) statements) place
 
 -- a compound statement: each of its statements
-pub stmt_code-Compound : (scope : Scope) (place number : ℕ) (statements : Vec Stmt) → stmt_code (Compound number statements) scope place ≡ stmts_code scope statements.items place
+pub stmt_code-Compound : (scope : Scope) (place number : ℕ) (statements : Vec Stmt)
+    → stmt_code (Compound number statements) scope place ≡ stmts_code scope statements.items place
 stmt_code-Compound scope place number statements =
     ap (λ s. stmt_code s scope place) (sym (rolls-Compound number statements))
     ∙ ap (λ code. code scope place) (fold-roll-Stmt Placed stmt_step (Compound-layer number statements))
@@ -57,33 +59,41 @@ pub stmt_code-Empty : (scope : Scope) (place number : ℕ) → stmt_code (Empty 
 stmt_code-Empty scope place number =
     ap (λ s. stmt_code s scope place) (sym (rolls-Empty number)) ∙ ap (λ code. code scope place) (fold-roll-Stmt Placed stmt_step (Empty-layer number))
 
-pub stmt_code-Assign : (scope : Scope) (place number : ℕ) (becomes : SourcePlace) (target : Access) (fits : RangeTest) (value : Expr) → stmt_code (Assign number becomes target fits value) scope place ≡ assign_code scope target.root fits value
+pub stmt_code-Assign : (scope : Scope) (place number : ℕ) (becomes : SourcePlace) (target : Access) (fits : RangeTest) (value : Expr)
+    → stmt_code (Assign number becomes target fits value) scope place ≡ assign_code scope target.root fits value
 stmt_code-Assign scope place number becomes target fits value =
     ap (λ s. stmt_code s scope place) (sym (rolls-Assign number becomes target fits value))
     ∙ ap (λ code. code scope place) (fold-roll-Stmt Placed stmt_step (Assign-layer number becomes target fits value))
 
-pub stmt_code-Write : (scope : Scope) (place number : ℕ) (name : SourcePlace) (parameters : Vec WriteParameter) (ends_line : Bool) → stmt_code (Write number name parameters ends_line) scope place ≡ write_code scope parameters.items ends_line
+pub stmt_code-Write : (scope : Scope) (place number : ℕ) (name : SourcePlace) (parameters : Vec WriteParameter) (ends_line : Bool)
+    → stmt_code (Write number name parameters ends_line) scope place ≡ write_code scope parameters.items ends_line
 stmt_code-Write scope place number name parameters ends_line =
     ap (λ s. stmt_code s scope place) (sym (rolls-Write number name parameters ends_line))
     ∙ ap (λ code. code scope place) (fold-roll-Stmt Placed stmt_step (Write-layer number name parameters ends_line))
 
 -- how many instructions an assignment has, and a write
-pub length-Assign : (scope : Scope) (place number : ℕ) (becomes : SourcePlace) (target : Access) (fits : RangeTest) (value : Expr) → length (stmt_code (Assign number becomes target fits value) scope place) ≡ length (expr_code scope value) + 2
+pub length-Assign : (scope : Scope) (place number : ℕ) (becomes : SourcePlace) (target : Access) (fits : RangeTest) (value : Expr)
+    → length (stmt_code (Assign number becomes target fits value) scope place) ≡ length (expr_code scope value) + 2
 length-Assign scope place number becomes target fits value =
     ap length (stmt_code-Assign scope place number becomes target fits value)
-    ∙ length-append (expr_code scope value) (instr.CheckRange fits.site fits.range.first fits.range.last ∷ instr.Store 0 (variable_offset scope target.root) ∷ [])
+    ∙ length-append (expr_code scope value) (instr.CheckRange fits.site fits.range.first fits.range.last ∷ instr.Store 0 (variable_offset scope target.root) ∷
+    [])
 
-pub length-Write : (scope : Scope) (place number : ℕ) (name : SourcePlace) (parameters : Vec WriteParameter) (ends_line : Bool) → length (stmt_code (Write number name parameters ends_line) scope place) ≡ length (flat_map (parameter_code scope) parameters.items) + length (line_end_code ends_line)
+pub length-Write : (scope : Scope) (place number : ℕ) (name : SourcePlace) (parameters : Vec WriteParameter) (ends_line : Bool)
+    → length (stmt_code (Write number name parameters ends_line) scope place) ≡ length (flat_map (parameter_code scope) parameters.items) + length
+    (line_end_code ends_line)
 length-Write scope place number name parameters ends_line =
     ap length (stmt_code-Write scope place number name parameters ends_line)
     ∙ length-append (flat_map (parameter_code scope) parameters.items) (line_end_code ends_line)
 
 -- how many cells an assignment needs, a write, and a compound statement
-pub stmt_depth-Assign : (number : ℕ) (becomes : SourcePlace) (target : Access) (fits : RangeTest) (value : Expr) → stmt_depth (Assign number becomes target fits value) ≡ expr_depth value
+pub stmt_depth-Assign : (number : ℕ) (becomes : SourcePlace) (target : Access) (fits : RangeTest) (value : Expr)
+    → stmt_depth (Assign number becomes target fits value) ≡ expr_depth value
 stmt_depth-Assign number becomes target fits value =
     ap stmt_depth (sym (rolls-Assign number becomes target fits value)) ∙ fold-roll-Stmt ℕ stmt_depth_step (Assign-layer number becomes target fits value)
 
-pub stmt_depth-Write : (number : ℕ) (name : SourcePlace) (parameters : Vec WriteParameter) (ends_line : Bool) → stmt_depth (Write number name parameters ends_line) ≡ greatest (map parameter_depth parameters.items)
+pub stmt_depth-Write : (number : ℕ) (name : SourcePlace) (parameters : Vec WriteParameter) (ends_line : Bool)
+    → stmt_depth (Write number name parameters ends_line) ≡ greatest (map parameter_depth parameters.items)
 stmt_depth-Write number name parameters ends_line =
     ap stmt_depth (sym (rolls-Write number name parameters ends_line)) ∙ fold-roll-Stmt ℕ stmt_depth_step (Write-layer number name parameters ends_line)
 
@@ -92,37 +102,44 @@ stmt_depth-Compound number statements =
     ap stmt_depth (sym (rolls-Compound number statements)) ∙ fold-roll-Stmt ℕ stmt_depth_step (Compound-layer number statements)
 
 -- a loop over pieces, at its end
-pub joined_at_end : {X : Type 0} (piece_of : X → List Instr) (code start : List Instr) (xs ys : List X) (i : ℕ) → code ≡ start ++ flat_map piece_of (take i xs) → length xs ≤ i → xs ≡ ys → code ≡ start ++ flat_map piece_of ys
+pub joined_at_end : {X : Type 0} (piece_of : X → List Instr) (code start : List Instr) (xs ys : List X) (i : ℕ)
+    → code ≡ start ++ flat_map piece_of (take i xs) → length xs ≤ i → xs ≡ ys → code ≡ start ++ flat_map piece_of ys
 joined_at_end piece_of code start xs ys i e h same =
     e ∙ ap (λ zs. start ++ flat_map piece_of zs) (take_all i xs h ∙ same)
 
 -- and one piece further
-pub joined_one_more : {X : Type 0} (piece_of : X → List Instr) (code more start : List Instr) (xs : List X) (i : ℕ) (x : X) → code ≡ start ++ flat_map piece_of (take i xs) → i < length xs → x ≡ get_or xs i x → more ≡ code ++ piece_of x → more ≡ start ++ flat_map piece_of (take (i + 1) xs)
+pub joined_one_more : {X : Type 0} (piece_of : X → List Instr) (code more start : List Instr) (xs : List X) (i : ℕ) (x : X)
+    → code ≡ start ++ flat_map piece_of (take i xs) → i < length xs → x ≡ get_or xs i x → more ≡ code ++ piece_of x
+    → more ≡ start ++ flat_map piece_of (take (i + 1) xs)
 joined_one_more piece_of code more start xs i x e h here grown =
     grown ∙ ap (λ p. p ++ piece_of x) e ∙ ap (λ y. (start ++ flat_map piece_of (take i xs)) ++ piece_of y) here
     ∙ flat_map_more piece_of start (take i xs) (get_or xs i x) ∙ ap (λ ys. start ++ flat_map piece_of ys) (sym (take_more xs i x h))
 
 -- a loop that writes a list, one element further
-pub map_one_more : {X Y : Type 0} (f : X → Y) (xs : List X) (i : ℕ) (d : X) (before after : List Y) (y : Y) → before ≡ map f (take i xs) → i < length xs → y ≡ f (get_or xs i d) → after ≡ before ++ (y ∷ []) → after ≡ map f (take (i + 1) xs)
+pub map_one_more : {X Y : Type 0} (f : X → Y) (xs : List X) (i : ℕ) (d : X) (before after : List Y) (y : Y) → before ≡ map f (take i xs) → i < length xs
+    → y ≡ f (get_or xs i d) → after ≡ before ++ (y ∷ []) → after ≡ map f (take (i + 1) xs)
 map_one_more f xs i d before after y so_far inside is grown =
     grown ∙ ap (λ ys. ys ++ (y ∷ [])) so_far ∙ ap (λ v. map f (take i xs) ++ (v ∷ [])) is ∙ sym (map_more f xs i d inside)
 
 -- how many instructions the pieces have then
-pub length_one_more : {X : Type 0} (piece_of : X → List Instr) (xs : List X) (i : ℕ) (x : X) → i < length xs → x ≡ get_or xs i x → length (flat_map piece_of (take (i + 1) xs)) ≡ length (flat_map piece_of (take i xs)) + length (piece_of x)
+pub length_one_more : {X : Type 0} (piece_of : X → List Instr) (xs : List X) (i : ℕ) (x : X) → i < length xs → x ≡ get_or xs i x
+    → length (flat_map piece_of (take (i + 1) xs)) ≡ length (flat_map piece_of (take i xs)) + length (piece_of x)
 length_one_more piece_of xs i x h here =
     ap (λ ys. length (flat_map piece_of ys)) (take_more xs i x h) ∙ ap length (sym (flat_map_more piece_of [] (take i xs) (get_or xs i x)))
     ∙ length-append (flat_map piece_of (take i xs)) (piece_of (get_or xs i x))
     ∙ ap (λ y. length (flat_map piece_of (take i xs)) + length (piece_of y)) (sym here)
 
 -- the greatest depth so far, and one more
-pub greatest_one_more : {X : Type 0} (depth_of : X → ℕ) (first : ℕ) (xs : List X) (i : ℕ) (x : X) → i < length xs → x ≡ get_or xs i x → fold max first (map depth_of (take (i + 1) xs)) ≡ max (fold max first (map depth_of (take i xs))) (depth_of x)
+pub greatest_one_more : {X : Type 0} (depth_of : X → ℕ) (first : ℕ) (xs : List X) (i : ℕ) (x : X) → i < length xs → x ≡ get_or xs i x
+    → fold max first (map depth_of (take (i + 1) xs)) ≡ max (fold max first (map depth_of (take i xs))) (depth_of x)
 greatest_one_more depth_of first xs i x h here =
     ap (λ ys. fold max first (map depth_of ys)) (take_more xs i x h) ∙ ap (fold max first) (map_push depth_of (take i xs) (get_or xs i x))
     ∙ fold_push max first (map depth_of (take i xs)) (depth_of (get_or xs i x))
     ∙ ap (λ y. max (fold max first (map depth_of (take i xs))) (depth_of y)) (sym here)
 
 -- pieces at their places, and one more
-pub placed-push : (pieces : List (ℕ → List Instr)) (piece : ℕ → List Instr) (place : ℕ) → placed (pieces ++ (piece ∷ [])) place ≡ placed pieces place ++ piece (place + length (placed pieces place))
+pub placed-push : (pieces : List (ℕ → List Instr)) (piece : ℕ → List Instr) (place : ℕ)
+    → placed (pieces ++ (piece ∷ [])) place ≡ placed pieces place ++ piece (place + length (placed pieces place))
 placed-push [] piece place = append-nil (piece place) ∙ ap piece (sym (add-zero place))
 placed-push (first ∷ pieces) piece place =
     let rest = placed pieces (place + length (first place)) in
@@ -132,7 +149,9 @@ placed-push (first ∷ pieces) piece place =
     ∙ sym (append_assoc (first place) rest (piece (place + length (first place ++ rest))))
 
 -- a loop over statements: one further
-pub stmts_one_more : (scope : Scope) (place : ℕ) (statements : List Stmt) (i : ℕ) (s : Stmt) → i < length statements → s ≡ get_or statements i s → stmts_code scope (take (i + 1) statements) place ≡ stmts_code scope (take i statements) place ++ stmt_code s scope (place + length (stmts_code scope (take i statements) place))
+pub stmts_one_more : (scope : Scope) (place : ℕ) (statements : List Stmt) (i : ℕ) (s : Stmt) → i < length statements → s ≡ get_or statements i s
+    → stmts_code scope (take (i + 1) statements) place ≡ stmts_code scope (take i statements) place ++ stmt_code s scope
+    (place + length (stmts_code scope (take i statements) place))
 stmts_one_more scope place statements i s h here =
     let so_far = stmts_code scope (take i statements) place in
     ap (λ pieces. placed pieces place) (map_more (λ x. stmt_code x scope) statements i s h)
@@ -140,7 +159,8 @@ stmts_one_more scope place statements i s h here =
     ∙ ap (λ x. so_far ++ stmt_code x scope (place + length so_far)) (sym here)
 
 -- and all of them
-pub all_stmts : (scope : Scope) (place : ℕ) (statements others : List Stmt) (i : ℕ) → length statements ≤ i → statements ≡ others → stmts_code scope (take i statements) place ≡ stmts_code scope others place
+pub all_stmts : (scope : Scope) (place : ℕ) (statements others : List Stmt) (i : ℕ) → length statements ≤ i → statements ≡ others
+    → stmts_code scope (take i statements) place ≡ stmts_code scope others place
 all_stmts scope place statements others i h same = ap (λ ss. stmts_code scope ss place) (take_all i statements h ∙ same)
 
 -- a link: its operand, and its operation
@@ -148,20 +168,25 @@ pub link_code-is : (scope : Scope) (link : Link) → link_code scope link ≡ ex
 link_code-is scope link = fold_out-Link (List Instr) (List Instr) (expr_step scope) link_step link
 
 -- an operation on one operand
-pub expr_code-Monadic : (scope : Scope) (number : ℕ) (operation : Monadic) (operand : Box Expr) → expr_code scope (MonadicOf number operation operand) ≡ expr_code scope operand.value ++ monadic_code operation
+pub expr_code-Monadic : (scope : Scope) (number : ℕ) (operation : Monadic) (operand : Box Expr)
+    → expr_code scope (MonadicOf number operation operand) ≡ expr_code scope operand.value ++ monadic_code operation
 expr_code-Monadic scope number operation operand =
     ap (expr_code scope) (sym (rolls-Monadic number operation operand))
     ∙ fold-roll-Expr (List Instr) (List Instr) (expr_step scope) link_step (Monadic-layer number operation operand)
 
-pub length-link_code : (scope : Scope) (link : Link) → length (link_code scope link) ≡ length (expr_code scope link.operand) + length (dyadic_code link.operation)
+pub length-link_code : (scope : Scope) (link : Link) → length (link_code scope link) ≡ length (expr_code scope link.operand) + length
+    (dyadic_code link.operation)
 length-link_code scope link =
     ap length (link_code-is scope link) ∙ length-append (expr_code scope link.operand) (dyadic_code link.operation)
 
 -- how many instructions the first links have, and one more
-pub length-links_more : (scope : Scope) (links : List Link) (i : ℕ) (link : Link) → i < length links → link ≡ get_or links i link → length (flat_map (link_code scope) (take (i + 1) links)) ≡ length (flat_map (link_code scope) (take i links)) + (length (expr_code scope link.operand) + length (dyadic_code link.operation))
+pub length-links_more : (scope : Scope) (links : List Link) (i : ℕ) (link : Link) → i < length links → link ≡ get_or links i link
+    → length (flat_map (link_code scope) (take (i + 1) links)) ≡ length (flat_map (link_code scope) (take i links)) +
+    (length (expr_code scope link.operand) + length (dyadic_code link.operation))
 length-links_more scope links i link h here =
     length_one_more (link_code scope) links i link h here ∙ ap (λ n. length (flat_map (link_code scope) (take i links)) + n) (length-link_code scope link)
 
 -- the pieces of a loop at its end
-pub all_pieces : {X : Type 0} (piece_of : X → List Instr) (xs ys : List X) (i : ℕ) → length xs ≤ i → xs ≡ ys → flat_map piece_of (take i xs) ≡ flat_map piece_of ys
+pub all_pieces : {X : Type 0} (piece_of : X → List Instr) (xs ys : List X) (i : ℕ) → length xs ≤ i → xs ≡ ys
+    → flat_map piece_of (take i xs) ≡ flat_map piece_of ys
 all_pieces piece_of xs ys i h same = ap (flat_map piece_of) (take_all i xs h ∙ same)

@@ -58,7 +58,8 @@ Gets-then a b c report line true h count k =
     record {
       got = h.got ++ k.got;
       lost = k.lost;
-      in_order = append_assoc h.got k.got k.lost ∙ ap (λ l. h.got ++ l) k.in_order ∙ ap (λ l. l ++ line) (sym (append-nil h.got) ∙ ap (λ l. h.got ++ l) (sym all) ∙ h.in_order);
+      in_order = append_assoc h.got k.got k.lost ∙ ap (λ l. h.got ++ l) k.in_order
+          ∙ ap (λ l. l ++ line) (sym (append-nil h.got) ∙ ap (λ l. h.got ++ l) (sym all) ∙ h.in_order);
       grew = Appends-trans a.known b.known c.known h.got k.got h.grew k.grew;
       whole = λ e. k.whole (omega arith);
       at_most_one = omega (arith, k.at_most_one);
@@ -75,11 +76,20 @@ Gets-then a b c report line false h count k =
 
 -- nothing is written
 pub nothing_more : {E : Type 0} (told : Bool) (errors : E) (view : E → Page) → MatchBool told (Gets (view errors) (view errors) []) (errors ≡ errors)
-nothing_more true errors view = record { got = []; lost = []; in_order = refl; grew = Appends-nil (view errors).known; whole = λ e. refl; at_most_one = omega arith }
+nothing_more true errors view = record {
+  got = [];
+  lost = [];
+  in_order = refl;
+  grew = Appends-nil (view errors).known;
+  whole = λ e. refl;
+  at_most_one = omega
+      arith;
+}
 nothing_more false errors view = refl
 
 -- one writer in two views
-pub seen : {E : Type 0} (told : Bool) (line : List ℕ) (before after : E) (view : E → Page) → MatchBool told (Gets (view before) (view after) line) (after ≡ before)
+pub seen : {E : Type 0} (told : Bool) (line : List ℕ) (before after : E) (view : E → Page)
+    → MatchBool told (Gets (view before) (view after) line) (after ≡ before)
     → MatchBool told (Gets (view before) (view after) line) (view after ≡ view before)
 seen true line before after view h = h
 seen false line before after view h = ap view h

@@ -25,7 +25,8 @@ go_with true (Some n) m h e = (refl, cc)
 go_with false held m h e = cc
 
 -- a source comes to the end at which it finishes behind its report
-pub comes_to : {W : Type 0} (view : W → Page) (source text : List ℕ) (go : Bool) (reported : Reported) (end : End) (old new : W) → IsPrepared source text go reported.prepared
+pub comes_to : {W : Type 0} (view : W → Page) (source text : List ℕ) (go : Bool) (reported : Reported) (end : End) (old new : W)
+    → IsPrepared source text go reported.prepared
     → Finishes reported end view old new → Comes source text go end view old new
 comes_to view source text go reported (Refused fault) old new p h = absurd h
 comes_to view source text go reported (Listed open_sites) old new p h =
@@ -36,14 +37,16 @@ comes_to view source text go reported (Ran open_sites stop) old new p h =
     (with.0, h.4, compiled, p.compiled, h.2, subst (λ n. RunsStripped compiled stop n budget (view old).known (view new).known) with.1 h.3)
 
 -- the report and what comes behind it are the messages of the end
-pub messages_of : {W : Type 0} (view : W → Page) (source text : List ℕ) (go : Bool) (reported : Reported) (end : End) (old new : W) → IsPrepared source text go reported.prepared
+pub messages_of : {W : Type 0} (view : W → Page) (source text : List ℕ) (go : Bool) (reported : Reported) (end : End) (old new : W)
+    → IsPrepared source text go reported.prepared
     → Finishes reported end view old new → reported.prepared.report.items ++ last_line end ≡ messages end
 messages_of view source text go reported (Refused fault) old new p h = absurd h
 messages_of view source text go reported (Listed open_sites) old new p h = append-nil reported.prepared.report.items ∙ p.report ∙ ap report_of h.1
 messages_of view source text go reported (Ran open_sites stop) old new p h = ap (λ l. l ++ last_line (Ran open_sites stop)) (p.report ∙ ap report_of h.2)
 
 -- the status of a run, by that of its report and that of its stop
-pub run_answer : (open_sites sites : List Site) (stop : Stop) (report status answer : ℕ) → sites ≡ open_sites → report ≡ report_status sites → status ≡ stop_status stop
+pub run_answer : (open_sites sites : List Site) (stop : Stop) (report status answer : ℕ) → sites ≡ open_sites → report ≡ report_status sites
+    → status ≡ stop_status stop
     → answer ≡ (if status == 0 then report else status) → answer ≡ status_of (Ran open_sites stop)
 run_answer open_sites sites stop report status answer same lines stopped h =
     h ∙ ap (λ r. if status == 0 then r else status) (lines ∙ ap report_status same) ∙ ap (λ s. if s == 0 then report_status open_sites else s) stopped
@@ -51,10 +54,12 @@ run_answer open_sites sites stop report status answer same lines stopped h =
 -- what is told and done behind what was prepared is what the program does with the source
 pub does : {W : Type 0} (view : W → Page) (source text : List ℕ) (go : Bool) (answer : ℕ) (reported : Reported) (end : End) (old new : W) (a b c : Page)
     → IsPrepared source text go reported.prepared → Gets a b reported.prepared.report.items → b.failures ≡ a.failures + (if reported.told then 0 else 1)
-    → Finishes reported end view old new → MatchBool reported.told (Gets b c (last_line end)) (c ≡ b) → answer ≡ status_of end → Does view source text go answer old new a c
+    → Finishes reported end view old new → MatchBool reported.told (Gets b c (last_line end)) (c ≡ b) → answer ≡ status_of end
+    → Does view source text go answer old new a c
 does view source text go answer reported end old new a b c p report count h line same = record {
   end = end;
   comes = comes_to view source text go reported end old new p h;
-  told = subst (Gets a c) (messages_of view source text go reported end old new p h) (Gets-then a b c reported.prepared.report.items (last_line end) reported.told report count line);
+  told = subst (Gets a c) (messages_of view source text go reported end old new p h)
+      (Gets-then a b c reported.prepared.report.items (last_line end) reported.told report count line);
   answer = same;
 }

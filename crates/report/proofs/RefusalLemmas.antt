@@ -32,14 +32,17 @@ use Rattle.report.specs.Typed.{IsSoundTreeOf}
 use Rattle.report.specs.Refusals.{AreOf, IsRefusal}
 
 -- an answer that is this fault
-pub refused_by : {A : Type 0} (source text : List ℕ) (answer : Result A Fault) (y fault : Fault) → answer ≡ Err y → y ≡ fault → IsRefusal source text fault → IfErr answer (IsRefusal source text)
+pub refused_by : {A : Type 0} (source text : List ℕ) (answer : Result A Fault) (y fault : Fault) → answer ≡ Err y → y ≡ fault → IsRefusal source text fault
+    → IfErr answer (IsRefusal source text)
 refused_by source text answer y fault is same h =
     subst (λ r. IfErr r (IsRefusal source text)) (sym is) (subst (IsRefusal source text) (sym same) h)
 
 -- and one of the typed tree, whatever the certificate
-pub untyped_by : (source : List ℕ) (answer : Result Tree Fault) (y fault : Fault) → answer ≡ Err y → y ≡ fault → ((text : List ℕ) → IsRefusal source text fault) → MatchResult answer (IsSoundTreeOf source) (λ fault. (text : List ℕ) → IsRefusal source text fault)
+pub untyped_by : (source : List ℕ) (answer : Result Tree Fault) (y fault : Fault) → answer ≡ Err y → y ≡ fault
+    → ((text : List ℕ) → IsRefusal source text fault) → MatchResult answer (IsSoundTreeOf source) (λ fault. (text : List ℕ) → IsRefusal source text fault)
 untyped_by source answer y fault is same h =
-    subst (λ r. MatchResult r (IsSoundTreeOf source) (λ fault. (text : List ℕ) → IsRefusal source text fault)) (sym is) (λ text. subst (IsRefusal source text) (sym same) (h text))
+    subst (λ r. MatchResult r (IsSoundTreeOf source) (λ fault. (text : List ℕ) → IsRefusal source text fault)) (sym is)
+    (λ text. subst (IsRefusal source text) (sym same) (h text))
 
 -- tokens are refused of a source for its first fault
 pub lexing-refusal : (source text : List ℕ) (fault : LexFault) → (fault ≢ lex.Memory → IsFirstFault source fault) → IsRefusal source text (lexer_fault fault)
@@ -47,12 +50,14 @@ lexing-refusal source text lex.Memory h = tt
 lexing-refusal source text fault h = h (λ same. cc)
 
 -- syntax is refused of a source whose tokens have that fault
-pub parsing-refusal : (source text : List ℕ) (fault : ParseFault) (tokens : List Token) → IsTokenList source (map lexeme_of tokens) → IsFaultOf fault tokens → IsRefusal source text (parser_fault fault)
+pub parsing-refusal : (source text : List ℕ) (fault : ParseFault) (tokens : List Token) → IsTokenList source (map lexeme_of tokens) → IsFaultOf fault tokens
+    → IsRefusal source text (parser_fault fault)
 parsing-refusal source text parse.Memory tokens list h = tt
 parsing-refusal source text fault tokens list h = (tokens, list, h)
 
 -- names and types are refused of a source that is written as a program, whose typing tells just that
-pub typing-refusal : (source text : List ℕ) (fault : TypeFault) (program : Program) → IsWrittenAs source program → IsFault (typing program) fault → IsRefusal source text (typing_fault fault)
+pub typing-refusal : (source text : List ℕ) (fault : TypeFault) (program : Program) → IsWrittenAs source program → IsFault (typing program) fault
+    → IsRefusal source text (typing_fault fault)
 typing-refusal source text untyped.Memory program written h = tt
 typing-refusal source text fault program written h = (program, written, ⊎_elim (λ e. cc) (λ told. told) h)
 
@@ -64,12 +69,14 @@ checking-refusal source text tree certificate (check.Broken rule place) are h = 
 
 -- code is refused where there is too much of it
 pub generation-refusal : (source text : List ℕ) (tree : Tree) (certificate : CertificateRead) (fault : GenFault) → AreOf source text tree certificate
-    → (program_walk tree certificate).broken ≡ [] → (fault ≡ generate.TooLarge → 1000000 < length (program_code tree)) → IsRefusal source text (generator_fault fault)
+    → (program_walk tree certificate).broken ≡ [] → (fault ≡ generate.TooLarge → 1000000 < length (program_code tree))
+    → IsRefusal source text (generator_fault fault)
 generation-refusal source text tree certificate generate.Memory are unbroken h = tt
 generation-refusal source text tree certificate generate.TooLarge are unbroken h = (tree, certificate, are, unbroken, h refl)
 
 -- a certificate is refused for its first faulty line
-pub certificate-refusal : (source text : List ℕ) (tree : Tree) (fault : ReadFault) → IsTypedTreeOf tree source → (fault ≢ read.Memory → first_fault text ≡ Some fault)
+pub certificate-refusal : (source text : List ℕ) (tree : Tree) (fault : ReadFault) → IsTypedTreeOf tree source
+    → (fault ≢ read.Memory → first_fault text ≡ Some fault)
     → IsRefusal source text (certificate_fault fault)
 certificate-refusal source text tree read.Memory typed h = tt
 certificate-refusal source text tree (read.FirstLine line) typed h = (tree, typed, h (λ same. cc))

@@ -47,8 +47,8 @@ abbrev pub open_line : Site → List ℕ
 open_line site =
     place_text site.place.line site.place.column ++ codes ": possible error: " ++ name_of site.kind ++ 10 ∷ []
 
--- the letters of the rules: L of tokens, P of syntax, S of names, K of types and kinds, Y of cells, F of a certificate's
--- text, C of its claims, G of the code
+-- the letters of the rules: L of tokens, P of syntax, S of names, K of types and kinds, Y of cells, F of the text of a
+-- certificate, C of its claims, G of the code
 abbrev pub letter_l : ℕ
 letter_l = 76
 

@@ -18,7 +18,8 @@ loop-instr-preserved c =
     let next = c.in_ok-push.ensures.items in
     let kept : c.if-keep.kept ≡ moved_place test code (i + 1) =
     elim c.if-keep.branch [
-      | then-keep w ↦ w.kept-is ∙ ap (λ n. n + 1) so_far.2 ∙ sym (count_by_more_yes (stays test) code i _ c.loop-instr-test.true (sym c.keep.ensures ∙ w.if-keep.true))
+      | then-keep w ↦ w.kept-is ∙ ap (λ n. n + 1) so_far.2 ∙ sym
+          (count_by_more_yes (stays test) code i _ c.loop-instr-test.true (sym c.keep.ensures ∙ w.if-keep.true))
       | else-keep w ↦ w.kept-is ∙ so_far.2 ∙ sym (count_by_more_no (stays test) code i _ c.loop-instr-test.true (sym c.keep.ensures ∙ w.if-keep.false))
     ] in (
       one_longer c.loop-instr.places.items c.push.new.self.items c.loop-instr.kept i next so_far.0,
@@ -36,7 +37,8 @@ returns c =
     let end : i ≡ length c.args.code.now = omega (arith, c.loop-instr-test.false, c.loop-instr.auto.instr-index-end) in
     record {
       count = one_longer c.loop-instr.places.items c.push-2.new.self.items c.loop-instr.kept i next so_far.0 ∙ ap (λ n. n + 1) end;
-      each = λ place within. one_place_more to c.loop-instr.places.items c.push-2.new.self.items c.loop-instr.kept i next so_far.0 so_far.1 so_far.2 place (omega (arith, end));
+      each = λ place within. one_place_more to c.loop-instr.places.items c.push-2.new.self.items c.loop-instr.kept i next so_far.0 so_far.1 so_far.2 place
+          (omega (arith, end));
     }
 
 -- the number of those that stay is within that of all

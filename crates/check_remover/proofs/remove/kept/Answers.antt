@@ -26,4 +26,5 @@ loop-instr-init c = c.in_ok-rest.ensures.items
 pub returns : goal.returns
 returns c =
     c.loop-instr.invariant
-    ∙ ap (λ l. map (moved (new_place c.args.places.now)) (filter (stays (is_among c.args.open_sites.now)) l)) (take_all c.loop-instr.instr-index c.args.code.now c.loop-instr-test.false)
+    ∙ ap (λ l. map (moved (new_place c.args.places.now)) (filter (stays (is_among c.args.open_sites.now)) l))
+    (take_all c.loop-instr.instr-index c.args.code.now c.loop-instr-test.false)

@@ -17,11 +17,13 @@ returns-in-Write t c =
 
 pub loop-statement-preserved : goal.loop-statement-preserved
 loop-statement-preserved t c =
-    let more = greatest_one_more stmt_depth 0 c.deref-statement-items.result.now c.loop-statement.statement-index c.statement-item.result c.loop-statement-test.true c.statement-item.is in
+    let more = greatest_one_more stmt_depth 0 c.deref-statement-items.result.now c.loop-statement.statement-index c.statement-item.result
+    c.loop-statement-test.true c.statement-item.is in
     grind (arith, more)
 
 pub returns-after-loop-statement : goal.returns-after-loop-statement
 returns-after-loop-statement t c =
     let whole = ap stmt_depth c.in-Compound.is ∙ stmt_depth-Compound c.in-Compound.number c.in-Compound.statements in
-    let items = take_all c.loop-statement.statement-index c.deref-statement-items.result.now c.loop-statement-test.false ∙ c.deref-statement-items.ensures.value in
+    let items = take_all c.loop-statement.statement-index c.deref-statement-items.result.now c.loop-statement-test.false
+    ∙ c.deref-statement-items.ensures.value in
     c.loop-statement.invariant ∙ ap (λ ss. capped (greatest (map stmt_depth ss))) items ∙ ap capped (sym whole)

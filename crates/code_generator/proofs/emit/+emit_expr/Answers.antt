@@ -19,7 +19,8 @@ emit_expr-returns-in_ok-emit_expr-in-Monadic t c =
     let operation = monadic_code c.in-Monadic.operation in
     let operand = expr_code c.args.scope c.in-Monadic.operand.value in
     let whole = ap (expr_code c.args.scope) c.in-Monadic.is ∙ expr_code-Monadic c.args.scope c.in-Monadic.number c.in-Monadic.operation c.in-Monadic.operand in
-    let valued : c.emit_expr.new.code.items ≡ before ++ operand = c.in_ok-emit_expr-in-Monadic.ensures ∙ ap (λ e. before ++ expr_code c.args.scope e) c.deref.ensures in
+    let valued : c.emit_expr.new.code.items ≡ before ++ operand = c.in_ok-emit_expr-in-Monadic.ensures
+    ∙ ap (λ e. before ++ expr_code c.args.scope e) c.deref.ensures in
     IfOk-equal c.emit_monadic.result c.emit_monadic.new.code.items _ _ c.emit_monadic.ensures
     (ap (λ p. p ++ operation) valued ∙ append_assoc before operand operation ∙ ap (λ p. before ++ p) (sym whole))
 
@@ -28,7 +29,8 @@ emit_expr-loop-link-init t c = sym (append-nil c.emit_expr-in-Chain.new.code.ite
 
 pub emit_expr-loop-link-preserved : goal.emit_expr-loop-link-preserved
 emit_expr-loop-link-preserved t c =
-    joined_one_more (link_code c.args.scope) c.loop-link.code.items c.emit_link.new.code.items c.emit_expr-in-Chain.new.code.items c.deref-link-items.result.now c.loop-link.link-index c.link-item.result
+    joined_one_more (link_code c.args.scope) c.loop-link.code.items c.emit_link.new.code.items c.emit_expr-in-Chain.new.code.items
+    c.deref-link-items.result.now c.loop-link.link-index c.link-item.result
     c.loop-link.invariant c.loop-link-test.true c.link-item.is c.in_ok-emit_link-in-Chain.ensures
 
 pub emit_expr-returns-after-loop-link : goal.emit_expr-returns-after-loop-link
@@ -46,5 +48,7 @@ emit_link-returns t c =
     let link = c.args.link.now in
     let before = c.args.code.now.items in
     let operation = dyadic_code link.operation in
-    IfOk-equal c.emit_dyadic.result c.emit_dyadic.new.code.items (c.emit_expr.new.code.items ++ operation) (before ++ link_code c.args.scope link) c.emit_dyadic.ensures
-    (ap (λ p. p ++ operation) c.in_ok-emit_expr.ensures ∙ append_assoc before (expr_code c.args.scope link.operand) operation ∙ ap (λ p. before ++ p) (sym (link_code-is c.args.scope link)))
+    IfOk-equal c.emit_dyadic.result c.emit_dyadic.new.code.items (c.emit_expr.new.code.items ++ operation) (before ++ link_code c.args.scope link)
+    c.emit_dyadic.ensures
+    (ap (λ p. p ++ operation) c.in_ok-emit_expr.ensures ∙ append_assoc before (expr_code c.args.scope link.operand) operation
+    ∙ ap (λ p. before ++ p) (sym (link_code-is c.args.scope link)))

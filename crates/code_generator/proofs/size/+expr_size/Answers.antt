@@ -14,14 +14,18 @@ loop-link-preserved t c = λ scope first e.
 
 pub returns-in-Monadic : goal.returns-in-Monadic
 returns-in-Monadic t c = λ scope.
-    let whole = ap length (ap (expr_code scope) c.in-Monadic.is ∙ expr_code-Monadic scope c.in-Monadic.number c.in-Monadic.operation c.in-Monadic.operand) ∙ length-append (expr_code scope c.in-Monadic.operand.value) (monadic_code c.in-Monadic.operation) in
+    let whole = ap length (ap (expr_code scope) c.in-Monadic.is ∙ expr_code-Monadic scope c.in-Monadic.number c.in-Monadic.operation c.in-Monadic.operand)
+    ∙ length-append (expr_code scope c.in-Monadic.operand.value) (monadic_code c.in-Monadic.operation) in
     let inner = c.expr_size.ensures scope ∙ ap (λ e. capped (length (expr_code scope e))) c.deref.ensures in
     grind (arith, whole, inner, c.monadic_size.ensures, c.saturating_add.ensures)
 
 pub returns-after-loop-link : goal.returns-after-loop-link
 returns-after-loop-link t c = λ scope.
     let rest = c.in-Chain.rest.items in
-    let whole = ap length (ap (expr_code scope) c.in-Chain.is ∙ expr_code-Chain scope c.in-Chain.first c.in-Chain.rest) ∙ length-append (expr_code scope c.in-Chain.first.value) (flat_map (link_code scope) rest) in
+    let whole = ap length (ap (expr_code scope) c.in-Chain.is ∙ expr_code-Chain scope c.in-Chain.first c.in-Chain.rest)
+    ∙ length-append (expr_code scope c.in-Chain.first.value) (flat_map (link_code scope) rest) in
     let inner = c.expr_size-size.ensures scope ∙ ap (λ e. capped (length (expr_code scope e))) c.deref-in-Chain.ensures in
-    let links = all_pieces (link_code scope) c.deref-link-items.result.now rest c.loop-link.link-index c.loop-link-test.false c.deref-link-items.ensures.value in
-    c.loop-link.invariant scope (length (expr_code scope c.in-Chain.first.value)) inner ∙ ap (λ ls. capped (length (expr_code scope c.in-Chain.first.value) + length ls)) links ∙ ap capped (sym whole)
+    let links = all_pieces (link_code scope) c.deref-link-items.result.now rest c.loop-link.link-index c.loop-link-test.false c.deref-link-items.ensures.value
+    in
+    c.loop-link.invariant scope (length (expr_code scope c.in-Chain.first.value)) inner
+    ∙ ap (λ ls. capped (length (expr_code scope c.in-Chain.first.value) + length ls)) links ∙ ap capped (sym whole)

@@ -6,4 +6,5 @@ use Rattle.code_generator.specs.Sizes.{capped}
 use Rattle.code_generator.proofs.size.+expr_size.Given as goal
 
 abbrev pub invariant-loop-link : goal.invariant-loop-link
-invariant-loop-link l = (scope : Scope) (first : ℕ) → l.initial.size ≡ capped first → l.size ≡ capped (first + length (flat_map (link_code scope) (take l.link-index l.link-items)))
+invariant-loop-link l = (scope : Scope) (first : ℕ) → l.initial.size ≡ capped first
+    → l.size ≡ capped (first + length (flat_map (link_code scope) (take l.link-index l.link-items)))

@@ -58,7 +58,8 @@ returns-in_err-verdict-clause-refused c =
 
 pub returns-clause-stripped : goal.returns-clause-stripped
 returns-clause-stripped c = record {
-  instructions = c.in_ok-stripped.ensures.instructions ∙ ap (λ sites. strip sites c.in_ok-full.full.instructions.items) (c.deref.ensures.value ∙ c.in_ok-open_sites.ensures) ∙ ap (strip _) c.in_ok-full.ensures.instructions;
+  instructions = c.in_ok-stripped.ensures.instructions ∙ ap (λ sites. strip sites c.in_ok-full.full.instructions.items)
+      (c.deref.ensures.value ∙ c.in_ok-open_sites.ensures) ∙ ap (strip _) c.in_ok-full.ensures.instructions;
   sites = c.in_ok-stripped.ensures.sites ∙ c.in_ok-full.ensures.sites;
   points = c.in_ok-stripped.ensures.points ∙ c.in_ok-full.ensures.points;
 }

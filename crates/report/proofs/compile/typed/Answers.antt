@@ -14,8 +14,18 @@ returns c =
       numbered = c.in_ok-tree.ensures.numbered;
       by_place =
           c.in_ok-tree.ensures.by_place
-          (c.in_ok-program.ensures.in_order (subst (λ l. ArePlacesInOrder (map (λ token. token.place) l)) (sym c.deref.ensures.value) c.in_ok-tokens.ensures.in_order));
-      typed = (program, (c.in_ok-tokens.tokens.items, c.in_ok-tokens.ensures.list, subst (IsTreeOf program) c.deref.ensures.value c.in_ok-program.ensures.exact), c.in_ok-tree.ensures.typed);
+          (c.in_ok-program.ensures.in_order (subst (λ l. ArePlacesInOrder (map (λ token. token.place) l)) (sym c.deref.ensures.value)
+          c.in_ok-tokens.ensures.in_order));
+      typed = (
+        program,
+        (
+          c.in_ok-tokens.tokens.items,
+          c.in_ok-tokens.ensures.list,
+          subst (IsTreeOf program) c.deref.ensures.value
+              c.in_ok-program.ensures.exact,
+        ),
+        c.in_ok-tree.ensures.typed,
+      );
     }
 
 pub returns-in_err-tokens : goal.returns-in_err-tokens
@@ -31,7 +41,8 @@ returns-in_err-program c =
     let fault = c.in_err-program.field-0.0 in
     let told = err_from_is_err_and c.from_residual-in_err-program.result c.from_residual-in_err-program.ensures.1 in
     untyped_by source c.from_residual-in_err-program.result told.0 _ told.1 told.2
-    (λ text. parsing-refusal source text fault c.in_ok-tokens.tokens.items c.in_ok-tokens.ensures.list (subst (IsFaultOf fault) c.deref.ensures.value c.in_err-program.ensures.exact))
+    (λ text. parsing-refusal source text fault c.in_ok-tokens.tokens.items c.in_ok-tokens.ensures.list
+    (subst (IsFaultOf fault) c.deref.ensures.value c.in_err-program.ensures.exact))
 
 pub returns-in_err-tree : goal.returns-in_err-tree
 returns-in_err-tree c =
@@ -39,4 +50,6 @@ returns-in_err-tree c =
     let program = c.in_ok-program.program in
     let told = err_from_is_err_and c.from_residual-in_err-tree.result c.from_residual-in_err-tree.ensures.1 in
     untyped_by source c.from_residual-in_err-tree.result told.0 _ told.1 told.2
-    (λ text. typing-refusal source text c.in_err-tree.field-0.0 program (c.in_ok-tokens.tokens.items, c.in_ok-tokens.ensures.list, subst (IsTreeOf program) c.deref.ensures.value c.in_ok-program.ensures.exact) c.in_err-tree.ensures.refused)
+    (λ text. typing-refusal source text c.in_err-tree.field-0.0 program
+    (c.in_ok-tokens.tokens.items, c.in_ok-tokens.ensures.list, subst (IsTreeOf program) c.deref.ensures.value c.in_ok-program.ensures.exact)
+    c.in_err-tree.ensures.refused)

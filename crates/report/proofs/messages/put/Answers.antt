@@ -11,5 +11,8 @@ loop-rest-preserved g c =
     let kept = c.loop-rest.invariant in
     let rest = c.loop-rest.rest.now in
     let count = c.in-Ok.count in
-    let none = none_failed rest count c.if-count-gt0.true in
-    (omega (arith, none, c.in-Ok.ensures.counted, kept.0), Left-part _ _ _ rest (take count rest) _ _ kept.1 c.in-Ok.ensures.bytes (sym (take-append-drop count rest) ∙ ap (λ xs. take count rest ++ xs) (part_left rest count)))
+    let none = none_failed rest count c.if-count-gt0.true in (
+      omega (arith, none, c.in-Ok.ensures.counted, kept.0),
+      Left-part _ _ _ rest (take count rest) _ _ kept.1 c.in-Ok.ensures.bytes
+          (sym (take-append-drop count rest) ∙ ap (λ xs. take count rest ++ xs) (part_left rest count)),
+    )

@@ -13,8 +13,10 @@ returns-in-Ok-clause-does g c =
     let prepared = subst (IsPrepared c.args.source.now (text_of c.args.certificate) c.args.go) (sym c.report_to.ensures.prepared) c.in-Ok.ensures.prepared in
     let view = λ (w : g.row.W.Denot). page (g.W.Sink.contents w) (g.W.Sink.failures w) in
     let page_of = λ (e : g.row.E.Denot). page (g.E.Sink.contents e) (g.E.Sink.failures e) in
-    does view c.args.source.now (text_of c.args.certificate) c.args.go c.run.result reported end c.args.writer.now c.run.new.writer (page_of c.args.errors.now) (page_of c.report_to.new.errors) (page_of c.run.new.errors) prepared
-    (subst (Gets (page_of c.args.errors.now) (page_of c.report_to.new.errors)) (ap (λ p. p.report.items) (sym c.report_to.ensures.prepared)) c.report_to.ensures.told) c.report_to.ensures.failures c.run.ensures.ends.1
+    does view c.args.source.now (text_of c.args.certificate) c.args.go c.run.result reported end c.args.writer.now c.run.new.writer
+    (page_of c.args.errors.now) (page_of c.report_to.new.errors) (page_of c.run.new.errors) prepared
+    (subst (Gets (page_of c.args.errors.now) (page_of c.report_to.new.errors)) (ap (λ p. p.report.items) (sym c.report_to.ensures.prepared))
+    c.report_to.ensures.told) c.report_to.ensures.failures c.run.ensures.ends.1
     (seen reported.told (last_line end) c.report_to.new.errors c.run.new.errors page_of c.run.ensures.ends.2) c.run.ensures.ends.3
 
 pub returns-in-Err-clause-does : goal.returns-in-Err-clause-does
