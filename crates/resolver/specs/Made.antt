@@ -1,6 +1,6 @@
 -- How the resolver's answers are what typing says: what is made of a form has the type and the leading site that typing
 -- answers, and looks so. It says nothing of what typing answers.
-use Rattle.std.specs.Prelude.{◌≡◌, List, [], ◌∷◌, ◌++◌, flat_map, Result, Option, Some, None, Vec}
+use Rattle.std.specs.Prelude.{◌≡◌, ℕ, List, [], ◌∷◌, ◌++◌, flat_map, Result, Option, Some, None, Vec}
 use Rattle.std.specs.Borrow.{Bor}
 use Rattle.std.specs.declared.alloc.Global.{Global}
 use Rattle.std.specs.declared.boxed.Box.{Box}
@@ -16,7 +16,7 @@ use Rattle.typed_tree.specs.declared.tree.Stmt.{Stmt}
 use Rattle.typed_tree.specs.declared.tree.WriteParameter.{WriteParameter}
 use Rattle.typed_tree.specs.declared.tree.Width.{Width}
 use Rattle.types.specs.declared.form.TypeId.{TypeId}
-use Rattle.typed_tree.specs.Look.{Look, Begins, Ends, Else, look_expr, look_link, look_stmt, look_parameter, look_width}
+use Rattle.typed_tree.specs.Look.{Look, Begins, Ends, If, Then, Else, look_expr, look_link, look_stmt, look_parameter, look_width}
 use Rattle.typing.specs.Passing.{Passed, Checked, After}
 use Rattle.typing.specs.Expressions.{Typed, typed}
 use Rattle.typing.specs.Outcomes.{Makes}
@@ -59,6 +59,10 @@ MakesStmts = Makes (λ made. tt) (λ made. flat_map look_stmt made.items)
 -- a condition
 abbrev pub MakesCondition : Checked (After (Unit {0})) → Result Expr TypeFault → Passed → Type 0
 MakesCondition = Makes (λ made. tt) look_expr
+
+-- an if as far as its `then`, by its number and its condition
+abbrev pub MakesTested : Checked (After (Unit {0})) → Result (ℕ × Expr) TypeFault → Passed → Type 0
+MakesTested = Makes (λ made. tt) (λ made. If made.0 ∷ (look_expr made.1 ++ (Then ∷ [])))
 
 -- a statement in a box
 abbrev pub MakesBoxed : Checked (After (Unit {0})) → Result (Box Stmt Global) TypeFault → Passed → Type 0

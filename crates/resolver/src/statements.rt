@@ -3,7 +3,7 @@ ghost use Rattle.typing.specs.Passing.{each};
 ghost use Rattle.typing.specs.Expressions.{expression, written_actual};
 ghost use Rattle.typing.specs.Statements as spec;
 ghost use Rattle.typing.specs.Outcomes.{Takes};
-ghost use Rattle.resolver.specs.Made.{MakesStmt, MakesStmts, MakesBoxed, MakesAlternative, MakesCondition, MakesParameter, MakesParameters, MakesWidth, MakesOwnWidth, MakesValues};
+ghost use Rattle.resolver.specs.Made.{MakesStmt, MakesStmts, MakesBoxed, MakesAlternative, MakesCondition, MakesTested, MakesParameter, MakesParameters, MakesWidth, MakesOwnWidth, MakesValues};
 
 use crate::expressions::{expression, first_place};
 use place::Place;
@@ -18,7 +18,7 @@ use typing::rules::{as_procedure, as_variable, ends_line, is_output};
 
 /// A statement.
 #[cycle(statements)]
-#[tactic(auto, using(typing::proofs::Written::written_statements, typed_tree::proofs::Looks::look_empty), unfolding(typing::specs::Steps::enter_as))]
+#[tactic(auto, using(typing::proofs::Written::written_statements, typed_tree::proofs::Looks::look_empty, crate::proofs::Branches::look_choice), unfolding(typing::specs::Steps::enter_as, typing::specs::Statements::choice))]
 pub(crate) fn statement(typer: &mut Typer, written: &syntax::Stmt) -> Result<Stmt, TypeFault>
     ensures { MakesStmt (spec.statement written.now typer.old) result typer.new }
 {
@@ -38,7 +38,17 @@ pub(crate) fn statement(typer: &mut Typer, written: &syntax::Stmt) -> Result<Stm
             condition,
             consequence,
             alternative,
-        } => choice(typer, *place, condition, consequence, alternative),
+        } => {
+            let (number, condition) = tested(typer, *place, condition)?;
+            let consequence = boxed(typer, consequence)?;
+            let alternative = other(typer, alternative)?;
+            Ok(Stmt::If {
+                number,
+                condition,
+                consequence,
+                alternative,
+            })
+        }
     }
 }
 
@@ -65,27 +75,14 @@ fn statements(typer: &mut Typer, written: &[syntax::Stmt]) -> Result<Vec<Stmt>, 
     Ok(statements)
 }
 
-// An if (6.8.3.4).
-#[cycle(statements)]
-#[tactic(auto, using(crate::proofs::Branches::look_choice), unfolding(typing::specs::Statements::choice, typing::specs::Steps::enter_as))]
-fn choice(
-    typer: &mut Typer,
-    place: Place,
-    tested: &syntax::Expr,
-    consequence: &syntax::Stmt,
-    other: &Option<Box<syntax::Stmt>>,
-) -> Result<Stmt, TypeFault>
-    ensures { MakesStmt (spec.choice place (expression tested.now) (spec.statement consequence.now)
-        (option_map (λ s. spec.statement s.value) other.now) typer.old) result typer.new }
+// An if as far as its `then`.
+#[tactic(auto, unfolding(typing::specs::Statements::tested, typing::specs::Steps::enter_as))]
+fn tested(typer: &mut Typer, place: Place, written: &syntax::Expr) -> Result<(u32, Expr), TypeFault>
+    ensures { MakesTested (spec.tested place (expression written.now) typer.old) result typer.new }
 {
     typer.pass(place);
     let number = typer.enter()?;
-    Ok(Stmt::If {
-        number,
-        condition: condition(typer, tested)?,
-        consequence: boxed(typer, consequence)?,
-        alternative: alternative(typer, other)?,
-    })
+    Ok((number, condition(typer, written)?))
 }
 
 // A condition, which is Boolean.
@@ -103,7 +100,7 @@ fn condition(typer: &mut Typer, written: &syntax::Expr) -> Result<Expr, TypeFaul
 // The statement behind `else`, if there is one.
 #[cycle(statements)]
 #[tactic(auto, unfolding(typing::specs::Statements::alternative))]
-fn alternative(
+fn other(
     typer: &mut Typer,
     written: &Option<Box<syntax::Stmt>>,
 ) -> Result<Option<Box<Stmt>>, TypeFault>

@@ -164,13 +164,18 @@ unfoldable pub alternative : Option (Passing (Unit {0})) → Passing (Unit {0})
 alternative None = pure tt
 alternative (Some statement) = mark Else >> statement
 
--- an if (6.8.3.4)
-unfoldable pub choice : Place → Written → Passing (Unit {0}) → Option (Passing (Unit {0})) → Passing (Unit {0})
-choice place tested consequence other = do
+-- an if as far as its `then`
+unfoldable pub tested : Place → Written → Passing (Unit {0})
+tested place w = do
   pass place
   enter_as If
-  condition tested
+  condition w
   mark Then
+
+-- an if (6.8.3.4)
+unfoldable pub choice : Place → Written → Passing (Unit {0}) → Option (Passing (Unit {0})) → Passing (Unit {0})
+choice place w consequence other = do
+  tested place w
   consequence
   alternative other
   mark Ends

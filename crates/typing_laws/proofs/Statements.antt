@@ -28,7 +28,7 @@ use Rattle.typed_tree.specs.Look.{Assign, Target, Fits, Write, Written as Writte
 use Rattle.typing.specs.Passing.{Checked, Passing, and_then, each}
 use Rattle.typing.specs.Expressions.{Typed, Written, WrittenActual, fits, or_mismatch, expression, written_actual}
 use Rattle.typing.specs.Statements.{as_variable, fitting, assignment, as_procedure, ends_line, is_output, names_file, unless_wide, is_file, written_values}
-use Rattle.typing.specs.Statements.{has_values, measured, width, parameter, write, procedure_call, compound, condition, alternative, choice, statement_step, statement}
+use Rattle.typing.specs.Statements.{has_values, measured, width, parameter, write, procedure_call, compound, condition, alternative, tested, choice, statement_step, statement}
 use Rattle.typing_laws.proofs.Sound.{IsSound}
 use Rattle.typing_laws.proofs.Covers.{Covers, covers_both, covers_none, covers_behind, covers_skip, leads_first}
 use Rattle.typing_laws.proofs.Grown.{both_true}
@@ -210,20 +210,26 @@ module _ (variables : ℕ) where
   alternative_does least places None law = sited (λ sites none. subst (Covers places) (sym none) (covers_none places)) (pure_does {K = Anything} tt (λ n h. tt))
   alternative_does least places (Some other) law = quietly (mark_does Else refl (λ n h. refl)) λ _ now _ _. law.passes now
 
-  choice_does : (place : Place) (tests first second : List Place) (tested : Written) (consequence : Passing (Unit {0})) (other : Option (Passing (Unit {0})))
-      → LawfulWritten variables tests tested → LawfulStatement first consequence → IsLawfulAlternative second other
-      → LawfulStatement (place ∷ (tests ++ (first ++ second))) (choice place tested consequence other)
+  tested_does : (least : ℕ) (place : Place) (places : List Place) (w : Written) → LawfulWritten variables places w
+      → Does variables least (Covers (place ∷ places)) (tested place w) Anything
+  unfolding tested
+  tested_does least place places w law =
+      sited (λ sites. covers_skip place places sites)
+      (quietly (pass_does place) λ _ _ _ _.
+      quietly (enter_does If (λ n. refl) (λ n m h. refl)) λ _ now _ _.
+      last (condition_does now places w law) λ _ _ _ _.
+      mark_does Then refl (λ n h. refl))
+
+  choice_does : (place : Place) (tests first second : List Place) (w : Written) (consequence : Passing (Unit {0})) (other : Option (Passing (Unit {0})))
+      → LawfulWritten variables tests w → LawfulStatement first consequence → IsLawfulAlternative second other
+      → LawfulStatement (place ∷ (tests ++ (first ++ second))) (choice place w consequence other)
   unfolding choice
-  choice_does place tests first second tested consequence other law one two = record {
+  choice_does place tests first second w consequence other law one two = record {
     passes = λ least.
-        sited (λ sites. covers_skip place (tests ++ (first ++ second)) sites)
-        (quietly (pass_does place) λ _ _ _ _.
-        quietly (enter_does If (λ n. refl) (λ n m h. refl)) λ _ now _ _.
-        joins (covers_both tests (first ++ second)) (condition_does now tests tested law) λ _ _ _ _.
-        quietly (mark_does Then refl (λ n h. refl)) λ _ there _ _.
+        joins (covers_both (place ∷ tests) (first ++ second)) (tested_does least place tests w law) λ _ there _ _.
         joins (covers_both first second) (one.passes there) λ _ next _ _.
-        last (alternative_does next second other two) λ _ m _ _.
-        mark_does Ends refl (λ n h. refl));
+        last (alternative_does next second other two) λ _ _ _ _.
+        mark_does Ends refl (λ n h. refl);
   }
 
   -- ---- every statement
