@@ -3,6 +3,8 @@
 -- after their operand, an operator after its right one.
 -- It says nothing of code, of cells, or of what an implementation does where memory runs out.
 use Rattle.std.specs.Prelude.{ℕ, ℤ, pos, ◌+ℤ◌, ◌-ℤ◌, ◌*ℤ◌, neg_ℤ, int_div, int_le, int_lt, Bool, ◌&&◌, ◌||◌, not, List, [], ◌∷◌, Option, Some, None, if◌then◌else◌, map, nat_eq, slice_get}
+use Rattle.std.specs.declared.alloc.Global.{Global}
+use Rattle.std.specs.declared.boxed.Box.{Box}
 use Rattle.typed_tree.specs.declared.tree.Tree.{Tree}
 use Rattle.typed_tree.specs.declared.tree.Block.{Block}
 use Rattle.typed_tree.specs.declared.tree.Variable.{Variable as DeclaredVariable}
@@ -25,7 +27,7 @@ use Rattle.typed_tree.specs.declared.tree.Expr.TheOpen.Expr-F.{Constant, Variabl
 use Rattle.typed_tree.specs.declared.tree.Expr.TheFolds.{fold-Expr, fold-Link}
 use Rattle.typed_tree.specs.declared.tree.Stmt.{Stmt}
 use Rattle.typed_tree.specs.declared.tree.Stmt.TheOpen.{Stmt-F}
-use Rattle.typed_tree.specs.declared.tree.Stmt.TheOpen.Stmt-F.{Empty, Assign, Write, Compound}
+use Rattle.typed_tree.specs.declared.tree.Stmt.TheOpen.Stmt-F.{Empty, Assign, Write, Compound, If}
 use Rattle.typed_tree.specs.declared.tree.Stmt.TheFolds.{fold-Stmt}
 use Rattle.meaning.specs.declared.outcome.Ending.{Ending}
 use Rattle.meaning.specs.declared.outcome.Ending.TheVariants as ending
@@ -157,6 +159,15 @@ parameter_of parameter env = do
 abbrev pub line_ended : Bool → Action (Unit {0})
 line_ended ends_line = if ends_line then write (10 ∷ []) else give tt
 
+-- a truth value
+abbrev pub is_so : Value → Bool
+is_so (Number n) = is_true n
+
+-- the statement behind `else`, or nothing where there is none
+abbrev pub alternative_of : Option (Box Execution Global) → Execution
+alternative_of None env = give tt
+alternative_of (Some execution) env = execution.value env
+
 -- one layer of a statement
 abbrev pub effect_step : Stmt-F Execution → Execution
 effect_step (Empty number) env = enter number env
@@ -173,6 +184,10 @@ effect_step (Write number name parameters ends_line) env = do
 effect_step (Compound number statements) env = do
   _ ← enter number env
   all_of statements.items env
+effect_step (If number condition consequence alternative) env = do
+  _ ← enter number env
+  v ← value_of condition env
+  if is_so v then consequence.value env else alternative_of alternative env
 
 -- what a statement does
 abbrev pub effect_of : Stmt → Execution

@@ -1,6 +1,8 @@
 -- The places that a syntax tree keeps, in the order of the text: of names, numbers, operators and `:=`, of the opening
--- parenthesis of an expression, and of the last `end`. It says nothing of what stands there.
+-- parenthesis of an expression, of the word `if`, and of the last `end`. It says nothing of what stands there.
 use Rattle.std.specs.Prelude.{List, [], ◌∷◌, ◌++◌, Option, Some, None, map, flat_map}
+use Rattle.std.specs.declared.alloc.Global.{Global}
+use Rattle.std.specs.declared.boxed.Box.{Box}
 use Rattle.place.specs.declared.Place.{Place}
 use Rattle.syntax_tree.specs.declared.Name.{Name}
 use Rattle.syntax_tree.specs.declared.TypeDenoter.{TypeDenoter}
@@ -16,7 +18,7 @@ use Rattle.syntax_tree.specs.declared.Expr.TheOpen.Expr-F.{Number, Name as NameO
 use Rattle.syntax_tree.specs.declared.Expr.TheFolds.{fold-Expr, fold-Actual, fold-Link}
 use Rattle.syntax_tree.specs.declared.Stmt.{Stmt}
 use Rattle.syntax_tree.specs.declared.Stmt.TheOpen.{Stmt-F}
-use Rattle.syntax_tree.specs.declared.Stmt.TheOpen.Stmt-F.{Empty, Assign, Call, Compound}
+use Rattle.syntax_tree.specs.declared.Stmt.TheOpen.Stmt-F.{Empty, Assign, Call, Compound, If}
 use Rattle.syntax_tree.specs.declared.Stmt.TheFolds.{fold-Stmt}
 
 abbrev pub Places : Type 0
@@ -57,11 +59,17 @@ actual_places = fold-Actual Places Places Places expression_step actual_step lin
 abbrev pub link_places : Link → Places
 link_places = fold-Link Places Places Places expression_step actual_step link_step
 
+abbrev pub alternative_places : Option (Box Places Global) → Places
+alternative_places None = []
+alternative_places (Some places) = places.value
+
 abbrev pub statement_step : Stmt-F Places → Places
 statement_step Empty = []
 statement_step (Assign name becomes value) = name.place ∷ becomes ∷ expr_places value
 statement_step (Call name actuals) = name.place ∷ flat_map actual_places actuals.items
 statement_step (Compound statements) = joined_places statements.items
+statement_step (If place condition consequence alternative) =
+    place ∷ (expr_places condition ++ (consequence.value ++ alternative_places alternative))
 
 -- the places of a statement
 abbrev pub stmt_places : Stmt → Places

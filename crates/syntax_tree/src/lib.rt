@@ -61,6 +61,13 @@ pub enum Stmt<'a> {
     Compound {
         statements: Vec<Stmt<'a>>,
     },
+    /// `if condition then consequence`, or with `else alternative` (6.8.3.4), with the place of the word `if`.
+    If {
+        place: Place,
+        condition: Expr<'a>,
+        consequence: Box<Stmt<'a>>,
+        alternative: Option<Box<Stmt<'a>>>,
+    },
 }
 
 /// A sign (6.7.2.2).

@@ -2,6 +2,8 @@
 -- each statement, the empty one too, each factor, sign and operator between operands, and each variable left of `:=`.
 -- It says nothing of what happens at an entry.
 use Rattle.std.specs.Prelude.{ℕ, ◌++◌, List, [], ◌∷◌, Option, Some, None, flat_map}
+use Rattle.std.specs.declared.alloc.Global.{Global}
+use Rattle.std.specs.declared.boxed.Box.{Box}
 use Rattle.typed_tree.specs.declared.tree.Tree.{Tree}
 use Rattle.typed_tree.specs.declared.tree.Width.{Width}
 use Rattle.typed_tree.specs.declared.tree.WriteParameter.{WriteParameter}
@@ -11,7 +13,7 @@ use Rattle.typed_tree.specs.declared.tree.Expr.TheOpen.Expr-F.{Constant, Variabl
 use Rattle.typed_tree.specs.declared.tree.Expr.TheFolds.{fold-Expr}
 use Rattle.typed_tree.specs.declared.tree.Stmt.{Stmt}
 use Rattle.typed_tree.specs.declared.tree.Stmt.TheOpen.{Stmt-F}
-use Rattle.typed_tree.specs.declared.tree.Stmt.TheOpen.Stmt-F.{Empty, Assign, Write, Compound}
+use Rattle.typed_tree.specs.declared.tree.Stmt.TheOpen.Stmt-F.{Empty, Assign, Write, Compound, If}
 use Rattle.typed_tree.specs.declared.tree.Stmt.TheFolds.{fold-Stmt}
 
 -- several rows as one
@@ -40,11 +42,18 @@ entries_of_width (Some width) = entries_of_expression width.value
 abbrev pub entries_of_parameter : WriteParameter → List ℕ
 entries_of_parameter parameter = entries_of_expression parameter.value ++ entries_of_width parameter.width
 
+-- the numbers of the entries of the statement behind `else`, where there is one
+abbrev pub alternative_entries : Option (Box (List ℕ) Global) → List ℕ
+alternative_entries None = []
+alternative_entries (Some entries) = entries.value
+
 abbrev pub statement_entries : Stmt-F (List ℕ) → List ℕ
 statement_entries (Empty number) = number ∷ []
 statement_entries (Assign number becomes target fits value) = number ∷ target.number ∷ entries_of_expression value
 statement_entries (Write number name parameters ends_line) = number ∷ flat_map entries_of_parameter parameters.items
 statement_entries (Compound number statements) = number ∷ joined statements.items
+statement_entries (If number condition consequence alternative) =
+    number ∷ (entries_of_expression condition ++ (consequence.value ++ alternative_entries alternative))
 
 -- the numbers of a statement's entries
 abbrev pub entries_of_statement : Stmt → List ℕ

@@ -2,6 +2,8 @@
 -- order of entry, the variable, the operation, its sites and places. What encloses others tells where it ends, so two
 -- trees that look alike are alike. It says nothing of which tree a program has.
 use Rattle.std.specs.Prelude.{ℕ, ℤ, ◌++◌, ◌&&◌, Bool, true, List, [], ◌∷◌, Option, Some, None, flat_map, nat_lt}
+use Rattle.std.specs.declared.alloc.Global.{Global}
+use Rattle.std.specs.declared.boxed.Box.{Box}
 use Rattle.place.specs.declared.Place.{Place}
 use Rattle.typed_tree.specs.declared.tree.Tree.{Tree}
 use Rattle.typed_tree.specs.declared.tree.Block.{Block}
@@ -18,7 +20,7 @@ use Rattle.typed_tree.specs.declared.tree.Expr.TheOpen.Expr-F.{Constant as Const
 use Rattle.typed_tree.specs.declared.tree.Expr.TheFolds.{fold-Expr, fold-Link}
 use Rattle.typed_tree.specs.declared.tree.Stmt.{Stmt}
 use Rattle.typed_tree.specs.declared.tree.Stmt.TheOpen.{Stmt-F}
-use Rattle.typed_tree.specs.declared.tree.Stmt.TheOpen.Stmt-F.{Empty as EmptyOf, Assign as AssignOf, Write as WriteOf, Compound as CompoundOf}
+use Rattle.typed_tree.specs.declared.tree.Stmt.TheOpen.Stmt-F.{Empty as EmptyOf, Assign as AssignOf, Write as WriteOf, Compound as CompoundOf, If as IfOf}
 use Rattle.typed_tree.specs.declared.tree.Stmt.TheFolds.{fold-Stmt}
 use Rattle.typed_tree.specs.Entries.{joined}
 use Rattle.typed_tree.specs.WellFormed.{is_whole, monadic_is_well_formed, dyadic_is_well_formed, is_well_formed_test}
@@ -35,7 +37,7 @@ pub data Mark : Type 0 where
   Begins : Mark
   -- an operator between operands
   Operator : ℕ → Dyadic → Mark
-  -- a chain, a write or a compound statement ends
+  -- a chain, a write, a compound statement or an if ends
   Ends : Mark
   Empty : ℕ → Mark
   -- an assignment, with the place of `:=`
@@ -51,6 +53,10 @@ pub data Mark : Type 0 where
   -- the site of the width before it
   Width : ℕ → Mark
   Compound : ℕ → Mark
+  -- an if; the statement behind `then` begins; that behind `else` begins
+  If : ℕ → Mark
+  Then : Mark
+  Else : Mark
   -- a block ends, at its last `end`
   BlockEnds : Place → Mark
 
@@ -83,6 +89,11 @@ abbrev pub look_parameter : WriteParameter → Look
 look_parameter parameter =
     look_expr parameter.value ++ (Written parameter.representation ∷ look_width parameter.width)
 
+-- how the statement behind `else` looks, where there is one
+abbrev pub look_alternative : Option (Box Look Global) → Look
+look_alternative None = []
+look_alternative (Some look) = Else ∷ look.value
+
 abbrev pub statement_look : Stmt-F Look → Look
 statement_look (EmptyOf number) = Empty number ∷ []
 statement_look (AssignOf number becomes target fits value) =
@@ -90,6 +101,9 @@ statement_look (AssignOf number becomes target fits value) =
 statement_look (WriteOf number name parameters ends_line) =
     Write number name ends_line ∷ (flat_map look_parameter parameters.items ++ (Ends ∷ []))
 statement_look (CompoundOf number statements) = Compound number ∷ (joined statements.items ++ (Ends ∷ []))
+statement_look (IfOf number condition consequence alternative) =
+    If number
+    ∷ (look_expr condition ++ (Then ∷ (consequence.value ++ (look_alternative alternative ++ (Ends ∷ [])))))
 
 -- how a statement looks
 abbrev pub look_stmt : Stmt → Look
@@ -118,6 +132,9 @@ mark_entries (Write number name ends_line) = number ∷ []
 mark_entries (Written representation) = []
 mark_entries (Width site) = []
 mark_entries (Compound number) = number ∷ []
+mark_entries (If number) = number ∷ []
+mark_entries Then = []
+mark_entries Else = []
 mark_entries (BlockEnds end) = []
 
 -- the numbers of the entries of what looks so
@@ -140,4 +157,7 @@ is_formed_mark variables sites (Write number name ends_line) = true
 is_formed_mark variables sites (Written representation) = true
 is_formed_mark variables sites (Width site) = nat_lt site sites
 is_formed_mark variables sites (Compound number) = true
+is_formed_mark variables sites (If number) = true
+is_formed_mark variables sites Then = true
+is_formed_mark variables sites Else = true
 is_formed_mark variables sites (BlockEnds end) = true

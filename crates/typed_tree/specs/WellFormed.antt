@@ -4,6 +4,8 @@
 -- program.
 use Rattle.std.specs.Prelude.{◌≡◌, ℕ, ℤ, ◌<◌, ◌≤◌, pos, neg_ℤ, ◌&&◌, Bool, true, List, Option, Some, None, int_le, nat_lt, nat_eq, length, map}
 use Rattle.std.specs.List.{list_all}
+use Rattle.std.specs.declared.alloc.Global.{Global}
+use Rattle.std.specs.declared.boxed.Box.{Box}
 use Rattle.typed_tree.specs.declared.tree.Tree.{Tree}
 use Rattle.typed_tree.specs.declared.tree.Block.{Block}
 use Rattle.typed_tree.specs.declared.tree.Monadic.{Monadic}
@@ -20,7 +22,7 @@ use Rattle.typed_tree.specs.declared.tree.Expr.TheOpen.Expr-F.{Constant, Variabl
 use Rattle.typed_tree.specs.declared.tree.Expr.TheFolds.{fold-Expr, fold-Link}
 use Rattle.typed_tree.specs.declared.tree.Stmt.{Stmt}
 use Rattle.typed_tree.specs.declared.tree.Stmt.TheOpen.{Stmt-F}
-use Rattle.typed_tree.specs.declared.tree.Stmt.TheOpen.Stmt-F.{Empty, Assign, Write, Compound}
+use Rattle.typed_tree.specs.declared.tree.Stmt.TheOpen.Stmt-F.{Empty, Assign, Write, Compound, If}
 use Rattle.typed_tree.specs.declared.tree.Stmt.TheFolds.{fold-Stmt}
 
 -- they all hold
@@ -76,6 +78,11 @@ module _ (variables sites : ℕ) where
   abbrev pub is_well_formed_test : RangeTest → Bool
   is_well_formed_test test = nat_lt test.site sites && (is_whole test.range.first && is_whole test.range.last)
 
+  -- the statement behind `else`, where there is one
+  abbrev pub alternative_is_well_formed : Option (Box Bool Global) → Bool
+  alternative_is_well_formed None = true
+  alternative_is_well_formed (Some well) = well.value
+
   abbrev pub stmt_is_well_formed : Stmt-F Bool → Bool
   stmt_is_well_formed (Empty number) = true
   stmt_is_well_formed (Assign number becomes target fits value) =
@@ -83,6 +90,8 @@ module _ (variables sites : ℕ) where
   stmt_is_well_formed (Write number name parameters ends_line) =
       all_hold (map is_well_formed_parameter parameters.items)
   stmt_is_well_formed (Compound number statements) = all_hold statements.items
+  stmt_is_well_formed (If number condition consequence alternative) =
+      is_well_formed_expr condition && (consequence.value && alternative_is_well_formed alternative)
 
   -- a statement is well formed
   abbrev pub is_well_formed_stmt : Stmt → Bool

@@ -78,6 +78,13 @@ pub enum Stmt {
         number: u32,
         statements: Vec<Stmt>,
     },
+    /// A Boolean condition, and the statement that is executed where it is true; perhaps one for where it is false.
+    If {
+        number: u32,
+        condition: Expr,
+        consequence: Box<Stmt>,
+        alternative: Option<Box<Stmt>>,
+    },
 }
 
 /// A value that is written (ISO 7185:1990, 6.9.3), before its width is evaluated.
