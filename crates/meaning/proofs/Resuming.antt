@@ -15,7 +15,7 @@ use Rattle.meaning.specs.declared.work.Work.{Work}
 use Rattle.meaning.specs.declared.work.Work.TheVariants as work
 use Rattle.meaning.specs.Store.{Environment, Place, held, kept}
 use Rattle.meaning.specs.Effect.{State, Reply, Gives, Stops, Action, ◌>>=◌, and_then, fetched, fetch, is_in, require, store}
-use Rattle.meaning.specs.Meaning.{Meaning, ended, is_so}
+use Rattle.meaning.specs.Meaning.{Meaning, ended, effect_of, is_so}
 use Rattle.meaning.specs.Pending.{Resumption, Agrees, Continues, Does, pending_of, resumed, rest_of, answered, giving, with_top, chosen, top_of, below_top, checked}
 
 -- one more at the end of a stack is one more at its top
@@ -101,6 +101,10 @@ goes_on_below old taken new env s piece below result start same left is agrees d
     ∙ ap (λ (l : List Value). piece env (pending_of env (reverse old.pending.items)) l s) (sym left)
     ∙ ap (λ (r : Run). piece env (pending_of env (reverse r.pending.items)) (reverse taken.values.items) s) (sym same))
     (does env s agreed)
+
+-- a statement, and then the rest
+abbrev pub executing : Stmt → Environment → Resumption → Resumption
+executing statement env next operands = effect_of statement env >>= λ _. next operands
 
 -- the topmost operand chooses a branch
 pub chooses : (env : Environment) (consequence : Stmt) (alternative : Option (Box Stmt Global)) (next : Resumption) (operands : List Value) (s : State)

@@ -203,7 +203,8 @@ impl<'t> Run<'t, '_> {
         alternative: &'t Option<Box<Stmt>>,
     ) -> Result<Option<Ending>, AllocError>
         ensures fewer { Lightens (Work.Choose consequence.entry alternative.entry) self.old result self.new }
-        ensures does { Does (λ env. resumed env (Work.Choose consequence.entry alternative.entry)) self.old result self.new }
+        ensures does { Does (λ env. resumed env (Work.Choose consequence.entry alternative.entry))
+            self.old result self.new }
     {
         if truth_of(self.popped()) {
             self.do_next(Work::Statement(consequence))
