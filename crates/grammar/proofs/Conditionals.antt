@@ -1,5 +1,5 @@
 -- The parts of if statements.
-use Rattle.std.proofs.Common.{◌≡◌, ℕ, ◌+◌, ◌<◌, ◌≤◌, Bool, true, false, not, ◌&&◌, IsTrue, max, List, [], ◌∷◌, ◌++◌, Option, Some, None, refl, subst, sym, ap, ◌∙◌, arith}
+use Rattle.std.proofs.Common.{◌≡◌, ℕ, ◌<◌, ◌≤◌, Bool, true, false, not, ◌&&◌, IsTrue, max, List, [], ◌∷◌, ◌++◌, Option, Some, None, refl, subst, arith}
 use Rattle.std.proofs.lemmas.List.{append-nil}
 use Rattle.std.specs.declared.alloc.Global.{Global}
 use Rattle.std.specs.declared.boxed.Box.{Box}
@@ -15,7 +15,7 @@ use Rattle.syntax_tree.specs.declared.Stmt.TheViews.{out-Stmt}
 use Rattle.grammar.specs.Spelling.{Spelling, Reads, expr_spelling, stmt_spelling, of_kind_at, word_symbol}
 use Rattle.grammar.specs.WellFormed.{is_expression, is_statement, ends_open}
 use Rattle.grammar.specs.Nesting.{expr_levels, stmt_levels}
-use Rattle.grammar.specs.Following.{next_kind, NoNext, EndsStmt, alternative}
+use Rattle.grammar.specs.Following.{NoNext, EndsStmt, alternative}
 use Rattle.grammar.specs.Begins.{BeginsGuard, BeginsStmt, BeginsAlternative}
 use Rattle.grammar.proofs.Lists.{and_left, and_right}
 use Rattle.grammar.proofs.Rows.{parted, begins, same_first}
