@@ -18,7 +18,7 @@ use Rattle.domain.specs.Facts as fact
 use Rattle.domain.specs.Facts.{Path, Fact, Range, Defined, Stretch, Order, entire, fact_order, step_order, has_fact, with_fact, put}
 use Rattle.meaning.specs.declared.store.Value.{Value}
 use Rattle.meaning.specs.Store.{Step, Place, Environment, Store, place_eq, stored, written}
-use Rattle.cert_checker.specs.State.{State, Facts, Dead, Live, start, range_of, is_defined, with_defined, with_value, unless_empty}
+use Rattle.cert_checker.specs.State.{State, Facts, Dead, Live, joined_states, start, range_of, is_defined, with_defined, with_value, unless_empty}
 use Rattle.cert_checker.specs.Holds.{Moment, FactsHold, Holds, HasValue, IsIn, StateHolds, Separate, is_named, part_of, value_at}
 use Rattle.cert_checker.proofs.Apart.{part, entire-stored, written-stored, other-kept}
 use Rattle.cert_checker.proofs.Ranged.{in-present}
@@ -274,3 +274,11 @@ assigned-known variables env shows Dead store root range v within known inside =
 assigned-known variables env shows (Live facts) store root range v within known inside =
     used-known variables env shows (Live (record facts { ranges = set facts.ranges root range })) (written store (place_of env root) v) root v within
     (ranged variables env shows facts store root range v within known inside) (written-stored store (place_of env root) v)
+
+pub joined-known_one : (variables : ℕ) (env : Environment) (one other : State) (store : Store) → Knows variables env one store
+    → Knows variables env (joined_states one other) store
+joined-known_one variables env one other store known = ?
+
+pub joined-known_other : (variables : ℕ) (env : Environment) (one other : State) (store : Store) → Knows variables env other store
+    → Knows variables env (joined_states one other) store
+joined-known_other variables env one other store known = ?

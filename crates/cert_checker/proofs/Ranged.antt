@@ -85,3 +85,7 @@ is-positive n passes = grind (arith, ints)
 -- no number of a range without 0 is 0
 pub without-zero : (range : Interval) (n : ℤ) → not (has_number range (pos 0)) ≡ true → HasMember range n → is_true n ≡ true
 without-zero range n without inside = grind (arith, ints)
+
+-- a number that isn't true is the 0 of its range
+pub false-has : (range : Interval) (n : ℤ) → HasMember range n → is_true n ≡ false → HasMember (common range (record { first = pos 0; last = pos 0 })) n
+false-has range n inside so = meet_has_common-law range (record { first = pos 0; last = pos 0 }) n inside (grind (arith, ints), grind (arith, ints))

@@ -1,9 +1,9 @@
 -- What a checker knows at a point of a program: of each variable the range of its values, and facts
 -- (ISO 7185:1990, 6.5.1: a variable is undefined or has a value). It does not say how such a state comes about, nor
 -- what it means for a run.
-use Rattle.std.specs.Prelude.{ℕ, Bool, true, false, neg_ℤ, List, [], if◌then◌else◌, length, nat_lt, replicate, slice_index_or, slice_set}
-use Rattle.domain.specs.Interval.{Interval, vacant, is_vacant}
-use Rattle.domain.specs.Facts.{Fact, Defined, entire, has_fact, with_fact}
+use Rattle.std.specs.Prelude.{ℕ, Bool, true, false, neg_ℤ, List, [], ◌∷◌, filter, if◌then◌else◌, length, nat_lt, replicate, slice_index_or, slice_set}
+use Rattle.domain.specs.Interval.{Interval, joined, vacant, is_vacant}
+use Rattle.domain.specs.Facts.{Fact, Range, Defined, Stretch, Order, entire, has_fact, with_fact}
 use Rattle.meaning.specs.Integers.{maxint}
 
 -- a row for each variable by its root number, with the range of its values, and the facts in their order, each once
@@ -59,3 +59,36 @@ with_value root range state = with_defined root (with_range root range state)
 -- no run goes on from an empty range
 abbrev pub unless_empty : Interval → State → State
 unless_empty range state = if is_vacant range then Dead else state
+
+-- ---- the join of two ways
+
+-- a state gives a fact: it is known there
+abbrev pub gives : Facts → Fact → Bool
+gives known (Defined path) = has_fact (Defined path) known.facts
+gives known (Range path range) = false
+gives known (Stretch path first last) = false
+gives known (Order root other number) = false
+
+-- facts with some more, each in its place
+abbrev pub with_facts : (more : List Fact) → List Fact → List Fact
+with_facts [] facts = facts
+with_facts (fact ∷ more) facts = with_facts more (with_fact fact facts)
+
+-- the ranges that the values of each variable lie in on one of two ways; a variable without a row has none
+abbrev pub joined_ranges : List Interval → List Interval → List Interval
+joined_ranges [] others = others
+joined_ranges (range ∷ ranges) [] = joined range vacant ∷ joined_ranges ranges []
+joined_ranges (range ∷ ranges) (other ∷ others) = joined range other ∷ joined_ranges ranges others
+
+-- what is known where two ways meet: ranges that have the values of both, and the facts of either that the other gives
+abbrev pub joined_facts : Facts → Facts → Facts
+joined_facts one other = record {
+  ranges = joined_ranges one.ranges other.ranges;
+  facts = with_facts (filter (gives one) other.facts) (filter (gives other) one.facts);
+}
+
+-- what is known behind two ways that meet; one that no run takes adds nothing
+abbrev pub joined_states : State → State → State
+joined_states Dead other = other
+joined_states (Live one) Dead = Live one
+joined_states (Live one) (Live other) = Live (joined_facts one other)

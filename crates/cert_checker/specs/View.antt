@@ -1,16 +1,21 @@
 -- The checker's own values as the definitions see them, and that the checker has walked over a piece of a program.
 -- It does not say what a walk is.
-use Rattle.std.specs.Prelude.{◌≡◌, ℕ, ◌+◌, suc, ◌&&◌, List, [], ◌∷◌, ◌++◌, Result, Ok, Err, if◌then◌else◌, map, nat_eq}
+use Rattle.std.specs.Prelude.{◌≡◌, ℕ, ◌+◌, suc, ◌&&◌, true, false, List, [], ◌∷◌, ◌++◌, Option, Some, None, Result, Ok, Err, if◌then◌else◌, map, nat_eq}
+use Rattle.std.specs.declared.alloc.Global.{Global}
+use Rattle.std.specs.declared.boxed.Box.{Box}
+use Rattle.typed_tree.specs.declared.tree.Stmt.{Stmt}
 use Rattle.domain.specs.Facts.{Fact, Defined, entire}
 use Rattle.cert_checker.specs.declared.fault.CheckFault.{CheckFault}
+use Rattle.cert_checker.specs.declared.fault.CheckFault.TheVariants.{Memory}
+use Rattle.cert_checker.specs.declared.known.Known.{Known}
 use Rattle.cert_checker.specs.declared.state.Row.{Row}
 use Rattle.cert_checker.specs.declared.state.State.{State as Kept}
 use Rattle.cert_checker.specs.declared.state.State.TheVariants as kept
 use Rattle.cert_checker.specs.declared.visits.Visits.{Visits}
 use Rattle.cert_checker.specs.declared.walk.Walk.{Walk}
-use Rattle.cert_checker.specs.State.{State, Dead, Live}
+use Rattle.cert_checker.specs.State.{State, Dead, Live, joined_states}
 use Rattle.cert_checker.specs.Promise.{IsBreachOf}
-use Rattle.cert_checker.specs.Walk.{Context, Walking, numbers_of}
+use Rattle.cert_checker.specs.Walk.{Context, Walking, give, numbers_of, statement_walk, where_so}
 
 -- the facts that rows say: that variables are defined, the first row being that of a root number
 abbrev pub defined_from : ℕ → List Row → List Fact
@@ -54,3 +59,25 @@ pub record Walks {A : Type 0} (walking : Walking A) (old : Walk) (before : Visit
 abbrev pub Goes : {A : Type 0} → Walking A → Walk → Visits → Result A CheckFault → Walk → Visits → Type 0
 Goes walking old before (Ok value) new after = Walks walking old before new after value
 Goes walking old before (Err fault) new after = IsBreachOf (walking (context_of old) (viewed old.state)) fault
+
+-- the checker goes on from a state that says this, and nothing else of it changes
+pub record IsMoved (state : State) (old new : Walk) : Type 0 where
+  pub only_state : new ≡ record old { state = new.state }
+  pub says : viewed new.state ≡ state
+
+-- the checker goes on where a condition is true, and has the state where it is false; or it found no memory
+abbrev pub Parts : Known → Walk → Result Kept CheckFault → Walk → Type 0
+Parts known old (Ok otherwise) new =
+    IsMoved (where_so true known (viewed old.state)) old new
+    × (viewed otherwise ≡ where_so false known (viewed old.state))
+Parts known old (Err fault) new = fault ≡ Memory
+
+-- the checker goes on where the way from an earlier state meets that to the present one; or it found no memory
+abbrev pub Meets : Kept → Walk → Result (Unit {0}) CheckFault → Walk → Type 0
+Meets before old (Ok done) new = IsMoved (joined_states (viewed before) (viewed old.state)) old new
+Meets before old (Err fault) new = fault ≡ Memory
+
+-- the walk over the statement behind `else`, if there is one
+abbrev pub else_walk : Option (Box Stmt Global) → Walking (Unit {0})
+else_walk None = give tt
+else_walk (Some statement) = statement_walk statement.value

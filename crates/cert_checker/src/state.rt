@@ -1,5 +1,5 @@
 ghost use Rattle.std.specs.Prelude.{◌≡◌, IfOk};
-ghost use Rattle.cert_checker.specs.State.{start, is_dead, range_of, is_defined, with_defined, with_value, unless_empty};
+ghost use Rattle.cert_checker.specs.State.{start, is_dead, range_of, is_defined, joined_states, with_defined, with_value, unless_empty};
 ghost use Rattle.cert_checker.specs.View.{viewed};
 
 use domain::Domain;
@@ -106,5 +106,22 @@ impl State {
         if range.is_empty() {
             *self = State::Dead;
         }
+    }
+
+    /// The same state once more, for another way from here on.
+    pub(crate) fn copied(&self, alloc: Global) -> Result<State, AllocError>
+        ensures { IfOk result (λ state. viewed state ≡ viewed self.now) }
+    {
+        match self {
+            State::Dead => Ok(State::Dead),
+            State::Live(rows) => Ok(State::Live(Vec::from_slice(alloc, rows)?)),
+        }
+    }
+
+    /// What is known where the way to here meets another.
+    pub(crate) fn join(&mut self, other: State) -> Result<(), AllocError>
+        ensures { IfOk result (λ _. viewed self.new ≡ joined_states (viewed self.old) (viewed other)) }
+    {
+        Ok(())
     }
 }

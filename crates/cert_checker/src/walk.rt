@@ -1,7 +1,7 @@
 ghost use Rattle.std.specs.Prelude.{◌≡◌, [], map, IfOk, MatchResult};
-ghost use Rattle.cert_checker.specs.Walk.{enter, variable_walk, tested, within, positive, divisor, whole, operated, combined, value_walk, link_walk, width_test, width_walk, parameter_walk, all_of, limits_of, fitting, assignment, statement_walk, block_walk, program_walk};
+ghost use Rattle.cert_checker.specs.Walk.{enter, variable_walk, tested, within, positive, divisor, whole, operated, combined, value_walk, link_walk, width_test, width_walk, parameter_walk, all_of, limits_of, fitting, assignment, of_truth, branches, statement_walk, block_walk, program_walk};
 ghost use Rattle.typed_tree.specs.Entries.{entries_of};
-ghost use Rattle.cert_checker.specs.View.{Goes, all_counted};
+ghost use Rattle.cert_checker.specs.View.{Goes, Meets, Parts, all_counted, else_walk};
 ghost use Rattle.cert_checker.specs.Promise.{IsBreachOf};
 
 use crate::fault::CheckFault;
@@ -12,6 +12,7 @@ use certificate::Certificate;
 use domain::Domain;
 use domain::interval::Interval;
 use std::alloc::Global;
+use std::mem;
 use typed_tree::tree::{
     Access, Block, Dyadic, Expr, Link, Monadic, RangeTest, Stmt, Tree, Width, WriteParameter,
 };
@@ -70,6 +71,7 @@ impl<'a> Walk<'a> {
         self.statement(&block.body, visits)
     }
 
+    #[cycle(statement)]
     fn statement(&mut self, statement: &Stmt, visits: &mut Visits) -> Result<(), CheckFault>
         ensures { Goes (statement_walk statement.now) self.old visits.old result self.new visits.new }
     {
@@ -100,7 +102,38 @@ impl<'a> Walk<'a> {
                 }
                 Ok(())
             }
+            Stmt::If {
+                number,
+                condition,
+                consequence,
+                alternative,
+            } => {
+                self.enter(*number, visits)?;
+                let known = self.expression(condition, visits)?;
+                self.branches(known, consequence, alternative, visits)
+            }
         }
+    }
+
+    /// Either branch of a conditional statement, from the state where its condition is true or where it is false.
+    #[cycle(statement)]
+    fn branches(
+        &mut self,
+        known: Known,
+        consequence: &Stmt,
+        alternative: &Option<Box<Stmt>>,
+        visits: &mut Visits,
+    ) -> Result<(), CheckFault>
+        ensures { Goes (branches (statement_walk consequence.now) (else_walk alternative.now) known)
+            self.old visits.old result self.new visits.new }
+    {
+        let otherwise = self.part(known)?;
+        self.statement(consequence, visits)?;
+        let behind = mem::replace(&mut self.state, otherwise);
+        if let Some(statement) = alternative {
+            self.statement(statement, visits)?;
+        }
+        self.meet(behind)
     }
 
     /// The value has to lie in the range of the target's type.
@@ -227,6 +260,29 @@ impl<'a> Walk<'a> {
     }
 }
 
+// Where a condition parts the walk, and where its ways meet.
+impl<'a> Walk<'a> {
+    /// Goes on where a condition is true; the state where it is false.
+    fn part(&mut self, known: Known) -> Result<State, CheckFault>
+        ensures { Parts known self.old result self.new }
+    {
+        let range = known.range();
+        let mut otherwise = self.state.copied(self.alloc)?;
+        otherwise.unless_empty(of_truth(false, range));
+        self.state.unless_empty(of_truth(true, range));
+        Ok(otherwise)
+    }
+
+    /// Goes on where the way that was walked before meets the one that was walked now.
+    fn meet(&mut self, before: State) -> Result<(), CheckFault>
+        ensures { Meets before self.old result self.new }
+    {
+        let now = mem::replace(&mut self.state, before);
+        self.state.join(now)?;
+        Ok(())
+    }
+}
+
 // Operations and tests, which enter nothing.
 impl<'a> Walk<'a> {
     /// What an operation gives for a value.
@@ -332,6 +388,17 @@ impl<'a> Walk<'a> {
         }
         self.state.unless_empty(passed);
         Ok(passed)
+    }
+}
+
+/// The numbers of a range that are true, or those that are false.
+fn of_truth(truth: bool, range: Interval) -> Interval
+    ensures { result ≡ of_truth truth range }
+{
+    if truth {
+        range.without_zero_end()
+    } else {
+        range.meet(&Interval::between(0, 0))
     }
 }
 
