@@ -8,6 +8,10 @@ use Rattle.std.specs.declared.cmp.Ordering.{Ordering}
 use Rattle.std.specs.declared.cmp.Ordering.TheVariants.{Less, Equal, Greater}
 use Rattle.std.specs.Ordering.{int_cmp, is_eq, nat_cmp, ordering_then}
 use Rattle.domain.specs.Interval.{Interval}
+use Rattle.domain.specs.declared.facts.Bound.{Bound as KeptBound}
+use Rattle.domain.specs.declared.facts.Bound.TheVariants as kept
+use Rattle.domain.specs.declared.facts.Fact.{Fact as KeptFact}
+use Rattle.domain.specs.declared.facts.Fact.TheVariants as kept_fact
 
 -- a step of a path: to all elements of an array, or to the field of a name
 pub data Step : Type 0 where
@@ -63,15 +67,25 @@ rank (Defined path) = 1
 rank (Stretch path first last) = 2
 rank (Order root other number) = 3
 
--- by forms, then by paths, then by bounds
-abbrev pub fact_order : Fact → Fact → Ordering
-fact_order (Range p a) (Range q b) =
-    ordering_then (path_order p q) (ordering_then (int_cmp a.first b.first) (int_cmp a.last b.last))
-fact_order (Defined p) (Defined q) = path_order p q
-fact_order (Stretch p a b) (Stretch q c d) =
+-- by forms, then by paths or variables, then by the bounds of a stretch: facts that it calls equal are one but for the
+-- numbers of a range or an order
+abbrev pub subject_order : Fact → Fact → Ordering
+subject_order (Range p a) (Range q b) = path_order p q
+subject_order (Defined p) (Defined q) = path_order p q
+subject_order (Stretch p a b) (Stretch q c d) =
     ordering_then (path_order p q) (ordering_then (bound_order a c) (bound_order b d))
-fact_order (Order a b m) (Order c d n) = ordering_then (nat_cmp a c) (ordering_then (nat_cmp b d) (int_cmp m n))
-fact_order f g = nat_cmp (rank f) (rank g)
+subject_order (Order a b m) (Order c d n) = ordering_then (nat_cmp a c) (nat_cmp b d)
+subject_order f g = nat_cmp (rank f) (rank g)
+
+-- by the numbers of ranges, or of orders
+abbrev pub numbers_order : Fact → Fact → Ordering
+numbers_order (Range p a) (Range q b) = ordering_then (int_cmp a.first b.first) (int_cmp a.last b.last)
+numbers_order (Order a b m) (Order c d n) = int_cmp m n
+numbers_order f g = Equal
+
+-- by what they say something of, and then by their numbers
+abbrev pub fact_order : Fact → Fact → Ordering
+fact_order f g = ordering_then (subject_order f g) (numbers_order f g)
 
 -- ---- lists of facts
 
@@ -89,3 +103,16 @@ put Greater fact first rest longer = first ∷ longer
 abbrev pub with_fact : Fact → List Fact → List Fact
 with_fact fact [] = fact ∷ []
 with_fact fact (first ∷ rest) = put (fact_order fact first) fact first rest (with_fact fact rest)
+
+-- ---- facts of entire variables, as programs keep them
+
+-- what a bound says
+abbrev pub said_bound : KeptBound → Bound
+said_bound (kept.Number number) = Number number
+said_bound (kept.Plus root number) = Plus root number
+
+-- what a fact says
+abbrev pub said : KeptFact → Fact
+said (kept_fact.Range root range) = Range (entire root) range
+said (kept_fact.Defined root) = Defined (entire root)
+said (kept_fact.Order root other number) = Order root other number

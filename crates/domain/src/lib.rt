@@ -1,4 +1,4 @@
-//! The domains of the checker's abstract values, and (in `specs/Facts.antt`) the facts that it may know.
+//! The domains of the checker's abstract values, and the facts that it may know.
 //!
 //! `Domain` has the four operations that the checker's soundness stands on, with their laws; `Interval` is a
 //! domain, with the arithmetic of ranges.
@@ -6,6 +6,7 @@
 
 ghost use Rattle.std.specs.Prelude.{◌≡◌, Bool, true, false};
 
+pub mod facts;
 pub mod interval;
 
 /// A set of abstract values, each of which stands for the concrete values that are its members.
