@@ -23,11 +23,11 @@ use Rattle.typed_tree.specs.declared.tree.Tree.{Tree}
 use Rattle.typed_tree.specs.declared.tree.Block.{Block}
 use Rattle.typed_tree.specs.Entries.{joined, expression_entries, link_entries, entries_of_expression, entries_of_width, entries_of_parameter, statement_entries, entries_of_statement, entries_of}
 use Rattle.certificate.specs.declared.Certificate.{Certificate}
-use Rattle.cert_checker.specs.declared.known.Known.{Known}
-use Rattle.cert_checker.specs.declared.known.Known.TheVariants.{Ordinal}
+use Rattle.abstract_state.specs.declared.known.Known.{Known}
+use Rattle.abstract_state.specs.declared.known.Known.TheVariants.{Ordinal}
 use Rattle.cert_checker.specs.declared.visits.Visits.{Visits}
 use Rattle.cert_checker.specs.Promise.{LinksEntries}
-use Rattle.cert_checker.specs.State.{State, Dead, start}
+use Rattle.abstract_state.specs.State.{State, Dead, start}
 use Rattle.cert_checker.specs.View.{all_counted, counted}
 use Rattle.cert_checker.specs.Walk.{Context, Linked, Walking, Combination, ◌>>=◌, numbers_of, operated, combined, width_test, fitting, assign, value_step, link_step, value_walk, link_walk, width_walk, parameter_walk, statement_step, statement_walk, in_turn, where_so, all_of, block_walk, program_walk}
 

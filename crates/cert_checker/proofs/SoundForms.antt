@@ -25,12 +25,12 @@ use Rattle.meaning.specs.Effect as effect
 use Rattle.meaning.specs.Effect.{is_in, is_positive, text_of}
 use Rattle.meaning.specs.Meaning as meaning
 use Rattle.meaning.specs.Meaning.{Evaluation, Execution, is_so, value_of, link_of, effect_of, parameter_of, width_of}
-use Rattle.cert_checker.specs.declared.known.Known.{Known}
-use Rattle.cert_checker.specs.declared.known.Known.TheVariants.{Ordinal}
+use Rattle.abstract_state.specs.declared.known.Known.{Known}
+use Rattle.abstract_state.specs.declared.known.Known.TheVariants.{Ordinal}
 use Rattle.cert_checker.specs.Walk as walk
 use Rattle.cert_checker.specs.Walk.{Walking, value_walk, link_walk, parameter_walk, width_walk, statement_walk}
-use Rattle.cert_checker.proofs.Ranged.{IsKnown, constant-in}
-use Rattle.cert_checker.proofs.Knows.{Shows}
+use Rattle.abstract_state.proofs.Ranged.{IsKnown, constant-in}
+use Rattle.abstract_state.proofs.Knows.{Shows}
 use Rattle.cert_checker.proofs.Sound.{World, Sound, Any_value, Passes, sound-then, sound-given, sound-written, sound-give, sound-enter, sound-use, sound-assign, sound-branches}
 use Rattle.cert_checker.proofs.SoundOperations.{IsKnownOf, given-sound, operated-sound, combined-sound, positive-sound, fitting-sound}
 
@@ -273,18 +273,18 @@ module _ (world : World) (env : Environment) (shows : Shows world.variables env)
       (value-sound value two.1) (λ known v inside. store-sound target fits known v one.0 three.0 inside))
 
   -- a conditional statement: the condition, and then one of its branches
-  choice-sound : (number : ℕ) (condition : Expr) (consequence alternative : effect.Action (Unit {0})) (yes no : Walking (Unit {0}))
+  choice-sound : (number : ℕ) (condition : Expr) (consequence alternative : effect.Action (Unit {0})) (true_walk false_walk : Walking (Unit {0}))
       → well_expr condition ≡ true
-      → SoundAction world env consequence yes → SoundAction world env alternative no
+      → SoundAction world env consequence true_walk → SoundAction world env alternative false_walk
       → SoundAction world env
       (effect.◌>>=◌ (effect.enter number env) (λ done. effect.◌>>=◌ (value_of condition env) (λ v. cond (is_so v) consequence alternative)))
-      (walk.◌>>=◌ (walk.enter number) (λ done. walk.◌>>=◌ (value_walk condition) (walk.branches yes no)))
-  choice-sound number condition consequence alternative yes no well one other =
+      (walk.◌>>=◌ (walk.enter number) (λ done. walk.◌>>=◌ (value_walk condition) (walk.branches true_walk false_walk)))
+  choice-sound number condition consequence alternative true_walk false_walk well one other =
       let chosen = λ (v : Value). cond (is_so v) consequence alternative in
       entered-sound {A = Unit {0}} {B = Unit {0}} Any_value number (effect.◌>>=◌ (value_of condition env) chosen)
-      (walk.◌>>=◌ (value_walk condition) (walk.branches yes no))
-      (sound-then world env IsKnown Any_value (value_of condition env) chosen (value_walk condition) (walk.branches yes no)
-      (value-sound condition well) (λ known v inside. sound-branches world env consequence alternative yes no known v inside one other))
+      (walk.◌>>=◌ (value_walk condition) (walk.branches true_walk false_walk))
+      (sound-then world env IsKnown Any_value (value_of condition env) chosen (value_walk condition) (walk.branches true_walk false_walk)
+      (value-sound condition well) (λ known v inside. sound-branches world env consequence alternative true_walk false_walk known v inside one other))
 
   abbrev StmtLayer : Stmt-F Stmt → Type 0
   StmtLayer x =

@@ -19,15 +19,16 @@ use Rattle.std.specs.declared.vec.Vec.{Vec}
 use Rattle.std.specs.declared.alloc.Global.{Global}
 use Rattle.cert_checker.specs.declared.fault.CheckFault.{CheckFault}
 use Rattle.cert_checker.specs.declared.fault.CheckFault.TheVariants.{Memory, Broken}
-use Rattle.cert_checker.specs.declared.known.Known.{Known}
+use Rattle.abstract_state.specs.declared.known.Known.{Known}
 use Rattle.cert_checker.specs.declared.visits.Visits.{Visits}
 use Rattle.cert_checker.specs.declared.walk.Walk.{Walk}
 use Rattle.domain.specs.Interval.{Interval}
-use Rattle.cert_checker.specs.declared.state.State.{State as Kept}
-use Rattle.cert_checker.specs.declared.known.Known.TheVariants.{Ordinal}
-use Rattle.cert_checker.specs.State.{State, Dead, Live, is_defined, joined_states, range_of, with_defined, with_value}
-use Rattle.cert_checker.specs.Walk.{Breach, Context, Linked, Walked, Walking, use_of, tested, positive, within, limits_of, width_test, assign, fitting, ◌>>=◌, give, ordinal, enter, variable_walk, operated, combined, in_turn, value_walk, link_walk, parameter_walk, statement_walk, all_of, assignment, branches, where_so, numbers_of}
-use Rattle.cert_checker.specs.View.{viewed, context_of, all_counted, counted, else_walk, IsMoved, Meets, Walks, Goes}
+use Rattle.abstract_state.specs.declared.state.State.{State as Kept}
+use Rattle.abstract_state.specs.declared.known.Known.TheVariants.{Ordinal}
+use Rattle.abstract_state.specs.View.{viewed}
+use Rattle.abstract_state.specs.State.{State, Dead, Live, is_defined, joined_states, limits_of, range_of, with_defined, with_value}
+use Rattle.cert_checker.specs.Walk.{Breach, Context, Linked, Walked, Walking, use_of, tested, positive, within, width_test, assign, fitting, ◌>>=◌, give, ordinal, enter, variable_walk, operated, combined, in_turn, value_walk, link_walk, parameter_walk, statement_walk, all_of, assignment, branches, where_so, numbers_of}
+use Rattle.cert_checker.specs.View.{context_of, all_counted, counted, else_walk, IsMoved, Meets, Parts, Walks, Goes}
 use Rattle.cert_checker.specs.Promise.{first_breach, IsBreachOf}
 
 -- ---- the walk, form by form
@@ -376,15 +377,31 @@ branches-walk true_walk false_walk known old taken mid start done new before bet
 
 -- where the ways meet, or no memory is found there
 pub branches-done : (true_walk false_walk : Walking (Unit {0})) (known : Known) (old taken mid start done new : Walk) (before between after : Visits)
-    (result : Result (Unit {0}) CheckFault)
-    → IsMoved (where_so true known (viewed old.state)) old taken → Walks true_walk taken before mid between tt
-    → IsMoved (where_so false known (viewed old.state)) mid start → Walks false_walk start between done after tt
-    → Meets mid.state done result new
+    (behind otherwise : Kept) (result : Result (Unit {0}) CheckFault)
+    → Parts known old (Ok otherwise) taken → Walks true_walk taken before mid between tt
+    → behind ≡ mid.state → start.state ≡ otherwise → start ≡ record mid { state = start.state } → Walks false_walk start between done after tt
+    → Meets behind done result new
     → Goes (branches true_walk false_walk known) old before result new after
-branches-done true_walk false_walk known old taken mid start done new before between after (Ok value) to_yes one to_no two met =
-    branches-walk true_walk false_walk known old taken mid start done new before between after to_yes one to_no two met
-branches-done true_walk false_walk known old taken mid start done new before between after (Err fault) to_yes one to_no two is =
+branches-done true_walk false_walk known old taken mid start done new before between after behind otherwise (Ok value) parts one behind_is replaced only two
+    met =
+    let to_no : IsMoved (where_so false known (viewed old.state)) mid start = record { only_state = only; says = ap viewed replaced ∙ parts.1 } in
+    branches-walk true_walk false_walk known old taken mid start done new before between after parts.0 one to_no two
+    (subst (λ (s : Kept). IsMoved (joined_states (viewed s) (viewed done.state)) done new) behind_is met)
+branches-done true_walk false_walk known old taken mid start done new before between after behind otherwise (Err fault) parts one behind_is replaced only two
+    is =
     subst (IsBreachOf (branches true_walk false_walk known (context_of old) (viewed old.state))) (sym is) tt
+
+-- the checker gave up on the way where the condition is true
+pub branches-stopped : (true_walk false_walk : Walking (Unit {0})) (known : Known) (old taken new : Walk) (before after : Visits) (otherwise : Kept)
+    (fault : CheckFault)
+    → Parts known old (Ok otherwise) taken → IsBreachOf (true_walk (context_of taken) (viewed taken.state)) fault
+    → Goes (branches true_walk false_walk known) old before (Err fault) new after
+branches-stopped true_walk false_walk known old taken new before after otherwise fault parts is =
+    let first : Walked (Unit {0}) = true_walk (context_of old) (where_so true known (viewed old.state)) in
+    let second : Walked (Unit {0}) = false_walk (context_of old) (where_so false known (viewed old.state)) in
+    breach-stays first second fault (branches true_walk false_walk known (context_of old) (viewed old.state)) refl
+    (breach-same (true_walk (context_of taken) (viewed taken.state)) first fault
+    (ap (λ w. w.broken) (moved-same true_walk (where_so true known (viewed old.state)) old taken parts.0)) is)
 
 -- a conditional statement from its entry on
 pub if-begun : (statement : Stmt) (number : ℕ) (condition : Expr) (consequence : Box Stmt Global) (alternative : Option (Box Stmt Global)) (inner : Stmt)

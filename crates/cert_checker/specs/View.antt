@@ -1,33 +1,19 @@
 -- The checker's own values as the definitions see them, and that the checker has walked over a piece of a program.
 -- It does not say what a walk is.
-use Rattle.std.specs.Prelude.{◌≡◌, ℕ, ◌+◌, suc, ◌&&◌, true, false, List, [], ◌∷◌, ◌++◌, Option, Some, None, Result, Ok, Err, if◌then◌else◌, map, nat_eq}
+use Rattle.std.specs.Prelude.{◌≡◌, ℕ, ◌+◌, ◌&&◌, true, false, List, [], ◌∷◌, ◌++◌, Option, Some, None, Result, Ok, Err, nat_eq}
 use Rattle.std.specs.declared.alloc.Global.{Global}
 use Rattle.std.specs.declared.boxed.Box.{Box}
 use Rattle.typed_tree.specs.declared.tree.Stmt.{Stmt}
-use Rattle.domain.specs.Facts.{Fact, Defined, entire}
 use Rattle.cert_checker.specs.declared.fault.CheckFault.{CheckFault}
 use Rattle.cert_checker.specs.declared.fault.CheckFault.TheVariants.{Memory}
-use Rattle.cert_checker.specs.declared.known.Known.{Known}
-use Rattle.cert_checker.specs.declared.state.Row.{Row}
-use Rattle.cert_checker.specs.declared.state.State.{State as Kept}
-use Rattle.cert_checker.specs.declared.state.State.TheVariants as kept
+use Rattle.abstract_state.specs.declared.known.Known.{Known}
+use Rattle.abstract_state.specs.declared.state.State.{State as Kept}
+use Rattle.abstract_state.specs.View.{viewed}
 use Rattle.cert_checker.specs.declared.visits.Visits.{Visits}
 use Rattle.cert_checker.specs.declared.walk.Walk.{Walk}
-use Rattle.cert_checker.specs.State.{State, Dead, Live, joined_states}
+use Rattle.abstract_state.specs.State.{State, joined_states}
 use Rattle.cert_checker.specs.Promise.{IsBreachOf}
 use Rattle.cert_checker.specs.Walk.{Context, Walking, give, numbers_of, statement_walk, where_so}
-
--- the facts that rows say: that variables are defined, the first row being that of a root number
-abbrev pub defined_from : ℕ → List Row → List Fact
-defined_from root [] = []
-defined_from root (row ∷ rows) =
-    if row.is_defined then Defined (entire root) ∷ defined_from (suc root) rows else defined_from (suc root) rows
-
--- what a state of the checker says
-abbrev pub viewed : Kept → State
-viewed kept.Dead = Dead
-viewed (kept.Live rows) =
-    Live (record { ranges = map (λ row. row.range) rows.items; facts = defined_from 0 rows.items })
 
 -- the counter after an entry of a number
 abbrev pub counted : ℕ → Visits → Visits

@@ -9,7 +9,6 @@ use Rattle.certificate.specs.declared.Certificate.{Certificate}
 use Rattle.typed_tree.specs.declared.tree.Tree.{Tree}
 use Rattle.typed_tree.specs.declared.tree.Block.{Block}
 use Rattle.typed_tree.specs.declared.tree.Access.{Access}
-use Rattle.types.specs.declared.form.OrdinalRange.{OrdinalRange}
 use Rattle.typed_tree.specs.declared.tree.RangeTest.{RangeTest}
 use Rattle.typed_tree.specs.declared.tree.Monadic.{Monadic}
 use Rattle.typed_tree.specs.declared.tree.Monadic.TheVariants as monadic
@@ -28,9 +27,9 @@ use Rattle.typed_tree.specs.declared.tree.Stmt.TheOpen.Stmt-F.{Empty, Assign, Wr
 use Rattle.typed_tree.specs.declared.tree.Stmt.TheFolds.{fold-Stmt}
 use Rattle.domain.specs.Interval.{Interval, is_included, has_number, common, sum, difference, negated, product, squared, absolute, quotient, remainder, without_zero_end, at_least, both, either, complement, truth_values}
 use Rattle.cert_checker.specs.declared.fault.Rule.{Rule}
-use Rattle.cert_checker.specs.declared.known.Known.{Known}
-use Rattle.cert_checker.specs.declared.known.Known.TheVariants.{Ordinal}
-use Rattle.cert_checker.specs.State.{State, Dead, start, integer, is_dead, is_defined, joined_states, range_of, with_defined, with_value, unless_empty}
+use Rattle.abstract_state.specs.declared.known.Known.{Known}
+use Rattle.abstract_state.specs.declared.known.Known.TheVariants.{Ordinal}
+use Rattle.abstract_state.specs.State.{State, Dead, start, integer, is_dead, is_defined, joined_states, limits_of, range_of, with_defined, with_value, unless_empty}
 
 -- what a walk goes by: the program and its certificate
 pub record Context : Type 0 where
@@ -239,10 +238,6 @@ abbrev pub parameter_walk : WriteParameter → Walking (Unit {0})
 parameter_walk parameter = do
   _ ← value_walk parameter.value
   width_walk parameter.width
-
--- the values of a type, which are integers
-abbrev pub limits_of : OrdinalRange → Interval
-limits_of range = common integer (record { first = range.first; last = range.last })
 
 -- a value has to lie in the range of a type
 abbrev pub fitting : RangeTest → Known → Walking Known

@@ -1,13 +1,12 @@
 ghost use Rattle.std.specs.Prelude.{◌≡◌, [], map, IfOk, MatchResult};
-ghost use Rattle.cert_checker.specs.Walk.{enter, variable_walk, tested, within, positive, divisor, whole, operated, combined, value_walk, link_walk, width_test, width_walk, parameter_walk, all_of, limits_of, fitting, assignment, of_truth, branches, statement_walk, block_walk, program_walk};
+ghost use Rattle.cert_checker.specs.Walk.{enter, variable_walk, tested, within, positive, divisor, whole, operated, combined, value_walk, link_walk, width_test, width_walk, parameter_walk, all_of, fitting, assignment, of_truth, statement_walk, block_walk, program_walk};
 ghost use Rattle.typed_tree.specs.Entries.{entries_of};
 ghost use Rattle.cert_checker.specs.View.{Goes, Meets, Parts, all_counted, else_walk};
 ghost use Rattle.cert_checker.specs.Promise.{IsBreachOf};
 
 use crate::fault::CheckFault;
-use crate::known::Known;
-use crate::state::State;
 use crate::visits::Visits;
+use abstract_state::{Known, State, limits};
 use certificate::Certificate;
 use domain::Domain;
 use domain::interval::Interval;
@@ -16,7 +15,6 @@ use std::mem;
 use typed_tree::tree::{
     Access, Block, Dyadic, Expr, Link, Monadic, RangeTest, Stmt, Tree, Width, WriteParameter,
 };
-use types::OrdinalRange;
 
 /// A walk over the statements of a program, in the order in which they are run. The counter of entries is lent to it.
 #[derive(Drop)]
@@ -97,10 +95,7 @@ impl<'a> Walk<'a> {
             }
             Stmt::Compound { number, statements } => {
                 self.enter(*number, visits)?;
-                for statement in statements {
-                    self.statement(statement, visits)?;
-                }
-                Ok(())
+                self.statements(statements, visits)
             }
             Stmt::If {
                 number,
@@ -110,30 +105,39 @@ impl<'a> Walk<'a> {
             } => {
                 self.enter(*number, visits)?;
                 let known = self.expression(condition, visits)?;
-                self.branches(known, consequence, alternative, visits)
+                let otherwise = self.part(known)?;
+                self.statement(consequence, visits)?;
+                let behind = mem::replace(&mut self.state, otherwise);
+                self.alternative(alternative, visits)?;
+                self.meet(behind)
             }
         }
     }
 
-    /// Either branch of a conditional statement, from the state where its condition is true or where it is false.
+    /// Statements, one after another.
     #[cycle(statement)]
-    fn branches(
+    fn statements(&mut self, statements: &[Stmt], visits: &mut Visits) -> Result<(), CheckFault>
+        ensures { Goes (all_of (map statement_walk statements.now)) self.old visits.old result self.new visits.new }
+    {
+        for statement in statements {
+            self.statement(statement, visits)?;
+        }
+        Ok(())
+    }
+
+    /// The statement behind `else`, if there is one.
+    #[cycle(statement)]
+    fn alternative(
         &mut self,
-        known: Known,
-        consequence: &Stmt,
         alternative: &Option<Box<Stmt>>,
         visits: &mut Visits,
     ) -> Result<(), CheckFault>
-        ensures { Goes (branches (statement_walk consequence.now) (else_walk alternative.now) known)
-            self.old visits.old result self.new visits.new }
+        ensures { Goes (else_walk alternative.now) self.old visits.old result self.new visits.new }
     {
-        let otherwise = self.part(known)?;
-        self.statement(consequence, visits)?;
-        let behind = mem::replace(&mut self.state, otherwise);
-        if let Some(statement) = alternative {
-            self.statement(statement, visits)?;
+        match alternative {
+            None => Ok(()),
+            Some(statement) => self.statement(statement, visits),
         }
-        self.meet(behind)
     }
 
     /// The value has to lie in the range of the target's type.
@@ -400,11 +404,4 @@ fn of_truth(truth: bool, range: Interval) -> Interval
     } else {
         range.meet(&Interval::between(0, 0))
     }
-}
-
-/// The values of a type, which are integers.
-fn limits(range: OrdinalRange) -> Interval
-    ensures { result ≡ limits_of range }
-{
-    Interval::INTEGER.meet(&Interval::between(range.first, range.last))
 }
