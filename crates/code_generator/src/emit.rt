@@ -1,6 +1,7 @@
 ghost use Rattle.std.specs.Prelude.{◌≡◌, ◌≤◌, ◌+◌, ℕ, List, [], ◌∷◌, ◌++◌, OnOk, length, vec_len};
-ghost use Rattle.code_generator.specs.Code.{assign_code, check_positive, default_width, dyadic_code, expr_code, if_code, if_else_code, line_end_code, link_code, monadic_code, parameter_code, relation_instr, stmt_code, variable_code, variable_offset, width_code, write_code, write_instr};
+ghost use Rattle.code_generator.specs.Code.{assign_code, check_positive, default_width, dyadic_code, expr_code, line_end_code, link_code, monadic_code, parameter_code, relation_instr, stmt_code, variable_code, variable_offset, width_code, write_code, write_instr};
 ghost use Rattle.code_generator.specs.Emitted.{Emits};
+ghost use Rattle.pcode_assembler.specs.declared.instr.Instr.TheVariants.{Jump, JumpIfFalse};
 ghost use Rattle.code_generator.specs.Sizes.{capped, measured, table_of};
 
 use crate::scope::Scope;
@@ -24,7 +25,6 @@ const BOOLEAN_WIDTH: i32 = 5;
 const GREATEST_OFFSET: u32 = 16777215;
 
 /// The instructions of a statement, where the sizes are those of it, of the statements in it and of what comes after.
-#[cycle(emit_stmt)]
 pub fn emit_stmt(
     code: &mut Vec<Instr>,
     scope: Scope,
@@ -60,55 +60,42 @@ pub fn emit_stmt(
             alternative,
             ..
         } => match alternative {
-            None => emit_if(code, scope, sizes, condition, consequence),
+            None => {
+                emit_test(code, scope, condition, sizes.next())?;
+                emit_stmt(code, scope, sizes, consequence)
+            }
             Some(alternative) => {
-                emit_if_else(code, scope, sizes, condition, consequence, alternative)
+                emit_test(code, scope, condition, sizes.next().saturating_add(1))?;
+                emit_stmt(code, scope, sizes, consequence)?;
+                emit_jump(code, sizes.next())?;
+                emit_stmt(code, scope, sizes, alternative)
             }
         },
     }
 }
 
-/// The condition, a jump behind the consequence where it is false, and the consequence.
-#[cycle(emit_stmt)]
-fn emit_if(
+/// The condition, and where it is false a jump over so many instructions.
+fn emit_test(
     code: &mut Vec<Instr>,
     scope: Scope,
-    sizes: &mut Sizes,
     condition: &Expr,
-    consequence: &Stmt,
+    past: u32,
 ) -> Result<(), AllocError>
-    ensures { Emits result code.old.items code.new.items sizes.old sizes.new
-        (if_code (expr_code scope condition.now) (stmt_code consequence.now) scope (length code.old.items))
-        (table_of (measured consequence.now scope)) }
+    ensures { OnOk result (code.new.items ≡ (code.old.items ++ expr_code scope condition.now)
+        ++ JumpIfFalse (capped (length (code.old.items ++ expr_code scope condition.now) + 1 + past)) ∷ []) }
 {
     emit_expr(code, scope, condition)?;
-    let target = place_behind(code, sizes.next());
-    put(code, Instr::JumpIfFalse { target })?;
-    emit_stmt(code, scope, sizes, consequence)
+    let target = place_behind(code, past);
+    put(code, Instr::JumpIfFalse { target })
 }
 
-/// The condition, a jump to the alternative where it is false, the consequence, a jump over the alternative, and it.
-#[cycle(emit_stmt)]
-fn emit_if_else(
-    code: &mut Vec<Instr>,
-    scope: Scope,
-    sizes: &mut Sizes,
-    condition: &Expr,
-    consequence: &Stmt,
-    alternative: &Stmt,
-) -> Result<(), AllocError>
-    ensures { Emits result code.old.items code.new.items sizes.old sizes.new
-        (if_else_code (expr_code scope condition.now) (stmt_code consequence.now) (stmt_code alternative.now) scope
-            (length code.old.items))
-        (table_of (measured consequence.now scope) ++ table_of (measured alternative.now scope)) }
+/// A jump over so many instructions.
+fn emit_jump(code: &mut Vec<Instr>, past: u32) -> Result<(), AllocError>
+    ensures { OnOk result (
+        code.new.items ≡ code.old.items ++ Jump (capped (length code.old.items + 1 + past)) ∷ []) }
 {
-    emit_expr(code, scope, condition)?;
-    let target = place_behind(code, sizes.next().saturating_add(1));
-    put(code, Instr::JumpIfFalse { target })?;
-    emit_stmt(code, scope, sizes, consequence)?;
-    let target = place_behind(code, sizes.next());
-    put(code, Instr::Jump { target })?;
-    emit_stmt(code, scope, sizes, alternative)
+    let target = place_behind(code, past);
+    put(code, Instr::Jump { target })
 }
 
 /// The place behind the next instruction and so many more.
