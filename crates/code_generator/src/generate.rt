@@ -83,12 +83,18 @@ fn emit_program(
     body: &Stmt,
 ) -> Result<(), AllocError>
     ensures { length code.old.items + length (block_code variables body.now program_scope (length code.old.items))
-            ≤ 4294967295 → OnOk result (code.new.items
-            ≡ code.old.items ++ block_code variables body.now program_scope (length code.old.items)) }
+        ≤ 4294967295 → OnOk result (code.new.items
+        ≡ code.old.items ++ block_code variables body.now program_scope (length code.old.items)) }
 {
     let mut sizes = Vec::new(alloc);
     measure(&mut sizes, body)?;
-    emit_block(code, variables, PROGRAM, &mut Sizes::new(sizes.as_slice()), body)
+    emit_block(
+        code,
+        variables,
+        PROGRAM,
+        &mut Sizes::new(sizes.as_slice()),
+        body,
+    )
 }
 
 /// The instructions of a block with so many variables, where the sizes are those of its statements.

@@ -42,8 +42,13 @@ returns-after-loop-statement t c = λ rest told few.
     let inner = ap (λ s. (measured s scope).inner) c.in-Compound.is ∙ ap (λ m. m.inner) (measured-Compound scope number statements)
     ∙ ap (λ ss. all_tables (map (λ s. measured s scope) ss)) (sym same) in
     let told' : c.pass.new.self ≡ all_tables (map (λ s. measured s scope) items) ++ rest = c.pass.ensures ∙ ap rest_of told ∙ ap (λ ts. ts ++ rest) inner in
-    let few' : length (before ++ stmts_code scope items place) ≤ 4294967295 = omega (arith, few, ap length whole, length-append before
-    (stmts_code scope items place)) in
+    let few' : length (before ++ stmts_code scope items place) ≤ 4294967295 = omega (
+      arith,
+      few,
+      ap length whole,
+      length-append before
+          (stmts_code scope items place),
+    ) in
     let all = subst (λ left. IsLeft scope (before ++ stmts_code scope items place) rest left code sizes)
     (drop_all i items c.loop-statement-test.false) (c.loop-statement.invariant rest told' few') in
     (sym (append-nil code) ∙ all.code_is ∙ ap (λ p. before ++ p) (sym whole), all.sizes_are)
