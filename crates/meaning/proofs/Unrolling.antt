@@ -274,7 +274,7 @@ does-Repeat n loop_number place statements condition given is all same env works
 
 pub does-repeat-round : (env : Environment) (statements : Bor (List Stmt)) (condition : Bor Expr) (works : List Work) (operands : List Value) (s : State) →
     repeating env statements.now condition.now works operands s ≡
-    turning env (work.Statements statements) (work.Value condition) (pending_of env (work.Until statements condition ∷ works)) operands s
+    turning env (work.Statements statements) (work.Until statements condition) (pending_of env works) operands s
 does-repeat-round env statements condition works operands s =
     let then_rest : Unit {0} → Action (Unit {0}) = λ _. pending_of env works operands in
     let round = repeat_rounds env statements.now condition.now in
@@ -291,10 +291,10 @@ does-repeat-round env statements condition works operands s =
     ∙ and_then-same (use_turn s) _ _ (λ _ t. and_then-and_then (all t) (λ _. tested >>= until) rest
     ∙ and_then-same (all t) _ _ (λ _ u. and_then-and_then (tested u) until rest))
 
-pub does-until : (env : Environment) (statements : Bor (List Stmt)) (condition : Bor Expr) (works : List Work) (operands : List Value) (s : State) →
-    is_so (top_of operands) ≡ false → resumed env (work.Until statements condition) (pending_of env works) operands s ≡
+pub does-unless : (env : Environment) (statements : Bor (List Stmt)) (condition : Bor Expr) (works : List Work) (operands : List Value) (s : State) →
+    is_so (top_of operands) ≡ false → resumed env (work.Unless statements condition) (pending_of env works) operands s ≡
     repeating env statements.now condition.now works (below_top operands) s
-does-until env statements condition works operands s so =
+does-unless env statements condition works operands s so =
     ap (λ (b : Bool). and_then (further (repeat_rounds env statements.now condition.now) (give (if b then None else Some tt)) s)
     (λ _. pending_of env works (below_top operands))) so
 

@@ -1,5 +1,5 @@
 -- With fewer turns left there is no more to do: so a step that uses a turn leaves the rest no heavier than it was.
-use Rattle.std.proofs.Common.{◌≡◌, ℕ, zero, suc, ◌+◌, ◌≤◌, List, [], ◌∷◌, Option, Some, None, Box, Global, map, sum_by, arith, sym, ◌∙◌, ap, subst}
+use Rattle.std.proofs.Common.{◌≡◌, ℕ, zero, suc, ◌+◌, ◌≤◌, List, [], ◌∷◌, Option, Some, None, Result, Ok, Err, OnOk, Box, Global, map, sum_by, arith, sym, ◌∙◌, ap, subst}
 use Rattle.typed_tree.specs.declared.tree.Width.{Width}
 use Rattle.typed_tree.specs.declared.tree.WriteParameter.{WriteParameter}
 use Rattle.typed_tree.specs.declared.tree.Expr.{Expr}
@@ -12,10 +12,12 @@ use Rattle.typed_tree.specs.declared.tree.Stmt.TheOpen.{Stmt-F}
 use Rattle.typed_tree.specs.declared.tree.Stmt.TheOpen.Stmt-F.{Empty, Assign, Write, Compound, If, While, Repeat}
 use Rattle.typed_tree.specs.declared.tree.Stmt.TheFolds.{map-Stmt, fold-roll-Stmt, ind-Stmt}
 use Rattle.std.proofs.lemmas.List.Sums.{sum_by-cons}
+use Rattle.std.specs.declared.alloc.AllocError.{AllocError}
+use Rattle.meaning.specs.declared.outcome.Ending.{Ending}
 use Rattle.meaning.specs.declared.work.Work.{Work}
 use Rattle.meaning.specs.declared.work.Work.TheVariants as work
 use Rattle.meaning.specs.Weight.{Weight, row_weight, rounds_weight, link_weight, expression_weight, weight_of_expression, weight_of_link, weight_of_width}
-use Rattle.meaning.specs.Weight.{weight_of_parameter, round_weight, statement_weight, weight_of_statement, weight_of_alternative, weight_of}
+use Rattle.meaning.specs.Weight.{weight_of_parameter, round_weight, statement_weight, weight_of_statement, weight_of_alternative, weight_of, turn_weight}
 
 -- a weight that more turns never lower
 abbrev Rises : Weight → Type 0
@@ -166,6 +168,12 @@ rising_work (work.Repeat statements condition) =
     omega (arith, rounds)
 rising_work (work.Until statements condition) =
     λ turns more.
+    let tested = rising_expression condition.now turns more in
+    let all = row_weight 1 (map weight_of_statement statements.now) in
+    let rounds = rising_rounds (round_weight all (weight_of_expression condition.now)) turns more in
+    omega (arith, tested, rounds)
+rising_work (work.Unless statements condition) =
+    λ turns more.
     let all = row_weight 1 (map weight_of_statement statements.now) in
     let rounds = rising_rounds (round_weight all (weight_of_expression condition.now)) turns more in
     omega (arith, rounds)
@@ -189,3 +197,15 @@ rising_pending (piece ∷ works) turns more =
     let fewer = sum_by-cons (weight_of turns) piece works in
     let all = sum_by-cons (weight_of (turns + more)) piece works in
     omega (arith, here, there, fewer, all)
+
+-- a turn and two pieces of work in it: the rest weighs no more than before
+pub turn_weighs : (works : List Work) (next later : Work) (turns left new : ℕ) (result : Result (Option Ending) AllocError) → turns ≡ suc left →
+    OnOk result (new ≡ sum_by (weight_of left) works + weight_of left later + weight_of left next) →
+    OnOk result (new ≤ sum_by (weight_of turns) works + turn_weight turns next later)
+turn_weighs works next later turns left new (Ok ending) is weighs =
+    let one_more : left + 1 ≡ turns = omega (arith, is) in
+    let fewer : sum_by (weight_of left) works ≤ sum_by (weight_of turns) works =
+    subst (λ n. sum_by (weight_of left) works ≤ sum_by (weight_of n) works) one_more (rising_pending works left 1) in
+    let behind : turn_weight turns next later ≡ weight_of left next + weight_of left later = ap (λ n. turn_weight n next later) is in
+    omega (arith, weighs, fewer, behind)
+turn_weighs works next later turns left new (Err refused) is weighs = tt

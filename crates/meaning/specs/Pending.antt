@@ -96,6 +96,13 @@ while_rounds env condition body = while_round (value_of condition) (effect_of bo
 abbrev pub repeat_rounds : Environment → List Stmt → Expr → Round (Unit {0})
 repeat_rounds env statements condition = repeat_round (all_of (map effect_of statements)) (value_of condition) env
 
+-- further rounds of a repeat, unless the topmost operand ends it, and then the rest
+abbrev pub unless_so : Environment → List Stmt → Expr → Resumption → Resumption
+unless_so env statements condition next =
+    with_top
+    (λ v below. further (repeat_rounds env statements condition) (give (if is_so v then None else Some tt))
+    >>= λ _. next below)
+
 -- a piece of work, and then the rest
 abbrev pub resumed : Environment → Work → Resumption → Resumption
 resumed env (work.Statements statements) next operands = do
@@ -120,10 +127,9 @@ resumed env (work.Repeat statements condition) next operands = do
   _ ← looped (repeat_rounds env statements.now condition.now) tt
   next operands
 resumed env (work.Until statements condition) next operands =
-    with_top
-    (λ v below. further (repeat_rounds env statements.now condition.now) (give (if is_so v then None else Some tt))
-    >>= λ _. next below)
-    operands
+    giving (value_of condition.now env) (unless_so env statements.now condition.now next) operands
+resumed env (work.Unless statements condition) next operands =
+    unless_so env statements.now condition.now next operands
 resumed env (work.Parameters parameters ends_line) next operands = do
   _ ← all_of (map parameter_of parameters.now) env
   line_ending ends_line next operands

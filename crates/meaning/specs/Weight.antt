@@ -64,7 +64,7 @@ rounds_weight round (suc left) = round left + rounds_weight round left
 
 -- a round of a while or repeat
 abbrev pub round_weight : Weight → Weight → Weight
-round_weight body condition turns = 2 + body turns + condition turns
+round_weight body condition turns = 3 + body turns + condition turns
 
 -- a while, from its condition
 abbrev pub while_weight : Weight → Weight → Weight
@@ -106,6 +106,9 @@ weight_of turns (work.WhileTurn condition body) =
 weight_of turns (work.Repeat statements condition) =
     repeat_weight (row_weight 1 (map weight_of_statement statements.now)) (weight_of_expression condition.now) turns
 weight_of turns (work.Until statements condition) =
+    2 + weight_of_expression condition.now turns
+    + repeat_weight (row_weight 1 (map weight_of_statement statements.now)) (weight_of_expression condition.now) turns
+weight_of turns (work.Unless statements condition) =
     1 + repeat_weight (row_weight 1 (map weight_of_statement statements.now)) (weight_of_expression condition.now) turns
 weight_of turns (work.Parameters parameters ends_line) = row_weight 1 (map weight_of_parameter parameters.now) turns
 weight_of turns (work.Parameter parameter) = weight_of_parameter parameter.now turns

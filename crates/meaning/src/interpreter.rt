@@ -117,6 +117,10 @@ impl<'t> Run<'t, '_> {
                 statements,
                 condition,
             } => self.until(statements, condition),
+            Work::Unless {
+                statements,
+                condition,
+            } => self.unless(statements, condition),
             Work::Parameters {
                 parameters,
                 ends_line,
@@ -282,14 +286,13 @@ impl<'t> Run<'t, '_> {
         ensures does { Does (λ env. resumed env (Work.Repeat statements.entry condition.entry))
             self.old result self.new }
     {
-        put(
-            &mut self.pending,
+        self.turn(
+            Work::Statements(statements),
             Work::Until {
                 statements,
                 condition,
             },
-        )?;
-        self.turn(Work::Statements(statements), Work::Value(condition))
+        )
     }
 
     fn until(
@@ -299,6 +302,24 @@ impl<'t> Run<'t, '_> {
     ) -> Result<Option<Ending>, AllocError>
         ensures fewer { Lightens (Work.Until statements.entry condition.entry) self.old result self.new }
         ensures does { Does (λ env. resumed env (Work.Until statements.entry condition.entry))
+            self.old result self.new }
+    {
+        self.plan(
+            Work::Value(condition),
+            Work::Unless {
+                statements,
+                condition,
+            },
+        )
+    }
+
+    fn unless(
+        &mut self,
+        statements: &'t [Stmt],
+        condition: &'t Expr,
+    ) -> Result<Option<Ending>, AllocError>
+        ensures fewer { Lightens (Work.Unless statements.entry condition.entry) self.old result self.new }
+        ensures does { Does (λ env. resumed env (Work.Unless statements.entry condition.entry))
             self.old result self.new }
     {
         if truth_of(self.popped()) {

@@ -31,8 +31,13 @@ pub enum Work<'t> {
         statements: &'t [Stmt],
         condition: &'t Expr,
     },
-    /// Further rounds of a repeat, unless the topmost value ends it.
+    /// The condition of a repeat, behind its statements.
     Until {
+        statements: &'t [Stmt],
+        condition: &'t Expr,
+    },
+    /// Further rounds of a repeat, unless the topmost value ends it.
+    Unless {
         statements: &'t [Stmt],
         condition: &'t Expr,
     },
