@@ -222,7 +222,9 @@ impl<'t> Run<'t, '_> {
                 },
             ),
             Stmt::While {
-                condition, body, ..
+                condition,
+                body,
+                ..
             } => self.while_round(condition, body),
             Stmt::Repeat {
                 statements,
