@@ -22,7 +22,7 @@ use Rattle.typed_tree.specs.declared.tree.Expr.TheOpen.Expr-F.{Constant, Variabl
 use Rattle.typed_tree.specs.declared.tree.Expr.TheFolds.{fold-Expr, fold-Link}
 use Rattle.typed_tree.specs.declared.tree.Stmt.{Stmt}
 use Rattle.typed_tree.specs.declared.tree.Stmt.TheOpen.{Stmt-F}
-use Rattle.typed_tree.specs.declared.tree.Stmt.TheOpen.Stmt-F.{Empty, Assign, Write, Compound, If}
+use Rattle.typed_tree.specs.declared.tree.Stmt.TheOpen.Stmt-F.{Empty, Assign, Write, Compound, If, While, Repeat}
 use Rattle.typed_tree.specs.declared.tree.Stmt.TheFolds.{fold-Stmt}
 
 -- they all hold
@@ -92,6 +92,9 @@ module _ (variables sites : ℕ) where
   stmt_is_well_formed (Compound number statements) = all_hold statements.items
   stmt_is_well_formed (If number condition consequence alternative) =
       is_well_formed_expr condition && (consequence.value && alternative_is_well_formed alternative)
+  stmt_is_well_formed (While number loop_number place condition body) = is_well_formed_expr condition && body.value
+  stmt_is_well_formed (Repeat number loop_number place statements condition) =
+      all_hold statements.items && is_well_formed_expr condition
 
   -- a statement is well formed
   abbrev pub is_well_formed_stmt : Stmt → Bool
