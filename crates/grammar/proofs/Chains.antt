@@ -143,6 +143,14 @@ pub then_ends : EndsEach word.Then
 unfolding binds
 then_ends a h = ends_before (kind.Word word.Then) relation_level a h (omega arith) (omega arith)
 
+pub do_ends : EndsEach word.Do
+unfolding binds
+do_ends a h = ends_before (kind.Word word.Do) relation_level a h (omega arith) (omega arith)
+
+pub until_ends : EndsEach word.Until
+unfolding binds
+until_ends a h = ends_before (kind.Word word.Until) relation_level a h (omega arith) (omega arith)
+
 pub else_ends : EndsEach word.Else
 unfolding binds
 else_ends a h = ends_before (kind.Word word.Else) relation_level a h (omega arith) (omega arith)

@@ -253,3 +253,40 @@ levels-If p e b = ap nest.stmt_levels (sym (statement.rolls-If p e b None)) ∙ 
 pub levels-Else : (p : Place) (e : Expr) (b c : Box Stmt Global)
     → nest.stmt_levels (statement.If p e b (Some c)) ≡ 1 + max (nest.expr_levels e) (max (nest.stmt_levels b.value) (nest.stmt_levels c.value))
 levels-Else p e b c = ap nest.stmt_levels (sym (statement.rolls-If p e b (Some c))) ∙ fold-roll-Stmt ℕ nest.stmt_step (stmt.If p e b (Some c))
+
+-- a while statement, and a repeat statement
+pub spelling-While : (p : Place) (e : Expr) (b : Box Stmt Global)
+    → spell.stmt_spelling (statement.While p e b)
+    ≡ spell.of_kind_at (kind.Word word.While) p ∷ spell.expr_spelling e ++ (spell.word_symbol word.Do ∷ spell.stmt_spelling b.value)
+spelling-While p e b = ap spell.stmt_spelling (sym (statement.rolls-While p e b)) ∙ fold-roll-Stmt spell.Spelling spell.stmt_step (stmt.While p e b)
+
+pub form-While : (p : Place) (e : Expr) (b : Box Stmt Global)
+    → form.is_statement (statement.While p e b) ≡ form.is_expression e && form.is_statement b.value
+form-While p e b = ap form.is_statement (sym (statement.rolls-While p e b)) ∙ stmt_well_of (stmt.While p e b)
+
+pub open-While : (p : Place) (e : Expr) (b : Box Stmt Global) → form.ends_open (statement.While p e b) ≡ form.ends_open b.value
+open-While p e b = ap form.ends_open (sym (statement.rolls-While p e b)) ∙ stmt_open_of (stmt.While p e b)
+
+pub levels-While : (p : Place) (e : Expr) (b : Box Stmt Global)
+    → nest.stmt_levels (statement.While p e b) ≡ 1 + max (nest.expr_levels e) (nest.stmt_levels b.value)
+levels-While p e b = ap nest.stmt_levels (sym (statement.rolls-While p e b)) ∙ fold-roll-Stmt ℕ nest.stmt_step (stmt.While p e b)
+
+pub spelling-Repeat : (p : Place) (v : Vec Stmt Global) (e : Expr)
+    → spell.stmt_spelling (statement.Repeat p v e)
+    ≡ spell.of_kind_at (kind.Word word.Repeat) p ∷ spell.separated symbol.Semicolon (map spell.stmt_spelling v.items)
+    ++ (spell.word_symbol word.Until ∷ spell.expr_spelling e)
+spelling-Repeat p v e = ap spell.stmt_spelling (sym (statement.rolls-Repeat p v e)) ∙ fold-roll-Stmt spell.Spelling spell.stmt_step (stmt.Repeat p v e)
+
+pub form-Repeat : (p : Place) (v : Vec Stmt Global) (e : Expr)
+    → form.is_statement (statement.Repeat p v e)
+    ≡ form.is_expression e && (form.has_items (map form.stmt_form v.items) && list_all form.is_statement v.items)
+form-Repeat p v e =
+    ap form.is_statement (sym (statement.rolls-Repeat p v e)) ∙ stmt_well_of (stmt.Repeat p v e)
+    ∙ ap (λ all. form.is_expression e && (form.has_items (map form.stmt_form v.items) && all)) (all_computed (λ (f : form.StmtForm). f.well) form.stmt_form v.items)
+
+pub closed-Repeat : (p : Place) (v : Vec Stmt Global) (e : Expr) → form.ends_open (statement.Repeat p v e) ≡ false
+closed-Repeat p v e = ap form.ends_open (sym (statement.rolls-Repeat p v e)) ∙ stmt_open_of (stmt.Repeat p v e)
+
+pub levels-Repeat : (p : Place) (v : Vec Stmt Global) (e : Expr)
+    → nest.stmt_levels (statement.Repeat p v e) ≡ 1 + max (nest.deepest (map nest.stmt_levels v.items)) (nest.expr_levels e)
+levels-Repeat p v e = ap nest.stmt_levels (sym (statement.rolls-Repeat p v e)) ∙ fold-roll-Stmt ℕ nest.stmt_step (stmt.Repeat p v e)

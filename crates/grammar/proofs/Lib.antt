@@ -6,6 +6,7 @@ pub mod Expressions
 pub mod Forms
 pub mod Led
 pub mod Lists
+pub mod Loops
 pub mod OneTree
 pub mod OneTreeExpressions
 pub mod OneTreeLists

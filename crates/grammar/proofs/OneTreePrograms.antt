@@ -26,7 +26,7 @@ use Rattle.grammar.proofs.Led.{list_begins}
 use Rattle.grammar.proofs.Programs.{some_items, other_kind}
 use Rattle.grammar.proofs.OneTree.{Alike, first_is_one, last_is_one, at_is_one, name_is_one}
 use Rattle.grammar.proofs.OneTreeLists.{Parts, OnePart, Listed, list_alike, InParentheses, parenthesized_alike}
-use Rattle.grammar.proofs.OneTreeStatements.{statement_parts, one_statement}
+use Rattle.grammar.proofs.OneTreeStatements.{statement_parts, end_closes, one_statement}
 
 -- ---- names
 
@@ -223,7 +223,7 @@ block_as a c b h f =
 -- statements, and the `end` behind them
 record Body (a c : List Token) (statements : List Stmt) (end : Place) : Type 0 where
   pub middle : List Token
-  pub begun : Listed Stmt statement_parts a middle statements
+  pub begun : Listed Stmt (statement_parts word.End) a middle statements
   pub closed : Reads middle (of_kind_at (kind.Word word.End) end ∷ []) c
 
 body : (a c : List Token) (statements : List Stmt) (end : Place)
@@ -252,7 +252,7 @@ block_alike a c d b e x y =
     let p = body begin.behind c b.statements.items b.end begin.one_behind x.some x.formed in
     let q = body begin.behind d e.statements.items e.end begin.two_behind y.some y.formed in
     let n = length begin.behind + 1 in
-    let statements = list_alike Stmt statement_parts n begin.behind p.middle q.middle b.statements.items e.statements.items (λ f. cc) (one_statement n)
+    let statements = list_alike Stmt (statement_parts word.End) n begin.behind p.middle q.middle b.statements.items e.statements.items (λ f. cc) (one_statement word.End n end_closes)
     (omega arith) p.begun q.begun in
     let closed = subst (λ u. Reads u (of_kind_at (kind.Word word.End) e.end ∷ []) d) (sym statements.left) q.closed in
     let end = first_is_one (of_kind_at (kind.Word word.End) b.end) (of_kind_at (kind.Word word.End) e.end) [] [] p.middle c d p.closed closed in

@@ -3,6 +3,7 @@ use Rattle.std.proofs.Common.{◌≡◌, ℕ, zero, suc, ◌+◌, ◌<◌, ◌�
 use Rattle.std.specs.List.{list_all}
 use Rattle.std.specs.declared.alloc.Global.{Global}
 use Rattle.std.specs.declared.boxed.Box.{Box}
+use Rattle.std.specs.declared.vec.Vec.{Vec}
 use Rattle.place.specs.declared.Place.{Place}
 use Rattle.lexer.specs.declared.token.Kind.TheVariants as kind
 use Rattle.lexer.specs.declared.token.Symbol.TheVariants as symbol
@@ -18,25 +19,36 @@ use Rattle.syntax_tree.specs.declared.Stmt.TheFolds.{map-Stmt, fold-roll-Stmt}
 use Rattle.grammar.specs.Spelling.{Spelling, Reads, expr_spelling, actual_spelling, stmt_spelling, of_kind_at, word_symbol, identifier, separated, in_parentheses}
 use Rattle.grammar.specs.WellFormed.{StmtForm, stmt_form, is_statement, has_items}
 use Rattle.grammar.specs.Nesting.{stmt_levels}
-use Rattle.grammar.specs.Following.{next_kind, NoNext, Next, EndsEach, EndsStmt, semicolon, end}
+use Rattle.grammar.specs.Following.{next_kind, NoNext, Next, EndsEach, EndsStatements, compound, repeated, EndsStmt, semicolon, end, until}
 use Rattle.grammar.specs.Begins.{BeginsGuard, BeginsStmt, BeginsAlternative}
 use Rattle.grammar.specs.Notation.{Notation, bracketed, token, row, expr_notation, actual_notation, stmt_notation}
 use Rattle.grammar.specs.Notation as note
 use Rattle.grammar.proofs.Lists.{and_left, and_right, all_computed, length_map}
 use Rattle.grammar.proofs.Reading.{reads_no_more, reads_fewer}
 use Rattle.grammar.proofs.Rows.{parted, begins}
-use Rattle.grammar.proofs.Chains.{then_ends}
+use Rattle.grammar.proofs.Chains.{then_ends, do_ends}
 use Rattle.grammar.proofs.Starts.{not_behind, first_of, begins_so, start_is_one, Layer, layer}
 use Rattle.grammar.proofs.Conditionals.{Branches, Conditional, behind_if, conditional_parts}
+use Rattle.grammar.proofs.Loops.{behind_while, while_parts, RepeatLoop, behind_repeat, repeat_parts}
 use Rattle.grammar.proofs.Statements.{ends_value}
 use Rattle.grammar.proofs.Programs.{some_items}
 use Rattle.grammar.proofs.OneTree.{Alike, first_is_one, last_is_one, at_is_one, name_is_one}
 use Rattle.grammar.proofs.OneTreeLists.{Parts, EndsPart, more, last, Part, OnePart, Listed, list_alike}
 use Rattle.grammar.proofs.OneTreeExpressions.{one_expression, actuals_alike}
 
--- the parts of a list of statements
-abbrev pub statement_parts : Parts Stmt
-statement_parts = record { symbol = symbol.Semicolon; closer = kind.Word word.End; spelling = stmt_spelling; well = is_statement; written = stmt_notation }
+-- the parts of a list of statements behind which such a word symbol stands
+abbrev pub statement_parts : Word → Parts Stmt
+statement_parts w = record { symbol = symbol.Semicolon; closer = kind.Word w; spelling = stmt_spelling; well = is_statement; written = stmt_notation }
+
+-- a word symbol that ends lists of statements
+abbrev pub Closes : Word → Type 0
+Closes w = (others : List Token) → Next (kind.Word w) others → EndsStatements others
+
+pub end_closes : Closes word.End
+end_closes others h = compound h
+
+pub until_closes : Closes word.Until
+until_closes others h = repeated h
 
 -- an assignment isn't a call
 not_called : (p : Place) (s : Spelling) (a c d : List Token) (xs : List Actual) → Reads a (of_kind_at (kind.Symbol symbol.Becomes) p ∷ s) c
@@ -53,22 +65,32 @@ OneStatement n =
     (a c d : List Token) (l m : ℕ) (s t : Stmt) → length a < n → BeginsStmt l a c s → BeginsStmt m a d t → EndsStmt c → EndsStmt d
     → Alike Notation (stmt_notation s) (stmt_notation t) c d
 
-ends_listed : (c : List Token) → EndsPart symbol.Semicolon (kind.Word word.End) c → EndsStmt c
-ends_listed c (more h) = semicolon h
-ends_listed c (last h) = end h
+ends_list : (c : List Token) → EndsStatements c → EndsStmt c
+ends_list c (compound h) = end h
+ends_list c (repeated h) = until h
 
-no_else : (c : List Token) → EndsPart symbol.Semicolon (kind.Word word.End) c → NoNext (kind.Word word.Else) c
-no_else c (more h) e = let no : Some (kind.Symbol symbol.Semicolon) ≡ Some (kind.Word word.Else) = sym h ∙ e in cc
-no_else c (last h) e = let no : Some (kind.Word word.End) ≡ Some (kind.Word word.Else) = sym h ∙ e in cc
+ends_listed : (w : Word) (c : List Token) → Closes w → EndsPart symbol.Semicolon (kind.Word w) c → EndsStmt c
+ends_listed w c closes (more h) = semicolon h
+ends_listed w c closes (last h) = ends_list c (closes c h)
+
+no_else_behind : (c : List Token) → EndsStatements c → NoNext (kind.Word word.Else) c
+no_else_behind c (compound h) e = let no : Some (kind.Word word.End) ≡ Some (kind.Word word.Else) = sym h ∙ e in cc
+no_else_behind c (repeated h) e = let no : Some (kind.Word word.Until) ≡ Some (kind.Word word.Else) = sym h ∙ e in cc
+
+no_else : (w : Word) (c : List Token) → Closes w → EndsPart symbol.Semicolon (kind.Word w) c → NoNext (kind.Word word.Else) c
+no_else w c closes (more h) e = let no : Some (kind.Symbol symbol.Semicolon) ≡ Some (kind.Word word.Else) = sym h ∙ e in cc
+no_else w c closes (last h) e = no_else_behind c (closes c h) e
 
 -- a statement of a list
-listed_one : (a c : List Token) (s : Stmt) → Part Stmt statement_parts a c s → EndsPart symbol.Semicolon (kind.Word word.End) c → BeginsStmt (stmt_levels s) a c s
-listed_one a c s h ends = record { spelled = h.spelled; formed = h.formed; nests = omega arith; whole = λ _. no_else c ends }
+listed_one : (w : Word) (a c : List Token) (s : Stmt) → Closes w → Part Stmt (statement_parts w) a c s → EndsPart symbol.Semicolon (kind.Word w) c
+    → BeginsStmt (stmt_levels s) a c s
+listed_one w a c s closes h ends = record { spelled = h.spelled; formed = h.formed; nests = omega arith; whole = λ _. no_else w c closes ends }
 
 -- two statements of lists
-one_listed : (n : ℕ) → OneStatement n → OnePart Stmt statement_parts n
-one_listed n one a c d s t few h k ends_one ends_two =
-    one a c d (stmt_levels s) (stmt_levels t) s t few (listed_one a c s h ends_one) (listed_one a d t k ends_two) (ends_listed c ends_one) (ends_listed d ends_two)
+one_listed : (w : Word) (n : ℕ) → Closes w → OneStatement n → OnePart Stmt (statement_parts w) n
+one_listed w n closes one a c d s t few h k ends_one ends_two =
+    one a c d (stmt_levels s) (stmt_levels t) s t few (listed_one w a c s closes h ends_one) (listed_one w a d t closes k ends_two)
+    (ends_listed w c closes ends_one) (ends_listed w d closes ends_two)
 
 -- what is written of it
 abbrev written_of : stmt.Stmt-F Stmt → Notation
@@ -76,7 +98,7 @@ written_of x = note.stmt_step (map-Stmt Stmt Notation stmt_notation x)
 
 listed : (a c : List Token) (xs : List Stmt) → Reads a (separated symbol.Semicolon (map stmt_spelling xs)) c
     → has_items (map stmt_form xs) && list_all (λ (f : StmtForm). f.well) (map stmt_form xs) ≡ true → Next (kind.Word word.End) c
-    → Listed Stmt statement_parts a c xs
+    → Listed Stmt (statement_parts word.End) a c xs
 listed a c xs h f closed = record {
   some =
       let e = length_map stmt_form xs in
@@ -161,6 +183,67 @@ ifs_alike n l m a c d p r e f s t o q one few h k i j =
       left = parts.left;
     }
 
+-- ---- loops
+
+-- a while statement of one layer
+whiles_alike : (n l m : ℕ) (a c d : List Token) (p r : Place) (e f : Expr) (s t : Box Stmt Global) → OneStatement n → length a ≤ n
+    → Layer l a c (stmt.While p e s) → Layer m a d (stmt.While r f t)
+    → Alike Notation (written_of (stmt.While p e s)) (written_of (stmt.While r f t)) c d
+whiles_alike n l m a c d p r e f s t one few h k =
+    let b = first_is_one (of_kind_at (kind.Word word.While) p) (of_kind_at (kind.Word word.While) r) (behind_while e s.value) (behind_while f t.value) a c d
+    h.spelled k.spelled in
+    let x = while_parts l a b.behind c p e s h b.one_behind in
+    let y = while_parts m a b.behind d r f t k b.two_behind in
+    let less = b.fewer in
+    let g = guards_alike n word.Do x.below y.below b.behind x.middle y.middle e f do_ends (omega arith) x.guarded y.guarded in
+    let fewer = guard_fewer word.Do x.below b.behind x.middle e x.guarded in
+    let u = one x.middle c d x.below y.below s.value t.value (omega arith) x.begun (subst (λ u. BeginsStmt y.below u d t.value) (sym g.left) y.begun)
+    h.ends k.ends in
+    let places = at_is_one (kind.Word word.While) (kind.Word word.While) p r b.first b.one b.two in
+    let conditions = g.written in
+    let bodies = u.written in
+    record {
+      written = ap (λ w. bracketed note.while_loop (token w ∷ expr_notation e ++ stmt_notation s.value)) places
+          ∙ ap (λ w. bracketed note.while_loop (token (of_kind_at (kind.Word word.While) r) ∷ w ++ stmt_notation s.value)) conditions
+          ∙ ap (λ w. bracketed note.while_loop (token (of_kind_at (kind.Word word.While) r) ∷ expr_notation f ++ w)) bodies;
+      left = u.left;
+    }
+
+until_listed : (l : ℕ) (a c : List Token) (xs : List Stmt) (e : Expr) (x : RepeatLoop l a c xs e) → Listed Stmt (statement_parts word.Until) a x.middle xs
+until_listed l a c xs e x = record {
+  some = let n = length_map stmt_spelling xs in let m = x.list.list.some in omega arith;
+  spelled = x.list.list.spelled;
+  formed = x.list.formed;
+  closed = begins (word_symbol word.Until) [] x.middle x.behind x.closed;
+}
+
+-- a repeat statement of one layer
+repeats_alike : (n l m : ℕ) (a c d : List Token) (p r : Place) (v w : Vec Stmt Global) (e f : Expr) → OneStatement n → length a ≤ n
+    → Layer l a c (stmt.Repeat p v e) → Layer m a d (stmt.Repeat r w f)
+    → Alike Notation (written_of (stmt.Repeat p v e)) (written_of (stmt.Repeat r w f)) c d
+repeats_alike n l m a c d p r v w e f one few h k =
+    let b = first_is_one (of_kind_at (kind.Word word.Repeat) p) (of_kind_at (kind.Word word.Repeat) r) (behind_repeat v.items e) (behind_repeat w.items f) a c d
+    h.spelled k.spelled in
+    let x = repeat_parts l a b.behind c p v e h b.one_behind in
+    let y = repeat_parts m a b.behind d r w f k b.two_behind in
+    let less = b.fewer in
+    let lists = list_alike Stmt (statement_parts word.Until) n b.behind x.middle y.middle v.items w.items (λ q. cc) (one_listed word.Until n until_closes one)
+    (omega arith) (until_listed l b.behind c v.items e x) (until_listed m b.behind d w.items f y) in
+    let until = last_is_one (word_symbol word.Until) (word_symbol word.Until) x.middle x.behind y.behind x.closed
+    (subst (λ u. Reads u (word_symbol word.Until ∷ []) y.behind) (sym lists.left) y.closed) in
+    let no_more = reads_no_more (separated symbol.Semicolon (map stmt_spelling v.items)) b.behind x.middle x.list.list.spelled in
+    let fewer = reads_fewer (word_symbol word.Until) [] x.middle x.behind x.closed in
+    let g = one_expression n x.behind c d e f (omega arith) (record { spelled = x.tested.spelled; formed = x.tested.formed })
+    (record { spelled = subst (λ u. Reads u (expr_spelling f) d) (sym until) y.tested.spelled; formed = y.tested.formed }) (ends_value c h.ends)
+    (ends_value d k.ends) in
+    let places = at_is_one (kind.Word word.Repeat) (kind.Word word.Repeat) p r b.first b.one b.two in
+    record {
+      written = ap (λ u. bracketed note.repeat_loop (token u ∷ row (map stmt_notation v.items) ++ expr_notation e)) places
+          ∙ ap (λ u. bracketed note.repeat_loop (token (of_kind_at (kind.Word word.Repeat) r) ∷ row u ++ expr_notation e)) lists.written
+          ∙ ap (λ u. bracketed note.repeat_loop (token (of_kind_at (kind.Word word.Repeat) r) ∷ row (map stmt_notation w.items) ++ u)) g.written;
+      left = g.left;
+    }
+
 -- ---- layers
 
 layers_alike : (n l m : ℕ) (a c d : List Token) (x y : stmt.Stmt-F Stmt) → OneStatement n → length a ≤ n → Layer l a c x → Layer m a d y
@@ -212,7 +295,7 @@ layers_alike n l m a c d (stmt.Compound v) (stmt.Compound w) one few h k same =
     let p = parted s close b.behind c b.one_behind in
     let q = parted t close b.behind d b.two_behind in
     let less = b.fewer in
-    let r = list_alike Stmt statement_parts n b.behind p.0 q.0 v.items w.items (λ e. cc) (one_listed n one) (omega arith)
+    let r = list_alike Stmt (statement_parts word.End) n b.behind p.0 q.0 v.items w.items (λ e. cc) (one_listed word.End n end_closes one) (omega arith)
     (listed b.behind p.0 v.items p.1 h.formed (begins (word_symbol word.End) [] p.0 c p.2))
     (listed b.behind q.0 w.items q.1 k.formed (begins (word_symbol word.End) [] q.0 d q.2)) in
     record {
@@ -227,6 +310,8 @@ layers_alike n l m a c d (stmt.If p e s (Some o)) (stmt.If r f t None) one few h
     ifs_alike n l m a c d p r e f s t (Some o) None one few h k h.spelled k.spelled
 layers_alike n l m a c d (stmt.If p e s (Some o)) (stmt.If r f t (Some q)) one few h k same =
     ifs_alike n l m a c d p r e f s t (Some o) (Some q) one few h k h.spelled k.spelled
+layers_alike n l m a c d (stmt.While p e s) (stmt.While r f t) one few h k same = whiles_alike n l m a c d p r e f s t one few h k
+layers_alike n l m a c d (stmt.Repeat p v e) (stmt.Repeat r w f) one few h k same = repeats_alike n l m a c d p r v w e f one few h k
 layers_alike n l m a c d x y one few h k same = absurd (let no : first_of x ≡ first_of y = same in cc)
 
 written_so : (s : Stmt) → stmt_notation s ≡ written_of (out-Stmt s)
@@ -249,5 +334,5 @@ each_statement zero = none_fewer
 each_statement (suc n) = let e : n + 1 ≡ suc n = omega arith in subst (λ m. OneStatement m) e (one_more n (each_statement n))
 
 -- two statements of lists from the same tokens are written alike
-pub one_statement : (n : ℕ) → OnePart Stmt statement_parts n
-one_statement n = one_listed n (each_statement n)
+pub one_statement : (w : Word) (n : ℕ) → Closes w → OnePart Stmt (statement_parts w) n
+one_statement w n closes = one_listed w n closes (each_statement n)

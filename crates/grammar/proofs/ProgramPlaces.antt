@@ -65,6 +65,17 @@ stmt_layer (stmt.If p e b (Some c)) =
     ap (λ ps. p ∷ ps)
     ((λ i. condition i ++ (consequence i ++ alternative i)) ∙ ap (λ ps. kept_places (expr_spelling e) ++ ps) (sym (kept_both (stmt_spelling b.value.0) behind))
     ∙ sym (kept_both (expr_spelling e) (word_symbol word.Then ∷ stmt_spelling b.value.0 ++ behind)))
+stmt_layer (stmt.While p e b) =
+    let condition = expr_kept e in
+    let body = b.value.1 in
+    ap (λ ps. p ∷ ps) ((λ i. condition i ++ body i) ∙ sym (kept_both (expr_spelling e) (word_symbol word.Do ∷ stmt_spelling b.value.0)))
+stmt_layer (stmt.Repeat p v e) =
+    let condition = expr_kept e in
+    let statements = flat_map-map (λ row. row) stmt_places (map (λ s. s.0) v.items)
+    ∙ separated_kept Stmt symbol.Semicolon stmt_spelling stmt_places (map (λ s. s.0) v.items) (all_kept Stmt stmt_spelling stmt_places v.items) in
+    ap (λ ps. p ∷ ps)
+    ((λ i. statements i ++ condition i)
+    ∙ sym (kept_both (separated symbol.Semicolon (map stmt_spelling (map (λ s. s.0) v.items))) (word_symbol word.Until ∷ expr_spelling e)))
 
 stmt_rolled : (y : stmt.Stmt-F KeptStmt) → StmtKept (roll-Stmt (stmt_parts y))
 stmt_rolled y =

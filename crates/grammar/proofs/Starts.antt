@@ -15,7 +15,7 @@ use Rattle.grammar.specs.WellFormed.{StmtForm, stmt_form, is_statement, ends_ope
 use Rattle.grammar.specs.WellFormed as form
 use Rattle.grammar.specs.Nesting.{stmt_levels}
 use Rattle.grammar.specs.Nesting as nest
-use Rattle.grammar.specs.Following.{next_kind, NoNext, EndsStmt, semicolon, end, alternative}
+use Rattle.grammar.specs.Following.{next_kind, NoNext, EndsStmt, semicolon, end, until, alternative}
 use Rattle.grammar.specs.Begins.{BeginsStmt}
 use Rattle.grammar.proofs.Equations.{stmt_well_of, stmt_open_of}
 
@@ -23,12 +23,14 @@ use Rattle.grammar.proofs.Equations.{stmt_well_of, stmt_open_of}
 abbrev pub ends_kind : Kind → Bool
 ends_kind (kind.Symbol symbol.Semicolon) = true
 ends_kind (kind.Word word.End) = true
+ends_kind (kind.Word word.Until) = true
 ends_kind (kind.Word word.Else) = true
 ends_kind _ = false
 
 ends_so : (c : List Token) → EndsStmt c → (k : Kind) × (next_kind c ≡ Some k) × (ends_kind k ≡ true)
 ends_so c (semicolon h) = (kind.Symbol symbol.Semicolon, h, refl)
 ends_so c (end h) = (kind.Word word.End, h, refl)
+ends_so c (until h) = (kind.Word word.Until, h, refl)
 ends_so c (alternative h) = (kind.Word word.Else, h, refl)
 
 -- no other token stands there
@@ -46,6 +48,8 @@ first_of (stmt.Assign n p v) = Some kind.Identifier
 first_of (stmt.Call n v) = Some kind.Identifier
 first_of (stmt.Compound v) = Some (kind.Word word.Begin)
 first_of (stmt.If p e b o) = Some (kind.Word word.If)
+first_of (stmt.While p e b) = Some (kind.Word word.While)
+first_of (stmt.Repeat p v e) = Some (kind.Word word.Repeat)
 
 -- the tokens begin with it, or nothing stands there
 abbrev pub BeginsSo : List Token → List Token → Option Kind → Type 0
@@ -58,6 +62,8 @@ begins_so a c (stmt.Assign n p v) h = (ap next_kind h.2 ∙ ap Some h.3.kind, re
 begins_so a c (stmt.Call n v) h = (ap next_kind h.2 ∙ ap Some h.3.kind, refl)
 begins_so a c (stmt.Compound v) h = (ap next_kind h.2 ∙ ap Some h.3.kind, refl)
 begins_so a c (stmt.If p e b o) h = (ap next_kind h.2 ∙ ap Some h.3.kind, refl)
+begins_so a c (stmt.While p e b) h = (ap next_kind h.2 ∙ ap Some h.3.kind, refl)
+begins_so a c (stmt.Repeat p v e) h = (ap next_kind h.2 ∙ ap Some h.3.kind, refl)
 
 form_at_of : (k : Kind) (a c : List Token) (o : Option Kind) → next_kind a ≡ Some k → ends_kind k ≡ false → EndsStmt c → BeginsSo a c o → o ≡ Some k
 form_at_of k a c None e other ends h = absurd (not_behind k c other ends (ap next_kind (sym h) ∙ e))

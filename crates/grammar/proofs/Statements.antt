@@ -16,11 +16,11 @@ use Rattle.syntax_tree.specs.declared.Stmt.TheViews.{out-Stmt}
 use Rattle.grammar.specs.Spelling.{Spelling, Reads, expr_spelling, actual_spelling, stmt_spelling, of_kind, of_kind_at, mark, word_symbol, identifier, separated, in_parentheses}
 use Rattle.grammar.specs.WellFormed.{relation_level, is_expression, is_actual, StmtForm, stmt_form, is_statement, has_items}
 use Rattle.grammar.specs.Nesting.{expr_levels, actual_levels, stmt_levels, deepest}
-use Rattle.grammar.specs.Following.{next_kind, NoNext, Ends, EndsStmt, EndsStatements, semicolon, end, alternative}
+use Rattle.grammar.specs.Following.{next_kind, NoNext, Next, Ends, EndsStmt, EndsStatements, compound, repeated, semicolon, end, until, alternative}
 use Rattle.grammar.specs.Begins.{BeginsExpr, BeginsActuals, BeginsStmt, BeginsStatements, BeginsCompound}
 use Rattle.grammar.proofs.Lists.{and_left, and_right, all_computed}
 use Rattle.grammar.proofs.Rows.{parted, begins, same_first}
-use Rattle.grammar.proofs.Chains.{semicolon_ends, end_ends, else_ends}
+use Rattle.grammar.proofs.Chains.{semicolon_ends, end_ends, until_ends, else_ends}
 use Rattle.grammar.proofs.Starts.{not_behind, first_of, Layer, layer, form_at}
 use Rattle.grammar.proofs.Parts.{Parts, PartsLeft, PartThenOthers, ComesBehind, one_more, no_more, parts_begin, parts_go_on}
 
@@ -28,6 +28,7 @@ use Rattle.grammar.proofs.Parts.{Parts, PartsLeft, PartThenOthers, ComesBehind, 
 pub ends_value : (c : List Token) → EndsStmt c → Ends relation_level c
 ends_value c (semicolon h) = semicolon_ends relation_level c h (omega arith)
 ends_value c (end h) = end_ends relation_level c h (omega arith)
+ends_value c (until h) = until_ends c h
 ends_value c (alternative h) = else_ends c h
 
 -- ---- assignments and calls
@@ -152,7 +153,7 @@ pub record OpenedCompound (levels : ℕ) (a c : List Token) (statements : List S
   pub middle : List Token
   pub list : BeginsStatements levels a middle statements
   pub closed : Reads middle (of_kind_at (kind.Word word.End) last ∷ []) c
-  pub ends : EndsStatements middle
+  pub next : Next (kind.Word word.End) middle
 
 length_spelled : (statements : List Stmt) → 0 < length statements → 0 < length (map stmt_spelling statements)
 length_spelled [] h = absurd (omega arith)
@@ -169,7 +170,7 @@ opened_compound levels p a b c found k h =
       middle = r.0;
       list = record { list = record { some = length_spelled found.0 h.some; spelled = r.1 }; formed = h.formed; nests = h.nests };
       closed = r.2;
-      ends = begins (of_kind_at (kind.Word word.End) found.1) [] r.0 c r.2;
+      next = begins (of_kind_at (kind.Word word.End) found.1) [] r.0 c r.2;
     }
 
 -- ---- lists of statements
@@ -189,7 +190,8 @@ pub statements_begin : (levels : ℕ) (a c : List Token) (statements : List Stmt
 statements_begin levels a c statements h = parts_begin Stmt statement_list_parts levels a c statements h.list.some h.list.spelled h.formed h.nests
 
 no_semicolon : (c : List Token) → EndsStatements c → ¬ (next_kind c ≡ Some (kind.Symbol symbol.Semicolon))
-no_semicolon c ends e = let no : Some (kind.Word word.End) ≡ Some (kind.Symbol symbol.Semicolon) = sym ends ∙ e in cc
+no_semicolon c (compound h) e = let no : Some (kind.Word word.End) ≡ Some (kind.Symbol symbol.Semicolon) = sym h ∙ e in cc
+no_semicolon c (repeated h) e = let no : Some (kind.Word word.Until) ≡ Some (kind.Symbol symbol.Semicolon) = sym h ∙ e in cc
 
 -- behind a semicolon stands one more statement
 pub one_more_statement : (levels : ℕ) (p : Place) (a b c : List Token) → Reads a (of_kind_at (kind.Symbol symbol.Semicolon) p ∷ []) b → EndsStatements c
@@ -199,7 +201,8 @@ one_more_statement levels p a b c k ends h = parts_go_on Stmt statement_list_par
 
 pub stmt_ends : (a c : List Token) → ComesBehind symbol.Semicolon a c → EndsStatements c → EndsStmt a
 stmt_ends a c (one_more e) ends = semicolon e
-stmt_ends a c (no_more e) ends = end (e ∙ ends)
+stmt_ends a c (no_more e) (compound h) = end (e ∙ h)
+stmt_ends a c (no_more e) (repeated h) = until (e ∙ h)
 
 -- a statement comes next, in each list of statements that may stand there
 abbrev pub StatementNext : List Token → List Token → Type 0

@@ -53,9 +53,10 @@ pub data EndsActual (others : List Token) : Type 0 where
 abbrev pub Closes : List Token → Type 0
 Closes = Next (kind.Symbol symbol.CloseParenthesis)
 
--- the `end` of a compound statement comes next
-abbrev pub EndsStatements : List Token → Type 0
-EndsStatements = Next (kind.Word word.End)
+-- what comes next behind a list of statements: the `end` of the compound statement, or the `until` of a repeat
+pub data EndsStatements (others : List Token) : Type 0 where
+  compound : Next (kind.Word word.End) others → EndsStatements others
+  repeated : Next (kind.Word word.Until) others → EndsStatements others
 
 -- the compound statement of a block comes next
 abbrev pub BeginsStatementPart : List Token → Type 0
@@ -65,10 +66,12 @@ BeginsStatementPart = Next (kind.Word word.Begin)
 abbrev pub EndsEach : Word → Type 0
 EndsEach w = (others : List Token) → Next (kind.Word w) others → Ends relation_level others
 
--- what comes next behind a statement: a semicolon, the `end` of the compound statement, or the `else` of an if
+-- what comes next behind a statement: a semicolon, the `end` of a compound statement, the `until` of a repeat, or the
+-- `else` of an if
 pub data EndsStmt (others : List Token) : Type 0 where
   semicolon : Next (kind.Symbol symbol.Semicolon) others → EndsStmt others
   end : Next (kind.Word word.End) others → EndsStmt others
+  until : Next (kind.Word word.Until) others → EndsStmt others
   alternative : Next (kind.Word word.Else) others → EndsStmt others
 
 -- behind a statement that ends in an if without else no `else` comes, for it would be this if's

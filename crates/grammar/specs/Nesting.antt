@@ -1,6 +1,6 @@
 -- How deep a tree nests. The program's own compound statement is the first level. Each statement in another statement,
--- each actual with its width, each expression in parentheses and each operand of `not` is one level below what it stands
--- in.
+-- each actual with its width, each expression in parentheses and each operand of `not` is one level below what it
+-- stands in.
 -- A chain of operators is a list and no nesting. The standard sets no bound.
 use Rattle.std.specs.Prelude.{ℕ, ◌+◌, List, Option, Some, None, map, max, fold}
 use Rattle.std.specs.declared.alloc.Global.{Global}
@@ -65,6 +65,8 @@ stmt_step (stmt.Call name actuals) = 1 + deepest (map actual_levels actuals.item
 stmt_step (stmt.Compound statements) = 1 + deepest statements.items
 stmt_step (stmt.If place condition consequence alternative) =
     1 + max (expr_levels condition) (max consequence.value (alternative_levels alternative))
+stmt_step (stmt.While place condition body) = 1 + max (expr_levels condition) body.value
+stmt_step (stmt.Repeat place statements condition) = 1 + max (deepest statements.items) (expr_levels condition)
 
 -- the levels of a statement, its own among them
 abbrev pub stmt_levels : Stmt → ℕ

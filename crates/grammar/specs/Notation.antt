@@ -40,6 +40,8 @@ pub data Shape : Type 0 where
   procedure_call : Shape
   compound : Shape
   conditional : Shape
+  while_loop : Shape
+  repeat_loop : Shape
   group : Shape
   parameters : Shape
   block : Shape
@@ -121,6 +123,11 @@ stmt_step (stmt.If place condition consequence alternative) =
     bracketed conditional
     (token (of_kind_at (kind.Word word.If) place) ∷ expr_notation condition
     ++ (consequence.value ++ alternative_notation alternative))
+stmt_step (stmt.While place condition body) =
+    bracketed while_loop (token (of_kind_at (kind.Word word.While) place) ∷ expr_notation condition ++ body.value)
+stmt_step (stmt.Repeat place statements condition) =
+    bracketed repeat_loop
+    (token (of_kind_at (kind.Word word.Repeat) place) ∷ row statements.items ++ expr_notation condition)
 
 -- a statement
 abbrev pub stmt_notation : Stmt → Notation

@@ -173,6 +173,11 @@ stmt_step (stmt.Compound statements) =
 stmt_step (stmt.If place condition consequence alternative) =
     of_kind_at (kind.Word word.If) place ∷ expr_spelling condition
     ++ (word_symbol word.Then ∷ consequence.value ++ alternative_spelling alternative)
+stmt_step (stmt.While place condition body) =
+    of_kind_at (kind.Word word.While) place ∷ expr_spelling condition ++ (word_symbol word.Do ∷ body.value)
+stmt_step (stmt.Repeat place statements condition) =
+    of_kind_at (kind.Word word.Repeat) place ∷ separated symbol.Semicolon statements.items
+    ++ (word_symbol word.Until ∷ expr_spelling condition)
 
 -- a statement (6.8)
 abbrev pub stmt_spelling : Stmt → Spelling

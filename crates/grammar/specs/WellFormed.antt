@@ -1,6 +1,6 @@
 -- Which trees there may be: operators nest by precedence (ISO 7185:1990, 6.7.1, 6.7.2.1), a sign stands at the first
--- term of a sum or alone, a relation has one operator, an `else` belongs to the nearest `if` that has none (6.8.3.4), and
--- lists that the grammar wants nonempty are nonempty.
+-- term of a sum or alone, a relation has one operator, an `else` belongs to the nearest `if` that has none (6.8.3.4),
+-- and lists that the grammar wants nonempty are nonempty.
 -- This says nothing of names and types.
 use Rattle.std.specs.Prelude.{ℕ, ◌+◌, if◌then◌else◌, List, [], ◌∷◌, length, Bool, true, false, not, ◌&&◌, ◌||◌, Option, Some, None, nat_eq, nat_lt, nat_le}
 use Rattle.std.specs.List.{list_all}
@@ -156,6 +156,11 @@ stmt_step (stmt.Compound statements) =
     closed (has_items statements.items && list_all (λ statement. statement.well) statements.items)
 stmt_step (stmt.If place condition consequence alternative) =
     if_form (is_expression condition) consequence.value alternative
+stmt_step (stmt.While place condition body) =
+    record { well = is_expression condition && body.value.well; ends_open = body.value.ends_open }
+stmt_step (stmt.Repeat place statements condition) =
+    closed
+    (is_expression condition && (has_items statements.items && list_all (λ statement. statement.well) statements.items))
 
 -- the form of a statement
 abbrev pub stmt_form : Stmt → StmtForm

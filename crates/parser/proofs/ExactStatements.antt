@@ -2,6 +2,7 @@
 use Rattle.std.proofs.Common.{◌≡◌, ℕ, ◌<◌, List, [], ◌∷◌, Option, Some, None, Result, Ok, subst, sym, ap, ◌∙◌}
 use Rattle.std.specs.declared.alloc.Global.{Global}
 use Rattle.std.specs.declared.boxed.Box.{Box}
+use Rattle.std.specs.declared.vec.Vec.{Vec}
 use Rattle.place.specs.declared.Place.{Place}
 use Rattle.lexer.specs.declared.token.Kind.TheVariants as kind
 use Rattle.lexer.specs.declared.token.Symbol.TheVariants as symbol
@@ -12,12 +13,14 @@ use Rattle.token_cursor.specs.declared.cursor.Cursor.{Cursor}
 use Rattle.syntax_tree.specs.declared.Expr.{Expr}
 use Rattle.syntax_tree.specs.declared.Stmt.{Stmt}
 use Rattle.grammar.specs.Spelling.{Reads, of_kind_at, word_symbol}
-use Rattle.grammar.specs.Following.{next_kind, NoNext, Anything, EndsStmt, EndsStatements}
+use Rattle.grammar.specs.Following.{next_kind, NoNext, Anything, EndsStmt, EndsStatements, compound, repeated}
+use Rattle.grammar.specs.WellFormed.{relation_level}
 use Rattle.parser.specs.Reading.{ReadWithin, ReadsDeep}
-use Rattle.grammar.specs.Begins.{BeginsGuard, BeginsStmt, BeginsAlternative}
+use Rattle.grammar.specs.Begins.{BeginsExpr, BeginsGuard, BeginsStmt, BeginsAlternative, BeginsStatements}
 use Rattle.grammar.proofs.Parts.{PartsLeft, PartThenOthers, ComesBehind, one_more, no_more, comes_behind}
 use Rattle.grammar.proofs.Rows.{begins, same_first}
 use Rattle.grammar.proofs.Conditionals.{Branches, IsConditional}
+use Rattle.grammar.proofs.Loops.{IsWhile, IsRepeat}
 use Rattle.grammar.proofs.Statements.{IsSimple, IsCalled, becomes_missed, statement_list_parts, StatementsLeft, stmt_ends, StatementNext}
 
 -- where no `:=` comes stand the actuals of a call
@@ -28,7 +31,8 @@ becomes_missed_at levels a b others same none h = subst (λ (k : Cursor). IsCall
 
 no_else : (a c : List Token) → ComesBehind symbol.Semicolon a c → EndsStatements c → NoNext (kind.Word word.Else) a
 no_else a c (one_more e) ends k = let no : Some (kind.Symbol symbol.Semicolon) ≡ Some (kind.Word word.Else) = sym e ∙ k in cc
-no_else a c (no_more e) ends k = let no : Some (kind.Word word.End) ≡ Some (kind.Word word.Else) = sym (e ∙ ends) ∙ k in cc
+no_else a c (no_more e) (compound h) k = let no : Some (kind.Word word.End) ≡ Some (kind.Word word.Else) = sym (e ∙ h) ∙ k in cc
+no_else a c (no_more e) (repeated h) k = let no : Some (kind.Word word.Until) ≡ Some (kind.Word word.Else) = sym (e ∙ h) ∙ k in cc
 
 -- what the rule of statements answers there
 pub statement_answer : (levels depth : ℕ) (a b : Cursor) (others : List Token) (answer : Result Stmt ParseFault)
@@ -97,3 +101,58 @@ alternative_taken levels p a b c None k h = absurd (h.1 (ap next_kind (sym h.0) 
 alternative_taken levels p a b c (Some s) k h =
     let same : b ≡ h.0 = (same_first (of_kind_at (kind.Word word.Else) p) (word_symbol word.Else) [] a b h.0 k h.1).1 in
     record { statement = s.value; begun = subst (λ x. BeginsStmt levels x c s.value) (sym same) h.2 }
+
+-- ---- loops
+
+-- the body that stands behind the condition of a while statement
+pub record IsBody (levels : ℕ) (a c : List Token) : Type 0 where
+  pub below : ℕ
+  pub less : below < levels
+  pub body : Stmt
+  pub begun : BeginsStmt below a c body
+
+-- behind the condition read
+pub while_body_left : (levels depth : ℕ) (a b : Cursor) (condition : Expr) (others : List Token)
+    → ReadsDeep levels (BeginsGuard word.Do) Anything a b (Ok condition) → IsWhile depth a.rest.now others → IsBody depth b.rest.now others
+while_body_left levels depth a b condition others reads h =
+    let p = h.parts in
+    let same : b.rest.now ≡ p.middle = reads p.below h.condition p.middle p.guarded tt in
+    record { below = p.below; less = p.less; body = h.body; begun = subst (λ x. BeginsStmt p.below x others h.body) (sym same) p.begun }
+
+-- what stands behind the statements of a repeat statement
+pub record IsUntil (levels : ℕ) (a c : List Token) : Type 0 where
+  pub below : ℕ
+  pub less : below < levels
+  pub behind : List Token
+  pub closed : Reads a (word_symbol word.Until ∷ []) behind
+  pub condition : Expr
+  pub tested : BeginsExpr relation_level below behind c condition
+
+-- behind the statements read
+pub until_left : (levels depth : ℕ) (a b : Cursor) (statements : Vec Stmt Global) (others : List Token)
+    → ReadsDeep levels BeginsStatements EndsStatements a b (Ok statements) → IsRepeat depth a.rest.now others → IsUntil depth b.rest.now others
+until_left levels depth a b statements others reads h =
+    let p = h.parts in
+    let same : b.rest.now ≡ p.middle = reads p.below h.statements p.middle p.list p.ends in
+    record {
+      below = p.below;
+      less = p.less;
+      behind = p.behind;
+      closed = subst (λ x. Reads x (word_symbol word.Until ∷ []) p.behind) (sym same) p.closed;
+      condition = h.condition;
+      tested = p.tested;
+    }
+
+-- the condition of a repeat statement
+pub record IsTested (levels : ℕ) (a c : List Token) : Type 0 where
+  pub below : ℕ
+  pub less : below < levels
+  pub condition : Expr
+  pub tested : BeginsExpr relation_level below a c condition
+
+-- behind the `until` taken
+pub until_taken : (depth : ℕ) (p : Place) (a b others : List Token) → Reads a (of_kind_at (kind.Word word.Until) p ∷ []) b → IsUntil depth a others
+    → IsTested depth b others
+until_taken depth p a b others k h =
+    let same : b ≡ h.behind = (same_first (of_kind_at (kind.Word word.Until) p) (word_symbol word.Until) [] a b h.behind k h.closed).1 in
+    record { below = h.below; less = h.less; condition = h.condition; tested = subst (λ x. BeginsExpr relation_level h.below x others h.condition) (sym same) h.tested }

@@ -25,7 +25,7 @@ use Rattle.grammar.specs.Nesting.{actual_levels, stmt_levels, deepest}
 use Rattle.grammar.specs.Following.{NoNext, LeavesNoElse}
 use Rattle.parser.specs.Rules.{Read}
 use Rattle.grammar.specs.Begins.{BeginsExpr, BeginsList, BeginsActual, BeginsActualList, BeginsActuals, BeginsGuard, BeginsStmt, BeginsAlternative, BeginsStatements, BeginsCompound}
-use Rattle.grammar.proofs.Equations.{spelling-Empty, form-Empty, levels-Empty, spelling-Assign, form-Assign, levels-Assign, spelling-Call, form-Call, levels-Call, spelling-Compound, form-Compound, levels-Compound, closed-Empty, closed-Assign, closed-Call, closed-Compound, spelling-If, form-If, levels-If, spelling-Else, form-Else, open-Else, levels-Else}
+use Rattle.grammar.proofs.Equations.{spelling-Empty, form-Empty, levels-Empty, spelling-Assign, form-Assign, levels-Assign, spelling-Call, form-Call, levels-Call, spelling-Compound, form-Compound, levels-Compound, closed-Empty, closed-Assign, closed-Call, closed-Compound, spelling-If, form-If, levels-If, spelling-Else, form-Else, open-Else, levels-Else, spelling-While, form-While, open-While, levels-While, spelling-Repeat, form-Repeat, closed-Repeat, levels-Repeat}
 use Rattle.grammar.proofs.Lists.{map_push, all_push, deepest_push, and_true, length_map}
 use Rattle.grammar.proofs.Rows.{begins}
 use Rattle.grammar.proofs.Reading.{both, without_place, without_last_place, separated_more, in_parentheses_some}
@@ -247,3 +247,37 @@ pub gives-If : (levels : ℕ) (a b c d e : Cursor) (p : Place) (condition : Expr
 gives-If levels a b c d e p condition box None taken guarded given behind = gives-Alone levels a b c d e p condition box taken guarded given behind
 gives-If levels a b c d e p condition box (Some other) taken guarded given behind =
     gives-Else levels a b c d e p condition box other taken guarded given behind
+
+-- ---- loops
+
+-- a while statement
+pub gives-While : (levels : ℕ) (a b c d : Cursor) (p : Place) (condition : Expr) (box : Box Stmt Global)
+    → Took a b (of_kind_at (kind.Word word.While) p ∷ []) → Read (BeginsGuard word.Do levels) b c condition → Read (BeginsStmt levels) c d box.value
+    → Read (BeginsStmt (levels + 1)) a d (statement.While p condition box)
+gives-While levels a b c d p condition box taken guarded given = record {
+  spelled = subst (λ s. Took a d s) (sym (spelling-While p condition box)) (both (of_kind_at (kind.Word word.While) p ∷ [])
+      (expr_spelling condition ++ (word_symbol word.Do ∷ stmt_spelling box.value)) a.rest.now b.rest.now d.rest.now taken
+      (both (expr_spelling condition) (word_symbol word.Do ∷ stmt_spelling box.value) b.rest.now guarded.middle d.rest.now guarded.expression.spelled
+      (both (word_symbol word.Do ∷ []) (stmt_spelling box.value) guarded.middle c.rest.now d.rest.now guarded.closed given.spelled)));
+  formed = form-While p condition box ∙ and_true (is_expression condition) (is_statement box.value) guarded.expression.formed given.formed;
+  nests = let n = levels-While p condition box in let m = guarded.expression.nests in let k = given.nests in omega arith;
+  whole = λ o. given.whole (sym (open-While p condition box) ∙ o);
+}
+
+-- a repeat statement
+pub gives-Repeat : (levels : ℕ) (a b c d e : Cursor) (p q : Place) (v : Vec Stmt Global) (condition : Expr)
+    → Took a b (of_kind_at (kind.Word word.Repeat) p ∷ []) → Read (BeginsStatements levels) b c v.items → Took c d (of_kind_at (kind.Word word.Until) q ∷ [])
+    → Read (BeginsExpr relation_level levels) d e condition → Read (BeginsStmt (levels + 1)) a e (statement.Repeat p v condition)
+gives-Repeat levels a b c d e p q v condition taken list closed given = record {
+  spelled = subst (λ s. Took a e s) (sym (spelling-Repeat p v condition)) (both (of_kind_at (kind.Word word.Repeat) p ∷ [])
+      (separated symbol.Semicolon (map stmt_spelling v.items) ++ (word_symbol word.Until ∷ expr_spelling condition)) a.rest.now b.rest.now e.rest.now taken
+      (both (separated symbol.Semicolon (map stmt_spelling v.items)) (word_symbol word.Until ∷ expr_spelling condition) b.rest.now c.rest.now e.rest.now
+      list.list.spelled
+      (both (word_symbol word.Until ∷ []) (expr_spelling condition) c.rest.now d.rest.now e.rest.now
+      (without_place (kind.Word word.Until) q [] c.rest.now d.rest.now closed) given.spelled)));
+  formed = form-Repeat p v condition ∙ and_true (is_expression condition) (has_items (map stmt_form v.items) && list_all is_statement v.items) given.formed
+      (and_true (has_items (map stmt_form v.items)) (list_all is_statement v.items)
+      (has v.items (let n = length_map stmt_spelling v.items in let some = list.list.some in omega arith)) list.formed);
+  nests = let n = levels-Repeat p v condition in let m = list.nests in let k = given.nests in omega arith;
+  whole = closed_whole (statement.Repeat p v condition) e.rest.now (closed-Repeat p v condition);
+}

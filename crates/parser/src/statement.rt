@@ -56,7 +56,7 @@ fn statements<'a>(
     }
 }
 
-// statement = [simple | compound | conditional]
+// statement = [simple | compound | conditional | while_loop | repeat_loop]
 /// A statement in something below which `levels` levels are left (6.8).
 #[cycle(statement)]
 fn statement<'a>(
@@ -75,6 +75,8 @@ fn statement<'a>(
             Ok(Stmt::Compound { statements })
         }
         Some(Kind::Word(Word::If)) => conditional(alloc, cursor, levels),
+        Some(Kind::Word(Word::While)) => while_loop(alloc, cursor, levels),
+        Some(Kind::Word(Word::Repeat)) => repeat_loop(alloc, cursor, levels),
         _ => Ok(Stmt::Empty),
     }
 }
@@ -147,6 +149,53 @@ fn alternative<'a>(
         return Ok(None);
     };
     Ok(Some(body(alloc, cursor, levels)?))
+}
+
+// while_loop = "while" expression "do" statement
+/// A while statement (6.8.3.8), below which `levels` levels are left.
+#[cycle(statement)]
+fn while_loop<'a>(
+    alloc: Global,
+    cursor: &mut Cursor<'_, 'a>,
+    levels: u32,
+) -> Result<Stmt<'a>, ParseFault>
+    ensures given { MatchResult result (Read (BeginsStmt (levels + 1)) cursor.old cursor.new)
+        (Refused (levels + 1) cursor.old) }
+    ensures exact { next_kind cursor.old.rest.now ≡ Some (Kind.Word Word.While) →
+        ReadsDeep (levels + 1) BeginsStmt EndsStmt cursor.old cursor.new result }
+{
+    let place = cursor.expect_word(Word::While)?;
+    let condition = guard(alloc, cursor, levels, Word::Do)?;
+    let body = body(alloc, cursor, levels)?;
+    Ok(Stmt::While {
+        place,
+        condition,
+        body,
+    })
+}
+
+// repeat_loop = "repeat" statements "until" expression
+/// A repeat statement (6.8.3.7), below which `levels` levels are left.
+#[cycle(statement)]
+fn repeat_loop<'a>(
+    alloc: Global,
+    cursor: &mut Cursor<'_, 'a>,
+    levels: u32,
+) -> Result<Stmt<'a>, ParseFault>
+    ensures given { MatchResult result (Read (BeginsStmt (levels + 1)) cursor.old cursor.new)
+        (Refused (levels + 1) cursor.old) }
+    ensures exact { next_kind cursor.old.rest.now ≡ Some (Kind.Word Word.Repeat) →
+        ReadsDeep (levels + 1) BeginsStmt EndsStmt cursor.old cursor.new result }
+{
+    let place = cursor.expect_word(Word::Repeat)?;
+    let statements = statements(alloc, cursor, levels)?;
+    cursor.expect_word(Word::Until)?;
+    let condition = expression(alloc, cursor, levels, Level::Relation)?;
+    Ok(Stmt::Repeat {
+        place,
+        statements,
+        condition,
+    })
 }
 
 /// A statement that is part of another one, below which `levels` levels are left.

@@ -1,11 +1,12 @@
-use Rattle.std.proofs.Common.{rules, arith, ◌+◌, refl, ◌≡◌, ap, sym, subst, ◌∙◌, [], ◌∷◌, ◌++◌, Some, MatchResult}
+use Rattle.std.proofs.Common.{rules, arith, ◌+◌, refl, ◌≡◌, ap, sym, subst, ◌∙◌, [], ◌∷◌, ◌++◌, map, Some, MatchResult}
 use Rattle.lexer.specs.declared.token.Kind.TheVariants as kind
 use Rattle.lexer.specs.declared.token.Word.TheVariants as word
 use Rattle.syntax_tree.specs.declared.Stmt.{Stmt}
 use Rattle.lexer.specs.declared.token.Symbol.TheVariants as symbol
 use Rattle.token_cursor.specs.declared.fault.ParseFault.TheVariants.{TooDeep}
-use Rattle.grammar.specs.Spelling.{Reads, of_kind_at, word_symbol, expr_spelling, stmt_spelling}
+use Rattle.grammar.specs.Spelling.{Reads, of_kind_at, word_symbol, expr_spelling, stmt_spelling, separated}
 use Rattle.grammar.specs.Following.{next_kind, EndsStmt}
+use Rattle.grammar.specs.Following as following
 use Rattle.parser.specs.Reading.{Stops, ReadWithin, ReadsDeep}
 use Rattle.parser.specs.Refusing.{Refused}
 use Rattle.parser.proofs.Deep.{front_none, front_on, refused_behind, refused_behind_front, memory_refused, refused_behind_opening, refused_spent}
@@ -18,11 +19,12 @@ use Rattle.parser.proofs.Exact.{stops_above, boxed_within}
 use Rattle.grammar.proofs.Parts.{parts_end}
 use Rattle.grammar.proofs.Reading.{reads_fewer, reads_no_more}
 use Rattle.parser.proofs.Reading.{unchanged}
-use Rattle.grammar.proofs.Chains.{then_ends}
+use Rattle.grammar.proofs.Chains.{then_ends, do_ends}
 use Rattle.grammar.proofs.Conditionals.{conditional_opened}
-use Rattle.grammar.proofs.Statements.{compounded, opened_compound, statement_list_parts, statement_list_begins, statement_list_goes_on}
-use Rattle.parser.proofs.ExactStatements.{statement_answer, statement_list_left, branches_left, alternative_left, alternative_taken}
-use Rattle.parser.proofs.Statements.{gives-Empty, StatementsGrow, statements_grow_first, statements_grow, compound_closed, compound_stands, guard_spelled, gives-If}
+use Rattle.grammar.proofs.Loops.{while_opened, repeat_opened}
+use Rattle.grammar.proofs.Statements.{ends_value, compounded, opened_compound, statement_list_parts, statement_list_begins, statement_list_goes_on}
+use Rattle.parser.proofs.ExactStatements.{statement_answer, statement_list_left, branches_left, alternative_left, alternative_taken, while_body_left, until_left, until_taken}
+use Rattle.parser.proofs.Statements.{gives-Empty, StatementsGrow, statements_grow_first, statements_grow, compound_closed, compound_stands, guard_spelled, gives-If, gives-While, gives-Repeat}
 use Rattle.parser.proofs.statement.+statement.Goals as goal
 
 pub compound-returns-clause-given : goal.compound-returns-clause-given
@@ -40,7 +42,7 @@ compound-returns-in_err-statements-clause-exact t c = λ depth found others h _.
     let o = opened_compound depth c.in_ok-expect_word.field-0 c.args.cursor.now.rest.now c.expect_word.new.self.rest.now others found
     c.in_ok-expect_word.ensures.spelled h in
     handed_on _ _ c.from_residual-in_err-statements.result c.in_err-statements.field-0.0 c.from_residual-in_err-statements.ensures
-    (c.in_err-statements.ensures.exact depth found.0 o.middle o.list o.ends)
+    (c.in_err-statements.ensures.exact depth found.0 o.middle o.list (following.compound o.next))
 
 pub compound-returns-in_err-statements-clause-given : goal.compound-returns-in_err-statements-clause-given
 compound-returns-in_err-statements-clause-given t c =
@@ -59,14 +61,14 @@ pub compound-returns-in_err-end-clause-exact : goal.compound-returns-in_err-end-
 compound-returns-in_err-end-clause-exact t c = λ depth found others h _.
     let o = opened_compound depth c.in_ok-expect_word.field-0 c.args.cursor.now.rest.now c.expect_word.new.self.rest.now others found
     c.in_ok-expect_word.ensures.spelled h in
-    let m : c.statements.new.cursor.rest.now ≡ o.middle = c.in_ok-statements.ensures.exact depth found.0 o.middle o.list o.ends in
-    absurd (c.in_err-end.ensures.missed (ap next_kind m ∙ o.ends))
+    let m : c.statements.new.cursor.rest.now ≡ o.middle = c.in_ok-statements.ensures.exact depth found.0 o.middle o.list (following.compound o.next) in
+    absurd (c.in_err-end.ensures.missed (ap next_kind m ∙ o.next))
 
 pub compound-returns-clause-exact : goal.compound-returns-clause-exact
 compound-returns-clause-exact t c = λ depth found others h _.
     let o = opened_compound depth c.in_ok-expect_word.field-0 c.args.cursor.now.rest.now c.expect_word.new.self.rest.now others found
     c.in_ok-expect_word.ensures.spelled h in
-    let m : c.statements.new.cursor.rest.now ≡ o.middle = c.in_ok-statements.ensures.exact depth found.0 o.middle o.list o.ends in
+    let m : c.statements.new.cursor.rest.now ≡ o.middle = c.in_ok-statements.ensures.exact depth found.0 o.middle o.list (following.compound o.next) in
     (same_first (of_kind_at (kind.Word word.End) c.in_ok-end.end) (of_kind_at (kind.Word word.End) o.last) [] c.statements.new.cursor.rest.now
     c.expect_word-2.new.self.rest.now others
     c.in_ok-end.ensures.spelled (subst (λ x. Reads x (of_kind_at (kind.Word word.End) o.last ∷ []) others) (sym m) o.closed)).1
@@ -280,3 +282,127 @@ conditional-returns-clause-exact t c = λ first depth s others h ends.
     (c.in_ok-condition.ensures.exact then_ends) o in
     let k = alternative_left c.args.levels depth c.guard.new.cursor c.body.new.cursor c.in_ok-consequence.consequence others c.in_ok-consequence.ensures.exact l in
     c.in_ok-alternative.ensures.exact k.below k.other others k.behind ends
+
+pub statement-returns-in-Some-Word-While-clause-exact : goal.statement-returns-in-Some-Word-While-clause-exact
+statement-returns-in-Some-Word-While-clause-exact t c = λ depth s others h ends.
+    let first : next_kind c.args.cursor.now.rest.now ≡ Some (kind.Word word.While) = search rules in
+    subst (λ n. ReadWithin n depth others c.while_loop.new.cursor c.while_loop.result) c.in_ok-levels.ensures.left
+    (c.while_loop.ensures.exact first depth s others h ends)
+
+pub statement-returns-in-Some-Word-Repeat-clause-exact : goal.statement-returns-in-Some-Word-Repeat-clause-exact
+statement-returns-in-Some-Word-Repeat-clause-exact t c = λ depth s others h ends.
+    let first : next_kind c.args.cursor.now.rest.now ≡ Some (kind.Word word.Repeat) = search rules in
+    subst (λ n. ReadWithin n depth others c.repeat_loop.new.cursor c.repeat_loop.result) c.in_ok-levels.ensures.left
+    (c.repeat_loop.ensures.exact first depth s others h ends)
+
+pub while_loop-returns-in_err-condition-clause-given : goal.while_loop-returns-in_err-condition-clause-given
+while_loop-returns-in_err-condition-clause-given t c =
+    let fault = c.in_err-condition.field-0.0 in
+    handed_on _ _ c.from_residual-in_err-condition.result fault c.from_residual-in_err-condition.ensures
+    (refused_behind (c.args.levels + 1) c.args.cursor.now c.expect_word.new.self (of_kind_at (kind.Word word.While) c.in_ok-place.place ∷ []) fault
+    c.in_ok-place.ensures.spelled c.in_err-condition.ensures.given)
+
+pub while_loop-returns-in_err-body-clause-given : goal.while_loop-returns-in_err-body-clause-given
+while_loop-returns-in_err-body-clause-given t c =
+    let n = c.args.levels in
+    let fault = c.in_err-body.field-0.0 in
+    let condition = c.in_ok-condition.condition in
+    handed_on _ _ c.from_residual-in_err-body.result fault c.from_residual-in_err-body.ensures
+    (refused_behind_opening n (n + 1) c.args.cursor.now c.expect_word.new.self (kind.Word word.While) c.in_ok-place.place fault refl refl
+    c.in_ok-place.ensures.spelled
+    (refused_behind n c.expect_word.new.self c.guard.new.cursor (expr_spelling condition ++ word_symbol word.Do ∷ []) fault
+    (guard_spelled word.Do n c.expect_word.new.self c.guard.new.cursor condition c.in_ok-condition.ensures.given) c.in_err-body.ensures.given))
+
+pub while_loop-returns-clause-given : goal.while_loop-returns-clause-given
+while_loop-returns-clause-given t c =
+    gives-While c.args.levels c.args.cursor.now c.expect_word.new.self c.guard.new.cursor c.body.new.cursor c.in_ok-place.place c.in_ok-condition.condition
+    c.in_ok-body.body c.in_ok-place.ensures.spelled c.in_ok-condition.ensures.given c.in_ok-body.ensures.given
+
+pub while_loop-returns-in_err-condition-clause-exact : goal.while_loop-returns-in_err-condition-clause-exact
+while_loop-returns-in_err-condition-clause-exact t c = λ first depth s others h ends.
+    let o = while_opened depth c.in_ok-place.place c.args.cursor.now.rest.now c.expect_word.new.self.rest.now others s c.in_ok-place.ensures.spelled h ends in
+    let p = o.parts in
+    let fault = c.in_err-condition.field-0.0 in
+    handed_on _ _ c.from_residual-in_err-condition.result fault c.from_residual-in_err-condition.ensures
+    (stops_above (c.args.levels + 1) c.args.levels depth p.below fault refl p.less
+    (c.in_err-condition.ensures.exact do_ends p.below o.condition p.middle p.guarded tt))
+
+pub while_loop-returns-in_err-body-clause-exact : goal.while_loop-returns-in_err-body-clause-exact
+while_loop-returns-in_err-body-clause-exact t c = λ first depth s others h ends.
+    let o = while_opened depth c.in_ok-place.place c.args.cursor.now.rest.now c.expect_word.new.self.rest.now others s c.in_ok-place.ensures.spelled h ends in
+    let l = while_body_left c.args.levels depth c.expect_word.new.self c.guard.new.cursor c.in_ok-condition.condition others
+    (c.in_ok-condition.ensures.exact do_ends) o in
+    let fault = c.in_err-body.field-0.0 in
+    handed_on _ _ c.from_residual-in_err-body.result fault c.from_residual-in_err-body.ensures
+    (stops_above (c.args.levels + 1) c.args.levels depth l.below fault refl l.less (c.in_err-body.ensures.exact l.below l.body others l.begun ends))
+
+pub while_loop-returns-clause-exact : goal.while_loop-returns-clause-exact
+while_loop-returns-clause-exact t c = λ first depth s others h ends.
+    let o = while_opened depth c.in_ok-place.place c.args.cursor.now.rest.now c.expect_word.new.self.rest.now others s c.in_ok-place.ensures.spelled h ends in
+    let l = while_body_left c.args.levels depth c.expect_word.new.self c.guard.new.cursor c.in_ok-condition.condition others
+    (c.in_ok-condition.ensures.exact do_ends) o in
+    c.in_ok-body.ensures.exact l.below l.body others l.begun ends
+
+pub repeat_loop-returns-in_err-statements-clause-given : goal.repeat_loop-returns-in_err-statements-clause-given
+repeat_loop-returns-in_err-statements-clause-given t c =
+    let n = c.args.levels in
+    let fault = c.in_err-statements.field-0.0 in
+    handed_on _ _ c.from_residual-in_err-statements.result fault c.from_residual-in_err-statements.ensures
+    (refused_behind_opening n (n + 1) c.args.cursor.now c.expect_word.new.self (kind.Word word.Repeat) c.in_ok-place.place fault refl refl
+    c.in_ok-place.ensures.spelled c.in_err-statements.ensures.given)
+
+pub repeat_loop-returns-in_err-condition-clause-given : goal.repeat_loop-returns-in_err-condition-clause-given
+repeat_loop-returns-in_err-condition-clause-given t c =
+    let n = c.args.levels + 1 in
+    let fault = c.in_err-condition.field-0.0 in
+    let statements = c.in_ok-statements.statements in
+    handed_on _ _ c.from_residual-in_err-condition.result fault c.from_residual-in_err-condition.ensures
+    (refused_behind n c.args.cursor.now c.expect_word.new.self (of_kind_at (kind.Word word.Repeat) c.in_ok-place.place ∷ []) fault
+    c.in_ok-place.ensures.spelled
+    (refused_behind n c.expect_word.new.self c.statements.new.cursor (separated symbol.Semicolon (map stmt_spelling statements.items)) fault
+    c.in_ok-statements.ensures.given.list.spelled
+    (refused_behind n c.statements.new.cursor c.expect_word-2.new.self (of_kind_at (kind.Word word.Until) c.in_ok-expect_word.field-0 ∷ []) fault
+    c.in_ok-expect_word.ensures.spelled c.in_err-condition.ensures.given)))
+
+pub repeat_loop-returns-clause-given : goal.repeat_loop-returns-clause-given
+repeat_loop-returns-clause-given t c =
+    gives-Repeat c.args.levels c.args.cursor.now c.expect_word.new.self c.statements.new.cursor c.expect_word-2.new.self c.expression.new.cursor
+    c.in_ok-place.place c.in_ok-expect_word.field-0 c.in_ok-statements.statements c.in_ok-condition.condition c.in_ok-place.ensures.spelled
+    c.in_ok-statements.ensures.given c.in_ok-expect_word.ensures.spelled c.in_ok-condition.ensures.given
+
+pub repeat_loop-returns-in_err-statements-clause-exact : goal.repeat_loop-returns-in_err-statements-clause-exact
+repeat_loop-returns-in_err-statements-clause-exact t c = λ first depth s others h ends.
+    let o = repeat_opened depth c.in_ok-place.place c.args.cursor.now.rest.now c.expect_word.new.self.rest.now others s c.in_ok-place.ensures.spelled h ends in
+    let p = o.parts in
+    let fault = c.in_err-statements.field-0.0 in
+    handed_on _ _ c.from_residual-in_err-statements.result fault c.from_residual-in_err-statements.ensures
+    (stops_above (c.args.levels + 1) c.args.levels depth p.below fault refl p.less
+    (c.in_err-statements.ensures.exact p.below o.statements p.middle p.list p.ends))
+
+pub repeat_loop-returns-in_err-expect_word-clause-exact : goal.repeat_loop-returns-in_err-expect_word-clause-exact
+repeat_loop-returns-in_err-expect_word-clause-exact t c = λ first depth s others h ends.
+    let o = repeat_opened depth c.in_ok-place.place c.args.cursor.now.rest.now c.expect_word.new.self.rest.now others s c.in_ok-place.ensures.spelled h ends in
+    let l = until_left c.args.levels depth c.expect_word.new.self c.statements.new.cursor c.in_ok-statements.statements others
+    c.in_ok-statements.ensures.exact o in
+    absurd (c.in_err-expect_word.ensures.missed (begins (word_symbol word.Until) [] c.statements.new.cursor.rest.now l.behind l.closed))
+
+pub repeat_loop-returns-in_err-condition-clause-exact : goal.repeat_loop-returns-in_err-condition-clause-exact
+repeat_loop-returns-in_err-condition-clause-exact t c = λ first depth s others h ends.
+    let o = repeat_opened depth c.in_ok-place.place c.args.cursor.now.rest.now c.expect_word.new.self.rest.now others s c.in_ok-place.ensures.spelled h ends in
+    let l = until_left c.args.levels depth c.expect_word.new.self c.statements.new.cursor c.in_ok-statements.statements others
+    c.in_ok-statements.ensures.exact o in
+    let k = until_taken depth c.in_ok-expect_word.field-0 c.statements.new.cursor.rest.now c.expect_word-2.new.self.rest.now others
+    c.in_ok-expect_word.ensures.spelled l in
+    let fault = c.in_err-condition.field-0.0 in
+    handed_on _ _ c.from_residual-in_err-condition.result fault c.from_residual-in_err-condition.ensures
+    (stops_above (c.args.levels + 1) c.args.levels depth k.below fault refl k.less
+    (c.in_err-condition.ensures.exact k.below k.condition others k.tested (ends_value others ends)))
+
+pub repeat_loop-returns-clause-exact : goal.repeat_loop-returns-clause-exact
+repeat_loop-returns-clause-exact t c = λ first depth s others h ends.
+    let o = repeat_opened depth c.in_ok-place.place c.args.cursor.now.rest.now c.expect_word.new.self.rest.now others s c.in_ok-place.ensures.spelled h ends in
+    let l = until_left c.args.levels depth c.expect_word.new.self c.statements.new.cursor c.in_ok-statements.statements others
+    c.in_ok-statements.ensures.exact o in
+    let k = until_taken depth c.in_ok-expect_word.field-0 c.statements.new.cursor.rest.now c.expect_word-2.new.self.rest.now others
+    c.in_ok-expect_word.ensures.spelled l in
+    c.in_ok-condition.ensures.exact k.below k.condition others k.tested (ends_value others ends)

@@ -17,6 +17,12 @@ decreases-statement l = 4 * l.levels
 abbrev pub decreases-conditional : goal.decreases-conditional
 decreases-conditional l = 4 * l.levels + 3
 
+abbrev pub decreases-while_loop : goal.decreases-while_loop
+decreases-while_loop l = 4 * l.levels + 3
+
+abbrev pub decreases-repeat_loop : goal.decreases-repeat_loop
+decreases-repeat_loop l = 4 * l.levels + 3
+
 abbrev pub decreases-alternative : goal.decreases-alternative
 decreases-alternative l = 4 * l.levels + 2
 
