@@ -104,8 +104,7 @@ module _ (g : Setting) where
   ends_on turns left a b (ending.Error site) output l (inl e) = inl (halts_on (turns - left) a b (ending.Error site) output l e)
   ends_on turns left a b (ending.Error site) output l (inr closed) = inr closed
   ends_on turns left a b (ending.Input point fault) output l e = halts_on (turns - left) a b (ending.Input point fault) output l e
-  ends_on turns left a b ending.More output l e =
-  (
+  ends_on turns left a b ending.More output l e = (
     e.0,
     comes_less g.target (turns - g.slack) (turns - left + (left - g.slack)) a e.0 (omega arith)
         (comes_on g.target (turns - left) (left - g.slack) a b e.0 l e.1),

@@ -452,7 +452,7 @@ while_runs g number condition body few place base held s stands good based high 
     let jump = stands_back g.target inside code back within in
     let e : end ≡ place + length (test ++ (instr.JumpIfFalse end ∷ (code ++ back))) =
     omega (arith, length-append test (instr.JumpIfFalse end ∷ (code ++ back)), length-append code back) in
-    let parts = and_parts _ _ good in
+    let parts = and_parts (is_well_formed_expr (variables g) (sites g) condition) (is_well_formed_stmt (variables g) (sites g) body.0) good in
     let hold : Unit {0} → List Cell = λ _. held in
     let round : Round (Unit {0}) = while_round (value_of condition) (effect_of body.0) g.environment in
     let turns_on : (bound : ℕ) (holds : Bool) (base2 : List Cell) (t : effect.State) → Based g t.store base2 → t.turns ≤ bound → (m : State)
@@ -506,14 +506,15 @@ repeat_runs g number condition ss few place base held s stands good based high d
     let behind = stands_back g.target place code (test ++ back) stands in
     let jump = stands_back g.target last test back behind in
     let e : end ≡ place + length (code ++ (test ++ back)) = omega (arith, length-append code (test ++ back), length-append test back) in
-    let parts = and_parts _ _ good in
+    let parts = and_parts (all_hold (map (is_well_formed_stmt (variables g) (sites g)) (map (λ x. x.0) ss)))
+    (is_well_formed_expr (variables g) (sites g) condition) good in
     let hold : Unit {0} → List Cell = λ _. held in
     let statements = all_of (map effect_of (map (λ x. x.0) ss)) in
     let round : Round (Unit {0}) = repeat_round statements (value_of condition) g.environment in
     let decides : (bound : ℕ) (n : ℤ) (base2 : List Cell) (t : effect.State) → Based h t.store base2 → t.turns < bound → Rounds h hold place end held 1 bound
     t.turns (on g ((base2 ++ held) ++ Number n ∷ []) (last + length test) t.output) (give (if frames.is_true n then None else Some tt) t) =
     λ bound n base2 t based2 fewer.
-    (elim frames.is_true n as (λ b. Comes g.target 1 (on g ((base2 ++ held) ++ Number n ∷ []) (last + length test) t.output)
+    (elim (frames.is_true n) as (λ b. Comes g.target 1 (on g ((base2 ++ held) ++ Number n ∷ []) (last + length test) t.output)
     (on g (base2 ++ held) (if b then last + length test + 1 else place) t.output) → Rounds h hold place end held 1 bound
     t.turns (on g ((base2 ++ held) ++ Number n ∷ []) (last + length test) t.output) (give (if b then None else Some tt) t)) [
       | true ↦ λ came. (base2, based2, comes_less g.target (t.turns - t.turns + 1) 1 _ _ (omega arith) came, omega arith)
