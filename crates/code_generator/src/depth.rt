@@ -27,7 +27,9 @@ pub fn needed_by(stmt: &Stmt) -> u32
             }
         }
         Stmt::While {
-            condition, body, ..
+            condition,
+            body,
+            ..
         } => needed_by_expr(condition).max(needed_by(body)),
         Stmt::Repeat {
             statements,

@@ -68,7 +68,9 @@ pub fn emit_stmt(
             }
         },
         Stmt::While {
-            condition, body, ..
+            condition,
+            body,
+            ..
         } => {
             let head = place_of(code);
             emit_test(code, scope, condition, sizes.next().saturating_add(1))?;

@@ -45,7 +45,9 @@ fn stmt_size(stmt: &Stmt) -> u32
             }
         }
         Stmt::While {
-            condition, body, ..
+            condition,
+            body,
+            ..
         } => while_size(condition, stmt_size(body)),
         Stmt::Repeat {
             statements,
@@ -109,7 +111,9 @@ fn measure_parts(sizes: &mut Vec<u32>, stmt: &Stmt) -> Result<u32, AllocError>
             }
         }
         Stmt::While {
-            condition, body, ..
+            condition,
+            body,
+            ..
         } => Ok(while_size(condition, measure(sizes, body)?)),
         Stmt::Repeat {
             statements,
