@@ -28,7 +28,7 @@ use Rattle.typed_tree.specs.declared.tree.Expr.TheViews.{roll-Expr, roll-Link}
 use Rattle.typed_tree.specs.declared.tree.Expr.TheFolds.{map-Expr, map-Link, fold-roll-Expr, fold-roll-Link, ind-Expr}
 use Rattle.typed_tree.specs.declared.tree.Stmt.{Stmt}
 use Rattle.typed_tree.specs.declared.tree.Stmt.TheOpen.{Stmt-F}
-use Rattle.typed_tree.specs.declared.tree.Stmt.TheOpen.Stmt-F.{Empty, Assign, Write, Compound, If}
+use Rattle.typed_tree.specs.declared.tree.Stmt.TheOpen.Stmt-F.{Empty, Assign, Write, Compound, If, While, Repeat}
 use Rattle.typed_tree.specs.declared.tree.Stmt.TheViews.{roll-Stmt}
 use Rattle.typed_tree.specs.declared.tree.Stmt.TheFolds.{map-Stmt, fold-roll-Stmt, ind-Stmt}
 use Rattle.code_generator.specs.declared.scope.Scope.{Scope}
@@ -190,6 +190,16 @@ stmt_layer (If number condition consequence (Some alternative)) =
     let no = yes + length (stmt_code consequence.value.0 scope yes) + 1 in
     append_in_bounds (expr_code scope condition) _ (expr_in_bounds scope condition)
     (append_in_bounds (stmt_code consequence.value.0 scope yes) _ (consequence.value.1 scope yes) (alternative.value.1 scope no)))
+stmt_layer (While number loop_number word condition body) =
+    rolled_stmt (bare_stmt (While number loop_number word condition body)) (λ scope place.
+    let inside = place + length (expr_code scope condition) + 1 in
+    append_in_bounds (expr_code scope condition) _ (expr_in_bounds scope condition)
+    (append_in_bounds (stmt_code body.value.0 scope inside) (instr.Jump place ∷ []) (body.value.1 scope inside) refl))
+stmt_layer (Repeat number loop_number word statements condition) =
+    rolled_stmt (bare_stmt (Repeat number loop_number word statements condition)) (λ scope place.
+    append_in_bounds (placed (map (λ c. c scope) (map stmt_code (map (λ s. s.0) statements.items))) place) _
+    (stmts_in_bounds scope statements.items place)
+    (append_in_bounds (expr_code scope condition) (instr.JumpIfFalse place ∷ []) (expr_in_bounds scope condition) refl))
 
 stmt_in_bounds : (s : Stmt) → StmtInBounds s
 stmt_in_bounds = ind-Stmt StmtInBounds (λ x y is. subst (λ z. StmtInBounds (roll-Stmt z)) is (stmt_layer y))

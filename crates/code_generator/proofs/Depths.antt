@@ -19,7 +19,7 @@ use Rattle.typed_tree.specs.declared.tree.Expr.TheViews.{roll-Expr, roll-Link}
 use Rattle.typed_tree.specs.declared.tree.Expr.TheFolds.{fold-Link, map-Expr, map-Link, fold-roll-Expr, fold-roll-Link, ind-Expr}
 use Rattle.typed_tree.specs.declared.tree.Stmt.{Stmt}
 use Rattle.typed_tree.specs.declared.tree.Stmt.TheOpen.{Stmt-F}
-use Rattle.typed_tree.specs.declared.tree.Stmt.TheOpen.Stmt-F.{Empty, Assign, Write, Compound, If}
+use Rattle.typed_tree.specs.declared.tree.Stmt.TheOpen.Stmt-F.{Empty, Assign, Write, Compound, If, While, Repeat}
 use Rattle.typed_tree.specs.declared.tree.Stmt.TheViews.{roll-Stmt}
 use Rattle.typed_tree.specs.declared.tree.Stmt.TheFolds.{map-Stmt, fold-roll-Stmt, ind-Stmt}
 use Rattle.code_generator.specs.declared.scope.Scope.{Scope}
@@ -271,6 +271,40 @@ stmt_layer (If number condition consequence (Some alternative)) =
     let e = u.code_is in let f = u.need_is in
     record {
       code_is = omega (arith, length-append test (instr.JumpIfFalse no ∷ (code ++ behind)), length-append code behind);
+      need_is = omega arith;
+    })
+stmt_layer (While number loop_number word condition body) =
+    rolled_stmt (map-Stmt ((s : Stmt) × StmtWithin s) Stmt (λ s. s.0) (While number loop_number word condition body)) (λ scope place.
+    let test = expr_code scope condition in
+    let inside = place + length test + 1 in
+    let code = stmt_code body.value.0 scope inside in
+    let v = expr_within scope condition in
+    let a = v.code_is in let b = v.need_is in
+    let w = body.value.1 scope inside in
+    let c = w.code_is in let d = w.need_is in
+    record {
+      code_is = omega (
+        arith,
+        length-append test (instr.JumpIfFalse (inside + length code + 1) ∷ (code ++ (instr.Jump place ∷ []))),
+        length-append code (instr.Jump place ∷ []),
+      );
+      need_is = omega arith;
+    })
+stmt_layer (Repeat number loop_number word statements condition) =
+    rolled_stmt (map-Stmt ((s : Stmt) × StmtWithin s) Stmt (λ s. s.0) (Repeat number loop_number word statements condition)) (λ scope place.
+    let none : Within 0 [] 8 = record { code_is = omega arith; need_is = omega arith } in
+    let code = placed (map (λ c. c scope) (map stmt_code (map (λ s. s.0) statements.items))) place in
+    let test = expr_code scope condition in
+    let w = stmts_within scope statements.items place 0 [] 8 none in
+    let c = w.code_is in let d = w.need_is in
+    let v = expr_within scope condition in
+    let a = v.code_is in let b = v.need_is in
+    record {
+      code_is = omega (
+        arith,
+        length-append code (test ++ (instr.JumpIfFalse place ∷ [])),
+        length-append test (instr.JumpIfFalse place ∷ []),
+      );
       need_is = omega arith;
     })
 

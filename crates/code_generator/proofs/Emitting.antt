@@ -14,15 +14,15 @@ use Rattle.typed_tree.specs.declared.tree.Access.{Access}
 use Rattle.typed_tree.specs.declared.tree.RangeTest.{RangeTest}
 use Rattle.typed_tree.specs.declared.tree.Expr.{Expr}
 use Rattle.typed_tree.specs.declared.tree.Stmt.{Stmt}
-use Rattle.typed_tree.specs.declared.tree.Stmt.TheVariants.{Assign, rolls-Assign, Compound, rolls-Compound, If, rolls-If}
-use Rattle.typed_tree.specs.declared.tree.Stmt.TheOpen.Stmt-F.{Assign as Assign-layer, Compound as Compound-layer, If as If-layer}
+use Rattle.typed_tree.specs.declared.tree.Stmt.TheVariants.{Assign, rolls-Assign, Compound, rolls-Compound, If, rolls-If, While, rolls-While, Repeat, rolls-Repeat}
+use Rattle.typed_tree.specs.declared.tree.Stmt.TheOpen.Stmt-F.{Assign as Assign-layer, Compound as Compound-layer, If as If-layer, While as While-layer, Repeat as Repeat-layer}
 use Rattle.typed_tree.specs.declared.tree.Stmt.TheFolds.{fold-roll-Stmt}
 use Rattle.code_generator.specs.declared.scope.Scope.{Scope}
-use Rattle.code_generator.specs.Code.{Placed, assign_code, expr_code, stmt_code, if_code, if_else_code}
+use Rattle.code_generator.specs.Code.{Placed, assign_code, expr_code, stmt_code, if_code, if_else_code, while_code, repeat_code}
 use Rattle.code_generator.specs.Emitted.{Emits}
 use Rattle.code_generator.specs.Sizes.{capped, first_of, rest_of, Measured, measured, measured_step, table_of, all_sizes, all_tables}
 use Rattle.code_generator.proofs.Measures.{is_measured}
-use Rattle.code_generator.proofs.Pieces.{stmts_code, length-If, length-If-else}
+use Rattle.code_generator.proofs.Pieces.{stmts_code, length-If, length-If-else, length-While, length-Repeat}
 
 -- what is told of a compound statement, and of an if statement
 pub measured-Compound : (scope : Scope) (number : ℕ) (statements : Vec Stmt)
@@ -53,6 +53,26 @@ pub measured-If-else : (scope : Scope) (number : ℕ) (condition : Expr) (conseq
 measured-If-else scope number condition consequence alternative =
     ap (λ s. measured s scope) (sym (rolls-If number condition consequence (Some alternative)))
     ∙ ap (λ m. m scope) (fold-roll-Stmt (Scope → Measured) measured_step (If-layer number condition consequence (Some alternative)))
+
+abbrev pub while_measured : List Instr → Measured → Measured
+while_measured test inside = record { size = length test + 1 + inside.size + 1; inner = table_of inside }
+
+pub measured-While : (scope : Scope) (number loop_number : ℕ) (word : SourcePlace) (condition : Expr) (body : Box Stmt)
+    → measured (While number loop_number word condition body) scope ≡ while_measured (expr_code scope condition) (measured body.value scope)
+measured-While scope number loop_number word condition body =
+    ap (λ s. measured s scope) (sym (rolls-While number loop_number word condition body))
+    ∙ ap (λ m. m scope) (fold-roll-Stmt (Scope → Measured) measured_step (While-layer number loop_number word condition body))
+
+abbrev pub repeat_measured : List Measured → List Instr → Measured
+repeat_measured ms test = record { size = all_sizes ms + (length test + 1); inner = all_tables ms }
+
+pub measured-Repeat : (scope : Scope) (number loop_number : ℕ) (word : SourcePlace) (statements : Vec Stmt) (condition : Expr)
+    → measured (Repeat number loop_number word statements condition) scope ≡ repeat_measured (map (λ s. measured s scope) statements.items)
+    (expr_code scope condition)
+measured-Repeat scope number loop_number word statements condition =
+    ap (λ s. measured s scope) (sym (rolls-Repeat number loop_number word statements condition))
+    ∙ ap (λ m. m scope) (fold-roll-Stmt (Scope → Measured) measured_step (Repeat-layer number loop_number word statements condition))
+    ∙ ap (λ ms. repeat_measured ms (expr_code scope condition)) (map-map (λ (measure : Scope → Measured). measure scope) measured statements.items)
 
 pub measured-Assign : (scope : Scope) (number : ℕ) (becomes : SourcePlace) (target : Access) (fits : RangeTest) (value : Expr)
     → measured (Assign number becomes target fits value) scope ≡ record { size = length (assign_code scope target.root fits value); inner = [] }
@@ -208,6 +228,56 @@ if_else_emitted answer test consequence alternative scope before tested jumping 
           ∙ ap (λ c. before ++ c) (append_assoc test (instr.JumpIfFalse no ∷ code) behind)
           ∙ ap (λ n. before ++ (test ++ (instr.JumpIfFalse no ∷ (code ++ (instr.Jump n ∷ other))))) there',
       end.1,
+    ))
+
+-- a while statement
+pub while_emitted : (answer : Result (Unit {0}) AllocError) (test : List Instr) (body : Stmt) (scope : Scope) (before jumping done after : List Instr)
+    (sizes left : List ℕ) (head : ℕ) → jumping ≡ (before ++ test) ++ instr.JumpIfFalse (capped (length (before ++ test) + 1 + capped (first_of sizes + 1))) ∷ []
+    → Emits (Ok tt) jumping done sizes left (stmt_code body scope (length jumping)) (table_of (measured body scope)) → head ≡ capped (length before)
+    → OnOk answer (after ≡ done ++ instr.Jump head ∷ [])
+    → Emits answer before after sizes left (while_code test (stmt_code body) scope (length before)) (table_of (measured body scope))
+while_emitted answer test body scope before jumping done after sizes left head put emits begins last rest told few =
+    let place = length before in
+    let inside = place + length test + 1 in
+    let code = stmt_code body scope inside in
+    let target = capped (length (before ++ test) + 1 + capped (first_of sizes + 1)) in
+    let all = length-While test (stmt_code body) scope place in
+    let long : length (before ++ test) ≡ place + length test = length-append before test in
+    let at : length jumping ≡ inside = ap length put ∙ length-append (before ++ test) (instr.JumpIfFalse target ∷ []) ∙ ap (λ n. n + 1) long in
+    let size : first_of sizes ≡ length code = target_is body scope inside sizes rest told (omega arith) in
+    let there : target ≡ inside + length code + 1 = omega (arith, long, size) in
+    let back : head ≡ place = omega (arith, begins) in
+    let few' : length jumping + length (stmt_code body scope (length jumping)) ≤ 4294967295 =
+    subst (λ n. n + length (stmt_code body scope n) ≤ 4294967295) (sym at) (omega arith) in
+    let first = emits rest told few' in
+    on_ok answer last (λ end. (
+      end
+          ∙ ap (λ n. done ++ instr.Jump n ∷ []) back
+          ∙ ap (λ c. c ++ instr.Jump place ∷ []) (first.0 ∙ ap (λ n. jumping ++ stmt_code body scope n) at ∙ ap (λ c. c ++ code) put)
+          ∙ append_assoc ((before ++ test) ++ instr.JumpIfFalse target ∷ []) code (instr.Jump place ∷ [])
+          ∙ append_assoc (before ++ test) (instr.JumpIfFalse target ∷ []) (code ++ instr.Jump place ∷ [])
+          ∙ append_assoc before test (instr.JumpIfFalse target ∷ (code ++ instr.Jump place ∷ []))
+          ∙ ap (λ n. before ++ (test ++ (instr.JumpIfFalse n ∷ (code ++ instr.Jump place ∷ [])))) there,
+      first.1,
+    ))
+
+-- a repeat statement
+pub repeat_emitted : (answer : Result (Unit {0}) AllocError) (statements : ℕ → List Instr) (test : List Instr) (before done after : List Instr)
+    (sizes left table : List ℕ) (head : ℕ) → Emits (Ok tt) before done sizes left (statements (length before)) table → head ≡ capped (length before)
+    → OnOk answer (after ≡ (done ++ test) ++ instr.JumpIfFalse head ∷ []) → Emits answer before after sizes left (repeat_code statements test (length before)) table
+repeat_emitted answer statements test before done after sizes left table head emits begins last rest told few =
+    let place = length before in
+    let code = statements place in
+    let all = length-Repeat statements test place in
+    let back : head ≡ place = omega (arith, begins) in
+    let first = emits rest told (omega arith) in
+    on_ok answer last (λ end. (
+      end
+          ∙ ap (λ n. (done ++ test) ++ instr.JumpIfFalse n ∷ []) back
+          ∙ ap (λ c. (c ++ test) ++ instr.JumpIfFalse place ∷ []) first.0
+          ∙ append_assoc (before ++ code) test (instr.JumpIfFalse place ∷ [])
+          ∙ append_assoc before code (test ++ instr.JumpIfFalse place ∷ []),
+      first.1,
     ))
 
 -- ---- statements one after another

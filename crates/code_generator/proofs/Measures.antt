@@ -4,13 +4,13 @@ use Rattle.std.specs.List.{flat_map}
 use Rattle.std.proofs.lemmas.List.Sums.{sum_by-cons}
 use Rattle.typed_tree.specs.declared.tree.Stmt.{Stmt}
 use Rattle.typed_tree.specs.declared.tree.Stmt.TheOpen.{Stmt-F}
-use Rattle.typed_tree.specs.declared.tree.Stmt.TheOpen.Stmt-F.{Empty, Assign, Write, Compound, If}
+use Rattle.typed_tree.specs.declared.tree.Stmt.TheOpen.Stmt-F.{Empty, Assign, Write, Compound, If, While, Repeat}
 use Rattle.typed_tree.specs.declared.tree.Stmt.TheViews.{roll-Stmt}
 use Rattle.typed_tree.specs.declared.tree.Stmt.TheFolds.{map-Stmt, fold-roll-Stmt, ind-Stmt}
 use Rattle.code_generator.specs.declared.scope.Scope.{Scope}
 use Rattle.code_generator.specs.Code.{Placed, placed, expr_code, stmt_code, stmt_step}
 use Rattle.code_generator.specs.Sizes.{Measured, measured, measured_step, all_sizes}
-use Rattle.code_generator.proofs.Pieces.{length-If, length-If-else}
+use Rattle.code_generator.proofs.Pieces.{length-If, length-If-else, length-While, length-Repeat}
 
 abbrev pub IsMeasured : Stmt → Type 0
 IsMeasured s = (scope : Scope) (place : ℕ) → length (stmt_code s scope place) ≡ (measured s scope).size
@@ -58,6 +58,15 @@ layer (If number condition consequence (Some alternative)) =
     length-If-else test (stmt_code consequence.value.0) (stmt_code alternative.value.0) scope place
     ∙ ap (λ n. length test + 1 + n + 1 + length (stmt_code alternative.value.0 scope no)) (consequence.value.1 scope yes)
     ∙ ap (λ n. length test + 1 + (measured consequence.value.0 scope).size + 1 + n) (alternative.value.1 scope no))
+layer (While number loop_number word condition body) =
+    rolled (bare (While number loop_number word condition body)) (λ scope place.
+    let test = expr_code scope condition in
+    length-While test (stmt_code body.value.0) scope place ∙ ap (λ n. length test + 1 + n + 1) (body.value.1 scope (place + length test + 1)))
+layer (Repeat number loop_number word statements condition) =
+    rolled (bare (Repeat number loop_number word statements condition)) (λ scope place.
+    let test = expr_code scope condition in
+    length-Repeat (placed (map (λ code. code scope) (map stmt_code (map (λ s. s.0) statements.items)))) test place
+    ∙ ap (λ n. n + (length test + 1)) (all_measured scope statements.items place))
 
 -- the size of a statement is the length of its code, wherever that stands
 pub is_measured : (s : Stmt) → IsMeasured s

@@ -20,11 +20,11 @@ use Rattle.typed_tree.specs.declared.tree.Monadic.{Monadic}
 use Rattle.typed_tree.specs.declared.tree.Expr.TheOpen.Expr-F.{Variable as Variable-layer, Chain as Chain-layer, Monadic as Monadic-layer}
 use Rattle.typed_tree.specs.declared.tree.Expr.TheFolds.{fold-roll-Expr, fold_out-Link}
 use Rattle.typed_tree.specs.declared.tree.Stmt.{Stmt}
-use Rattle.typed_tree.specs.declared.tree.Stmt.TheVariants.{Empty, rolls-Empty, Assign, rolls-Assign, Write, rolls-Write, Compound, rolls-Compound, If, rolls-If}
-use Rattle.typed_tree.specs.declared.tree.Stmt.TheOpen.Stmt-F.{Empty as Empty-layer, Assign as Assign-layer, Write as Write-layer, Compound as Compound-layer, If as If-layer}
+use Rattle.typed_tree.specs.declared.tree.Stmt.TheVariants.{Empty, rolls-Empty, Assign, rolls-Assign, Write, rolls-Write, Compound, rolls-Compound, If, rolls-If, While, rolls-While, Repeat, rolls-Repeat}
+use Rattle.typed_tree.specs.declared.tree.Stmt.TheOpen.Stmt-F.{Empty as Empty-layer, Assign as Assign-layer, Write as Write-layer, Compound as Compound-layer, If as If-layer, While as While-layer, Repeat as Repeat-layer}
 use Rattle.typed_tree.specs.declared.tree.Stmt.TheFolds.{fold-roll-Stmt}
 use Rattle.code_generator.specs.declared.scope.Scope.{Scope}
-use Rattle.code_generator.specs.Code.{joined, placed, Placed, if_code, if_else_code, dyadic_code, monadic_code, expr_step, link_step, expr_code, link_code, variable_code, variable_offset, assign_code, write_code, parameter_code, line_end_code, stmt_step, stmt_code, greatest, expr_depth, parameter_depth, stmt_depth, stmt_depth_step}
+use Rattle.code_generator.specs.Code.{joined, placed, Placed, if_code, if_else_code, while_code, repeat_code, dyadic_code, monadic_code, expr_step, link_step, expr_code, link_code, variable_code, variable_offset, assign_code, write_code, parameter_code, line_end_code, stmt_step, stmt_code, greatest, expr_depth, parameter_depth, stmt_depth, stmt_depth_step}
 
 -- the pieces of a list, one for each element
 pub joined-map : {X : Type 0} (piece_of : X → List Instr) (xs : List X) → joined (map piece_of xs) ≡ flat_map piece_of xs
@@ -85,6 +85,41 @@ stmt_code-If-else scope place number condition consequence alternative =
     ap (λ s. stmt_code s scope place) (sym (rolls-If number condition consequence (Some alternative)))
     ∙ ap (λ code. code scope place) (fold-roll-Stmt Placed stmt_step (If-layer number condition consequence (Some alternative)))
 
+-- a while statement, and a repeat statement
+pub stmt_code-While : (scope : Scope) (place number loop_number : ℕ) (word : SourcePlace) (condition : Expr) (body : Box Stmt)
+    → stmt_code (While number loop_number word condition body) scope place ≡ while_code (expr_code scope condition) (stmt_code body.value) scope place
+stmt_code-While scope place number loop_number word condition body =
+    ap (λ s. stmt_code s scope place) (sym (rolls-While number loop_number word condition body))
+    ∙ ap (λ code. code scope place) (fold-roll-Stmt Placed stmt_step (While-layer number loop_number word condition body))
+
+pub stmt_code-Repeat : (scope : Scope) (place number loop_number : ℕ) (word : SourcePlace) (statements : Vec Stmt) (condition : Expr)
+    → stmt_code (Repeat number loop_number word statements condition) scope place ≡ repeat_code (stmts_code scope statements.items)
+    (expr_code scope condition) place
+stmt_code-Repeat scope place number loop_number word statements condition =
+    ap (λ s. stmt_code s scope place) (sym (rolls-Repeat number loop_number word statements condition))
+    ∙ ap (λ code. code scope place) (fold-roll-Stmt Placed stmt_step (Repeat-layer number loop_number word statements condition))
+    ∙ ap (λ pieces. repeat_code (placed pieces) (expr_code scope condition) place) (map-map (λ code. code scope) stmt_code statements.items)
+
+pub length-While : (test : List Instr) (body : Placed) (scope : Scope) (place : ℕ)
+    → length (while_code test body scope place) ≡ length test + 1 + length (body scope (place + length test + 1)) + 1
+length-While test body scope place =
+    let inside = place + length test + 1 in
+    let code = body scope inside in
+    omega (
+      arith,
+      length-append test (instr.JumpIfFalse (inside + length code + 1) ∷ (code ++ (instr.Jump place ∷ []))),
+      length-append code (instr.Jump place ∷ []),
+    )
+
+pub length-Repeat : (statements : ℕ → List Instr) (test : List Instr) (place : ℕ)
+    → length (repeat_code statements test place) ≡ length (statements place) + (length test + 1)
+length-Repeat statements test place =
+    omega (
+      arith,
+      length-append (statements place) (test ++ (instr.JumpIfFalse place ∷ [])),
+      length-append test (instr.JumpIfFalse place ∷ []),
+    )
+
 -- how many instructions they have
 pub length-If : (test : List Instr) (consequence : Placed) (scope : Scope) (place : ℕ)
     → length (if_code test consequence scope place) ≡ length test + 1 + length (consequence scope (place + length test + 1))
@@ -143,6 +178,18 @@ pub stmt_depth-If-else : (number : ℕ) (condition : Expr) (consequence alternat
 stmt_depth-If-else number condition consequence alternative =
     ap stmt_depth (sym (rolls-If number condition consequence (Some alternative)))
     ∙ fold-roll-Stmt ℕ stmt_depth_step (If-layer number condition consequence (Some alternative))
+
+pub stmt_depth-While : (number loop_number : ℕ) (word : SourcePlace) (condition : Expr) (body : Box Stmt)
+    → stmt_depth (While number loop_number word condition body) ≡ max (expr_depth condition) (stmt_depth body.value)
+stmt_depth-While number loop_number word condition body =
+    ap stmt_depth (sym (rolls-While number loop_number word condition body))
+    ∙ fold-roll-Stmt ℕ stmt_depth_step (While-layer number loop_number word condition body)
+
+pub stmt_depth-Repeat : (number loop_number : ℕ) (word : SourcePlace) (statements : Vec Stmt) (condition : Expr)
+    → stmt_depth (Repeat number loop_number word statements condition) ≡ max (greatest (map stmt_depth statements.items)) (expr_depth condition)
+stmt_depth-Repeat number loop_number word statements condition =
+    ap stmt_depth (sym (rolls-Repeat number loop_number word statements condition))
+    ∙ fold-roll-Stmt ℕ stmt_depth_step (Repeat-layer number loop_number word statements condition)
 
 -- a loop over pieces, at its end
 pub joined_at_end : {X : Type 0} (piece_of : X → List Instr) (code start : List Instr) (xs ys : List X) (i : ℕ)

@@ -40,7 +40,7 @@ use Rattle.stack_machine.proofs.Growing.{begins_itself}
 use Rattle.code_generator.proofs.Depths.{Within, stmt_within}
 use Rattle.code_generator.proofs.Alike.{Shown, Direct}
 use Rattle.code_generator.proofs.ProgramWorld.{program_activation, program_world, program_lives, program_apart, entered_cells, length_entered, program_begins, ShowsProgram, shows_program}
-use Rattle.code_generator.proofs.Stmts.{stmt_runs}
+use Rattle.code_generator.proofs.Stmts.{repeats, stmt_runs}
 
 -- the instructions of a block's statement, and its depth
 abbrev body_instructions : Option Block → List Instr
@@ -50,6 +50,10 @@ body_instructions (Some block) = stmt_code block.body program_scope 1
 abbrev body_depth : Option Block → ℕ
 body_depth None = 0
 body_depth (Some block) = stmt_depth block.body
+
+abbrev body_repeats : Option Block → ℕ
+body_repeats None = 0
+body_repeats (Some block) = repeats block.body
 
 body_within : (o : Option Block) → Within (body_depth o) (body_instructions o) (body_need o)
 body_within None = record { code_is = omega arith; need_is = omega arith }
@@ -255,6 +259,10 @@ module _ (tree : Tree) (well : IsWellFormed tree) (short : length (program_code 
   abbrev needed_cells : ℕ
   needed_cells = 4 + variables + depth
 
+  -- so many turns have no instruction yet behind which they were used
+  abbrev slack : ℕ
+  slack = body_repeats first
+
   -- where the code finds a variable
   shown_at : (root : ℕ) → root < variables → Shown (program_environment tree) (program_world variables) (program_activation variables) root
       (Direct 0 (variable_offset program_scope root))
@@ -280,6 +288,7 @@ module _ (tree : Tree) (well : IsWellFormed tree) (short : length (program_code 
       lives = program_lives variables;
       apart = program_apart variables;
       below = 4 + variables;
+      slack = slack;
       scope = program_scope;
       environment = program_environment tree;
       shows = shown_at;
@@ -319,19 +328,19 @@ module _ (tree : Tree) (well : IsWellFormed tree) (short : length (program_code 
         ap (λ o. runs.outcome_of (machines.taken target.sites o start) [] (steps target.sites target.code 0)) entry
         ∙ ap (λ b. runs.outcome_of (entered_by b) [] (steps target.sites target.code 0)) (lt-leb needed_cells cells h)
 
-    body_runs : (o : Option Block) (s : effect.State) → Stands target 1 (body_instructions o)
+    body_runs : (o : Option Block) (s : effect.State) → body_repeats o ≤ slack → Stands target 1 (body_instructions o)
         → is_well_formed_body variables (length tree.sites.items) o ≡ true → Based setting s.store (entered_cells variables)
         → 4 + variables + body_depth o ≤ needed_cells
         → Executes setting s.turns (on setting (entered_cells variables ++ []) 1 s.output) [] (1 + length (body_instructions o))
         (meant.run_of o (program_environment tree) s)
-    body_runs None s stands good based deep = done setting 0 _ (entered_cells variables) [] 1 s based (stays_here target _)
-    body_runs (Some block) s stands good based deep = stmt_runs block.body setting 1 (entered_cells variables) [] s stands good based refl (omega arith)
+    body_runs None s apart stands good based deep = done setting 0 _ (entered_cells variables) [] 1 s based (stays_here target _)
+    body_runs (Some block) s apart stands good based deep = stmt_runs block.body setting apart 1 (entered_cells variables) [] s stands good based refl (omega arith)
 
     -- what a run of the machine comes to for so many turns: it stops as the program ends, or the turns were used up, and
-    -- it goes on by as many instructions at least
+    -- it goes on by as many instructions at least, but for the slack
     abbrev Arrives : ℕ → Meaning → Type 0
     Arrives turns m = ((j : ℕ) × DoesAll tree m (steps target.sites target.code j start)) ⊎
-        ((m.ending ≡ ending.More) × (there : State) × Comes target turns start there × (there.output ≡ m.output))
+        ((m.ending ≡ ending.More) × (there : State) × Comes target (turns - slack) start there × (there.output ≡ m.output))
 
     halted : (turns : ℕ) (m : State) (end : Ending) (output : List ℕ) → Comes target 1 start m → Halts setting m end output
         → Arrives turns (record { output = output; ending = end })
@@ -346,7 +355,13 @@ module _ (tree : Tree) (well : IsWellFormed tree) (short : length (program_code 
     arrives_at turns m (ending.Error site) output l (inr closed) open_alone = absurd (open_alone site refl closed)
     arrives_at turns m (ending.Input point fault) output l e open_alone = halted turns m (ending.Input point fault) output l e
     arrives_at turns m ending.More output l e open_alone =
-        inr (refl, e.0, comes_less target turns (1 + turns) start e.0 (omega arith) (comes_on target 1 turns start m e.0 l e.1), e.2)
+        inr (
+          refl,
+          e.0,
+          comes_less target (turns - slack) (1 + (turns - slack)) start e.0 (omega arith)
+              (comes_on target 1 (turns - slack) start m e.0 l e.1),
+          e.2,
+        )
 
     -- the end of the body is the end of the run
     finishes : (turns : ℕ) (m : State) (place : ℕ) (r : Reply (Unit {0})) → Stands target place (instr.Stop ∷ []) → Comes target 1 start m
@@ -361,7 +376,7 @@ module _ (tree : Tree) (well : IsWellFormed tree) (short : length (program_code 
     arrives : (turns : ℕ) → needed_cells ≤ cells → Arrives turns (meaning tree input turns)
     arrives turns h =
         finishes turns inside (1 + length body) (meant.run tree input turns) (stands_back target 1 body (instr.Stop ∷ []) whole_stands.1) (enters h)
-        (body_runs first (meant.first_state input turns) (stands_front target 1 body (instr.Stop ∷ []) whole_stands.1)
+        (body_runs first (meant.first_state input turns) (omega arith) (stands_front target 1 body (instr.Stop ∷ []) whole_stands.1)
         (first_is_well_formed variables (length tree.sites.items) tree.blocks.items well.blocks) first_based (omega arith))
         (never input turns)
 
@@ -372,14 +387,18 @@ module _ (tree : Tree) (well : IsWellFormed tree) (short : length (program_code 
     abbrev made : ℕ → Outcome
     made budget = steps target.sites target.code budget start
 
-    explained_large : (budget : ℕ) → Arrives (suc budget) (meaning tree input (suc budget))
+    -- more turns than it can use up
+    abbrev enough : ℕ → ℕ
+    enough budget = suc budget + slack
+
+    explained_large : (budget : ℕ) → Arrives (enough budget) (meaning tree input (enough budget))
         → IsExplained tree cells (meaning tree input) (made budget) (made budget).stop
     explained_large budget (inl d) =
-        explained_done tree cells (meaning tree input) (suc budget) (made budget) (made d.0) (made budget).stop refl
-        (leads_to target.sites target.code budget d.0 start (end_over _ (stops_end tree (meaning tree input (suc budget)).ending (made d.0).stop d.1.1))) d.1
+        explained_done tree cells (meaning tree input) (enough budget) (made budget) (made d.0) (made budget).stop refl
+        (leads_to target.sites target.code budget d.0 start (end_over _ (stops_end tree (meaning tree input (enough budget)).ending (made d.0).stop d.1.1))) d.1
     explained_large budget (inr more) =
         let x = more.2.by 0 in
-        explained_more tree cells (meaning tree input) (suc budget) (made budget) (made x.0) (made budget).stop refl
+        explained_more tree cells (meaning tree input) (enough budget) (made budget) (made x.0) (made budget).stop refl
         (leads_before target.sites target.code budget x.0 start (omega (arith, x.1))) (ap (λ (o : Outcome). o.stop) x.2)
         (ap (λ (o : Outcome). o.output) x.2 ∙ more.3)
 
@@ -390,7 +409,7 @@ module _ (tree : Tree) (well : IsWellFormed tree) (short : length (program_code 
         let f = refuses small in
         explained_full tree cells (meaning tree input) 0 (made budget) (made 1) (made budget).stop refl
         (leads_to target.sites target.code budget 1 start (subst (λ o. IsOver o.stop) (sym f) tt)) f (needed small))
-        (λ large. explained_large budget (arrives (suc budget) large))
+        (λ large. explained_large budget (arrives (enough budget) large))
         (cases_lt cells needed_cells)
 
     -- the run of so many instructions, by the number of cells

@@ -47,6 +47,8 @@ pub record Setting : Type 0 where
   pub apart : IsApart world
   -- how many cells lie below those that are held above the variables of the running activation
   pub below : ℕ
+  -- how many turns at most have no instruction yet behind which they were used: a repeat uses one before its first
+  pub slack : ℕ
   -- where the code finds the variables, and where they are
   pub scope : Scope
   pub environment : Environment
@@ -85,13 +87,13 @@ module _ (g : Setting) where
     pub so : StopsAs g.tree end why
 
   -- What the machine does where the program ends, with so many turns left here: it stops as the program ends; or the
-  -- turns were used up, and it goes on by as many instructions at least; or the error's site isn't open, of which
-  -- nothing is said.
+  -- turns were used up, and it goes on by as many instructions at least, but for those that have none yet; or the
+  -- error's site isn't open, of which nothing is said.
   abbrev pub Ends : ℕ → State → Ending → List ℕ → Type 0
   Ends turns m ending.Finished output = Halts m ending.Finished output
   Ends turns m (ending.Error site) output = Halts m (ending.Error site) output ⊎ (g.target.is_open site ≡ false)
   Ends turns m (ending.Input point fault) output = Halts m (ending.Input point fault) output
-  Ends turns m ending.More output = (there : State) × Comes g.target turns m there × (there.output ≡ output)
+  Ends turns m ending.More output = (there : State) × Comes g.target (turns - g.slack) m there × (there.output ≡ output)
 
   halts_on : (least : ℕ) (a b : State) (end : Ending) (output : List ℕ) → Comes g.target least a b → Halts b end output → Halts a end output
   halts_on least a b end output l h = record { why = h.why; stops = stops_on g.target least a b _ l h.stops; so = h.so }
@@ -102,8 +104,12 @@ module _ (g : Setting) where
   ends_on turns left a b (ending.Error site) output l (inl e) = inl (halts_on (turns - left) a b (ending.Error site) output l e)
   ends_on turns left a b (ending.Error site) output l (inr closed) = inr closed
   ends_on turns left a b (ending.Input point fault) output l e = halts_on (turns - left) a b (ending.Input point fault) output l e
-  ends_on turns left a b ending.More output l e =
-      (e.0, comes_less g.target turns (turns - left + left) a e.0 (omega arith) (comes_on g.target (turns - left) left a b e.0 l e.1), e.2)
+  ends_on turns left a b ending.More output l e = (
+    e.0,
+    comes_less g.target (turns - g.slack) (turns - left + (left - g.slack)) a e.0 (omega arith)
+        (comes_on g.target (turns - left) (left - g.slack) a b e.0 l e.1),
+    e.2,
+  )
 
   -- ---- single instructions
 
@@ -195,7 +201,7 @@ module _ (g : Setting) where
   abbrev pub Evaluates : ℕ → State → List Cell → ℕ → Reply Value → Type 0
   Evaluates turns m held place (Gives (value.Number n) s) =
       (base : List Cell) × Based s.store base × Comes g.target (turns - s.turns) m (on ((base ++ held) ++ Number n ∷ []) place s.output) × Fits n ×
-      (g.below + length held < g.limit)
+      (g.below + length held < g.limit) × (s.turns ≤ turns)
   Evaluates turns m held place (effect.Stops end s) = Ends turns m end s.output
 
   -- a value that is there after some instructions
@@ -203,25 +209,26 @@ module _ (g : Setting) where
       → Comes g.target least m (on ((base ++ held) ++ Number n ∷ []) place s.output) → Fits n → g.below + length held < g.limit
       → Evaluates s.turns m held place (Gives (value.Number n) s)
   gives least m base held place n s based l fit room =
-      (base, based, comes_less g.target (s.turns - s.turns) least m _ (omega arith) l, fit, room)
+      (base, based, comes_less g.target (s.turns - s.turns) least m _ (omega arith) l, fit, room, omega arith)
 
-  pub evaluates_on : (turns left : ℕ) (a b : State) (held : List Cell) (place : ℕ) (r : Reply Value) → Comes g.target (turns - left) a b
+  pub evaluates_on : (turns left : ℕ) (a b : State) (held : List Cell) (place : ℕ) (r : Reply Value) → left ≤ turns → Comes g.target (turns - left) a b
       → Evaluates left b held place r → Evaluates turns a held place r
-  evaluates_on turns left a b held place (Gives (value.Number n) s) l e = (
+  evaluates_on turns left a b held place (Gives (value.Number n) s) le l e = (
     e.0,
     e.1,
     comes_less g.target (turns - s.turns) (turns - left + (left - s.turns)) a _ (omega arith)
         (comes_on g.target (turns - left) (left - s.turns) a b _ l e.2),
     e.3,
     e.4,
+    omega (arith, e.5),
   )
-  evaluates_on turns left a b held place (effect.Stops end s) l e = ends_on turns left a b end s.output l e
+  evaluates_on turns left a b held place (effect.Stops end s) le l e = ends_on turns left a b end s.output l e
 
   -- where no turn is used
   pub evaluates_from : (least turns : ℕ) (a b : State) (held : List Cell) (place : ℕ) (r : Reply Value) → Comes g.target least a b
       → Evaluates turns b held place r → Evaluates turns a held place r
   evaluates_from least turns a b held place r l e =
-      evaluates_on turns turns a b held place r (comes_less g.target (turns - turns) least a b (omega arith) l) e
+      evaluates_on turns turns a b held place r (omega arith) (comes_less g.target (turns - turns) least a b (omega arith) l) e
 
   -- one after another
   pub then_evaluates : (turns : ℕ) (m : State) (held held' : List Cell) (place place' : ℕ) (r : Reply Value) (next : Value → Action Value)
@@ -229,7 +236,7 @@ module _ (g : Setting) where
       Evaluates s.turns (on ((base ++ held) ++ Number n ∷ []) place s.output) held' place' (next (value.Number n) s))
       → Evaluates turns m held' place' (effect.and_then r next)
   then_evaluates turns m held held' place place' (Gives (value.Number n) s) next e h =
-      evaluates_on turns s.turns m _ held' place' (next (value.Number n) s) e.2 (h e.0 n s e.1 e.3 e.4)
+      evaluates_on turns s.turns m _ held' place' (next (value.Number n) s) e.5 e.2 (h e.0 n s e.1 e.3 e.4)
   then_evaluates turns m held held' place place' (effect.Stops end s) next e h = e
 
   -- ---- the code of a statement
@@ -238,36 +245,37 @@ module _ (g : Setting) where
   -- or the statement ends
   abbrev pub Executes : ℕ → State → List Cell → ℕ → Reply (Unit {0}) → Type 0
   Executes turns m held place (Gives done s) =
-      (base : List Cell) × Based s.store base × Comes g.target (turns - s.turns) m (on (base ++ held) place s.output)
+      (base : List Cell) × Based s.store base × Comes g.target (turns - s.turns) m (on (base ++ held) place s.output) × (s.turns ≤ turns)
   Executes turns m held place (effect.Stops end s) = Ends turns m end s.output
 
   -- a state that is there after some instructions
   pub done : (least : ℕ) (m : State) (base held : List Cell) (place : ℕ) (s : effect.State) → Based s.store base
       → Comes g.target least m (on (base ++ held) place s.output) → Executes s.turns m held place (Gives tt s)
-  done least m base held place s based l = (base, based, comes_less g.target (s.turns - s.turns) least m _ (omega arith) l)
+  done least m base held place s based l = (base, based, comes_less g.target (s.turns - s.turns) least m _ (omega arith) l, omega arith)
 
-  pub executes_on : (turns left : ℕ) (a b : State) (held : List Cell) (place : ℕ) (r : Reply (Unit {0})) → Comes g.target (turns - left) a b
+  pub executes_on : (turns left : ℕ) (a b : State) (held : List Cell) (place : ℕ) (r : Reply (Unit {0})) → left ≤ turns → Comes g.target (turns - left) a b
       → Executes left b held place r → Executes turns a held place r
-  executes_on turns left a b held place (Gives done s) l e = (
+  executes_on turns left a b held place (Gives done s) le l e = (
     e.0,
     e.1,
     comes_less g.target (turns - s.turns) (turns - left + (left - s.turns)) a _ (omega arith)
         (comes_on g.target (turns - left) (left - s.turns) a b _ l e.2),
+    omega (arith, e.3),
   )
-  executes_on turns left a b held place (effect.Stops end s) l e = ends_on turns left a b end s.output l e
+  executes_on turns left a b held place (effect.Stops end s) le l e = ends_on turns left a b end s.output l e
 
   -- where no turn is used
   pub executes_from : (least turns : ℕ) (a b : State) (held : List Cell) (place : ℕ) (r : Reply (Unit {0})) → Comes g.target least a b
       → Executes turns b held place r → Executes turns a held place r
   executes_from least turns a b held place r l e =
-      executes_on turns turns a b held place r (comes_less g.target (turns - turns) least a b (omega arith) l) e
+      executes_on turns turns a b held place r (omega arith) (comes_less g.target (turns - turns) least a b (omega arith) l) e
 
   -- one after another
   pub then_executes : (turns : ℕ) (m : State) (held : List Cell) (place place' : ℕ) (r : Reply (Unit {0})) (next : Unit {0} → Action (Unit {0}))
       → Executes turns m held place r → ((base : List Cell) (s : effect.State) → Based s.store base → Executes s.turns (on (base ++ held) place s.output) held
       place' (next tt s)) → Executes turns m held place' (effect.and_then r next)
   then_executes turns m held place place' (Gives done s) next e h =
-      executes_on turns s.turns m _ held place' (next tt s) e.2 (h e.0 s e.1)
+      executes_on turns s.turns m _ held place' (next tt s) e.3 e.2 (h e.0 s e.1)
   then_executes turns m held place place' (effect.Stops end s) next e h = e
 
   -- what the machine does behind a statement that gives
@@ -279,6 +287,7 @@ module _ (g : Setting) where
     e.1,
     comes_less g.target (turns - s.turns) (turns - s.turns + 0) m _ (omega arith)
         (comes_on g.target (turns - s.turns) 0 m _ _ e.2 (h e.0 s e.1)),
+    e.3,
   )
   behind_executes turns m held held' place place' (effect.Stops end s) e h = e
 
@@ -287,5 +296,5 @@ module _ (g : Setting) where
       → Evaluates turns m held place r → ((base : List Cell) (n : ℤ) (s : effect.State) → Based s.store base → Fits n → Executes s.turns (on ((base ++ held)
       ++ Number n ∷ []) place s.output) held' place' (next (value.Number n) s)) → Executes turns m held' place' (effect.and_then r next)
   after_value turns m held held' place place' (Gives (value.Number n) s) next e h =
-      executes_on turns s.turns m _ held' place' (next (value.Number n) s) e.2 (h e.0 n s e.1 e.3)
+      executes_on turns s.turns m _ held' place' (next (value.Number n) s) e.5 e.2 (h e.0 n s e.1 e.3)
   after_value turns m held held' place place' (effect.Stops end s) next e h = e

@@ -1,5 +1,5 @@
 -- The code of a statement keeps the program's store and the cells of its frame alike, or stops as the statement does.
-use Rattle.std.proofs.Common.{◌≡◌, ℕ, zero, suc, ◌+◌, ◌<◌, ◌≤◌, max, List, [], ◌∷◌, ◌++◌, length, map, Some, None, Ok, refl, sym, ap, ◌∙◌, subst, arith, length-append, append_assoc, Bool, true, false}
+use Rattle.std.proofs.Common.{◌≡◌, ℕ, zero, suc, ◌+◌, ◌<◌, ◌≤◌, max, Option, List, [], ◌∷◌, ◌++◌, length, map, Some, None, Ok, refl, sym, ap, ◌∙◌, subst, arith, length-append, append_assoc, Bool, true, false}
 use Rattle.std.specs.Prelude.{slice_set, ℤ, pos, negsuc, int_le, ◌-◌, ◌&&◌, replicate, take, codes, if◌then◌else◌, fold}
 use Rattle.std.specs.List.{flat_map}
 use Rattle.std.specs.Fmt.{signed_decimal}
@@ -8,6 +8,8 @@ use Rattle.std.proofs.lemmas.List.{length-set}
 use Rattle.pcode_assembler.specs.declared.instr.Instr.{Instr}
 use Rattle.pcode_assembler.specs.declared.instr.Instr.TheVariants as instr
 use Rattle.place.specs.declared.Place.{Place as SourcePlace}
+use Rattle.std.specs.declared.alloc.Global.{Global}
+use Rattle.std.specs.declared.boxed.Box.{Box}
 use Rattle.typed_tree.specs.declared.tree.Access.{Access}
 use Rattle.typed_tree.specs.declared.tree.RangeTest.{RangeTest}
 use Rattle.typed_tree.specs.declared.tree.Representation.{Representation}
@@ -16,15 +18,15 @@ use Rattle.typed_tree.specs.declared.tree.WriteParameter.{WriteParameter}
 use Rattle.typed_tree.specs.declared.tree.Expr.{Expr}
 use Rattle.typed_tree.specs.declared.tree.Stmt.{Stmt}
 use Rattle.typed_tree.specs.declared.tree.Stmt.TheOpen.{Stmt-F}
-use Rattle.typed_tree.specs.declared.tree.Stmt.TheOpen.Stmt-F.{Empty, Assign, Write, Compound, If}
+use Rattle.typed_tree.specs.declared.tree.Stmt.TheOpen.Stmt-F.{Empty, Assign, Write, Compound, If, While, Repeat}
 use Rattle.typed_tree.specs.declared.tree.Stmt.TheViews.{roll-Stmt}
 use Rattle.typed_tree.specs.declared.tree.Stmt.TheFolds.{fold-Stmt, map-Stmt, fold-roll-Stmt, ind-Stmt}
 use Rattle.meaning.specs.declared.store.Value.{Value}
 use Rattle.meaning.specs.declared.store.Value.TheVariants as value
 use Rattle.meaning.specs.Store.{kept}
 use Rattle.meaning.specs.Effect as effect
-use Rattle.meaning.specs.Effect.{Reply, Gives, Action, ◌>>=◌, require, give}
-use Rattle.meaning.specs.Meaning.{Execution, is_so, alternative_of, value_of, width_of, effect_of, effect_step, parameter_of, all_of, line_ended}
+use Rattle.meaning.specs.Effect.{Reply, Gives, Action, Round, ◌>>=◌, require, give}
+use Rattle.meaning.specs.Meaning.{Execution, is_so, turn_if, while_round, repeat_round, alternative_of, value_of, width_of, effect_of, effect_step, parameter_of, all_of, line_ended}
 use Rattle.stack_machine.specs.declared.cell.Cell.{Cell}
 use Rattle.stack_machine.specs.declared.cell.Cell.TheVariants.{Number}
 use Rattle.stack_machine.specs.Frames as frames
@@ -33,10 +35,11 @@ use Rattle.stack_machine.specs.Machine as machine
 use Rattle.stack_machine.specs.Machine.{State, with_text}
 use Rattle.stack_machine.specs.Texts as texts
 use Rattle.code_generator.specs.declared.scope.Scope.{Scope}
-use Rattle.code_generator.specs.Code.{Placed, placed, if_code, if_else_code, greatest, variable_offset, expr_code, width_code, write_instr, parameter_code, line_end_code, write_code, stmt_code, stmt_step, stmt_depth, stmt_depth_step, expr_depth, parameter_depth}
+use Rattle.code_generator.specs.Code.{Placed, placed, if_code, if_else_code, while_code, repeat_code, greatest, variable_offset, expr_code, width_code, write_instr, parameter_code, line_end_code, write_code, stmt_code, stmt_step, stmt_depth, stmt_depth_step, expr_depth, parameter_depth}
 use Rattle.typed_tree.specs.WellFormed.{all_hold, is_well_formed_expr, is_well_formed_width, is_well_formed_parameter, is_well_formed_stmt, stmt_is_well_formed}
 use Rattle.code_generator.proofs.Reach.{Stands, stands_front, stands_back, Comes, comes_less, stays_here}
 use Rattle.code_generator.proofs.Setting.{Setting, on, Based, linked, Here, goes_on, acts, jumps, branches_on, behind_executes, passes, fails, Executes, done, executes_from, then_executes, after_value}
+use Rattle.code_generator.proofs.Loops.{Rounds, RoundRuns, rounds_on, then_rounds, value_rounds, turned, loops, reset, rounds_from_reset}
 use Rattle.code_generator.proofs.Acts.{framed, length_one, stores, is_in_range, writes}
 use Rattle.code_generator.proofs.Numbers.{Fits, same_range}
 use Rattle.code_generator.proofs.Exprs.{start_within, expr_runs, width_runs, one_held}
@@ -318,26 +321,45 @@ module _ (g : Setting) where
       (branches_on g target (base2 ++ held) n (place + length test) t.output here.0 (linked g t.store base2 held based2))
       (goes_on (frames.is_true n) base2 t based2))
 
+-- how many repeats stand in each other: so many turns are used before an instruction comes
+abbrev alternative_repeats : Option (Box ℕ Global) → ℕ
+alternative_repeats None = 0
+alternative_repeats (Some repeats) = repeats.value
+
+abbrev repeats_step : Stmt-F ℕ → ℕ
+repeats_step (Empty number) = 0
+repeats_step (Assign number becomes target fits v) = 0
+repeats_step (Write number name parameters ends_line) = 0
+repeats_step (Compound number statements) = greatest statements.items
+repeats_step (If number condition consequence alternative) = max consequence.value (alternative_repeats alternative)
+repeats_step (While number loop_number word condition body) = body.value
+repeats_step (Repeat number loop_number word statements condition) = greatest statements.items + 1
+
+abbrev pub repeats : Stmt → ℕ
+repeats = fold-Stmt ℕ repeats_step
+
 -- what is shown of a statement, in each setting
 abbrev pub StmtRuns : Stmt → Type 0
-StmtRuns s = (g : Setting) → ExecutesAs g (stmt_code s) (stmt_depth s) (is_well_formed_stmt (length g.tree.variables.items) (length g.tree.sites.items) s)
+StmtRuns s = (g : Setting) → repeats s ≤ g.slack → ExecutesAs g (stmt_code s) (stmt_depth s) (is_well_formed_stmt (length g.tree.variables.items) (length g.tree.sites.items) s)
     (effect_of s)
 
-each_statement : (g : Setting) (ss : List ((s : Stmt) × StmtRuns s)) → Each
+each_statement : (g : Setting) (ss : List ((s : Stmt) × StmtRuns s)) (before : ℕ) → fold max before (map repeats (map (λ x. x.0) ss)) ≤ g.slack → Each
     (λ s. ExecutesAs g (stmt_code s) (stmt_depth s) (is_well_formed_stmt (length g.tree.variables.items) (length g.tree.sites.items) s) (effect_of s))
     (map (λ x. x.0) ss)
-each_statement g [] = tt
-each_statement g (s ∷ ss) = (s.1 g, each_statement g ss)
+each_statement g [] before few = tt
+each_statement g (s ∷ ss) before few =
+    let least = start_within (max before (repeats s.0)) (map repeats (map (λ x. x.0) ss)) in
+    (s.1 g (omega arith), each_statement g ss (max before (repeats s.0)) few)
 
-compound_runs : (g : Setting) (number : ℕ) (ss : List ((s : Stmt) × StmtRuns s))
+compound_runs : (g : Setting) (number : ℕ) (ss : List ((s : Stmt) × StmtRuns s)) → greatest (map repeats (map (λ x. x.0) ss)) ≤ g.slack
     → ExecutesAs g (λ scope place. placed (map (λ code. code scope) (map stmt_code (map (λ x. x.0) ss))) place)
     (greatest (map stmt_depth (map (λ x. x.0) ss)))
     (all_hold (map (is_well_formed_stmt (length g.tree.variables.items) (length g.tree.sites.items)) (map (λ x. x.0) ss)))
     (λ e. effect.enter number e >>= λ _. all_of (map effect_of (map (λ x. x.0) ss)) e)
-compound_runs g number ss place base held s stands good based high deep =
+compound_runs g number ss few place base held s stands good based high deep =
     let s1 : effect.State = record s { visited = s.visited ++ record { number = number; environment = g.environment; store = s.store } ∷ [] } in
     all_run g stmt_code stmt_depth (is_well_formed_stmt (length g.tree.variables.items) (length g.tree.sites.items)) effect_of (map (λ x. x.0) ss)
-    (each_statement g ss) 0 place base held s1 stands good (record { full = based.full; alike = based.alike }) high deep
+    (each_statement g ss 0 few) 0 place base held s1 stands good (record { full = based.full; alike = based.alike }) high deep
 
 empty_runs : (g : Setting) (number : ℕ) → ExecutesAs g (λ _ _. []) 0 true (λ e. effect.enter number e)
 empty_runs g number place base held s stands good based high deep =
@@ -345,12 +367,12 @@ empty_runs g number place base held s stands good based high deep =
     (record { full = based.full; alike = based.alike })
 
 -- an if statement without `else`
-if_runs : (g : Setting) (number : ℕ) (condition : Expr) (consequence : (s : Stmt) × StmtRuns s)
+if_runs : (g : Setting) (number : ℕ) (condition : Expr) (consequence : (s : Stmt) × StmtRuns s) → max (repeats consequence.0) 0 ≤ g.slack
     → ExecutesAs g (λ scope. if_code (expr_code scope condition) (stmt_code consequence.0) scope)
     (max (expr_depth condition) (max (stmt_depth consequence.0) 0))
     (is_well_formed_expr (variables g) (sites g) condition && (is_well_formed_stmt (variables g) (sites g) consequence.0 && true))
     (λ e. effect.enter number e >>= λ _. value_of condition e >>= λ v. if is_so v then effect_of consequence.0 e else alternative_of None e)
-if_runs g number condition consequence place base held s stands good based high deep =
+if_runs g number condition consequence few place base held s stands good based high deep =
     let s1 : effect.State = record s { visited = s.visited ++ record { number = number; environment = g.environment; store = s.store } ∷ [] } in
     let test = expr_code g.scope condition in
     let yes = place + length test + 1 in
@@ -369,18 +391,19 @@ if_runs g number condition consequence place base held s stands good based high 
     (branch_runs g condition target place target base held s1 next front parts.0 (record { full = based.full; alike = based.alike }) (omega arith)
     (λ holds. elim holds as (λ h. (base2 : List Cell) (t : effect.State) → Based g t.store base2 → Executes g t.turns
     (on g (base2 ++ held) (if h then yes else target) t.output) held target (next h t)) [
-      | true ↦ λ base2 t based2. consequence.1 g yes base2 held t inside (and_parts _ _ parts.1).0 based2 high (omega arith)
+      | true ↦ λ base2 t based2. consequence.1 g (omega arith) yes base2 held t inside (and_parts _ _ parts.1).0 based2 high (omega arith)
       | false ↦ λ base2 t based2. done g 0 _ base2 held target t based2 (stays_here g.target _)
     ]))
 
 -- and one with it
 if_else_runs : (g : Setting) (number : ℕ) (condition : Expr) (consequence alternative : (s : Stmt) × StmtRuns s)
+    → max (repeats consequence.0) (repeats alternative.0) ≤ g.slack
     → ExecutesAs g (λ scope. if_else_code (expr_code scope condition) (stmt_code consequence.0) (stmt_code alternative.0) scope)
     (max (expr_depth condition) (max (stmt_depth consequence.0) (stmt_depth alternative.0)))
     (is_well_formed_expr (variables g) (sites g) condition && (is_well_formed_stmt (variables g) (sites g) consequence.0 && is_well_formed_stmt (variables g)
     (sites g) alternative.0))
     (λ e. effect.enter number e >>= λ _. value_of condition e >>= λ v. if is_so v then effect_of consequence.0 e else effect_of alternative.0 e)
-if_else_runs g number condition consequence alternative place base held s stands good based high deep =
+if_else_runs g number condition consequence alternative few place base held s stands good based high deep =
     let s1 : effect.State = record s { visited = s.visited ++ record { number = number; environment = g.environment; store = s.store } ∷ [] } in
     let test = expr_code g.scope condition in
     let yes = place + length test + 1 in
@@ -406,10 +429,122 @@ if_else_runs g number condition consequence alternative place base held s stands
     (on g (base2 ++ held) (if h then yes else no) t.output) held end (next h t)) [
       | true ↦ λ base2 t based2.
           behind_executes g t.turns _ held held (yes + length code) end (effect_of consequence.0 g.environment t)
-          (consequence.1 g yes base2 held t (stands_front g.target yes code behind inside) (and_parts _ _ parts.1).0 based2 high (omega arith))
+          (consequence.1 g (omega arith) yes base2 held t (stands_front g.target yes code behind inside) (and_parts _ _ parts.1).0 based2 high (omega arith))
           (λ base3 u based3. comes_less g.target 0 1 _ _ (omega arith) (jumps g end (base3 ++ held) (yes + length code) u.output jump.0))
-      | false ↦ λ base2 t based2. alternative.1 g no base2 held t jump.1 (and_parts _ _ parts.1).1 based2 high (omega arith)
+      | false ↦ λ base2 t based2. alternative.1 g (omega arith) no base2 held t jump.1 (and_parts _ _ parts.1).1 based2 high (omega arith)
     ]))
+
+-- a while statement
+while_runs : (g : Setting) (number : ℕ) (condition : Expr) (body : (s : Stmt) × StmtRuns s) → repeats body.0 ≤ g.slack
+    → ExecutesAs g (λ scope. while_code (expr_code scope condition) (stmt_code body.0) scope) (max (expr_depth condition) (stmt_depth body.0))
+    (is_well_formed_expr (variables g) (sites g) condition && is_well_formed_stmt (variables g) (sites g) body.0)
+    (λ e. effect.enter number e >>= λ _. effect.looped (while_round (value_of condition) (effect_of body.0) e) tt)
+while_runs g number condition body few place base held s stands good based high deep =
+    let s1 : effect.State = record s { visited = s.visited ++ record { number = number; environment = g.environment; store = s.store } ∷ [] } in
+    let test = expr_code g.scope condition in
+    let inside = place + length test + 1 in
+    let code = stmt_code body.0 g.scope inside in
+    let end = inside + length code + 1 in
+    let back = instr.Jump place ∷ [] in
+    let front = stands_front g.target place test (instr.JumpIfFalse end ∷ (code ++ back)) stands in
+    let here = stands_back g.target place test (instr.JumpIfFalse end ∷ (code ++ back)) stands in
+    let within = here.1 in
+    let jump = stands_back g.target inside code back within in
+    let e : end ≡ place + length (test ++ (instr.JumpIfFalse end ∷ (code ++ back))) =
+    omega (arith, length-append test (instr.JumpIfFalse end ∷ (code ++ back)), length-append code back) in
+    let parts = and_parts (is_well_formed_expr (variables g) (sites g) condition) (is_well_formed_stmt (variables g) (sites g) body.0) good in
+    let hold : Unit {0} → List Cell = λ _. held in
+    let round : Round (Unit {0}) = while_round (value_of condition) (effect_of body.0) g.environment in
+    let turns_on : (bound : ℕ) (holds : Bool) (base2 : List Cell) (t : effect.State) → Based g t.store base2 → t.turns ≤ bound → (m : State)
+    → m.output ≡ t.output → Comes g.target 1 m (on g (base2 ++ held) (if holds then inside else end) t.output) → Rounds g hold place end held 0 bound t.turns m
+    (turn_if holds (effect_of body.0 g.environment) t) =
+    λ bound holds. elim holds as (λ h. (base2 : List Cell) (t : effect.State) → Based g t.store base2 → t.turns ≤ bound → (m : State)
+    → m.output ≡ t.output → Comes g.target 1 m (on g (base2 ++ held) (if h then inside else end) t.output) → Rounds g hold place end held 0 bound t.turns m
+    (turn_if h (effect_of body.0 g.environment) t)) [
+      | true ↦ λ base2 t based2 few' m same came.
+          turned g hold place end held bound t.turns t m (λ _. effect_of body.0 g.environment >>= λ _. give (Some tt)) same (λ left is.
+          rounds_on g hold place end held 0 bound t.turns left m (on g (base2 ++ held) inside t.output)
+          ((effect_of body.0 g.environment >>= λ _. give (Some tt)) (record t { turns = left })) (omega arith)
+          (comes_less g.target (t.turns - left) 1 m _ (omega arith) came)
+          (then_rounds g hold place end held 0 bound left _ held (inside + length code) (effect_of body.0 g.environment (record t { turns = left }))
+          (λ _. give (Some tt))
+          (body.1 g few inside base2 held (record t { turns = left }) (stands_front g.target inside code back within) parts.1
+          (record { full = based2.full; alike = based2.alike }) high (omega arith))
+          (λ base3 u based3 fewer. (
+            base3,
+            based3,
+            comes_less g.target (u.turns - u.turns + 0) 1 _ _ (omega arith) (jumps g place (base3 ++ held) (inside + length code) u.output jump.0),
+            omega arith,
+          ))))
+      | false ↦ λ base2 t based2 few' m same came. (base2, based2, comes_less g.target (t.turns - t.turns + 0) 1 m _ (omega arith) came, omega arith)
+    ] in
+    let runs : RoundRuns g hold place end held round =
+    λ start base2 t based2.
+    value_rounds g hold place end held 0 t.turns t.turns _ held (place + length test) (value_of condition g.environment t)
+    (λ v. turn_if (is_so v) (effect_of body.0 g.environment))
+    (expr_runs g condition place base2 held t front parts.0 based2 (omega arith))
+    (λ base3 n u based3 fit fewer.
+    turns_on t.turns (frames.is_true n) base3 u based3 fewer _ refl
+    (branches_on g end (base3 ++ held) n (place + length test) u.output here.0 (linked g u.store base3 held based3))) in
+    subst (λ p. Executes g s.turns (on g (base ++ held) place s.output) held p (effect.looped round tt s1)) e
+    (loops g hold place end held round runs tt base s1 (record { full = based.full; alike = based.alike }))
+
+-- a repeat statement
+repeat_runs : (g : Setting) (number : ℕ) (condition : Expr) (ss : List ((s : Stmt) × StmtRuns s)) → greatest (map repeats (map (λ x. x.0) ss)) + 1 ≤ g.slack
+    → ExecutesAs g (λ scope. repeat_code (placed (map (λ code. code scope) (map stmt_code (map (λ x. x.0) ss)))) (expr_code scope condition))
+    (max (greatest (map stmt_depth (map (λ x. x.0) ss))) (expr_depth condition))
+    (all_hold (map (is_well_formed_stmt (variables g) (sites g)) (map (λ x. x.0) ss)) && is_well_formed_expr (variables g) (sites g) condition)
+    (λ e. effect.enter number e >>= λ _. effect.looped (repeat_round (all_of (map effect_of (map (λ x. x.0) ss))) (value_of condition) e) tt)
+repeat_runs g number condition ss few place base held s stands good based high deep =
+    let s1 : effect.State = record s { visited = s.visited ++ record { number = number; environment = g.environment; store = s.store } ∷ [] } in
+    let h = reset g (g.slack - 1) g.scope.height in
+    let code = placed (map (λ c. c g.scope) (map stmt_code (map (λ x. x.0) ss))) place in
+    let test = expr_code g.scope condition in
+    let last = place + length code in
+    let end = last + length test + 1 in
+    let back = instr.JumpIfFalse place ∷ [] in
+    let behind = stands_back g.target place code (test ++ back) stands in
+    let jump = stands_back g.target last test back behind in
+    let e : end ≡ place + length (code ++ (test ++ back)) = omega (arith, length-append code (test ++ back), length-append test back) in
+    let parts = and_parts (all_hold (map (is_well_formed_stmt (variables g) (sites g)) (map (λ x. x.0) ss)))
+    (is_well_formed_expr (variables g) (sites g) condition) good in
+    let hold : Unit {0} → List Cell = λ _. held in
+    let statements = all_of (map effect_of (map (λ x. x.0) ss)) in
+    let round : Round (Unit {0}) = repeat_round statements (value_of condition) g.environment in
+    let decides : (bound : ℕ) (n : ℤ) (base2 : List Cell) (t : effect.State) → Based h t.store base2 → t.turns < bound → Rounds h hold place end held 1 bound
+    t.turns (on g ((base2 ++ held) ++ Number n ∷ []) (last + length test) t.output) (give (if frames.is_true n then None else Some tt) t) =
+    λ bound n base2 t based2 fewer.
+    (elim (frames.is_true n) as (λ b. Comes g.target 1 (on g ((base2 ++ held) ++ Number n ∷ []) (last + length test) t.output)
+    (on g (base2 ++ held) (if b then last + length test + 1 else place) t.output) → Rounds h hold place end held 1 bound
+    t.turns (on g ((base2 ++ held) ++ Number n ∷ []) (last + length test) t.output) (give (if b then None else Some tt) t)) [
+      | true ↦ λ came. (base2, based2, comes_less g.target (t.turns - t.turns + 1) 1 _ _ (omega arith) came, omega arith)
+      | false ↦ λ came. (base2, based2, comes_less g.target (t.turns - t.turns + 1) 1 _ _ (omega arith) came, fewer)
+    ]) (branches_on g place (base2 ++ held) n (last + length test) t.output jump.0 (linked h t.store base2 held based2)) in
+    let inside : (left : ℕ) (base2 : List Cell) (t : effect.State) → t.turns ≡ left → Based h t.store base2 → Rounds h hold place end held 1 (suc left) left
+    (on g (base2 ++ held) place t.output)
+    ((statements g.environment >>= λ _. value_of condition g.environment >>= λ v. give (if is_so v then None else Some tt)) t) =
+    λ left base2 t is based2.
+    then_rounds h hold place end held 1 (suc left) left _ held last (statements g.environment t)
+    (λ _. value_of condition g.environment >>= λ v. give (if is_so v then None else Some tt))
+    (subst (λ n. Executes h n (on g (base2 ++ held) place t.output) held last (statements g.environment t)) is
+    (all_run h stmt_code stmt_depth (is_well_formed_stmt (variables g) (sites g)) effect_of (map (λ x. x.0) ss)
+    (each_statement h ss 0 (omega arith)) 0 place base2 held t (stands_front g.target place code (test ++ back) stands) parts.0 based2 high (omega arith)))
+    (λ base3 u based3 fewer.
+    value_rounds h hold place end held 1 (suc left) u.turns _ held (last + length test) (value_of condition g.environment u)
+    (λ v. give (if is_so v then None else Some tt))
+    (expr_runs h condition last base3 held u (stands_front g.target last test back behind) parts.1 based3 (omega arith))
+    (λ base4 n w based4 fit fewest. decides (suc left) n base4 w based4 (omega arith))) in
+    let runs : RoundRuns g hold place end held round =
+    λ start base2 t based2.
+    turned g hold place end held t.turns t.turns t _ (λ _. statements g.environment >>= λ _. value_of condition g.environment >>= λ v. give
+    (if is_so v then None else Some tt)) refl (λ left is.
+    subst (λ n. Rounds g hold place end held 0 n n (on g (base2 ++ held) place t.output)
+    ((statements g.environment >>= λ _. value_of condition g.environment >>= λ v. give (if is_so v then None else Some tt)) (record t { turns = left })))
+    (sym is)
+    (rounds_from_reset g (g.slack - 1) g.scope.height hold place end held left _ _ (omega arith)
+    (inside left base2 (record t { turns = left }) refl (record { full = based2.full; alike = based2.alike })))) in
+    subst (λ p. Executes g s.turns (on g (base ++ held) place s.output) held p (effect.looped round tt s1)) e
+    (loops g hold place end held round runs tt base s1 (record { full = based.full; alike = based.alike }))
 
 same_executes : (g : Setting) (c c' : Placed) (d d' : ℕ) (w w' : Bool) (v v' : Execution) → c ≡ c' → d ≡ d' → w ≡ w' → v ≡ v' → ExecutesAs g c' d' w' v'
     → ExecutesAs g c d w v
@@ -421,25 +556,31 @@ module _ (x : Stmt-F Stmt) where
   abbrev is_step : Setting → Stmt-F Bool → Bool
   is_step g = stmt_is_well_formed (length g.tree.variables.items) (length g.tree.sites.items)
 
-  rolled_stmt : ((g : Setting) → ExecutesAs g (stmt_step (map-Stmt Stmt Placed stmt_code x)) (stmt_depth_step (map-Stmt Stmt ℕ stmt_depth x))
+  rolled_stmt : ((g : Setting) → repeats_step (map-Stmt Stmt ℕ repeats x) ≤ g.slack → ExecutesAs g (stmt_step (map-Stmt Stmt Placed stmt_code x)) (stmt_depth_step (map-Stmt Stmt ℕ stmt_depth x))
       (is_step g (map-Stmt Stmt Bool (fold-Stmt Bool (is_step g)) x)) (effect_step (map-Stmt Stmt Execution effect_of x))) → StmtRuns (roll-Stmt x)
-  rolled_stmt runs g =
+  rolled_stmt runs g few =
       same_executes g _ _ _ _ _ _ _ _ (fold-roll-Stmt Placed stmt_step x) (fold-roll-Stmt ℕ stmt_depth_step x) (fold-roll-Stmt Bool (is_step g) x)
-      (fold-roll-Stmt Execution effect_step x) (runs g)
+      (fold-roll-Stmt Execution effect_step x) (runs g (subst (λ n. n ≤ g.slack) (fold-roll-Stmt ℕ repeats_step x) few))
 
 stmt_layer : (y : Stmt-F ((s : Stmt) × StmtRuns s)) → StmtRuns (roll-Stmt (map-Stmt ((s : Stmt) × StmtRuns s) Stmt (λ s. s.0) y))
-stmt_layer (Empty number) = rolled_stmt (Empty number) (λ g. empty_runs g number)
-stmt_layer (Assign number becomes target fits v) = rolled_stmt (Assign number becomes target fits v) (λ g. assign_runs g number becomes target fits v)
+stmt_layer (Empty number) = rolled_stmt (Empty number) (λ g few. empty_runs g number)
+stmt_layer (Assign number becomes target fits v) = rolled_stmt (Assign number becomes target fits v) (λ g few. assign_runs g number becomes target fits v)
 stmt_layer (Write number name parameters ends_line) =
-    rolled_stmt (Write number name parameters ends_line) (λ g. write_runs g number parameters.items ends_line)
+    rolled_stmt (Write number name parameters ends_line) (λ g few. write_runs g number parameters.items ends_line)
 stmt_layer (Compound number statements) =
-    rolled_stmt (map-Stmt ((s : Stmt) × StmtRuns s) Stmt (λ s. s.0) (Compound number statements)) (λ g. compound_runs g number statements.items)
+    rolled_stmt (map-Stmt ((s : Stmt) × StmtRuns s) Stmt (λ s. s.0) (Compound number statements)) (λ g few. compound_runs g number statements.items few)
 stmt_layer (If number condition consequence None) =
     rolled_stmt (map-Stmt ((s : Stmt) × StmtRuns s) Stmt (λ s. s.0) (If number condition consequence None))
-    (λ g. if_runs g number condition consequence.value)
+    (λ g few. if_runs g number condition consequence.value few)
 stmt_layer (If number condition consequence (Some alternative)) =
     rolled_stmt (map-Stmt ((s : Stmt) × StmtRuns s) Stmt (λ s. s.0) (If number condition consequence (Some alternative)))
-    (λ g. if_else_runs g number condition consequence.value alternative.value)
+    (λ g few. if_else_runs g number condition consequence.value alternative.value few)
+stmt_layer (While number loop_number word condition body) =
+    rolled_stmt (map-Stmt ((s : Stmt) × StmtRuns s) Stmt (λ s. s.0) (While number loop_number word condition body))
+    (λ g few. while_runs g number condition body.value few)
+stmt_layer (Repeat number loop_number word statements condition) =
+    rolled_stmt (map-Stmt ((s : Stmt) × StmtRuns s) Stmt (λ s. s.0) (Repeat number loop_number word statements condition))
+    (λ g few. repeat_runs g number condition statements.items few)
 
 -- the code of a statement keeps store and cells alike, or stops as the statement does
 pub stmt_runs : (s : Stmt) → StmtRuns s

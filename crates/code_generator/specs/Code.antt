@@ -28,7 +28,7 @@ use Rattle.typed_tree.specs.declared.tree.Expr.TheOpen.Expr-F.{Constant, Variabl
 use Rattle.typed_tree.specs.declared.tree.Expr.TheFolds.{fold-Expr, fold-Link}
 use Rattle.typed_tree.specs.declared.tree.Stmt.{Stmt}
 use Rattle.typed_tree.specs.declared.tree.Stmt.TheOpen.{Stmt-F}
-use Rattle.typed_tree.specs.declared.tree.Stmt.TheOpen.Stmt-F.{Empty, Assign, Write, Compound, If}
+use Rattle.typed_tree.specs.declared.tree.Stmt.TheOpen.Stmt-F.{Empty, Assign, Write, Compound, If, While, Repeat}
 use Rattle.typed_tree.specs.declared.tree.Stmt.TheFolds.{fold-Stmt}
 
 -- the pieces one after another
@@ -165,6 +165,18 @@ if_else_code test consequence alternative scope place =
     test ++ (instr.JumpIfFalse no ∷ (consequence scope yes
     ++ (instr.Jump (no + length (alternative scope no)) ∷ alternative scope no)))
 
+-- the code of a while statement (6.8.3.8): where the condition is false, a jump behind the loop; and behind the body one
+-- back to the condition
+abbrev pub while_code : List Instr → Placed → Placed
+while_code test body scope place =
+    let inside = place + length test + 1 in
+    test ++ (instr.JumpIfFalse (inside + length (body scope inside) + 1)
+    ∷ (body scope inside ++ (instr.Jump place ∷ [])))
+
+-- the code of a repeat statement (6.8.3.7): where the condition is false, a jump back to the first statement
+abbrev pub repeat_code : (ℕ → List Instr) → List Instr → ℕ → List Instr
+repeat_code statements test place = statements place ++ (test ++ (instr.JumpIfFalse place ∷ []))
+
 abbrev pub stmt_step : Stmt-F Placed → Placed
 stmt_step (Empty number) scope place = []
 stmt_step (Assign number becomes target fits value) scope place = assign_code scope target.root fits value
@@ -174,6 +186,10 @@ stmt_step (If number condition consequence None) scope place =
     if_code (expr_code scope condition) consequence.value scope place
 stmt_step (If number condition consequence (Some alternative)) scope place =
     if_else_code (expr_code scope condition) consequence.value alternative.value scope place
+stmt_step (While number loop_number word condition body) scope place =
+    while_code (expr_code scope condition) body.value scope place
+stmt_step (Repeat number loop_number word statements condition) scope place =
+    repeat_code (placed (map (λ code. code scope) statements.items)) (expr_code scope condition) place
 
 -- the code of a statement at a place
 abbrev pub stmt_code : Stmt → Placed
@@ -217,6 +233,9 @@ stmt_depth_step (Write number name parameters ends_line) = greatest (map paramet
 stmt_depth_step (Compound number statements) = greatest statements.items
 stmt_depth_step (If number condition consequence alternative) =
     max (expr_depth condition) (max consequence.value (alternative_depth alternative))
+stmt_depth_step (While number loop_number word condition body) = max (expr_depth condition) body.value
+stmt_depth_step (Repeat number loop_number word statements condition) =
+    max (greatest statements.items) (expr_depth condition)
 
 -- how many cells the evaluation of a statement needs at once
 abbrev pub stmt_depth : Stmt → ℕ

@@ -14,7 +14,7 @@ use Rattle.typed_tree.specs.declared.tree.Expr.TheOpen.Expr-F.{Constant, Variabl
 use Rattle.typed_tree.specs.declared.tree.Expr.TheFolds.{fold-Expr}
 use Rattle.typed_tree.specs.declared.tree.Stmt.{Stmt}
 use Rattle.typed_tree.specs.declared.tree.Stmt.TheOpen.{Stmt-F}
-use Rattle.typed_tree.specs.declared.tree.Stmt.TheOpen.Stmt-F.{Empty, Assign, Write, Compound, If}
+use Rattle.typed_tree.specs.declared.tree.Stmt.TheOpen.Stmt-F.{Empty, Assign, Write, Compound, If, While, Repeat}
 use Rattle.typed_tree.specs.declared.tree.Stmt.TheFolds.{fold-Stmt}
 
 -- an expression whose value is an ordinal, which has one cell
@@ -55,6 +55,8 @@ stmt_need_step (Write number name parameters ends_line) = 8 + sum_by parameter_n
 stmt_need_step (Compound number statements) = 8 + sum statements.items
 stmt_need_step (If number condition consequence alternative) =
     8 + expr_need condition + consequence.value + alternative_need alternative
+stmt_need_step (While number loop_number word condition body) = 8 + expr_need condition + body.value
+stmt_need_step (Repeat number loop_number word statements condition) = 8 + sum statements.items + expr_need condition
 
 abbrev pub stmt_need : Stmt → ℕ
 stmt_need = fold-Stmt ℕ stmt_need_step

@@ -5,7 +5,7 @@ use Rattle.std.specs.List.{flat_map}
 use Rattle.std.specs.declared.alloc.AllocError.{AllocError}
 use Rattle.typed_tree.specs.declared.tree.Stmt.{Stmt}
 use Rattle.typed_tree.specs.declared.tree.Stmt.TheOpen.{Stmt-F}
-use Rattle.typed_tree.specs.declared.tree.Stmt.TheOpen.Stmt-F.{Empty, Assign, Write, Compound, If}
+use Rattle.typed_tree.specs.declared.tree.Stmt.TheOpen.Stmt-F.{Empty, Assign, Write, Compound, If, While, Repeat}
 use Rattle.typed_tree.specs.declared.tree.Stmt.TheFolds.{fold-Stmt}
 use Rattle.code_generator.specs.declared.scope.Scope.{Scope}
 use Rattle.code_generator.specs.Code.{assign_code, expr_code, write_code}
@@ -60,6 +60,12 @@ measured_step (If number condition consequence (Some alternative)) scope =
       size = length (expr_code scope condition) + 1 + yes.size + 1 + no.size;
       inner = table_of yes ++ table_of no;
     }
+measured_step (While number loop_number word condition body) scope =
+    let inside = body.value scope in
+    record { size = length (expr_code scope condition) + 1 + inside.size + 1; inner = table_of inside }
+measured_step (Repeat number loop_number word statements condition) scope =
+    let parts = map (λ (measure : Scope → Measured). measure scope) statements.items in
+    record { size = all_sizes parts + (length (expr_code scope condition) + 1); inner = all_tables parts }
 
 -- how many instructions a statement has, and those in it
 abbrev pub measured : Stmt → Scope → Measured
@@ -68,3 +74,8 @@ measured = fold-Stmt (Scope → Measured) measured_step
 -- the answer is the size, and what is told came behind what was there; nothing is said where memory runs out
 abbrev pub IsTold : Result ℕ AllocError → List ℕ → List ℕ → Measured → List ℕ → Type 0
 IsTold answer before after m told = IfOk answer (λ size. (size ≡ capped m.size) × (after ≡ before ++ told))
+
+-- the same of some statements together
+abbrev pub AreTold : Result ℕ AllocError → List ℕ → List ℕ → List Measured → Type 0
+AreTold answer before after ms =
+    IfOk answer (λ size. (size ≡ capped (all_sizes ms)) × (after ≡ before ++ all_tables ms))

@@ -5,6 +5,7 @@ ghost use Rattle.code_generator.specs.Sizes.{capped};
 use typed_tree::tree::{Expr, Stmt, WriteParameter};
 
 /// How many cells the evaluation of the statement needs at once, or the greatest number of 32 bits.
+#[cycle(needed_by)]
 pub fn needed_by(stmt: &Stmt) -> u32
     ensures { result ≡ capped (stmt_depth stmt.now) }
 {
@@ -12,13 +13,7 @@ pub fn needed_by(stmt: &Stmt) -> u32
         Stmt::Empty { .. } => 0,
         Stmt::Assign { value, .. } => needed_by_expr(value),
         Stmt::Write { parameters, .. } => needed_by_parameters(parameters.as_slice()),
-        Stmt::Compound { statements, .. } => {
-            let mut depth = 0;
-            for statement in statements {
-                depth = depth.max(needed_by(statement));
-            }
-            depth
-        }
+        Stmt::Compound { statements, .. } => needed_by_statements(statements),
         Stmt::If {
             condition,
             consequence,
@@ -31,7 +26,29 @@ pub fn needed_by(stmt: &Stmt) -> u32
                 Some(alternative) => depth.max(needed_by(alternative)),
             }
         }
+        Stmt::While {
+            condition,
+            body,
+            ..
+        } => needed_by_expr(condition).max(needed_by(body)),
+        Stmt::Repeat {
+            statements,
+            condition,
+            ..
+        } => needed_by_statements(statements).max(needed_by_expr(condition)),
     }
+}
+
+/// The same of some statements.
+#[cycle(needed_by)]
+fn needed_by_statements(statements: &Vec<Stmt>) -> u32
+    ensures { result ≡ capped (greatest (map stmt_depth statements.now.items)) }
+{
+    let mut depth = 0;
+    for statement in statements {
+        depth = depth.max(needed_by(statement));
+    }
+    depth
 }
 
 /// The same of the values of a write or writeln.

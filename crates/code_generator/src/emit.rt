@@ -1,6 +1,6 @@
 ghost use Rattle.std.specs.Prelude.{◌≡◌, ◌≤◌, ◌+◌, ℕ, List, [], ◌∷◌, ◌++◌, OnOk, length, vec_len};
 ghost use Rattle.code_generator.specs.Code.{assign_code, check_positive, default_width, dyadic_code, expr_code, line_end_code, link_code, monadic_code, parameter_code, relation_instr, stmt_code, variable_code, variable_offset, width_code, write_code, write_instr};
-ghost use Rattle.code_generator.specs.Emitted.{Emits};
+ghost use Rattle.code_generator.specs.Emitted.{Emits, statements_code, statements_table};
 ghost use Rattle.pcode_assembler.specs.declared.instr.Instr.TheVariants.{Jump, JumpIfFalse};
 ghost use Rattle.code_generator.specs.Sizes.{capped, measured, table_of};
 
@@ -25,6 +25,7 @@ const BOOLEAN_WIDTH: i32 = 5;
 const GREATEST_OFFSET: u32 = 16777215;
 
 /// The instructions of a statement, where the sizes are those of it, of the statements in it and of what comes after.
+#[cycle(emit_stmt)]
 pub fn emit_stmt(
     code: &mut Vec<Instr>,
     scope: Scope,
@@ -48,12 +49,7 @@ pub fn emit_stmt(
             ends_line,
             ..
         } => emit_write(code, scope, parameters.as_slice(), *ends_line),
-        Stmt::Compound { statements, .. } => {
-            for statement in statements {
-                emit_stmt(code, scope, sizes, statement)?;
-            }
-            Ok(())
-        }
+        Stmt::Compound { statements, .. } => emit_statements(code, scope, sizes, statements),
         Stmt::If {
             condition,
             consequence,
@@ -71,7 +67,45 @@ pub fn emit_stmt(
                 emit_stmt(code, scope, sizes, alternative)
             }
         },
+        Stmt::While {
+            condition,
+            body,
+            ..
+        } => {
+            let head = place_of(code);
+            emit_test(code, scope, condition, sizes.next().saturating_add(1))?;
+            emit_stmt(code, scope, sizes, body)?;
+            put(code, Instr::Jump { target: head })
+        }
+        Stmt::Repeat {
+            statements,
+            condition,
+            ..
+        } => {
+            let head = place_of(code);
+            emit_statements(code, scope, sizes, statements)?;
+            emit_expr(code, scope, condition)?;
+            put(code, Instr::JumpIfFalse { target: head })
+        }
     }
+}
+
+/// The instructions of some statements.
+#[cycle(emit_stmt)]
+fn emit_statements(
+    code: &mut Vec<Instr>,
+    scope: Scope,
+    sizes: &mut Sizes,
+    statements: &Vec<Stmt>,
+) -> Result<(), AllocError>
+    ensures { Emits result code.old.items code.new.items sizes.old sizes.new
+        (statements_code scope statements.now.items (length code.old.items))
+        (statements_table scope statements.now.items) }
+{
+    for statement in statements {
+        emit_stmt(code, scope, sizes, statement)?;
+    }
+    Ok(())
 }
 
 /// The condition, and where it is false a jump over so many instructions.
@@ -102,8 +136,14 @@ fn emit_jump(code: &mut Vec<Instr>, past: u32) -> Result<(), AllocError>
 fn place_behind(code: &Vec<Instr>, more: u32) -> u32
     ensures { result ≡ capped (vec_len code.now + 1 + more) }
 {
-    let place = u32::try_from(code.len()).unwrap_or(u32::MAX);
-    place.saturating_add(1).saturating_add(more)
+    place_of(code).saturating_add(1).saturating_add(more)
+}
+
+/// The place of the next instruction.
+fn place_of(code: &Vec<Instr>) -> u32
+    ensures { result ≡ capped (vec_len code.now) }
+{
+    u32::try_from(code.len()).unwrap_or(u32::MAX)
 }
 
 /// The value, its check, and the assignment.

@@ -1,8 +1,9 @@
-ghost use Rattle.std.specs.Prelude.{◌≡◌, ◌+◌, ℕ, length};
+ghost use Rattle.std.specs.Prelude.{◌≡◌, ◌+◌, ℕ, length, map};
 ghost use Rattle.std.specs.List.{flat_map};
 ghost use Rattle.code_generator.specs.declared.scope.Scope.{Scope};
 ghost use Rattle.code_generator.specs.Code.{dyadic_code, expr_code, line_end_code, monadic_code, parameter_code, program_code, stmt_code, width_code, write_code};
-ghost use Rattle.code_generator.specs.Sizes.{capped, measured, table_of, IsTold};
+ghost use Rattle.code_generator.specs.Emitted.{statements_code};
+ghost use Rattle.code_generator.specs.Sizes.{capped, measured, table_of, AreTold, IsTold};
 
 use std::alloc::AllocError;
 use typed_tree::tree::{Dyadic, Expr, Monadic, Stmt, Tree, WriteParameter};
@@ -18,6 +19,7 @@ pub fn program_size(tree: &Tree) -> u32
 }
 
 /// How many instructions the statement has, or the greatest number of 32 bits.
+#[cycle(stmt_size)]
 fn stmt_size(stmt: &Stmt) -> u32
     ensures { (scope : Scope) (place : ℕ) → result ≡ capped (length (stmt_code stmt.now scope place)) }
 {
@@ -29,13 +31,7 @@ fn stmt_size(stmt: &Stmt) -> u32
             ends_line,
             ..
         } => write_size(parameters.as_slice(), *ends_line),
-        Stmt::Compound { statements, .. } => {
-            let mut size = 0u32;
-            for statement in statements {
-                size = size.saturating_add(stmt_size(statement));
-            }
-            size
-        }
+        Stmt::Compound { statements, .. } => statements_size(statements),
         Stmt::If {
             condition,
             consequence,
@@ -48,7 +44,30 @@ fn stmt_size(stmt: &Stmt) -> u32
                 Some(alternative) => with_else(size, stmt_size(alternative)),
             }
         }
+        Stmt::While {
+            condition,
+            body,
+            ..
+        } => while_size(condition, stmt_size(body)),
+        Stmt::Repeat {
+            statements,
+            condition,
+            ..
+        } => repeat_size(statements_size(statements), condition),
     }
+}
+
+/// The same of some statements together.
+#[cycle(stmt_size)]
+fn statements_size(statements: &Vec<Stmt>) -> u32
+    ensures { (scope : Scope) (place : ℕ) →
+        result ≡ capped (length (statements_code scope statements.now.items place)) }
+{
+    let mut size = 0u32;
+    for statement in statements {
+        size = size.saturating_add(stmt_size(statement));
+    }
+    size
 }
 
 /// Puts the sizes of the statement and of those in it behind the sizes of what begins before it, and answers its own.
@@ -78,13 +97,7 @@ fn measure_parts(sizes: &mut Vec<u32>, stmt: &Stmt) -> Result<u32, AllocError>
             ends_line,
             ..
         } => Ok(write_size(parameters.as_slice(), *ends_line)),
-        Stmt::Compound { statements, .. } => {
-            let mut size = 0u32;
-            for statement in statements {
-                size = size.saturating_add(measure(sizes, statement)?);
-            }
-            Ok(size)
-        }
+        Stmt::Compound { statements, .. } => measure_statements(sizes, statements),
         Stmt::If {
             condition,
             consequence,
@@ -97,7 +110,30 @@ fn measure_parts(sizes: &mut Vec<u32>, stmt: &Stmt) -> Result<u32, AllocError>
                 Some(alternative) => Ok(with_else(size, measure(sizes, alternative)?)),
             }
         }
+        Stmt::While {
+            condition,
+            body,
+            ..
+        } => Ok(while_size(condition, measure(sizes, body)?)),
+        Stmt::Repeat {
+            statements,
+            condition,
+            ..
+        } => Ok(repeat_size(measure_statements(sizes, statements)?, condition)),
     }
+}
+
+/// The same of some statements, and answers their sizes together.
+#[cycle(measure)]
+fn measure_statements(sizes: &mut Vec<u32>, statements: &Vec<Stmt>) -> Result<u32, AllocError>
+    ensures { (scope : Scope) → AreTold result sizes.old.items sizes.new.items
+        (map (λ s. measured s scope) statements.now.items) }
+{
+    let mut size = 0u32;
+    for statement in statements {
+        size = size.saturating_add(measure(sizes, statement)?);
+    }
+    Ok(size)
 }
 
 /// How many instructions an assignment has, or the greatest number of 32 bits.
@@ -128,6 +164,20 @@ fn with_else(size: u32, alternative: u32) -> u32
     ensures { result ≡ capped (size + 1 + alternative) }
 {
     size.saturating_add(1).saturating_add(alternative)
+}
+
+/// The same of a while statement, whose body has so many.
+fn while_size(condition: &Expr, body: u32) -> u32
+    ensures { (scope : Scope) → result ≡ capped (length (expr_code scope condition.now) + 1 + body + 1) }
+{
+    if_size(condition, body).saturating_add(1)
+}
+
+/// The same of a repeat statement, whose statements have so many.
+fn repeat_size(statements: u32, condition: &Expr) -> u32
+    ensures { (scope : Scope) → result ≡ capped (statements + (length (expr_code scope condition.now) + 1)) }
+{
+    statements.saturating_add(expr_size(condition).saturating_add(1))
 }
 
 /// The same of the values of a write or writeln.

@@ -3,5 +3,5 @@ use Rattle.code_generator.specs.Code.{greatest, stmt_depth}
 use Rattle.code_generator.specs.Sizes.{capped}
 use Rattle.code_generator.proofs.depth.+needed_by.Given as goal
 
-abbrev pub invariant-loop-statement : goal.invariant-loop-statement
-invariant-loop-statement l = l.depth ≡ capped (greatest (map stmt_depth (take l.statement-index l.statement-items)))
+abbrev pub invariant-needed_by_statements-loop-statement : goal.invariant-needed_by_statements-loop-statement
+invariant-needed_by_statements-loop-statement l = l.depth ≡ capped (greatest (map stmt_depth (take l.statement-index l.statement-items)))

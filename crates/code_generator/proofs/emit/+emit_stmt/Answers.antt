@@ -1,18 +1,19 @@
-use Rattle.std.proofs.Common.{◌≡◌, ℕ, ◌+◌, ◌≤◌, ◌++◌, [], ◌∷◌, Some, None, drop, ap, ◌∙◌, sym, subst, refl, length, length-append, map, append-nil, arith}
+use Rattle.std.proofs.Common.{rules, OnOk, ◌≡◌, ℕ, ◌+◌, ◌≤◌, ◌++◌, [], ◌∷◌, Some, None, drop, ap, ◌∙◌, sym, subst, refl, length, length-append, map, append-nil, arith}
 use Rattle.std.proofs.lemmas.List.{drop_more, drop_all}
 use Rattle.pcode_assembler.specs.declared.instr.Instr.TheVariants as instr
 use Rattle.typed_tree.specs.declared.tree.Stmt.TheVariants.{If}
-use Rattle.code_generator.specs.Code.{stmt_code, expr_code, if_code, if_else_code}
+use Rattle.code_generator.specs.Code.{stmt_code, expr_code, if_code, if_else_code, while_code}
+use Rattle.code_generator.specs.Emitted.{statements_table}
 use Rattle.code_generator.specs.Sizes.{capped, rest_of, table_of, measured, all_tables}
-use Rattle.code_generator.proofs.Emitting.{IsLeft, if_emitted, if_else_emitted, one_emitted, passed_emitted, same_emitted, measured-Compound, measured-If, measured-If-else, if_measured, if_else_measured}
-use Rattle.code_generator.proofs.Pieces.{stmts_code, stmt_code-Compound, stmt_code-If, stmt_code-If-else}
+use Rattle.code_generator.proofs.Emitting.{IsLeft, if_emitted, if_else_emitted, one_emitted, passed_emitted, same_emitted, measured-Compound, measured-If, measured-If-else, if_measured, if_else_measured, measured-While, measured-Repeat, while_measured, while_emitted, repeat_emitted}
+use Rattle.code_generator.proofs.Pieces.{stmts_code, stmt_code-Compound, stmt_code-If, stmt_code-If-else, stmt_code-While, stmt_code-Repeat}
 use Rattle.code_generator.proofs.emit.+emit_stmt.Goals as goal
 
-pub loop-statement-init : goal.loop-statement-init
-loop-statement-init t c = λ rest told few. record { code_is = refl; sizes_are = told }
+pub emit_statements-loop-statement-init : goal.emit_statements-loop-statement-init
+emit_statements-loop-statement-init t c = λ rest told few. record { code_is = refl; sizes_are = told }
 
-pub loop-statement-preserved : goal.loop-statement-preserved
-loop-statement-preserved t c = λ rest told few.
+pub emit_statements-loop-statement-preserved : goal.emit_statements-loop-statement-preserved
+emit_statements-loop-statement-preserved t c = λ rest told few.
     let scope = c.args.scope in
     let items = c.deref-statement-items.result.now in
     let i = c.loop-statement.statement-index in
@@ -23,10 +24,10 @@ loop-statement-preserved t c = λ rest told few.
     let next = drop_more items i statement c.loop-statement-test.true ∙ ap (λ s. s ∷ drop (i + 1) items) (sym c.statement-item.is) in
     one_emitted scope whole rest statement (drop (i + 1) items) code _ sizes _ few
     (subst (λ left. IsLeft scope whole rest left code sizes) next (c.loop-statement.invariant rest told few))
-    c.in_ok-emit_stmt-in-Compound.ensures
+    c.in_ok-emit_stmt.ensures
 
-pub returns-after-loop-statement : goal.returns-after-loop-statement
-returns-after-loop-statement t c = λ rest told few.
+pub emit_statements-returns : goal.emit_statements-returns
+emit_statements-returns t c = λ rest told few.
     let scope = c.args.scope in
     let before = c.args.code.now.items in
     let place = length before in
@@ -34,27 +35,84 @@ returns-after-loop-statement t c = λ rest told few.
     let i = c.loop-statement.statement-index in
     let code = c.loop-statement.code.items in
     let sizes = c.loop-statement.sizes in
-    let number = c.in-Compound.number in
-    let statements = c.in-Compound.statements in
     let same = c.deref-statement-items.ensures.value in
-    let whole : stmt_code c.args.stmt.now scope place ≡ stmts_code scope items place = ap (λ s. stmt_code s scope place) c.in-Compound.is
-    ∙ stmt_code-Compound scope place number statements ∙ ap (λ ss. stmts_code scope ss place) (sym same) in
-    let inner = ap (λ s. (measured s scope).inner) c.in-Compound.is ∙ ap (λ m. m.inner) (measured-Compound scope number statements)
-    ∙ ap (λ ss. all_tables (map (λ s. measured s scope) ss)) (sym same) in
-    let told' : c.pass.new.self ≡ all_tables (map (λ s. measured s scope) items) ++ rest = c.pass.ensures ∙ ap rest_of told ∙ ap (λ ts. ts ++ rest) inner in
-    let few' : length (before ++ stmts_code scope items place) ≤ 4294967295 = omega (
-      arith,
-      few,
-      ap length whole,
-      length-append before
-          (stmts_code scope items place),
-    ) in
+    let told' = told ∙ ap (λ ss. statements_table scope ss ++ rest) (sym same) in
+    let few' : length (before ++ stmts_code scope items place) ≤ 4294967295 =
+    subst (λ ss. length (before ++ stmts_code scope ss place) ≤ 4294967295) (sym same)
+    (omega (arith, few, length-append before (stmts_code scope c.args.statements.now.items place))) in
     let all = subst (λ left. IsLeft scope (before ++ stmts_code scope items place) rest left code sizes)
     (drop_all i items c.loop-statement-test.false) (c.loop-statement.invariant rest told' few') in
-    (sym (append-nil code) ∙ all.code_is ∙ ap (λ p. before ++ p) (sym whole), all.sizes_are)
+    (sym (append-nil code) ∙ all.code_is ∙ ap (λ ss. before ++ stmts_code scope ss place) same, all.sizes_are)
 
-pub returns-in_ok-emit_test-in-None : goal.returns-in_ok-emit_test-in-None
-returns-in_ok-emit_test-in-None t c =
+pub emit_stmt-returns-in-Compound : goal.emit_stmt-returns-in-Compound
+emit_stmt-returns-in-Compound t c =
+    let scope = c.args.scope in
+    let before = c.args.code.now.items in
+    let place = length before in
+    let items = c.in-Compound.statements.items in
+    same_emitted c.emit_statements.result before c.emit_statements.new.code.items c.args.sizes.now c.emit_statements.new.sizes _ _ _ _
+    (ap (λ s. stmt_code s scope place) c.in-Compound.is ∙ stmt_code-Compound scope place c.in-Compound.number c.in-Compound.statements)
+    (ap (λ s. table_of (measured s scope)) c.in-Compound.is ∙ ap table_of (measured-Compound scope c.in-Compound.number c.in-Compound.statements))
+    (passed_emitted c.emit_statements.result before c.emit_statements.new.code.items c.args.sizes.now c.pass.new.self c.emit_statements.new.sizes _
+    (statements_table scope items) _ c.pass.ensures c.emit_statements.ensures)
+
+pub emit_stmt-returns-in_ok-emit_stmt-in-While : goal.emit_stmt-returns-in_ok-emit_stmt-in-While
+emit_stmt-returns-in_ok-emit_stmt-in-While t c =
+    let scope = c.args.scope in
+    let before = c.args.code.now.items in
+    let place = length before in
+    let condition = c.in-While.condition in
+    let body = c.in-While.body in
+    let number = c.in-While.number in
+    let loop_number = c.in-While.loop_number in
+    let word = c.in-While.place in
+    let test = expr_code scope condition in
+    let now = c.pass.new.self in
+    let answer = c.put.result in
+    let after = c.put.new.code.items in
+    let done = c.emit_stmt-in-While.new.code.items in
+    let left = c.emit_stmt-in-While.new.sizes in
+    let begins : c.place_of-head.result ≡ capped (length before) = search rules in
+    let jumping = c.in_ok-emit_test-in-While.ensures
+    ∙ ap (λ n. (before ++ test) ++ instr.JumpIfFalse (capped (length (before ++ test) + 1 + n)) ∷ [])
+    (c.saturating_add-in-While.ensures ∙ ap (λ n. capped (n + 1)) c.next-in-While.ensures) in
+    same_emitted answer before after c.args.sizes.now left _ _ _ _
+    (ap (λ s. stmt_code s scope place) c.in-While.is ∙ stmt_code-While scope place number loop_number word condition body
+    ∙ ap (λ s. while_code test (stmt_code s) scope place) (sym c.deref-in-While.ensures))
+    (ap (λ s. table_of (measured s scope)) c.in-While.is ∙ ap table_of (measured-While scope number loop_number word condition body)
+    ∙ ap (λ s. table_of (while_measured test (measured s scope))) (sym c.deref-in-While.ensures))
+    (passed_emitted answer before after c.args.sizes.now now left _ (table_of (measured c.deref-in-While.result.now scope)) _ c.pass.ensures
+    (while_emitted answer test c.deref-in-While.result.now scope before c.emit_test-in-While.new.code.items done after now left c.place_of-head.result
+    jumping c.in_ok-emit_stmt-in-While.ensures begins c.put.ensures))
+
+pub emit_stmt-returns-in_ok-emit_expr-in-Repeat : goal.emit_stmt-returns-in_ok-emit_expr-in-Repeat
+emit_stmt-returns-in_ok-emit_expr-in-Repeat t c =
+    let scope = c.args.scope in
+    let before = c.args.code.now.items in
+    let place = length before in
+    let condition = c.in-Repeat.condition in
+    let statements = c.in-Repeat.statements in
+    let number = c.in-Repeat.number in
+    let loop_number = c.in-Repeat.loop_number in
+    let word = c.in-Repeat.place in
+    let test = expr_code scope condition in
+    let now = c.pass.new.self in
+    let answer = c.put-in-Repeat.result in
+    let after = c.put-in-Repeat.new.code.items in
+    let done = c.emit_statements-in-Repeat.new.code.items in
+    let left = c.emit_statements-in-Repeat.new.sizes in
+    let begins : c.place_of-head-in-Repeat.result ≡ capped (length before) = search rules in
+    let tested = subst (λ xs. OnOk answer (after ≡ xs ++ instr.JumpIfFalse c.place_of-head-in-Repeat.result ∷ [])) c.in_ok-emit_expr-in-Repeat.ensures
+    c.put-in-Repeat.ensures in
+    same_emitted answer before after c.args.sizes.now left _ _ _ _
+    (ap (λ s. stmt_code s scope place) c.in-Repeat.is ∙ stmt_code-Repeat scope place number loop_number word statements condition)
+    (ap (λ s. table_of (measured s scope)) c.in-Repeat.is ∙ ap table_of (measured-Repeat scope number loop_number word statements condition))
+    (passed_emitted answer before after c.args.sizes.now now left _ (statements_table scope statements.items) _ c.pass.ensures
+    (repeat_emitted answer (stmts_code scope statements.items) test before done after now left (statements_table scope statements.items)
+    c.place_of-head-in-Repeat.result c.in_ok-emit_statements-in-Repeat.ensures begins tested))
+
+pub emit_stmt-returns-in_ok-emit_test-in-None : goal.emit_stmt-returns-in_ok-emit_test-in-None
+emit_stmt-returns-in_ok-emit_test-in-None t c =
     let scope = c.args.scope in
     let before = c.args.code.now.items in
     let place = length before in
@@ -65,18 +123,18 @@ returns-in_ok-emit_test-in-None t c =
     let is = c.in-If.is ∙ ap (λ o. If c.in-If.number condition consequence o) c.in-None.is in
     let jumping = c.in_ok-emit_test-in-None.ensures
     ∙ ap (λ n. (before ++ test) ++ instr.JumpIfFalse (capped (length (before ++ test) + 1 + n)) ∷ []) c.next.ensures in
-    same_emitted c.emit_stmt-in-None.result before c.emit_stmt-in-None.new.code.items c.args.sizes.now c.emit_stmt-in-None.new.sizes _ _ _ _
+    same_emitted c.emit_stmt.result before c.emit_stmt.new.code.items c.args.sizes.now c.emit_stmt.new.sizes _ _ _ _
     (ap (λ s. stmt_code s scope place) is ∙ stmt_code-If scope place c.in-If.number condition consequence
     ∙ ap (λ s. if_code test (stmt_code s) scope place) (sym c.deref.ensures))
     (ap (λ s. table_of (measured s scope)) is ∙ ap table_of (measured-If scope c.in-If.number condition consequence)
     ∙ ap (λ s. table_of (if_measured test (measured s scope))) (sym c.deref.ensures))
-    (passed_emitted c.emit_stmt-in-None.result before c.emit_stmt-in-None.new.code.items c.args.sizes.now now c.emit_stmt-in-None.new.sizes _
+    (passed_emitted c.emit_stmt.result before c.emit_stmt.new.code.items c.args.sizes.now now c.emit_stmt.new.sizes _
     (table_of (measured c.deref.result.now scope)) _ c.pass.ensures
-    (if_emitted c.emit_stmt-in-None.result test c.deref.result.now scope before (before ++ test) c.emit_test.new.code.items c.emit_stmt-in-None.new.code.items
-    now c.emit_stmt-in-None.new.sizes refl jumping c.emit_stmt-in-None.ensures))
+    (if_emitted c.emit_stmt.result test c.deref.result.now scope before (before ++ test) c.emit_test.new.code.items c.emit_stmt.new.code.items
+    now c.emit_stmt.new.sizes refl jumping c.emit_stmt.ensures))
 
-pub returns-in_ok-emit_jump-in-Some : goal.returns-in_ok-emit_jump-in-Some
-returns-in_ok-emit_jump-in-Some t c =
+pub emit_stmt-returns-in_ok-emit_jump-in-Some : goal.emit_stmt-returns-in_ok-emit_jump-in-Some
+emit_stmt-returns-in_ok-emit_jump-in-Some t c =
     let scope = c.args.scope in
     let before = c.args.code.now.items in
     let place = length before in

@@ -1,11 +1,12 @@
-use Rattle.std.proofs.Common.{rules, ◌≡◌, ◌+◌, ◌++◌, [], ◌∷◌, Some, None, ap, sym, ◌∙◌, length, length-append, append-nil, append_assoc, map, arith}
+use Rattle.std.proofs.Common.{rules, ◌≡◌, ◌+◌, ◌++◌, [], ◌∷◌, Some, None, ap, sym, ◌∙◌, length, length-append, append-nil, append_assoc, map, arith, subst, List, Result, ℕ}
 use Rattle.std.specs.Prelude.{slice_set}
+use Rattle.std.specs.declared.alloc.AllocError.{AllocError}
 use Rattle.std.proofs.lemmas.List.{take_all}
 use Rattle.pcode_assembler.specs.declared.instr.Instr.TheVariants as instr
 use Rattle.typed_tree.specs.declared.tree.Stmt.TheVariants.{If}
 use Rattle.code_generator.specs.Code.{expr_code, program_scope, variable_offset}
-use Rattle.code_generator.specs.Sizes.{capped, measured, all_sizes, all_tables, table_of}
-use Rattle.code_generator.proofs.Emitting.{measured-Assign, measured-Compound, measured-If, measured-If-else, sizes_one_more, tables_one_more, set_at_seam}
+use Rattle.code_generator.specs.Sizes.{capped, Measured, measured, all_sizes, all_tables, table_of, IsTold, AreTold}
+use Rattle.code_generator.proofs.Emitting.{measured-Assign, measured-Compound, measured-If, measured-If-else, measured-While, measured-Repeat, sizes_one_more, tables_one_more, set_at_seam}
 use Rattle.code_generator.proofs.size.+measure.Goals as goal
 
 pub measure-index_mut-requires : goal.measure-index_mut-requires
@@ -36,13 +37,13 @@ measure-returns t c = λ scope.
           ∙ ap (λ n. before ++ n ∷ inner) told.0,
     )
 
-pub measure_parts-loop-statement-preserved : goal.measure_parts-loop-statement-preserved
-measure_parts-loop-statement-preserved t c = λ scope.
+pub measure_statements-loop-statement-preserved : goal.measure_statements-loop-statement-preserved
+measure_statements-loop-statement-preserved t c = λ scope.
     let items = c.deref-statement-items.result.now in
     let i = c.loop-statement.statement-index in
     let statement = c.statement-item.result in
     let so_far = c.loop-statement.invariant scope in
-    let one = c.in_ok-measure-in-Compound.ensures scope in
+    let one = c.in_ok-measure.ensures scope in
     let more = sizes_one_more scope items i statement c.loop-statement-test.true c.statement-item.is in (
       omega (arith, so_far.0, one.0, more, c.saturating_add-size.ensures),
       one.1
@@ -64,18 +65,48 @@ measure_parts-returns-in-Assign t c = λ scope.
       sym (append-nil c.args.sizes.now.items) ∙ ap (λ m. c.args.sizes.now.items ++ m.inner) (sym is),
     )
 
-pub measure_parts-returns-after-loop-statement : goal.measure_parts-returns-after-loop-statement
-measure_parts-returns-after-loop-statement t c = λ scope.
+pub measure_statements-returns : goal.measure_statements-returns
+measure_statements-returns t c = λ scope.
     let so_far = c.loop-statement.invariant scope in
     let items = take_all c.loop-statement.statement-index c.deref-statement-items.result.now c.loop-statement-test.false
-    ∙ c.deref-statement-items.ensures.value in
-    let is = ap (λ s. measured s scope) c.in-Compound.is ∙ measured-Compound scope c.in-Compound.number c.in-Compound.statements in (
-      so_far.0
-          ∙ ap (λ ss. capped (all_sizes (map (λ s. measured s scope) ss))) items
-          ∙ ap (λ m. capped m.size) (sym is),
-      so_far.1
-          ∙ ap (λ ss. c.args.sizes.now.items ++ all_tables (map (λ s. measured s scope) ss)) items
+    ∙ c.deref-statement-items.ensures.value in (
+      so_far.0 ∙ ap (λ ss. capped (all_sizes (map (λ s. measured s scope) ss))) items,
+      so_far.1 ∙ ap (λ ss. c.args.sizes.now.items ++ all_tables (map (λ s. measured s scope) ss)) items,
+    )
+
+told_as : (answer : Result ℕ AllocError) (before after : List ℕ) (ms : List Measured) (m : Measured) → m ≡ record { size = all_sizes ms; inner = all_tables ms }
+    → AreTold answer before after ms → IsTold answer before after m m.inner
+told_as answer before after ms m is told = subst (λ x. IsTold answer before after x x.inner) (sym is) told
+
+pub measure_parts-returns-in-Compound : goal.measure_parts-returns-in-Compound
+measure_parts-returns-in-Compound t c = λ scope.
+    told_as c.measure_statements.result c.args.sizes.now.items c.measure_statements.new.sizes.items
+    (map (λ s. measured s scope) c.in-Compound.statements.items) (measured c.args.stmt.now scope)
+    (ap (λ s. measured s scope) c.in-Compound.is ∙ measured-Compound scope c.in-Compound.number c.in-Compound.statements)
+    (c.measure_statements.ensures scope)
+
+pub measure_parts-returns-in_ok-measure-in-While : goal.measure_parts-returns-in_ok-measure-in-While
+measure_parts-returns-in_ok-measure-in-While t c = λ scope.
+    let condition = c.in-While.condition in
+    let body = c.in-While.body in
+    let is = ap (λ s. measured s scope) c.in-While.is ∙ measured-While scope c.in-While.number c.in-While.loop_number c.in-While.place condition body in
+    let one = c.in_ok-measure-in-While.ensures scope in
+    let same = ap (λ s. measured s scope) c.deref-in-While.ensures in (
+      omega (arith, c.while_size.ensures scope, one.0, ap (λ m. m.size) same, ap (λ m. m.size) is),
+      one.1
+          ∙ ap (λ m. c.args.sizes.now.items ++ table_of m) same
           ∙ ap (λ m. c.args.sizes.now.items ++ m.inner) (sym is),
+    )
+
+pub measure_parts-returns-in_ok-measure_statements-in-Repeat : goal.measure_parts-returns-in_ok-measure_statements-in-Repeat
+measure_parts-returns-in_ok-measure_statements-in-Repeat t c = λ scope.
+    let condition = c.in-Repeat.condition in
+    let statements = c.in-Repeat.statements in
+    let is = ap (λ s. measured s scope) c.in-Repeat.is
+    ∙ measured-Repeat scope c.in-Repeat.number c.in-Repeat.loop_number c.in-Repeat.place statements condition in
+    let all = c.in_ok-measure_statements-in-Repeat.ensures scope in (
+      omega (arith, c.repeat_size.ensures scope, all.0, ap (λ m. m.size) is),
+      all.1 ∙ ap (λ m. c.args.sizes.now.items ++ m.inner) (sym is),
     )
 
 pub measure_parts-returns-in-None : goal.measure_parts-returns-in-None
