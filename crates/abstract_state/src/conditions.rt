@@ -117,7 +117,12 @@ impl State {
     }
 
     /// A relation of two bounds holds from here on.
-    fn relate(&mut self, relation: Relation, left: Bound, right: Bound) -> Result<(), AllocError>
+    pub fn relate(
+        &mut self,
+        relation: Relation,
+        left: Bound,
+        right: Bound,
+    ) -> Result<(), AllocError>
         ensures { IfOk result
             (λ _. viewed self.new ≡ related relation (said_bound left) (said_bound right) (viewed self.old)) }
     {
@@ -150,7 +155,7 @@ impl State {
     }
 
     /// The order of two variables, where both bounds have one.
-    fn insert_order(&mut self, left: Bound, gap: i32, right: Bound) -> Result<(), AllocError>
+    pub fn insert_order(&mut self, left: Bound, gap: i32, right: Bound) -> Result<(), AllocError>
         ensures { IfOk result (λ _. viewed self.new ≡ with_order (said_bound left) gap (said_bound right) (viewed self.old)) }
     {
         match (left, right) {
@@ -240,7 +245,7 @@ impl State {
     }
 
     /// The values of a variable lie in a range; no run goes on from an empty one.
-    fn narrow(&mut self, root: u32, range: Interval)
+    pub fn narrow(&mut self, root: u32, range: Interval)
         ensures { viewed self.new ≡ narrowed root range (viewed self.old) }
     {
         self.set_range(root, range);
