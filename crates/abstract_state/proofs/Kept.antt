@@ -1,5 +1,5 @@
 -- The facts that the program keeps: those that its rows say, and its orders behind them.
-use Rattle.std.proofs.Common.{arith, ◌≡◌, ◌∙◌, sym, ap, ap₂, refl, subst, ℕ, zero, suc, ℤ, pos, ◌+◌, ◌<◌, ◌≤◌, Bool, true, false, not, ◌&&◌, ◌||◌, cond, ◌⊎◌, ⊎_elim, inl, inr, List, [], ◌∷◌, ◌++◌, length, map, replicate, set, take, nat_lt, nat_eq, get_or, filter, Option, Some, None}
+use Rattle.std.proofs.Common.{arith, ◌≡◌, ◌∙◌, sym, ap, ap₂, refl, subst, ℕ, zero, suc, pos, ◌+◌, ◌<◌, ◌≤◌, Bool, true, false, not, ◌&&◌, ◌||◌, cond, ◌⊎◌, ⊎_elim, inl, inr, List, [], ◌∷◌, ◌++◌, length, map, replicate, set, take, nat_lt, nat_eq, get_or, filter, Option, Some, None}
 use Rattle.std.specs.List.{cons_option, filter_map, list_any}
 use Rattle.std.specs.Ordering.{is_eq}
 use Rattle.std.specs.declared.cmp.Ordering.{Ordering}
@@ -8,16 +8,16 @@ use Rattle.std.proofs.lemmas.Bool.{cases_eq, cases_lt, eq-eqb, eqb-true}
 use Rattle.std.proofs.lemmas.Bool.Decides.{nat_tests}
 use Rattle.std.proofs.lemmas.List.Folds.{list_any-append, list_any_at}
 use Rattle.std.proofs.Math.Seq.{take-suc}
-use Rattle.std.proofs.lemmas.List.{map-append, length-map, length-set, get_or-set_same, get_or-set_other}
+use Rattle.std.proofs.lemmas.List.{map-append, length-map, get_or-set_same, get_or-set_other}
 use Rattle.std.proofs.lemmas.List.Elements.{filter-append, filter_map-append}
-use Rattle.domain.specs.Interval.{Interval, vacant}
+use Rattle.domain.specs.Interval.{Interval}
 use Rattle.domain.specs.Facts.{Path, Bound, Number, Plus, Fact, Defined, entire, fact_order, has_fact, put, with_fact}
 use Rattle.abstract_state.specs.declared.state.Row.{Row}
 use Rattle.abstract_state.specs.declared.orders.Order.{Order as KeptOrder}
-use Rattle.abstract_state.specs.State.{State, Facts, Live, gives, joined_facts, joined_ranges, says_at_most, start, with_defined, with_facts, with_range}
+use Rattle.abstract_state.specs.State.{State, Facts, Live, gives, joined_facts, says_at_most, start, with_defined, with_facts, with_range}
 use Rattle.abstract_state.specs.Changes.{changed, with_change, with_some}
 use Rattle.abstract_state.specs.Loops.{defines, in_place, replaced, with_forgotten}
-use Rattle.abstract_state.specs.View.{AreJoined, defined_from, joined_row, no_row, said_order, said_some}
+use Rattle.abstract_state.specs.View.{AreJoined, defined_from, no_row, said_order, said_some}
 use Rattle.abstract_state.proofs.Rows.{all-ranges, and-back, bit, filter-defined, has-row, none-defined, past, range-kept, range-set, ranges-both, ranges_of, row-defined, same-defined, tested-bit, tested_bits, with-had}
 
 abbrev pub said_orders : List KeptOrder → List Fact
@@ -105,7 +105,8 @@ defined-kept rows orders root row inside kept bit_is =
     let test : nat_lt root (length (ranges_of rows)) ≡ true = rw length-map (grind (arith, nat_tests)) in
     ap₂ state_of (range-kept rows root row kept)
     (ap (λ (d : List Fact). d ++ more) (sym (row-defined rows 0 root root row inside (omega arith) bit_is)) ∙ sym (with-defined_kept root facts orders))
-    ∙ sym (ap (λ (b : Bool). cond b (state_of (ranges_of rows) (with_fact (Defined (entire root)) (facts ++ more))) (state_of (ranges_of rows) (facts ++ more))) test)
+    ∙ sym (ap (λ (b : Bool). cond b (state_of (ranges_of rows) (with_fact (Defined (entire root)) (facts ++ more)))
+    (state_of (ranges_of rows) (facts ++ more))) test)
 
 -- no row stands there
 pub not-defined_kept : (rows : List Row) (orders : List KeptOrder) (root : ℕ) → length rows ≤ root
@@ -114,7 +115,8 @@ not-defined_kept rows orders root beyond =
     let more = said_orders orders in
     let facts = defined_from 0 rows in
     let test : nat_lt root (length (ranges_of rows)) ≡ false = rw length-map (grind (arith, nat_tests)) in
-    sym (ap (λ (b : Bool). cond b (state_of (ranges_of rows) (with_fact (Defined (entire root)) (facts ++ more))) (state_of (ranges_of rows) (facts ++ more))) test)
+    sym (ap (λ (b : Bool). cond b (state_of (ranges_of rows) (with_fact (Defined (entire root)) (facts ++ more)))
+    (state_of (ranges_of rows) (facts ++ more))) test)
 
 set-beyond : {A : Type 0} (xs : List A) (i : ℕ) (x : A) → length xs ≤ i → set xs i x ≡ xs
 set-beyond {A = A} [] i x beyond = refl
@@ -178,7 +180,8 @@ changed-kept rows before after root form are =
     ∙ sym (filter_map-append (changed root form) (defined_from 0 rows) (said_orders before)
     ∙ ap (λ (d : List Fact). d ++ filter_map (changed root form) (said_orders before)) (all-stay (changed root form) (defined-stays root form) rows 0)))
 
-pub inserted-kept : (rows : List Row) (before after : List KeptOrder) (order : KeptOrder) → said_orders after ≡ with_fact (said_order order) (said_orders before)
+pub inserted-kept : (rows : List Row) (before after : List KeptOrder) (order : KeptOrder)
+    → said_orders after ≡ with_fact (said_order order) (said_orders before)
     → kept_state rows after ≡ with_some (Some (said_order order)) (kept_state rows before)
 inserted-kept rows before after order are =
     ap (state_of (ranges_of rows))

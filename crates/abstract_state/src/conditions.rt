@@ -144,7 +144,8 @@ impl State {
 
     /// A bound plus a number is at most another.
     fn order(&mut self, left: Bound, gap: i32, right: Bound) -> Result<(), AllocError>
-        ensures { IfOk result (λ _. viewed self.new ≡ with_le (said_bound left) gap (said_bound right) (viewed self.old)) }
+        ensures { IfOk result
+            (λ _. viewed self.new ≡ with_le (said_bound left) gap (said_bound right) (viewed self.old)) }
     {
         let first = self.ends(left).first;
         let last = self.ends(right).last;
@@ -156,7 +157,8 @@ impl State {
 
     /// The order of two variables, where both bounds have one.
     pub fn insert_order(&mut self, left: Bound, gap: i32, right: Bound) -> Result<(), AllocError>
-        ensures { IfOk result (λ _. viewed self.new ≡ with_order (said_bound left) gap (said_bound right) (viewed self.old)) }
+        ensures { IfOk result
+            (λ _. viewed self.new ≡ with_order (said_bound left) gap (said_bound right) (viewed self.old)) }
     {
         match (left, right) {
             (
@@ -185,7 +187,8 @@ impl State {
     /// A bound isn't the one number of a range.
     fn unlike(&mut self, bound: Bound, ends: Ends)
         requires { AreEnds ends (record { first = ends.first; last = ends.last }) }
-        ensures { viewed self.new ≡ unlike (said_bound bound) (record { first = ends.first; last = ends.last }) (viewed self.old) }
+        ensures { viewed self.new
+            ≡ unlike (said_bound bound) (record { first = ends.first; last = ends.last }) (viewed self.old) }
     {
         if ends.first == ends.last {
             self.isnt(bound, ends.first);

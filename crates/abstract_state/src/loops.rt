@@ -13,8 +13,8 @@ use domain::interval::Interval;
 use std::alloc::{AllocError, Global};
 
 impl State {
-    /// What is known at the head of a loop: what any number of turns leaves, and the claims of a certificate. Turns give
-    /// touched variables other values within the limits, which stand by root number, and leave controls undefined.
+    /// What is known at the head of a loop: what any number of turns leaves, and the claims of a certificate. Turns
+    /// give touched variables other values within the limits, which stand by root number, and leave controls undefined.
     pub fn head(
         &mut self,
         limits: &[Interval],

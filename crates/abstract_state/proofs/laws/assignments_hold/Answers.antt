@@ -1,6 +1,6 @@
-use Rattle.std.proofs.Common.{◌≡◌, ap, subst, ℕ, [], Option}
+use Rattle.std.proofs.Common.{◌≡◌, ap, subst, [], Option}
 use Rattle.std.specs.Option.{unwrap_or}
-use Rattle.meaning.specs.Store.{Place, Store, written}
+use Rattle.meaning.specs.Store.{Place, written}
 use Rattle.abstract_state.specs.Changes.{assigned}
 use Rattle.abstract_state.specs.Knows.{Knows}
 use Rattle.abstract_state.proofs.Changed.{assigned-known}

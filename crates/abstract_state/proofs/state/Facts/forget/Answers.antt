@@ -1,4 +1,4 @@
-use Rattle.std.proofs.Common.{arith, ◌≡◌, ◌∙◌, sym, ap, refl, false, length, ◌<◌}
+use Rattle.std.proofs.Common.{arith, ◌∙◌, sym, ap, refl, false, length, ◌<◌}
 use Rattle.std.proofs.lemmas.List.{get_or_default}
 use Rattle.abstract_state.specs.declared.state.Row.{Row}
 use Rattle.abstract_state.proofs.Kept.{forgotten-kept, not-forgotten_kept}
