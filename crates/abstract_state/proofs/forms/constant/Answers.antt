@@ -1,0 +1,5 @@
+use Rattle.abstract_state.proofs.Chained.{chain-constant}
+use Rattle.abstract_state.proofs.forms.constant.Goals as goal
+
+pub returns-in-Chain : goal.returns-in-Chain
+returns-in-Chain c = chain-constant c.args.expression.now c.in-Chain.first c.in-Chain.rest c.in-Chain.is

@@ -1,0 +1,5 @@
+use Rattle.abstract_state.proofs.Chained.{chain-literal}
+use Rattle.abstract_state.proofs.forms.literal.Goals as goal
+
+pub returns-in-Chain : goal.returns-in-Chain
+returns-in-Chain c = chain-literal c.args.expression.now c.in-Chain.first c.in-Chain.rest c.in-Chain.is
