@@ -1,6 +1,6 @@
 use Rattle.std.proofs.Common.{◌+◌, ◌-◌, arith, sym, ◌∙◌, length, take, drop}
 use Rattle.std.proofs.lemmas.Grind.{common_steps}
-use Rattle.certificate.proofs.Lines.{lines-found, lines-not_found}
+use Rattle.certificate.proofs.TextLines.{lines-found, lines-not_found}
 use Rattle.certificate.proofs.reader.next_line.Goals as goal
 
 pub returns-in-None : goal.returns-in-None
