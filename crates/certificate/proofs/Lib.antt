@@ -1,2 +1,5 @@
+pub mod LastChanged
 pub mod Numbers
+pub mod Numerals
+pub mod Spelled
 pub mod TextLines

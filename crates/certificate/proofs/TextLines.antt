@@ -5,7 +5,7 @@ use Rattle.std.specs.Bool.{if◌then◌else◌}
 use Rattle.std.specs.List.{position, position_or_len}
 use Rattle.std.specs.Result.{result_err}
 use Rattle.std.proofs.Common.{Result, Ok, Err, codes}
-use Rattle.certificate.specs.Text.{Line, lines, with_front, fault_of_lines, first_fault, fault_from, spelling, or_else, line_fault}
+use Rattle.certificate.specs.Text.{Line, lines, with_front}
 use Rattle.certificate.specs.declared.Certificate.{Certificate}
 use Rattle.certificate.specs.declared.Version.{Version}
 use Rattle.certificate.specs.declared.Version.TheVariants.{One}

@@ -22,23 +22,18 @@ in_last change (one ∷ next ∷ more) = one ∷ in_last change (next ∷ more)
 abbrev pub in_loop : Claim → LoopClaims → LoopClaims
 in_loop (Change root) claims = record claims { changes = claims.changes ++ root ∷ [] }
 in_loop (Fact fact) claims = record claims { facts = claims.facts ++ fact ∷ [] }
-in_loop (Block number) claims = claims
-in_loop (Loop number) claims = claims
+in_loop claim claims = claims
 
 -- a section with one more: of its last loop, or of a new one
 abbrev pub in_section : Claim → Section → Section
 in_section (Loop number) section =
     record section { loops = section.loops ++ record { number = number; changes = []; facts = [] } ∷ [] }
-in_section (Change root) section = record section { loops = in_last (in_loop (Change root)) section.loops }
-in_section (Fact fact) section = record section { loops = in_last (in_loop (Fact fact)) section.loops }
-in_section (Block number) section = section
+in_section claim section = record section { loops = in_last (in_loop claim) section.loops }
 
 -- sections with one more claim: of the last section, or of a new one
 abbrev pub added : Claim → List Section → List Section
 added (Block number) sections = sections ++ record { block = number; loops = [] } ∷ []
-added (Loop number) sections = in_last (in_section (Loop number)) sections
-added (Change root) sections = in_last (in_section (Change root)) sections
-added (Fact fact) sections = in_last (in_section (Fact fact)) sections
+added claim sections = in_last (in_section claim) sections
 
 -- sections with more claims
 abbrev pub built : List Section → List Claim → List Section

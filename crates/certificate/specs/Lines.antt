@@ -23,10 +23,10 @@ variable root = codes "v" ++ decimal root
 -- the words of a fact: numbers are decimal, and one blank parts two words
 abbrev pub fact_words : VariableFact → List ℕ
 fact_words (Range root range) =
-    codes "range " ++ variable root ++ 32 ∷ signed_decimal range.first ++ 32 ∷ signed_decimal range.last
+    codes "range " ++ variable root ++ 32 ∷ (signed_decimal range.first ++ 32 ∷ signed_decimal range.last)
 fact_words (Defined root) = codes "defined " ++ variable root
 fact_words (Order root other number) =
-    codes "order " ++ variable root ++ 32 ∷ variable other ++ 32 ∷ signed_decimal number
+    codes "order " ++ variable root ++ 32 ∷ (variable other ++ 32 ∷ signed_decimal number)
 
 -- the line that says something, without its line end
 abbrev pub line_of : Claim → List ℕ

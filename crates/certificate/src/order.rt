@@ -1,6 +1,6 @@
 ghost use Rattle.std.specs.Prelude.{◌≡◌};
 ghost use Rattle.certificate.specs.Contents.{comes_behind, subjects};
-ghost use Rattle.certificate.specs.Text.{admits, below, nothing};
+ghost use Rattle.certificate.specs.Text.{admits, below};
 ghost use Rattle.std.specs.Ordering.{nat_cmp};
 
 use crate::claim::Claim;
@@ -9,25 +9,13 @@ use domain::facts::Fact;
 /// What a line stands below: the last block, the last loop of it, and the last change and fact of that.
 #[derive(Clone, Copy)]
 pub(crate) struct Above {
-    block: Option<u32>,
-    loop_number: Option<u32>,
-    change: Option<u32>,
-    fact: Option<Fact>,
+    pub(crate) block: Option<u32>,
+    pub(crate) loop_number: Option<u32>,
+    pub(crate) change: Option<u32>,
+    pub(crate) fact: Option<Fact>,
 }
 
 impl Above {
-    /// Just below the heading of the text.
-    pub(crate) fn nothing() -> Above
-        ensures { result ≡ nothing }
-    {
-        Above {
-            block: None,
-            loop_number: None,
-            change: None,
-            fact: None,
-        }
-    }
-
     /// Whether a line that says this may stand here.
     pub(crate) fn admits(&self, claim: &Claim) -> bool
         ensures { result ≡ admits self.now claim.now }

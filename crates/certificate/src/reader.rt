@@ -62,7 +62,12 @@ fn sections(alloc: Global, below: &[u8]) -> Result<Vec<Section>, ReadFault>
     ensures { AreRead result (lines below.now) }
 {
     let mut sections = Vec::new(alloc);
-    let mut above = Above::nothing();
+    let mut above = Above {
+        block: None,
+        loop_number: None,
+        change: None,
+        fact: None,
+    };
     let mut number = 2;
     let mut rest = below;
     while let Some((line, more)) = next_line(rest) {
