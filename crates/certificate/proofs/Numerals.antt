@@ -104,7 +104,7 @@ when_ok (Some rest) read otherwise x e = inl (rest, refl, e)
 constant_from : (z : ℤ) → neg_ℤ (pos maxint) ≤ℤ z → z ≤ℤ pos maxint → is_constant z ≡ true
 constant_from z low high = grind (arith, ints)
 
-constant_is : (z : ℤ) → is_constant z ≡ true → (neg_ℤ (pos maxint) ≤ℤ z) × (z ≤ℤ pos maxint)
+pub constant_is : (z : ℤ) → is_constant z ≡ true → (neg_ℤ (pos maxint) ≤ℤ z) × (z ≤ℤ pos maxint)
 constant_is z fits =
     let parts = and_parts (int_le (neg_ℤ (pos maxint)) z) (int_le z (pos maxint)) fits in
     (grind (arith, ints, parts), grind (arith, ints, parts))

@@ -19,6 +19,7 @@ use Rattle.certificate.specs.declared.claim.Claim.{Claim}
 use Rattle.certificate.specs.declared.claim.Claim.TheVariants.{Block, Loop, Change, Fact}
 use Rattle.certificate.specs.declared.claim.LineFault.{LineFault}
 use Rattle.certificate.specs.declared.claim.LineFault.TheVariants.{NotInGrammar, OutOfRange}
+use Rattle.certificate.specs.Building.{is_claim}
 use Rattle.certificate.specs.Contents.{is_constant, is_fact, is_plain, is_small}
 use Rattle.certificate.specs.Lines.{◌>>=◌, at_most, behind, both, constant_of, fact_of, fact_words, line_of, most, number_of, order_fact, parted, parted_at, range_fact, range_of, reading, variable, variable_of, when}
 use Rattle.certificate.proofs.Numerals.{at_most-again, at_most-spelled, behind_some, bound_ok, constant_again, constant_spelled, ok_is, own, when_ok}
@@ -28,7 +29,7 @@ use Rattle.certificate.proofs.Numerals.{at_most-again, at_most-spelled, behind_s
 small_from : (n : ℕ) → n ≤ most → is_small n ≡ true
 small_from n h = grind (arith, nat_tests)
 
-small_is : (n : ℕ) → is_small n ≡ true → n ≤ most
+pub small_is : (n : ℕ) → is_small n ≡ true → n ≤ most
 small_is n h = grind (arith, nat_tests)
 
 number_spelled : (word : List ℕ) (n : ℕ) → number_of word ≡ Ok n → (word ≡ decimal n) × (is_small n ≡ true)
@@ -161,13 +162,6 @@ fact_spelled words fact e =
                 ]
           ]
     ]
-
--- the numbers of a claim are in range
-abbrev pub is_claim : Claim → Bool
-is_claim (Block number) = is_small number
-is_claim (Loop number) = is_small number
-is_claim (Change root) = is_small root
-is_claim (Fact fact) = is_fact fact
 
 line_behind : (word line rest rest_line : List ℕ) → behind word line ≡ Some rest → rest ≡ rest_line → line ≡ word ++ rest_line
 line_behind word line rest rest_line found is = behind_some word line rest found ∙ ap (λ more. word ++ more) is

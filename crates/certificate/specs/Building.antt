@@ -1,7 +1,8 @@
 -- How a reader of certificates comes from line to line: words of private functions alone. It does not say which texts
 -- are certificates.
-use Rattle.std.specs.Prelude.{◌≡◌, ◌≢◌, ℕ, true, List, [], ◌∷◌, ◌++◌, map, Option, Some, None, Result, Ok, Err}
+use Rattle.std.specs.Prelude.{◌≡◌, ◌≢◌, ℕ, Bool, true, List, [], ◌∷◌, ◌++◌, map, Option, Some, None, Result, Ok, Err}
 use Rattle.std.specs.Global.{Vec}
+use Rattle.std.specs.List.{list_all}
 use Rattle.certificate.specs.declared.Section.{Section as KeptSection}
 use Rattle.certificate.specs.declared.claim.Claim.{Claim}
 use Rattle.certificate.specs.declared.claim.Claim.TheVariants.{Block, Loop, Change, Fact}
@@ -9,7 +10,7 @@ use Rattle.certificate.specs.declared.order.Above.{Above}
 use Rattle.certificate.specs.declared.fault.ReadFault.{ReadFault}
 use Rattle.certificate.specs.declared.fault.ReadFault.TheVariants.{Memory}
 use Rattle.certificate.specs.Lines.{line_of, reading}
-use Rattle.certificate.specs.Contents.{LoopClaims, Section, section_of}
+use Rattle.certificate.specs.Contents.{LoopClaims, Section, is_fact, is_small, section_of}
 use Rattle.certificate.specs.Text.{Line, fault_from, line_fault, lines, nothing}
 
 -- a list whose last element is changed
@@ -44,6 +45,13 @@ built sections (claim ∷ more) = built (added claim sections) more
 abbrev pub said_line : Claim → Line
 said_line claim = record { bytes = line_of claim; ended = true }
 
+-- the numbers of a claim are in range
+abbrev pub is_claim : Claim → Bool
+is_claim (Block number) = is_small number
+is_claim (Loop number) = is_small number
+is_claim (Change root) = is_small root
+is_claim (Fact fact) = is_fact fact
+
 -- what a line says, if it has no fault, or its fault
 abbrev pub IsClaimAt : Result Claim ReadFault → ℕ → Above → Line → List Line → Type 0
 IsClaimAt (Ok claim) number above line more =
@@ -54,5 +62,5 @@ IsClaimAt (Err fault) number above line more = line_fault number above line more
 abbrev pub AreRead : Result (Vec KeptSection) ReadFault → List Line → Type 0
 AreRead (Ok sections) below =
     (fault_from 2 nothing below ≡ None)
-    × (claims : List Claim) × (below ≡ map said_line claims) × (map section_of sections.items ≡ built [] claims)
+    × (claims : List Claim) × (list_all is_claim claims ≡ true) × (below ≡ map said_line claims) × (map section_of sections.items ≡ built [] claims)
 AreRead (Err fault) below = fault ≢ Memory → fault_from 2 nothing below ≡ Some fault
