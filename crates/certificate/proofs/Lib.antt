@@ -1,4 +1,5 @@
 pub mod Again
+pub mod Faults
 pub mod InOrder
 pub mod LastChanged
 pub mod Nested

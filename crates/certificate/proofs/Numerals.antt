@@ -68,7 +68,7 @@ list_first : (word : List ℕ) → 0 < length word → list_all is_ascii_digit w
 list_first [] some digits above = absurd (omega arith)
 list_first (first ∷ more) some digits above = rw (ne_eqb first 48 (λ same. absurd (omega (arith, same, above)))) digits
 
-decimal-is_number : (n : ℕ) → n < 2 ^ 64 → is_number (decimal n) ≡ true
+pub decimal-is_number : (n : ℕ) → n < 2 ^ 64 → is_number (decimal n) ≡ true
 decimal-is_number zero small = rw (decimal_digit 0 (omega arith)) refl
 decimal-is_number (suc n) small =
     list_first (decimal (suc n)) (decimal_nonempty (suc n) small) (digits_decimal own (suc n) small) (first_decimal (suc n) (omega arith) small)
