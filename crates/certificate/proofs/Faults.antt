@@ -96,7 +96,8 @@ same_claims (claim ∷ a) [] fits others same = absurd cc
 same_claims (claim ∷ a) (other ∷ b) fits others same =
     let parts = and_parts (is_claim claim) (list_all is_claim a) fits in
     let other_parts = and_parts (is_claim other) (list_all is_claim b) others in
-    let lines_same : line_of claim ≡ line_of other = cc in
+    let heads : said_line claim ≡ said_line other = cc in
+    let lines_same : line_of claim ≡ line_of other = ap (λ (line : Line). line.bytes) heads in
     let read_same = sym (line_again claim parts.0) ∙ ap reading lines_same ∙ line_again other other_parts.0 in
     let rest = same_claims a b parts.1 other_parts.1 cc in
     ap (λ c. c ∷ a) (ok_is claim other read_same) ∙ ap (λ more. other ∷ more) rest

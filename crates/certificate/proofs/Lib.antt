@@ -5,5 +5,6 @@ pub mod LastChanged
 pub mod Nested
 pub mod Numbers
 pub mod Numerals
+pub mod Reading
 pub mod Spelled
 pub mod TextLines

@@ -16,7 +16,7 @@ use Rattle.certificate.proofs.InOrder.{has_line, orderly}
 
 -- ---- claims one after another
 
-built-append : (sections : List Section) (front back : List Claim) → built sections (front ++ back) ≡ built (built sections front) back
+pub built-append : (sections : List Section) (front back : List Claim) → built sections (front ++ back) ≡ built (built sections front) back
 built-append sections [] back = refl
 built-append sections (claim ∷ front) back = built-append (added claim sections) front back
 
@@ -157,9 +157,9 @@ no_claims above (Fact fact ∷ more) outside is =
 no_loops : (claims : List Claim) → orderly nothing claims ≡ true → (parts_of claims).loops ≡ []
 no_loops [] is = refl
 no_loops (Block number ∷ more) is = refl
-no_loops (Loop number ∷ more) is = absurd cc
-no_loops (Change root ∷ more) is = absurd cc
-no_loops (Fact fact ∷ more) is = absurd cc
+no_loops (Loop number ∷ more) is = let never : false ≡ true = (orderly_parts nothing (Loop number) more is).0 in absurd cc
+no_loops (Change root ∷ more) is = let never : false ≡ true = (orderly_parts nothing (Change root) more is).0 in absurd cc
+no_loops (Fact fact ∷ more) is = let never : false ≡ true = (orderly_parts nothing (Fact fact) more is).0 in absurd cc
 
 four_parts : (a b c d : List Claim) → ((a ++ b) ++ c) ++ d ≡ a ++ (b ++ (c ++ d))
 four_parts a b c d = append_assoc (a ++ b) c d ∙ append_assoc a b (c ++ d)

@@ -1,4 +1,4 @@
-ghost use Rattle.std.specs.Prelude.{◌≡◌, ◌≢◌, ◌==◌, IsTrue, List, [], ◌∷◌, IfOk, MatchOption, position};
+ghost use Rattle.std.specs.Prelude.{◌≡◌, ◌≢◌, ◌==◌, ◌<◌, IsTrue, List, [], ◌∷◌, IfOk, length, MatchOption, position};
 ghost use Rattle.std.specs.Result.{result_err};
 ghost use Rattle.certificate.specs.Building.{AreRead, IsClaimAt};
 ghost use Rattle.certificate.specs.Contents.{IsReadAs, Section as Said, Spells, are_in_order, spelling};
@@ -134,7 +134,8 @@ fn is_heading(word: &[u8], line: Line<'_>) -> bool
 /// The first line of a text, and what follows it.
 fn next_line(text: &[u8]) -> Option<(Line<'_>, &[u8])>
     ensures { MatchOption result (lines text.now ≡ [])
-        (λ r. lines text.now ≡ record { bytes = r.0.bytes.now; ended = r.0.ended } ∷ lines r.1.now) }
+        (λ r. (lines text.now ≡ record { bytes = r.0.bytes.now; ended = r.0.ended } ∷ lines r.1.now)
+        × (length r.1.now < length text.now)) }
 {
     if text.is_empty() {
         return None;
