@@ -8,3 +8,4 @@ pub mod Numerals
 pub mod Reading
 pub mod Spelled
 pub mod TextLines
+pub mod Whole

@@ -49,7 +49,7 @@ lines-unended (byte ∷ next ∷ more) some none =
     front-unended (byte == 10) byte (position_or_len ends (next ∷ more)) (next ∷ more) (lines-unended (next ∷ more) (omega arith)) none
 
 -- the text that has the lines
-abbrev unlines : List Line → List ℕ
+abbrev pub unlines : List Line → List ℕ
 unlines [] = []
 unlines (line ∷ more) = line.bytes ++ cond line.ended (10 ∷ unlines more) (unlines more)
 
@@ -62,7 +62,7 @@ unlines-step byte more true is more_is = grind (arith, common_steps)
 unlines-step byte more false is more_is = unlines-front byte (lines more) ∙ ap (λ rest. byte ∷ rest) more_is
 
 -- lines part a text and lose nothing
-unlines-lines : (text : List ℕ) → unlines (lines text) ≡ text
+pub unlines-lines : (text : List ℕ) → unlines (lines text) ≡ text
 unlines-lines [] = refl
 unlines-lines (byte ∷ more) = unlines-step byte more (byte == 10) refl (unlines-lines more)
 
