@@ -1,24 +1,22 @@
 -- The line that says something is read again.
-use Rattle.std.proofs.Common.{rules, ◌≡◌, ℕ, suc, zero, ◌+◌, ◌-◌, ◌^◌, ◌<◌, ◌≤◌, ℤ, pos, negsuc, ◌≤ℤ◌, neg_ℤ, Bool, true, false, cond, not, ◌&&◌, ◌||◌, nat_eq, nat_lt, nat_le, int_le, int_lt, ◌==◌, List, [], ◌∷◌, ◌++◌, length, take, drop, get_or, Option, Some, None, Result, Ok, Err, refl, sym, ap, subst, ◌∙◌, arith, decimal, codes}
-use Rattle.std.specs.Bool.{if◌then◌else◌}
+use Rattle.std.proofs.Common.{◌≡◌, ℕ, suc, ◌^◌, ◌<◌, ℤ, pos, negsuc, Bool, true, false, ◌&&◌, ◌||◌, nat_lt, int_le, int_lt, ◌==◌, List, [], ◌∷◌, ◌++◌, length, drop, Some, Ok, refl, ap, ◌∙◌, arith, decimal}
 use Rattle.std.specs.List.{list_all, position, position_or_len}
 use Rattle.std.specs.Char.{is_ascii_digit}
 use Rattle.std.specs.Ordering.{int_eq}
 use Rattle.std.specs.Fmt.{signed_decimal}
-use Rattle.std.proofs.lemmas.Bool.{and_from, and_parts, lt-ltb, ne_eqb}
+use Rattle.std.proofs.lemmas.Bool.{and_from, and_parts, lt-ltb}
 use Rattle.std.proofs.lemmas.Bool.Decides.{nat_tests}
 use Rattle.std.proofs.lemmas.Fmt.{digits_decimal}
 use Rattle.std.proofs.lemmas.Int.{ints}
-use Rattle.std.proofs.lemmas.List.{drop_at, length-append, take_at}
-use Rattle.domain.specs.Interval.{Interval, between}
+use Rattle.std.proofs.lemmas.List.{length-append, take_at}
+use Rattle.domain.specs.Interval.{Interval}
 use Rattle.domain.specs.declared.facts.Fact.{Fact as VariableFact}
 use Rattle.domain.specs.declared.facts.Fact.TheVariants.{Range, Defined, Order}
 use Rattle.certificate.specs.declared.claim.Claim.{Claim}
 use Rattle.certificate.specs.declared.claim.Claim.TheVariants.{Block, Loop, Change, Fact}
-use Rattle.certificate.specs.declared.claim.LineFault.{LineFault}
 use Rattle.certificate.specs.Contents.{is_constant, is_fact, is_plain, is_small}
-use Rattle.certificate.specs.Lines.{◌>>=◌, both, constant_of, fact_of, fact_words, line_of, maxint, most, number_of, order_fact, parted, parted_at, range_fact, range_of, reading, variable, variable_of}
-use Rattle.certificate.specs.Text.{Line, lines, with_front}
+use Rattle.certificate.specs.Lines.{fact_of, fact_words, line_of, most, number_of, order_fact, parted, parted_at, range_fact, range_of, reading, variable, variable_of}
+use Rattle.certificate.specs.Text.{lines}
 use Rattle.certificate.specs.Building.{is_claim, said_line}
 use Rattle.certificate.proofs.Numerals.{at_most-again, constant_again, constant_is, own}
 use Rattle.certificate.proofs.Spelled.{small_is}
@@ -108,18 +106,26 @@ range_fact_again root range fits =
     let small = and_parts (is_small root) _ fits in
     let low = and_parts (is_constant range.first) _ small.1 in
     let high = and_parts (is_constant range.last) (is_plain range) low.1 in
-    rw (parted_again (variable root) (signed_decimal range.first ++ 32 ∷ signed_decimal range.last) (variable_above 32 root (omega arith) small.0),
-        parted_again (signed_decimal range.first) (signed_decimal range.last) (constant_above 32 range.first (omega arith) low.0),
-        number_again root small.0, constant_again range.first low.0, constant_again range.last high.0)
+    rw (
+      parted_again (variable root) (signed_decimal range.first ++ 32 ∷ signed_decimal range.last) (variable_above 32 root (omega arith) small.0),
+      parted_again (signed_decimal range.first) (signed_decimal range.last) (constant_above 32 range.first (omega arith) low.0),
+      number_again root small.0,
+      constant_again range.first low.0,
+      constant_again range.last high.0,
+    )
     (range_again root range.first range.last _ _ _ refl refl refl high.1)
 
 order_fact_again : (root other : ℕ) (number : ℤ) → is_fact (Order root other number) ≡ true → order_fact (variable root ++ 32 ∷ (variable other ++ 32 ∷ signed_decimal number)) ≡ Ok (Order root other number)
 order_fact_again root other number fits =
     let small = and_parts (is_small root) _ fits in
     let bound = and_parts (is_small other) (is_constant number) small.1 in
-    rw (parted_again (variable root) (variable other ++ 32 ∷ signed_decimal number) (variable_above 32 root (omega arith) small.0),
-        parted_again (variable other) (signed_decimal number) (variable_above 32 other (omega arith) bound.0),
-        number_again root small.0, number_again other bound.0, constant_again number bound.1) refl
+    rw (
+      parted_again (variable root) (variable other ++ 32 ∷ signed_decimal number) (variable_above 32 root (omega arith) small.0),
+      parted_again (variable other) (signed_decimal number) (variable_above 32 other (omega arith) bound.0),
+      number_again root small.0,
+      number_again other bound.0,
+      constant_again number bound.1,
+    ) refl
 
 fact_again : (fact : VariableFact) → is_fact fact ≡ true → fact_of (fact_words fact) ≡ Ok fact
 fact_again (Range root range) fits = range_fact_again root range fits

@@ -1,5 +1,5 @@
 -- The lines of claims have no fault exactly where the claims may stand so.
-use Rattle.std.proofs.Common.{rules, ◌≡◌, ℕ, suc, ◌+◌, ◌^◌, ◌≤◌, Bool, true, false, not, ◌&&◌, List, [], ◌∷◌, ◌++◌, map, Option, Some, None, Result, Ok, Err, refl, sym, ap, subst, ◌∙◌, arith, decimal, codes, append_assoc}
+use Rattle.std.proofs.Common.{◌≡◌, ℕ, suc, Bool, true, false, ◌&&◌, List, [], ◌∷◌, map, Option, Some, None, refl, sym, ap, ◌∙◌, arith, decimal, append_assoc}
 use Rattle.std.specs.Bool.{if◌then◌else◌}
 use Rattle.std.specs.List.{flat_map, list_all}
 use Rattle.std.proofs.lemmas.Bool.{and_from, and_parts}
@@ -11,7 +11,7 @@ use Rattle.certificate.specs.declared.fault.ReadFault.TheVariants.{OutOfOrder}
 use Rattle.certificate.specs.Building.{is_claim, said_line}
 use Rattle.certificate.specs.Contents.{ended, is_small}
 use Rattle.certificate.specs.Lines.{is_number, line_of, reading}
-use Rattle.certificate.specs.Text.{Line, admits, below, claim_fault, fault_from, has_below, line_fault, lines, or_else}
+use Rattle.certificate.specs.Text.{Line, admits, below, fault_from, has_below, lines, or_else}
 use Rattle.certificate.proofs.Again.{line_again, line_at}
 use Rattle.certificate.proofs.InOrder.{has_line, orderly}
 use Rattle.certificate.proofs.Numerals.{decimal-is_number, ok_is}

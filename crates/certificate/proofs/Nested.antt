@@ -1,5 +1,5 @@
 -- Claims in order are those of sections, and adding them one after another builds these sections.
-use Rattle.std.proofs.Common.{◌≡◌, ℕ, Bool, true, false, not, ◌&&◌, List, [], ◌∷◌, ◌++◌, map, Option, Some, None, refl, sym, ap, ◌∙◌, append_assoc}
+use Rattle.std.proofs.Common.{◌≡◌, ℕ, true, false, ◌&&◌, List, [], ◌∷◌, ◌++◌, map, Option, Some, None, refl, sym, ap, ◌∙◌, append_assoc}
 use Rattle.std.specs.List.{flat_map}
 use Rattle.std.specs.Option.{is_none, is_some}
 use Rattle.std.specs.Ordering.{nat_cmp}
@@ -10,7 +10,7 @@ use Rattle.certificate.specs.declared.claim.Claim.{Claim}
 use Rattle.certificate.specs.declared.claim.Claim.TheVariants.{Block, Loop, Change, Fact}
 use Rattle.certificate.specs.declared.order.Above.{Above}
 use Rattle.certificate.specs.Building.{added, built, in_last, in_loop, in_section, is_claim}
-use Rattle.certificate.specs.Contents.{LoopClaims, Section, claims_of, claims_of_loop, claims_of_section, comes_behind, subjects}
+use Rattle.certificate.specs.Contents.{LoopClaims, Section, claims_of, claims_of_loop, comes_behind, subjects}
 use Rattle.certificate.specs.Text.{admits, below, nothing}
 use Rattle.certificate.proofs.InOrder.{has_line, orderly}
 
@@ -196,8 +196,10 @@ said_again above (Fact fact ∷ more) is =
 pub claims_again : (claims : List Claim) → orderly nothing claims ≡ true → (sections : List Section) × (claims ≡ claims_of sections)
 claims_again claims is =
     let parts = parts_of claims in
-    let outside = no_claims nothing claims refl is in
-    (parts.sections, said_again nothing claims is
-    ∙ ap (λ (c : List ℕ). map Change c ++ (map Fact parts.facts ++ (flat_map claims_of_loop parts.loops ++ claims_of parts.sections))) outside.0
-    ∙ ap (λ (f : List VariableFact). map Fact f ++ (flat_map claims_of_loop parts.loops ++ claims_of parts.sections)) outside.1
-    ∙ ap (λ (l : List LoopClaims). flat_map claims_of_loop l ++ claims_of parts.sections) (no_loops claims is))
+    let outside = no_claims nothing claims refl is in (
+      parts.sections,
+      said_again nothing claims is
+          ∙ ap (λ (c : List ℕ). map Change c ++ (map Fact parts.facts ++ (flat_map claims_of_loop parts.loops ++ claims_of parts.sections))) outside.0
+          ∙ ap (λ (f : List VariableFact). map Fact f ++ (flat_map claims_of_loop parts.loops ++ claims_of parts.sections)) outside.1
+          ∙ ap (λ (l : List LoopClaims). flat_map claims_of_loop l ++ claims_of parts.sections) (no_loops claims is),
+    )

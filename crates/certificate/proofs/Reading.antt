@@ -1,6 +1,6 @@
 -- The reader's way from line to line, and the whole text.
-use Rattle.std.proofs.Common.{rules, ◌≡◌, ◌≢◌, ℕ, suc, ◌+◌, Bool, true, false, List, [], ◌∷◌, ◌++◌, map, Option, Some, None, Result, Ok, Err, refl, sym, ap, ◌∙◌, append_assoc, arith}
-use Rattle.std.specs.List.{flat_map, list_all}
+use Rattle.std.proofs.Common.{◌≡◌, ℕ, suc, ◌+◌, Bool, true, List, [], ◌∷◌, ◌++◌, map, Some, None, Ok, refl, sym, ap, ◌∙◌, arith}
+use Rattle.std.specs.List.{list_all}
 use Rattle.std.proofs.lemmas.Bool.{and_from, and_parts}
 use Rattle.std.proofs.lemmas.List.{append-nil}
 use Rattle.certificate.specs.declared.claim.Claim.{Claim}
@@ -51,12 +51,12 @@ so_far-next all more sections new above number rest line claim so_far rest_is no
   claims = so_far.claims ++ claim ∷ [];
   fits = all_snoc so_far.claims claim so_far.fits (line_spelled line.bytes claim is).1;
   lines_are = so_far.lines_are ∙ ap (λ lines. map said_line so_far.claims ++ lines) (rest_is ∙ ap (λ l. l ∷ more) (is_said line claim is at_end))
-    ∙ map_snoc so_far.claims claim more;
+      ∙ map_snoc so_far.claims claim more;
   built_is = new_is ∙ ap (added claim) so_far.built_is ∙ sym (built-append [] so_far.claims (claim ∷ []));
   fault_is = so_far.fault_is ∙ ap (fault_from number above) rest_is
-    ∙ ap (λ fault. or_else fault (fault_from (suc number) (below_line above (reading line.bytes)) more)) none
-    ∙ ap (λ said. fault_from (suc number) (below_line above said) more) is
-    ∙ ap (λ n. fault_from n (below above claim) more) (one_more number);
+      ∙ ap (λ fault. or_else fault (fault_from (suc number) (below_line above (reading line.bytes)) more)) none
+      ∙ ap (λ said. fault_from (suc number) (below_line above said) more) is
+      ∙ ap (λ n. fault_from n (below above claim) more) (one_more number);
 }
 
 pub so_far-fault : (all more : List Line) (sections : List Section) (above : Above) (number : ℕ) (rest : List Line) (line : Line) (fault : ReadFault)
@@ -69,6 +69,10 @@ so_far-fault all more sections above number rest line fault so_far rest_is is =
 pub so_far-ends : (all rest : List Line) (sections : List Section) (above : Above) (number : ℕ) → SoFar all sections above number rest → rest ≡ []
     → (fault_from 2 nothing all ≡ None)
     × (claims : List Claim) × (list_all is_claim claims ≡ true) × (all ≡ map said_line claims) × (sections ≡ built [] claims)
-so_far-ends all rest sections above number so_far rest_is =
-    (so_far.fault_is ∙ ap (fault_from number above) rest_is, so_far.claims, so_far.fits,
-    so_far.lines_are ∙ ap (λ lines. map said_line so_far.claims ++ lines) rest_is ∙ append-nil (map said_line so_far.claims), so_far.built_is)
+so_far-ends all rest sections above number so_far rest_is = (
+  so_far.fault_is ∙ ap (fault_from number above) rest_is,
+  so_far.claims,
+  so_far.fits,
+  so_far.lines_are ∙ ap (λ lines. map said_line so_far.claims ++ lines) rest_is ∙ append-nil (map said_line so_far.claims),
+  so_far.built_is,
+)

@@ -1,17 +1,14 @@
 -- What a line says, and the line that says it.
-use Rattle.std.proofs.Common.{rules, ◌≡◌, ℕ, suc, zero, ◌+◌, ◌-◌, ◌^◌, ◌<◌, ◌≤◌, ℤ, pos, negsuc, ◌≤ℤ◌, Bool, true, false, cond, not, ◌&&◌, ◌||◌, nat_eq, nat_lt, nat_le, int_le, int_lt, ◌==◌, List, [], ◌∷◌, ◌++◌, length, take, drop, get_or, Option, Some, None, Result, Ok, Err, refl, sym, ap, subst, ◌∙◌, arith, ◌⊎◌, inl, inr, decimal, codes, append_assoc}
+use Rattle.std.proofs.Common.{◌≡◌, ℕ, suc, ◌+◌, ◌≤◌, ℤ, pos, Bool, true, false, not, ◌&&◌, int_le, int_lt, ◌==◌, List, ◌∷◌, ◌++◌, take, drop, get_or, Option, Some, None, Result, Ok, Err, refl, sym, ap, subst, ◌∙◌, arith, inl, inr, decimal, codes}
 use Rattle.std.specs.Bool.{if◌then◌else◌}
-use Rattle.std.specs.List.{list_all, position, position_or_len}
-use Rattle.std.specs.Char.{is_ascii_digit}
+use Rattle.std.specs.List.{position}
 use Rattle.std.specs.Ordering.{int_eq}
 use Rattle.std.specs.Fmt.{signed_decimal}
-use Rattle.std.proofs.lemmas.Bool.{and_from, and_parts, eqb-true, cases_lt}
+use Rattle.std.proofs.lemmas.Bool.{and_from, and_parts, eqb-true}
 use Rattle.std.proofs.lemmas.Bool.Decides.{nat_tests}
-use Rattle.std.proofs.lemmas.Fmt.{digits_decimal}
-use Rattle.std.proofs.lemmas.Grind.{common_steps}
 use Rattle.std.proofs.lemmas.Int.{ints}
 use Rattle.std.proofs.lemmas.List.Quantifiers.{position-Some}
-use Rattle.std.proofs.lemmas.List.{drop_at, drop_more, take_at, take-append-drop}
+use Rattle.std.proofs.lemmas.List.{drop_more, take-append-drop}
 use Rattle.domain.specs.Interval.{Interval, between}
 use Rattle.domain.specs.declared.facts.Fact.{Fact as VariableFact}
 use Rattle.domain.specs.declared.facts.Fact.TheVariants.{Range, Defined, Order}
@@ -21,8 +18,8 @@ use Rattle.certificate.specs.declared.claim.LineFault.{LineFault}
 use Rattle.certificate.specs.declared.claim.LineFault.TheVariants.{NotInGrammar, OutOfRange}
 use Rattle.certificate.specs.Building.{is_claim}
 use Rattle.certificate.specs.Contents.{is_constant, is_fact, is_plain, is_small}
-use Rattle.certificate.specs.Lines.{◌>>=◌, at_most, behind, both, constant_of, fact_of, fact_words, line_of, most, number_of, order_fact, parted, parted_at, range_fact, range_of, reading, variable, variable_of, when}
-use Rattle.certificate.proofs.Numerals.{at_most-again, at_most-spelled, behind_some, bound_ok, constant_again, constant_spelled, ok_is, own, when_ok}
+use Rattle.certificate.specs.Lines.{◌>>=◌, behind, both, constant_of, fact_of, fact_words, line_of, most, number_of, order_fact, parted, parted_at, range_fact, range_of, reading, variable, variable_of}
+use Rattle.certificate.proofs.Numerals.{at_most-spelled, behind_some, bound_ok, constant_spelled, ok_is, when_ok}
 
 -- ---- what is read is spelled so
 
@@ -219,4 +216,3 @@ line_spelled line claim e =
     ]
 
 -- ---- what is spelled so is read
-

@@ -3,17 +3,7 @@ use Rattle.std.proofs.lemmas.Grind.{common_steps}
 use Rattle.std.proofs.lemmas.Bool.Decides.{nat_tests}
 use Rattle.std.specs.Bool.{if◌then◌else◌}
 use Rattle.std.specs.List.{position, position_or_len}
-use Rattle.std.specs.Result.{result_err}
-use Rattle.std.proofs.Common.{Result, Ok, Err, codes}
 use Rattle.certificate.specs.Text.{Line, lines, with_front}
-use Rattle.certificate.specs.declared.Certificate.{Certificate}
-use Rattle.certificate.specs.declared.Version.{Version}
-use Rattle.certificate.specs.declared.Version.TheVariants.{One}
-use Rattle.certificate.specs.declared.fault.ReadFault.{ReadFault}
-use Rattle.certificate.specs.declared.fault.ReadFault.TheVariants.{FirstLine}
-use Rattle.std.specs.Str.{bytes_eq}
-use Rattle.std.proofs.lemmas.Slice.Eq.{bytes_eq-Decides}
-use Rattle.std.specs.Prelude.{◌↔◌}
 
 abbrev ends : ℕ → Bool
 ends byte = byte == 10
@@ -84,4 +74,3 @@ lines-found text rest end found rest_is =
 pub lines-not_found : (text rest : List ℕ) → 0 < length text → position ends text ≡ None → rest ≡ [] → lines text ≡ record { bytes = text; ended = false } ∷ lines rest
 lines-not_found text rest some none rest_is =
     lines-unended text some (position-none _ (length text) _ refl none) ∙ ap (λ more. record { bytes = text; ended = false } ∷ lines more) (sym rest_is)
-

@@ -1,16 +1,18 @@
 -- A text and the certificate that it spells.
-use Rattle.std.proofs.Common.{rules, ◌≡◌, ◌≢◌, ℕ, suc, ◌+◌, Bool, true, false, cond, List, [], ◌∷◌, ◌++◌, map, Option, Some, None, Result, Ok, Err, refl, sym, ap, ◌∙◌, append_assoc, arith, codes, IsTrue}
+use Rattle.std.proofs.Common.{◌≡◌, ◌≢◌, ℕ, Bool, true, false, List, [], ◌∷◌, ◌++◌, map, Option, Some, None, Result, Ok, Err, refl, sym, ap, ◌∙◌, append_assoc, codes}
 use Rattle.std.specs.Bool.{if◌then◌else◌}
 use Rattle.std.specs.List.{flat_map, list_all}
+use Rattle.std.specs.Result.{IsErrAnd}
 use Rattle.std.specs.Str.{bytes_eq}
 use Rattle.std.proofs.lemmas.Slice.Eq.{bytes_eq-Decides}
 use Rattle.certificate.specs.declared.claim.Claim.{Claim}
+use Rattle.certificate.specs.declared.Certificate.{Certificate}
 use Rattle.certificate.specs.declared.Version.{Version}
 use Rattle.certificate.specs.declared.Version.TheVariants.{One}
 use Rattle.certificate.specs.declared.fault.ReadFault.{ReadFault}
 use Rattle.certificate.specs.declared.fault.ReadFault.TheVariants as fault
 use Rattle.certificate.specs.Building.{built, is_claim, said_line}
-use Rattle.certificate.specs.Contents.{Section, are_in_order, claims_of, ended, heading, spelling}
+use Rattle.certificate.specs.Contents.{IsReadAs, Section, are_in_order, claims_of, ended, heading, spelling}
 use Rattle.certificate.specs.Lines.{line_of}
 use Rattle.certificate.specs.Text.{Line, fault_from, fault_of_lines, first_fault, heading_fault, lines, nothing, or_else}
 use Rattle.certificate.proofs.Faults.{faultless-orderly, lines_of_claims, orderly-faultless, orderly-fits, same_claims}
@@ -55,10 +57,11 @@ read_exactly text first below claims sections version text_is heading_is none fi
     let orders = faultless-orderly 2 nothing claims fits (ap (fault_from 2 nothing) (sym below_is) ∙ none) in
     let again = claims_again claims orders in
     let same : sections ≡ again.0 = built_is ∙ ap (built []) again.1 ∙ built_again again.0 in
-    let claims_are : claims ≡ claims_of sections = again.1 ∙ ap claims_of (sym same) in
-    (sym (in_order sections) ∙ ap (orderly nothing) (sym claims_are) ∙ orders,
-    text_spelled text first below claims version text_is heading_is below_is
-    ∙ ap (λ c. ended (heading version) ++ flat_map (λ claim. ended (line_of claim)) c) claims_are)
+    let claims_are : claims ≡ claims_of sections = again.1 ∙ ap claims_of (sym same) in (
+      sym (in_order sections) ∙ ap (orderly nothing) (sym claims_are) ∙ orders,
+      text_spelled text first below claims version text_is heading_is below_is
+          ∙ ap (λ c. ended (heading version) ++ flat_map (λ claim. ended (line_of claim)) c) claims_are,
+    )
 
 -- the lines of a spelling
 spelling_lines : (version : Version) (sections : List Section) → are_in_order sections ≡ true
@@ -100,3 +103,14 @@ read_only text first below claims sections others version text_is fits below_is 
     let rest : below ≡ map said_line (claims_of others) = cc in
     let same = same_claims claims (claims_of others) fits (orderly-fits nothing (claims_of others) told.0) (sym below_is ∙ rest) in
     built_is ∙ ap (built []) same ∙ built_again others
+
+-- a fault below a faultless heading is the text's first
+pub fault_below : (text : List ℕ) (first : Line) (below : List Line) (error : ReadFault) → lines text ≡ first ∷ below
+    → heading_fault first ≡ None → fault_from 2 nothing below ≡ Some error → Some error ≡ first_fault text
+fault_below text first below error text_is none is =
+    sym (ap fault_of_lines text_is ∙ ap (λ one. or_else one (fault_from 2 nothing below)) none ∙ is)
+
+pub error_only : (sections : List Section) (answer : Result Certificate ReadFault) (error : ReadFault) → IsErrAnd answer (λ given. given ≡ error)
+    → error ≡ fault.Memory → IsReadAs sections answer
+error_only sections (Ok certificate) error is only = absurd is
+error_only sections (Err given) error is only = is ∙ only

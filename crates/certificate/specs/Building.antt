@@ -1,6 +1,6 @@
 -- How a reader of certificates comes from line to line: words of private functions alone. It does not say which texts
 -- are certificates.
-use Rattle.std.specs.Prelude.{◌≡◌, ◌≢◌, ℕ, Bool, true, List, [], ◌∷◌, ◌++◌, map, Option, Some, None, Result, Ok, Err}
+use Rattle.std.specs.Prelude.{◌≡◌, ◌≢◌, ℕ, Bool, true, List, [], ◌∷◌, ◌++◌, map, Some, None, Result, Ok, Err}
 use Rattle.std.specs.Global.{Vec}
 use Rattle.std.specs.List.{list_all}
 use Rattle.certificate.specs.declared.Section.{Section as KeptSection}
@@ -11,7 +11,7 @@ use Rattle.certificate.specs.declared.fault.ReadFault.{ReadFault}
 use Rattle.certificate.specs.declared.fault.ReadFault.TheVariants.{Memory}
 use Rattle.certificate.specs.Lines.{line_of, reading}
 use Rattle.certificate.specs.Contents.{LoopClaims, Section, is_fact, is_small, section_of}
-use Rattle.certificate.specs.Text.{Line, fault_from, line_fault, lines, nothing}
+use Rattle.certificate.specs.Text.{Line, fault_from, line_fault, nothing}
 
 -- a list whose last element is changed
 abbrev pub in_last : {A : Type 0} → (A → A) → List A → List A

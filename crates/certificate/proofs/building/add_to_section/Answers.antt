@@ -1,4 +1,4 @@
-use Rattle.std.proofs.Common.{◌≡◌, ◌<◌, rules, arith, vec_len}
+use Rattle.std.proofs.Common.{◌<◌, rules, vec_len}
 use Rattle.std.proofs.lemmas.Result.{on_ok_weaker}
 use Rattle.certificate.specs.Building.{in_loop}
 use Rattle.certificate.specs.Contents.{loop_of, section_of}
