@@ -1,5 +1,5 @@
 -- The walk over a program links a state to each of its entries, once and in their order.
-use Rattle.std.proofs.Common.{arith, ◌+◌, ◌≡◌, ◌∙◌, sym, ap, ap₂, refl, ℕ, List, [], ◌∷◌, ◌++◌, Option, Some, None, length, map, append-nil}
+use Rattle.std.proofs.Common.{arith, ◌+◌, ◌≡◌, ◌∙◌, sym, ap, ap₂, refl, ℕ, true, false, List, [], ◌∷◌, ◌++◌, Option, Some, None, length, map, append-nil}
 use Rattle.std.proofs.lemmas.List.{map-append}
 use Rattle.std.specs.Prelude.{flat_map}
 use Rattle.typed_tree.specs.declared.tree.Monadic.{Monadic}
@@ -17,19 +17,19 @@ use Rattle.typed_tree.specs.declared.tree.Expr.TheOpen.Expr-F.{Constant, Variabl
 use Rattle.typed_tree.specs.declared.tree.Expr.TheFolds.{fold-Link, map-Expr, map-Link, fold-roll-Expr, fold-roll-Link, ind-Expr}
 use Rattle.typed_tree.specs.declared.tree.Stmt.{Stmt}
 use Rattle.typed_tree.specs.declared.tree.Stmt.TheOpen.{Stmt-F}
-use Rattle.typed_tree.specs.declared.tree.Stmt.TheOpen.Stmt-F.{Empty, Assign, Write, Compound}
+use Rattle.typed_tree.specs.declared.tree.Stmt.TheOpen.Stmt-F.{Empty, Assign, Write, Compound, If}
 use Rattle.typed_tree.specs.declared.tree.Stmt.TheFolds.{map-Stmt, fold-roll-Stmt, ind-Stmt}
 use Rattle.typed_tree.specs.declared.tree.Tree.{Tree}
 use Rattle.typed_tree.specs.declared.tree.Block.{Block}
 use Rattle.typed_tree.specs.Entries.{joined, expression_entries, link_entries, entries_of_expression, entries_of_width, entries_of_parameter, statement_entries, entries_of_statement, entries_of}
 use Rattle.certificate.specs.declared.Certificate.{Certificate}
-use Rattle.cert_checker.specs.declared.known.Known.{Known}
-use Rattle.cert_checker.specs.declared.known.Known.TheVariants.{Ordinal}
+use Rattle.abstract_state.specs.declared.known.Known.{Known}
+use Rattle.abstract_state.specs.declared.known.Known.TheVariants.{Ordinal}
 use Rattle.cert_checker.specs.declared.visits.Visits.{Visits}
 use Rattle.cert_checker.specs.Promise.{LinksEntries}
-use Rattle.cert_checker.specs.State.{State, Dead, start}
+use Rattle.abstract_state.specs.State.{State, Dead, start}
 use Rattle.cert_checker.specs.View.{all_counted, counted}
-use Rattle.cert_checker.specs.Walk.{Context, Linked, Walking, Combination, ◌>>=◌, numbers_of, operated, combined, width_test, fitting, assign, value_step, link_step, value_walk, link_walk, width_walk, parameter_walk, statement_step, statement_walk, in_turn, all_of, block_walk, program_walk}
+use Rattle.cert_checker.specs.Walk.{Context, Linked, Walking, Combination, ◌>>=◌, numbers_of, operated, combined, width_test, fitting, assign, value_step, link_step, value_walk, link_walk, width_walk, parameter_walk, statement_step, statement_walk, in_turn, where_so, all_of, block_walk, program_walk}
 
 -- a walk links states to these, in whatever context and from whatever state
 abbrev Enters : {A : Type 0} → Walking A → List ℕ → Type 0
@@ -176,6 +176,20 @@ statement-parts (Assign number becomes target fits value) context state =
 statement-parts (Write number name parameters ends_line) context state =
     ap (λ numbers. number ∷ numbers) (all-entered parameter_walk entries_of_parameter parameter-entered parameters.items context state)
 statement-parts (Compound number statements) context state = ap (λ numbers. number ∷ numbers) (statements-entered statements.items context state)
+statement-parts (If number condition consequence None) context state =
+    let first = value_walk condition context state in
+    let yes = statement_walk consequence.value.0 context (where_so true first.value first.after) in
+    ap (λ numbers. number ∷ numbers)
+    (and_then first.linked (yes.linked ++ []) _ _ (value-entered condition context state)
+    (and_then yes.linked [] _ _ (consequence.value.1 context (where_so true first.value first.after)) refl))
+statement-parts (If number condition consequence (Some alternative)) context state =
+    let first = value_walk condition context state in
+    let yes = statement_walk consequence.value.0 context (where_so true first.value first.after) in
+    let no = statement_walk alternative.value.0 context (where_so false first.value first.after) in
+    ap (λ numbers. number ∷ numbers)
+    (and_then first.linked (yes.linked ++ no.linked) _ _ (value-entered condition context state)
+    (and_then yes.linked no.linked _ _ (consequence.value.1 context (where_so true first.value first.after))
+    (alternative.value.1 context (where_so false first.value first.after))))
 
 statement-entered : (s : Stmt) → Enters (statement_walk s) (entries_of_statement s)
 statement-entered = ind-Stmt (λ s. Enters (statement_walk s) (entries_of_statement s))

@@ -1,10 +1,6 @@
 pub mod Among
-pub mod Apart
 pub mod Entered
 pub mod Held
-pub mod Knows
-pub mod Ranged
-pub mod Rows
 pub mod Sound
 pub mod SoundForms
 pub mod SoundOperations

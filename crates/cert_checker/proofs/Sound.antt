@@ -1,22 +1,27 @@
 -- The walk is sound: what a piece of a program does from a state that holds, the walk over that piece foretells.
-use Rattle.std.proofs.Common.{arith, ◌≡◌, ⊎_elim, ◌⊎◌, inl, inr, ◌∙◌, sym, refl, subst, ℕ, ◌<◌, Bool, true, false, ◌||◌, List, [], ◌∷◌, ◌++◌, Option, Some, None}
+use Rattle.std.proofs.Common.{arith, ◌≡◌, ⊎_elim, ◌⊎◌, inl, inr, ◌∙◌, sym, refl, subst, ℕ, ℤ, pos, ◌<◌, Bool, true, false, cond, ◌||◌, List, [], ◌∷◌, ◌++◌, Option, Some, None}
+use Rattle.std.proofs.lemmas.Int.{ints}
 use Rattle.std.specs.List.{Contains}
 use Rattle.std.proofs.lemmas.List.Elements.{Contains-append_left, Contains-append_right, Contains-push_cases}
-use Rattle.domain.specs.Interval.{Interval}
+use Rattle.domain.specs.Interval.{Interval, HasMember}
+use Rattle.domain.specs.Ranges.{without_zero_end-has}
 use Rattle.meaning.specs.declared.outcome.Ending.TheVariants.{Error}
 use Rattle.meaning.specs.declared.store.Value.{Value}
+use Rattle.meaning.specs.declared.store.Value.TheVariants.{Number}
+use Rattle.meaning.specs.Integers.{is_true}
+use Rattle.meaning.specs.Meaning.{is_so}
 use Rattle.meaning.specs.Store.{Environment, Place, Store, stored}
 use Rattle.meaning.specs.Effect as effect
 use Rattle.meaning.specs.Effect.{Action, Reply, Visit, and_then}
-use Rattle.cert_checker.specs.declared.known.Known.{Known}
-use Rattle.cert_checker.specs.declared.known.Known.TheVariants.{Ordinal}
-use Rattle.cert_checker.specs.State.{State, Dead, Live, is_dead, is_defined, range_of, with_defined}
+use Rattle.abstract_state.specs.declared.known.Known.{Known}
+use Rattle.abstract_state.specs.declared.known.Known.TheVariants.{Ordinal}
+use Rattle.abstract_state.specs.State.{State, Dead, Live, is_dead, is_defined, range_of, with_defined}
 use Rattle.cert_checker.specs.Walk as walk
 use Rattle.cert_checker.specs.Walk.{Breach, Context, Linked, Walked, Walking, followed, left_open}
-use Rattle.cert_checker.specs.Holds.{IsIn, StateHolds, Separate}
+use Rattle.abstract_state.specs.Holds.{IsIn, StateHolds, Separate}
 use Rattle.cert_checker.specs.Promise.{moment_of, visits_of}
-use Rattle.cert_checker.proofs.Ranged.{IsKnown}
-use Rattle.cert_checker.proofs.Knows.{Shows, Knows, place_of, at-place, known-holds, read-in, defined-stored, nonempty-known, used-known, assigned-known}
+use Rattle.abstract_state.proofs.Ranged.{IsKnown, common-in}
+use Rattle.abstract_state.proofs.Knows.{Shows, Knows, place_of, at-place, known-holds, read-in, defined-stored, nonempty-known, used-known, assigned-known, joined-known_one, joined-known_other}
 
 -- what is fixed for a program: the sites that the whole walk leaves open, how many sites and variables the program has,
 -- the states that the whole walk links, and the pairs of aliases of each block by its number
@@ -279,3 +284,60 @@ sound-assign world env shows root (Ordinal range) v within inside =
     (λ context state s unbroken part known.
     let assigned = assigned-known world.variables env shows state s.store root range v within known inside in
     record { errs = tt; new = nothing-new world s.visited; gives = (tt, assigned) })
+
+-- ---- branches
+
+-- a number that isn't true is the 0 of its range
+false-has : (range : Interval) (n : ℤ) → HasMember range n → is_true n ≡ false → IsIn (walk.of_truth false range) (Number n)
+false-has range n inside so = common-in range (record { first = pos 0; last = pos 0 }) (Number n) inside (grind (arith, ints), grind (arith, ints))
+
+-- a value that is true, or false, is among the numbers of its range that are
+truth-in-range : (b : Bool) (known : Known) (v : Value) (state : State) (variables : ℕ) (env : Environment) (store : Store) → IsKnown known v → is_so v ≡ b
+    → Knows variables env state store → Knows variables env (walk.where_so b known state) store
+truth-in-range true (Ordinal range) (Number n) state variables env store inside so known =
+    nonempty-known variables env (walk.of_truth true range) state store (Number n) (without_zero_end-has range n inside so) known
+truth-in-range false (Ordinal range) (Number n) state variables env store inside so known =
+    nonempty-known variables env (walk.of_truth false range) state store (Number n) (false-has range n inside so) known
+
+-- behind one of two ways the joined state holds
+good-one : (world : World) (env : Environment) (one other : Walked (Unit {0})) (before : List Visit) (reply : Reply (Unit {0}))
+    → Good {A = Unit {0}} {B = Unit {0}} world env Any_value one before reply
+    → Good {A = Unit {0}} {B = Unit {0}} world env Any_value (walk.either_of one other) before reply
+good-one world env one other before (effect.Gives done s) good =
+    record { errs = tt; new = good.new; gives = (tt, joined-known_one world.variables env one.after other.after s.store good.gives.1) }
+good-one world env one other before (effect.Stops e s) good = record { errs = good.errs; new = good.new; gives = tt }
+
+good-other : (world : World) (env : Environment) (one other : Walked (Unit {0})) (before : List Visit) (reply : Reply (Unit {0}))
+    → Good {A = Unit {0}} {B = Unit {0}} world env Any_value other before reply
+    → Good {A = Unit {0}} {B = Unit {0}} world env Any_value (walk.either_of one other) before reply
+good-other world env one other before (effect.Gives done s) good =
+    record { errs = tt; new = good.new; gives = (tt, joined-known_other world.variables env one.after other.after s.store good.gives.1) }
+good-other world env one other before (effect.Stops e s) good = record { errs = good.errs; new = good.new; gives = tt }
+
+-- the choice of a branch by a truth value
+sound-chosen : (world : World) (env : Environment) (one_action other_action : Action (Unit {0})) (consequence alternative : Walking (Unit {0})) (known : Known) (v : Value)
+    (b : Bool) → is_so v ≡ b → IsKnown known v
+    → Sound {A = Unit {0}} {B = Unit {0}} world env Any_value one_action consequence → Sound {A = Unit {0}} {B = Unit {0}} world env Any_value other_action alternative
+    → Sound {A = Unit {0}} {B = Unit {0}} world env Any_value (cond b one_action other_action) (walk.branches consequence alternative known)
+sound-chosen world env one_action other_action consequence alternative known v true so inside one other context state s unbroken part holds =
+    let first = consequence context (walk.where_so true known state) in
+    let second = alternative context (walk.where_so false known state) in
+    let own : IsPartOf world first = part-left world first second (record { ids = part.ids; linked = part.linked }) in
+    good-one world env first second s.visited (one_action s)
+    (one context (walk.where_so true known state) s (unbroken-left first.broken second.broken unbroken) own
+    (truth-in-range true known v state world.variables env s.store inside so holds))
+sound-chosen world env one_action other_action consequence alternative known v false so inside one other context state s unbroken part holds =
+    let first = consequence context (walk.where_so true known state) in
+    let second = alternative context (walk.where_so false known state) in
+    let own : IsPartOf world second = part-right world first second (record { ids = part.ids; linked = part.linked }) in
+    good-other world env first second s.visited (other_action s)
+    (other context (walk.where_so false known state) s (unbroken-right first.broken second.broken unbroken) own
+    (truth-in-range false known v state world.variables env s.store inside so holds))
+
+-- the branches of a conditional statement
+pub sound-branches : (world : World) (env : Environment) (one_action other_action : Action (Unit {0})) (consequence alternative : Walking (Unit {0})) (known : Known) (v : Value)
+    → IsKnown known v
+    → Sound {A = Unit {0}} {B = Unit {0}} world env Any_value one_action consequence → Sound {A = Unit {0}} {B = Unit {0}} world env Any_value other_action alternative
+    → Sound {A = Unit {0}} {B = Unit {0}} world env Any_value (cond (is_so v) one_action other_action) (walk.branches consequence alternative known)
+sound-branches world env one_action other_action consequence alternative known v inside one other =
+    sound-chosen world env one_action other_action consequence alternative known v (is_so v) refl inside one other

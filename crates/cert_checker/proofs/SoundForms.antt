@@ -1,5 +1,5 @@
 -- The walk over expressions, statements and programs is sound, form by form.
-use Rattle.std.proofs.Common.{◌≡◌, sym, subst, ℕ, Bool, true, false, ◌&&◌, nat_lt, List, [], ◌∷◌, map, Option, Some, None}
+use Rattle.std.proofs.Common.{◌≡◌, sym, subst, ℕ, Bool, true, false, cond, ◌&&◌, nat_lt, List, [], ◌∷◌, map, Option, Some, None}
 use Rattle.std.proofs.lemmas.Bool.{and_parts, ltb-true}
 use Rattle.typed_tree.specs.declared.tree.Access.{Access}
 use Rattle.typed_tree.specs.declared.tree.RangeTest.{RangeTest}
@@ -14,7 +14,7 @@ use Rattle.typed_tree.specs.declared.tree.Expr.TheViews.{roll-Expr, roll-Link}
 use Rattle.typed_tree.specs.declared.tree.Expr.TheFolds.{map-Expr, map-Link, fold-roll-Expr, fold-roll-Link, ind-Expr}
 use Rattle.typed_tree.specs.declared.tree.Stmt.{Stmt}
 use Rattle.typed_tree.specs.declared.tree.Stmt.TheOpen.{Stmt-F}
-use Rattle.typed_tree.specs.declared.tree.Stmt.TheOpen.Stmt-F.{Empty, Assign, Write, Compound}
+use Rattle.typed_tree.specs.declared.tree.Stmt.TheOpen.Stmt-F.{Empty, Assign, Write, Compound, If}
 use Rattle.typed_tree.specs.declared.tree.Stmt.TheViews.{roll-Stmt}
 use Rattle.typed_tree.specs.declared.tree.Stmt.TheFolds.{map-Stmt, fold-roll-Stmt, ind-Stmt}
 use Rattle.typed_tree.specs.WellFormed.{all_hold, is_well_formed_test, dyadic_is_well_formed, expr_is_well_formed, is_well_formed_expr, is_well_formed_link, is_well_formed_parameter, is_well_formed_stmt, is_well_formed_width, is_whole, link_is_well_formed, monadic_is_well_formed, stmt_is_well_formed}
@@ -24,14 +24,14 @@ use Rattle.meaning.specs.Store.{Environment}
 use Rattle.meaning.specs.Effect as effect
 use Rattle.meaning.specs.Effect.{is_in, is_positive, text_of}
 use Rattle.meaning.specs.Meaning as meaning
-use Rattle.meaning.specs.Meaning.{Evaluation, Execution, value_of, link_of, effect_of, parameter_of, width_of}
-use Rattle.cert_checker.specs.declared.known.Known.{Known}
-use Rattle.cert_checker.specs.declared.known.Known.TheVariants.{Ordinal}
+use Rattle.meaning.specs.Meaning.{Evaluation, Execution, is_so, value_of, link_of, effect_of, parameter_of, width_of}
+use Rattle.abstract_state.specs.declared.known.Known.{Known}
+use Rattle.abstract_state.specs.declared.known.Known.TheVariants.{Ordinal}
 use Rattle.cert_checker.specs.Walk as walk
 use Rattle.cert_checker.specs.Walk.{Walking, value_walk, link_walk, parameter_walk, width_walk, statement_walk}
-use Rattle.cert_checker.proofs.Ranged.{IsKnown, constant-in}
-use Rattle.cert_checker.proofs.Knows.{Shows}
-use Rattle.cert_checker.proofs.Sound.{World, Sound, Any_value, Passes, sound-then, sound-given, sound-written, sound-give, sound-enter, sound-use, sound-assign}
+use Rattle.abstract_state.proofs.Ranged.{IsKnown, constant-in}
+use Rattle.abstract_state.proofs.Knows.{Shows}
+use Rattle.cert_checker.proofs.Sound.{World, Sound, Any_value, Passes, sound-then, sound-given, sound-written, sound-give, sound-enter, sound-use, sound-assign, sound-branches}
 use Rattle.cert_checker.proofs.SoundOperations.{IsKnownOf, given-sound, operated-sound, combined-sound, positive-sound, fitting-sound}
 
 -- the walk over an action that gives no value is sound
@@ -272,6 +272,20 @@ module _ (world : World) (env : Environment) (shows : Shows world.variables env)
       (sound-then world env IsKnown Any_value (value_of value env) (tested-store target fits) (value_walk value) test
       (value-sound value two.1) (λ known v inside. store-sound target fits known v one.0 three.0 inside))
 
+  -- a conditional statement: the condition, and then one of its branches
+  choice-sound : (number : ℕ) (condition : Expr) (consequence alternative : effect.Action (Unit {0})) (true_walk false_walk : Walking (Unit {0}))
+      → well_expr condition ≡ true
+      → SoundAction world env consequence true_walk → SoundAction world env alternative false_walk
+      → SoundAction world env
+      (effect.◌>>=◌ (effect.enter number env) (λ done. effect.◌>>=◌ (value_of condition env) (λ v. cond (is_so v) consequence alternative)))
+      (walk.◌>>=◌ (walk.enter number) (λ done. walk.◌>>=◌ (value_walk condition) (walk.branches true_walk false_walk)))
+  choice-sound number condition consequence alternative true_walk false_walk well one other =
+      let chosen = λ (v : Value). cond (is_so v) consequence alternative in
+      entered-sound {A = Unit {0}} {B = Unit {0}} Any_value number (effect.◌>>=◌ (value_of condition env) chosen)
+      (walk.◌>>=◌ (value_walk condition) (walk.branches true_walk false_walk))
+      (sound-then world env IsKnown Any_value (value_of condition env) chosen (value_walk condition) (walk.branches true_walk false_walk)
+      (value-sound condition well) (λ known v inside. sound-branches world env consequence alternative true_walk false_walk known v inside one other))
+
   abbrev StmtLayer : Stmt-F Stmt → Type 0
   StmtLayer x =
       SoundStatement (stmt_is_well_formed world.variables world.sites (map-Stmt Stmt Bool well_stmt x))
@@ -292,6 +306,16 @@ module _ (world : World) (env : Environment) (shows : Shows world.variables env)
       let inner = map (λ (s : ProvedStmt). s.0) statements.items in
       entered-sound {A = Unit {0}} {B = Unit {0}} Any_value number (meaning.all_of (map effect_of inner) env) (walk.all_of (map statement_walk inner))
       (all-sound statements.items well)
+  statement-layer (If number condition consequence None) well =
+      let parts = and_parts (well_expr condition) (well_stmt consequence.value.0 && true) well in
+      let each = and_parts (well_stmt consequence.value.0) true parts.1 in
+      choice-sound number condition (effect_of consequence.value.0 env) (effect.give tt) (statement_walk consequence.value.0) (walk.give tt) parts.0
+      (consequence.value.1 each.0) (sound-give {A = Unit {0}} {B = Unit {0}} world env Any_value tt tt tt)
+  statement-layer (If number condition consequence (Some alternative)) well =
+      let parts = and_parts (well_expr condition) (well_stmt consequence.value.0 && well_stmt alternative.value.0) well in
+      let each = and_parts (well_stmt consequence.value.0) (well_stmt alternative.value.0) parts.1 in
+      choice-sound number condition (effect_of consequence.value.0 env) (effect_of alternative.value.0 env) (statement_walk consequence.value.0)
+      (statement_walk alternative.value.0) parts.0 (consequence.value.1 each.0) (alternative.value.1 each.1)
 
   along-statement : {a b : Bool} {execution executed : Execution} {walking walked : Walking (Unit {0})} → a ≡ b → execution ≡ executed → walking ≡ walked
       → SoundStatement b executed walked → SoundStatement a execution walking

@@ -17,13 +17,12 @@ use Rattle.meaning.specs.Store.{Environment}
 use Rattle.meaning.specs.Effect as effect
 use Rattle.meaning.specs.Effect.{is_in, is_positive}
 use Rattle.meaning.specs.Meaning as meaning
-use Rattle.cert_checker.specs.declared.known.Known.{Known}
-use Rattle.cert_checker.specs.declared.known.Known.TheVariants.{Ordinal}
-use Rattle.cert_checker.specs.State.{integer}
+use Rattle.abstract_state.specs.declared.known.Known.{Known}
+use Rattle.abstract_state.specs.declared.known.Known.TheVariants.{Ordinal}
+use Rattle.abstract_state.specs.State.{integer, limits_of}
 use Rattle.cert_checker.specs.Walk as walk
-use Rattle.cert_checker.specs.Walk.{limits_of}
-use Rattle.cert_checker.specs.Holds.{IsIn}
-use Rattle.cert_checker.proofs.Ranged.{IsKnown, truth-in, truth_values-has, is_within-has, has-is_within, is_in-limits, limits-is_in, included-in, common-in, first-positive, is-positive, without-zero}
+use Rattle.abstract_state.specs.Holds.{IsIn}
+use Rattle.abstract_state.proofs.Ranged.{IsKnown, truth-in, truth_values-has, is_within-has, has-is_within, is_in-limits, limits-is_in, included-in, common-in, first-positive, is-positive, without-zero}
 use Rattle.cert_checker.proofs.Sound.{World, Sound, Passes, sound-then, sound-named, sound-give, sound-tested}
 
 -- a value is known, behind a test

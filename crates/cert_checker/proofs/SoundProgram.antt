@@ -19,11 +19,11 @@ use Rattle.meaning.specs.Store.{Environment, Place, overlap}
 use Rattle.meaning.specs.Effect as effect
 use Rattle.meaning.specs.Effect.{Reply, Visit}
 use Rattle.meaning.specs.Meaning.{run, run_of, first_state, ended, home_of, program_environment}
-use Rattle.cert_checker.specs.State.{Dead, start}
+use Rattle.abstract_state.specs.State.{Dead, start}
 use Rattle.cert_checker.specs.Walk.{Context, Linked, Walked, block_walk, all_of, begin, statement_walk, program_walk, numbers_of}
-use Rattle.cert_checker.specs.Holds.{Separate, StateHolds}
+use Rattle.abstract_state.specs.Holds.{Separate, StateHolds}
 use Rattle.cert_checker.specs.Promise.{open_in, AreNumbered, ClosedNeverErr, HoldsAt, StatesHold, moment_of, visits_of}
-use Rattle.cert_checker.proofs.Knows.{Shows, Knows, known-start}
+use Rattle.abstract_state.proofs.Knows.{Shows, Knows, known-start}
 use Rattle.cert_checker.proofs.Sound.{World, IsPartOf, Meets, New, ErrsWithin, unbroken-left, part-left, part-right}
 use Rattle.cert_checker.proofs.SoundForms.{statement-sound}
 

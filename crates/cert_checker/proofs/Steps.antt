@@ -1,5 +1,5 @@
 -- What the checker did over a piece of a program, from what it did over the parts of the piece.
-use Rattle.std.proofs.Common.{rules, ◌≡◌, ◌≤◌, Bool, Some, Result, Ok, Err, ℕ, ℤ, ◌+◌, List, [], ◌∷◌, ◌++◌, length, map, refl, sym, ap, ◌∙◌, subst, append_assoc, append-nil, ◌<◌, get_or, drop, drop-cons, add-one, suc}
+use Rattle.std.proofs.Common.{rules, ◌≡◌, ◌≤◌, Bool, true, false, Option, Some, None, Result, Ok, Err, ℕ, ℤ, ◌+◌, List, [], ◌∷◌, ◌++◌, length, map, refl, sym, ap, ◌∙◌, subst, append_assoc, append-nil, ◌<◌, get_or, drop, drop-cons, add-one, suc}
 use Rattle.std.proofs.lemmas.List.{drop_all}
 use Rattle.std.specs.Result.{IsErr, IsErrAnd}
 use Rattle.place.specs.declared.Place.{Place as SourcePlace}
@@ -19,15 +19,16 @@ use Rattle.std.specs.declared.vec.Vec.{Vec}
 use Rattle.std.specs.declared.alloc.Global.{Global}
 use Rattle.cert_checker.specs.declared.fault.CheckFault.{CheckFault}
 use Rattle.cert_checker.specs.declared.fault.CheckFault.TheVariants.{Memory, Broken}
-use Rattle.cert_checker.specs.declared.known.Known.{Known}
+use Rattle.abstract_state.specs.declared.known.Known.{Known}
 use Rattle.cert_checker.specs.declared.visits.Visits.{Visits}
 use Rattle.cert_checker.specs.declared.walk.Walk.{Walk}
 use Rattle.domain.specs.Interval.{Interval}
-use Rattle.cert_checker.specs.declared.state.State.{State as Kept}
-use Rattle.cert_checker.specs.declared.known.Known.TheVariants.{Ordinal}
-use Rattle.cert_checker.specs.State.{State, Dead, Live, is_defined, range_of, with_defined, with_value}
-use Rattle.cert_checker.specs.Walk.{Breach, Context, Linked, Walked, Walking, use_of, tested, positive, within, limits_of, width_test, assign, fitting, ◌>>=◌, give, ordinal, enter, variable_walk, operated, combined, in_turn, value_walk, link_walk, parameter_walk, statement_walk, all_of, assignment, numbers_of}
-use Rattle.cert_checker.specs.View.{viewed, context_of, all_counted, counted, Walks, Goes}
+use Rattle.abstract_state.specs.declared.state.State.{State as Kept}
+use Rattle.abstract_state.specs.declared.known.Known.TheVariants.{Ordinal}
+use Rattle.abstract_state.specs.View.{viewed}
+use Rattle.abstract_state.specs.State.{State, Dead, Live, is_defined, joined_states, limits_of, range_of, with_defined, with_value}
+use Rattle.cert_checker.specs.Walk.{Breach, Context, Linked, Walked, Walking, use_of, tested, positive, within, width_test, assign, fitting, ◌>>=◌, give, ordinal, enter, variable_walk, operated, combined, in_turn, value_walk, link_walk, parameter_walk, statement_walk, all_of, assignment, branches, where_so, numbers_of}
+use Rattle.cert_checker.specs.View.{context_of, all_counted, counted, else_walk, IsMoved, Meets, Parts, Walks, Goes}
 use Rattle.cert_checker.specs.Promise.{first_breach, IsBreachOf}
 
 -- ---- the walk, form by form
@@ -64,6 +65,12 @@ statement-Write number name parameters ends_line = search (rules, stmt_lemmas)
 pub statement-Compound : (number : ℕ) (statements : Vec Stmt Global)
     → statement_walk (stmt.Compound number statements) ≡ (enter number >>= λ _. all_of (map statement_walk statements.items))
 statement-Compound number statements = search (rules, stmt_lemmas)
+
+pub statement-If : (number : ℕ) (condition : Expr) (consequence : Box Stmt Global) (alternative : Option (Box Stmt Global))
+    → statement_walk (stmt.If number condition consequence alternative)
+    ≡ (enter number >>= λ _. (value_walk condition >>= branches (statement_walk consequence.value) (else_walk alternative)))
+statement-If number condition consequence None = search (rules, stmt_lemmas)
+statement-If number condition consequence (Some statement) = search (rules, stmt_lemmas)
 
 -- ---- one piece of a walk after another
 
@@ -327,3 +334,87 @@ tested-stopped walk test next old new visits fault result is left stopped =
     given-up walk old new visits visits fault result left
     (goes-as walk (test >>= λ x. give (next x)) old new visits visits (Err fault) is
     (goes-stopped test (λ x. give (next x)) old new visits visits fault stopped))
+
+-- ---- branches
+
+-- from where only the state of the checker was moved, a piece is walked from that state
+moved-same : {A : Type 0} (walking : Walking A) (state : State) (old new : Walk) → IsMoved state old new
+    → walking (context_of new) (viewed new.state) ≡ walking (context_of old) state
+moved-same walking state old new moved =
+    ap (λ context. walking context (viewed new.state)) (ap context_of moved.only_state) ∙ ap (walking (context_of old)) moved.says
+
+-- the ways of two branches, and where they meet
+pub branches-walk : (true_walk false_walk : Walking (Unit {0})) (known : Known) (old taken mid start done new : Walk) (before between after : Visits)
+    → IsMoved (where_so true known (viewed old.state)) old taken → Walks true_walk taken before mid between tt
+    → IsMoved (where_so false known (viewed old.state)) mid start → Walks false_walk start between done after tt
+    → IsMoved (joined_states (viewed mid.state) (viewed done.state)) done new
+    → Walks (branches true_walk false_walk known) old before new after tt
+branches-walk true_walk false_walk known old taken mid start done new before between after to_yes one to_no two met =
+    let first : Walked (Unit {0}) = true_walk (context_of old) (where_so true known (viewed old.state)) in
+    let second : Walked (Unit {0}) = false_walk (context_of old) (where_so false known (viewed old.state)) in
+    let first_same = moved-same true_walk (where_so true known (viewed old.state)) old taken to_yes in
+    let context : context_of mid ≡ context_of old = one.context_is ∙ ap context_of to_yes.only_state in
+    let second_same : false_walk (context_of start) (viewed start.state) ≡ second =
+    moved-same false_walk (where_so false known (viewed old.state)) mid start to_no ∙ ap (λ x. false_walk x (where_so false known (viewed old.state))) context in
+    let first_after = one.state_is ∙ ap (λ w. w.after) first_same in
+    let second_after = two.state_is ∙ ap (λ w. w.after) second_same in
+    let first_open = one.open_is ∙ ap (λ (w : Walk). w.open_ids.items ++ (true_walk (context_of taken) (viewed taken.state)).open_ids) to_yes.only_state
+    ∙ ap (λ w. old.open_ids.items ++ w.open_ids) first_same in
+    record {
+      context_is = ap context_of met.only_state ∙ two.context_is ∙ ap context_of to_no.only_state ∙ context;
+      value_is = refl;
+      state_is = met.says ∙ ap (λ s. joined_states s (viewed done.state)) first_after ∙ ap (joined_states first.after) second_after;
+      open_is = ap (λ (w : Walk). w.open_ids.items) met.only_state ∙ two.open_is
+          ∙ ap (λ (w : Walk). w.open_ids.items ++ (false_walk (context_of start) (viewed start.state)).open_ids) to_no.only_state
+          ∙ ap (λ w. mid.open_ids.items ++ w.open_ids) second_same ∙ ap (λ ids. ids ++ second.open_ids) first_open
+          ∙ append_assoc old.open_ids.items first.open_ids second.open_ids;
+      visits_are = two.visits_are ∙ ap (λ w. all_counted (numbers_of w.linked) between) second_same
+          ∙ ap (all_counted (numbers_of second.linked)) (one.visits_are ∙ ap (λ w. all_counted (numbers_of w.linked) before) first_same)
+          ∙ sym (counted-both first.linked second.linked before);
+      unbroken = ap (λ b. b ++ second.broken) (ap (λ w. w.broken) (sym first_same) ∙ one.unbroken)
+          ∙ ap (λ w. w.broken) (sym second_same) ∙ two.unbroken;
+    }
+
+-- where the ways meet, or no memory is found there
+pub branches-done : (true_walk false_walk : Walking (Unit {0})) (known : Known) (old taken mid start done new : Walk) (before between after : Visits)
+    (behind otherwise : Kept) (result : Result (Unit {0}) CheckFault)
+    → Parts known old (Ok otherwise) taken → Walks true_walk taken before mid between tt
+    → behind ≡ mid.state → start.state ≡ otherwise → start ≡ record mid { state = start.state } → Walks false_walk start between done after tt
+    → Meets behind done result new
+    → Goes (branches true_walk false_walk known) old before result new after
+branches-done true_walk false_walk known old taken mid start done new before between after behind otherwise (Ok value) parts one behind_is replaced only two
+    met =
+    let to_no : IsMoved (where_so false known (viewed old.state)) mid start = record { only_state = only; says = ap viewed replaced ∙ parts.1 } in
+    branches-walk true_walk false_walk known old taken mid start done new before between after parts.0 one to_no two
+    (subst (λ (s : Kept). IsMoved (joined_states (viewed s) (viewed done.state)) done new) behind_is met)
+branches-done true_walk false_walk known old taken mid start done new before between after behind otherwise (Err fault) parts one behind_is replaced only two
+    is =
+    subst (IsBreachOf (branches true_walk false_walk known (context_of old) (viewed old.state))) (sym is) tt
+
+-- the checker gave up on the way where the condition is true
+pub branches-stopped : (true_walk false_walk : Walking (Unit {0})) (known : Known) (old taken new : Walk) (before after : Visits) (otherwise : Kept)
+    (fault : CheckFault)
+    → Parts known old (Ok otherwise) taken → IsBreachOf (true_walk (context_of taken) (viewed taken.state)) fault
+    → Goes (branches true_walk false_walk known) old before (Err fault) new after
+branches-stopped true_walk false_walk known old taken new before after otherwise fault parts is =
+    let first : Walked (Unit {0}) = true_walk (context_of old) (where_so true known (viewed old.state)) in
+    let second : Walked (Unit {0}) = false_walk (context_of old) (where_so false known (viewed old.state)) in
+    breach-stays first second fault (branches true_walk false_walk known (context_of old) (viewed old.state)) refl
+    (breach-same (true_walk (context_of taken) (viewed taken.state)) first fault
+    (ap (λ w. w.broken) (moved-same true_walk (where_so true known (viewed old.state)) old taken parts.0)) is)
+
+-- a conditional statement from its entry on
+pub if-begun : (statement : Stmt) (number : ℕ) (condition : Expr) (consequence : Box Stmt Global) (alternative : Option (Box Stmt Global)) (inner : Stmt)
+    (old entered valued new : Walk) (before between after end : Visits) (known : Known) (result : Result (Unit {0}) CheckFault)
+    → statement ≡ stmt.If number condition consequence alternative → inner ≡ consequence.value
+    → Walks (enter number) old before entered between tt → Walks (value_walk condition) entered between valued after known
+    → Goes (branches (statement_walk inner) (else_walk alternative) known) valued after result new end
+    → Goes (statement_walk statement) old before result new end
+if-begun statement number condition consequence alternative inner old entered valued new before between after end known result is inner_is one two three =
+    let chosen = branches (statement_walk consequence.value) (else_walk alternative) in
+    goes-as (statement_walk statement) (enter number >>= λ _. (value_walk condition >>= chosen)) old new before end result
+    (ap statement_walk is ∙ statement-If number condition consequence alternative)
+    (goes-then (enter number) (λ _. value_walk condition >>= chosen) old entered new before between end tt result one
+    (goes-then (value_walk condition) chosen entered valued new between after end known result two
+    (goes-as (chosen known) (branches (statement_walk inner) (else_walk alternative) known) valued new after end result
+    (ap (λ s. branches (statement_walk s) (else_walk alternative) known) (sym inner_is)) three)))

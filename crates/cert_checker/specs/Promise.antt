@@ -11,11 +11,11 @@ use Rattle.typed_tree.specs.Entries.{entries_of, entries_of_statement}
 use Rattle.meaning.specs.declared.outcome.Ending.TheVariants.{Error}
 use Rattle.meaning.specs.Effect.{Reply, Gives, Stops, Visit}
 use Rattle.meaning.specs.Meaning.{run, meaning}
-use Rattle.cert_checker.specs.State.{State}
+use Rattle.abstract_state.specs.State.{State}
 use Rattle.cert_checker.specs.declared.fault.CheckFault.{CheckFault}
 use Rattle.cert_checker.specs.declared.fault.CheckFault.TheVariants.{Memory, Broken}
 use Rattle.cert_checker.specs.Walk.{Breach, Context, Linked, Walked, block_walk, program_walk, numbers_of}
-use Rattle.cert_checker.specs.Holds.{Moment, StateHolds, Separate}
+use Rattle.abstract_state.specs.Holds.{Moment, StateHolds, Separate}
 
 -- the sites of the table that the walk leaves open, in the order of the table
 abbrev pub open_in : List ℕ → List Site → List Site

@@ -1,28 +1,19 @@
 -- The checker's own values as the definitions see them, and that the checker has walked over a piece of a program.
 -- It does not say what a walk is.
-use Rattle.std.specs.Prelude.{◌≡◌, ℕ, ◌+◌, suc, ◌&&◌, List, [], ◌∷◌, ◌++◌, Result, Ok, Err, if◌then◌else◌, map, nat_eq}
-use Rattle.domain.specs.Facts.{Fact, Defined, entire}
+use Rattle.std.specs.Prelude.{◌≡◌, ℕ, ◌+◌, ◌&&◌, true, false, List, [], ◌∷◌, ◌++◌, Option, Some, None, Result, Ok, Err, nat_eq}
+use Rattle.std.specs.declared.alloc.Global.{Global}
+use Rattle.std.specs.declared.boxed.Box.{Box}
+use Rattle.typed_tree.specs.declared.tree.Stmt.{Stmt}
 use Rattle.cert_checker.specs.declared.fault.CheckFault.{CheckFault}
-use Rattle.cert_checker.specs.declared.state.Row.{Row}
-use Rattle.cert_checker.specs.declared.state.State.{State as Kept}
-use Rattle.cert_checker.specs.declared.state.State.TheVariants as kept
+use Rattle.cert_checker.specs.declared.fault.CheckFault.TheVariants.{Memory}
+use Rattle.abstract_state.specs.declared.known.Known.{Known}
+use Rattle.abstract_state.specs.declared.state.State.{State as Kept}
+use Rattle.abstract_state.specs.View.{viewed}
 use Rattle.cert_checker.specs.declared.visits.Visits.{Visits}
 use Rattle.cert_checker.specs.declared.walk.Walk.{Walk}
-use Rattle.cert_checker.specs.State.{State, Dead, Live}
+use Rattle.abstract_state.specs.State.{State, joined_states}
 use Rattle.cert_checker.specs.Promise.{IsBreachOf}
-use Rattle.cert_checker.specs.Walk.{Context, Walking, numbers_of}
-
--- the facts that rows say: that variables are defined, the first row being that of a root number
-abbrev pub defined_from : ℕ → List Row → List Fact
-defined_from root [] = []
-defined_from root (row ∷ rows) =
-    if row.is_defined then Defined (entire root) ∷ defined_from (suc root) rows else defined_from (suc root) rows
-
--- what a state of the checker says
-abbrev pub viewed : Kept → State
-viewed kept.Dead = Dead
-viewed (kept.Live rows) =
-    Live (record { ranges = map (λ row. row.range) rows.items; facts = defined_from 0 rows.items })
+use Rattle.cert_checker.specs.Walk.{Context, Walking, give, numbers_of, statement_walk, where_so}
 
 -- the counter after an entry of a number
 abbrev pub counted : ℕ → Visits → Visits
@@ -54,3 +45,25 @@ pub record Walks {A : Type 0} (walking : Walking A) (old : Walk) (before : Visit
 abbrev pub Goes : {A : Type 0} → Walking A → Walk → Visits → Result A CheckFault → Walk → Visits → Type 0
 Goes walking old before (Ok value) new after = Walks walking old before new after value
 Goes walking old before (Err fault) new after = IsBreachOf (walking (context_of old) (viewed old.state)) fault
+
+-- the checker goes on from a state that says this, and nothing else of it changes
+pub record IsMoved (state : State) (old new : Walk) : Type 0 where
+  pub only_state : new ≡ record old { state = new.state }
+  pub says : viewed new.state ≡ state
+
+-- the checker goes on where a condition is true, and has the state where it is false; or it found no memory
+abbrev pub Parts : Known → Walk → Result Kept CheckFault → Walk → Type 0
+Parts known old (Ok otherwise) new =
+    IsMoved (where_so true known (viewed old.state)) old new
+    × (viewed otherwise ≡ where_so false known (viewed old.state))
+Parts known old (Err fault) new = fault ≡ Memory
+
+-- the checker goes on where the way from an earlier state meets that to the present one; or it found no memory
+abbrev pub Meets : Kept → Walk → Result (Unit {0}) CheckFault → Walk → Type 0
+Meets before old (Ok done) new = IsMoved (joined_states (viewed before) (viewed old.state)) old new
+Meets before old (Err fault) new = fault ≡ Memory
+
+-- the walk over the statement behind `else`, if there is one
+abbrev pub else_walk : Option (Box Stmt Global) → Walking (Unit {0})
+else_walk None = give tt
+else_walk (Some statement) = statement_walk statement.value

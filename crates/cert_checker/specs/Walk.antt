@@ -1,13 +1,14 @@
 -- The walk of the checker over a program, one equation a form: the state after it, the sites that it leaves open, the
 -- rules that are broken, and the state at each entry into a statement or expression (ISO 7185:1990, 6.7, 6.8).
 -- It does not say that a program does what the walk says of it.
-use Rattle.std.specs.Prelude.{ℕ, pos, Bool, not, ◌||◌, int_le, List, [], ◌∷◌, ◌++◌, Option, Some, None, if◌then◌else◌, map, length}
+use Rattle.std.specs.Prelude.{ℕ, pos, Bool, true, false, not, ◌||◌, int_le, List, [], ◌∷◌, ◌++◌, Option, Some, None, if◌then◌else◌, map, length}
+use Rattle.std.specs.declared.alloc.Global.{Global}
+use Rattle.std.specs.declared.boxed.Box.{Box}
 use Rattle.place.specs.declared.Place.{Place}
 use Rattle.certificate.specs.declared.Certificate.{Certificate}
 use Rattle.typed_tree.specs.declared.tree.Tree.{Tree}
 use Rattle.typed_tree.specs.declared.tree.Block.{Block}
 use Rattle.typed_tree.specs.declared.tree.Access.{Access}
-use Rattle.types.specs.declared.form.OrdinalRange.{OrdinalRange}
 use Rattle.typed_tree.specs.declared.tree.RangeTest.{RangeTest}
 use Rattle.typed_tree.specs.declared.tree.Monadic.{Monadic}
 use Rattle.typed_tree.specs.declared.tree.Monadic.TheVariants as monadic
@@ -22,13 +23,13 @@ use Rattle.typed_tree.specs.declared.tree.Expr.TheOpen.Expr-F.{Constant, Variabl
 use Rattle.typed_tree.specs.declared.tree.Expr.TheFolds.{fold-Expr, fold-Link}
 use Rattle.typed_tree.specs.declared.tree.Stmt.{Stmt}
 use Rattle.typed_tree.specs.declared.tree.Stmt.TheOpen.{Stmt-F}
-use Rattle.typed_tree.specs.declared.tree.Stmt.TheOpen.Stmt-F.{Empty, Assign, Write, Compound}
+use Rattle.typed_tree.specs.declared.tree.Stmt.TheOpen.Stmt-F.{Empty, Assign, Write, Compound, If}
 use Rattle.typed_tree.specs.declared.tree.Stmt.TheFolds.{fold-Stmt}
 use Rattle.domain.specs.Interval.{Interval, is_included, has_number, common, sum, difference, negated, product, squared, absolute, quotient, remainder, without_zero_end, at_least, both, either, complement, truth_values}
 use Rattle.cert_checker.specs.declared.fault.Rule.{Rule}
-use Rattle.cert_checker.specs.declared.known.Known.{Known}
-use Rattle.cert_checker.specs.declared.known.Known.TheVariants.{Ordinal}
-use Rattle.cert_checker.specs.State.{State, Dead, start, integer, is_dead, is_defined, range_of, with_defined, with_value, unless_empty}
+use Rattle.abstract_state.specs.declared.known.Known.{Known}
+use Rattle.abstract_state.specs.declared.known.Known.TheVariants.{Ordinal}
+use Rattle.abstract_state.specs.State.{State, Dead, start, integer, is_dead, is_defined, joined_states, limits_of, range_of, with_defined, with_value, unless_empty}
 
 -- what a walk goes by: the program and its certificate
 pub record Context : Type 0 where
@@ -238,10 +239,6 @@ parameter_walk parameter = do
   _ ← value_walk parameter.value
   width_walk parameter.width
 
--- the values of a type, which are integers
-abbrev pub limits_of : OrdinalRange → Interval
-limits_of range = common integer (record { first = range.first; last = range.last })
-
 -- a value has to lie in the range of a type
 abbrev pub fitting : RangeTest → Known → Walking Known
 fitting fits (Ordinal range) = do
@@ -256,6 +253,29 @@ assignment target fits value = do
   passed ← fitting fits known
   assign target.root passed
 
+-- two pieces of which a run takes one, each walked from its own state; behind them the states are joined
+abbrev pub either_of : Walked (Unit {0}) → Walked (Unit {0}) → Walked (Unit {0})
+either_of one other = record (followed one other) { after = joined_states one.after other.after }
+
+-- the numbers of a range that are true, or those that are false
+abbrev pub of_truth : Bool → Interval → Interval
+of_truth true range = without_zero_end range
+of_truth false range = common range (record { first = pos 0; last = pos 0 })
+
+-- the state where a condition has a truth value: no run comes there if its range leaves that out
+abbrev pub where_so : Bool → Known → State → State
+where_so truth (Ordinal range) state = unless_empty (of_truth truth range) state
+
+-- what is executed where a condition is true, and what is where it is false
+abbrev pub branches : (consequence alternative : Walking (Unit {0})) → Known → Walking (Unit {0})
+branches consequence alternative known context state =
+    either_of (consequence context (where_so true known state)) (alternative context (where_so false known state))
+
+-- the statement behind `else`, or nothing where there is none
+abbrev pub alternative_walk : Option (Box (Walking (Unit {0})) Global) → Walking (Unit {0})
+alternative_walk None = give tt
+alternative_walk (Some statement) = statement.value
+
 -- one layer of a statement
 abbrev pub statement_step : Stmt-F (Walking (Unit {0})) → Walking (Unit {0})
 statement_step (Empty number) = enter number
@@ -268,6 +288,10 @@ statement_step (Write number name parameters ends_line) = do
 statement_step (Compound number statements) = do
   _ ← enter number
   all_of statements.items
+statement_step (If number condition consequence alternative) = do
+  _ ← enter number
+  known ← value_walk condition
+  branches consequence.value (alternative_walk alternative) known
 
 -- the walk over a statement
 abbrev pub statement_walk : Stmt → Walking (Unit {0})

@@ -9,9 +9,7 @@ ghost use Rattle.cert_checker.specs.Promise.{AreNumbered, ClosedNeverErr, IsBrea
 ghost use Rattle.cert_checker.specs.Walk.{program_walk};
 
 pub mod fault;
-mod known;
 mod open_sites;
-mod state;
 mod visits;
 mod walk;
 

@@ -1,21 +1,20 @@
 ghost use Rattle.std.specs.Prelude.{◌≡◌, [], map, IfOk, MatchResult};
-ghost use Rattle.cert_checker.specs.Walk.{enter, variable_walk, tested, within, positive, divisor, whole, operated, combined, value_walk, link_walk, width_test, width_walk, parameter_walk, all_of, limits_of, fitting, assignment, statement_walk, block_walk, program_walk};
+ghost use Rattle.cert_checker.specs.Walk.{enter, variable_walk, tested, within, positive, divisor, whole, operated, combined, value_walk, link_walk, width_test, width_walk, parameter_walk, all_of, fitting, assignment, of_truth, statement_walk, block_walk, program_walk};
 ghost use Rattle.typed_tree.specs.Entries.{entries_of};
-ghost use Rattle.cert_checker.specs.View.{Goes, all_counted};
+ghost use Rattle.cert_checker.specs.View.{Goes, Meets, Parts, all_counted, else_walk};
 ghost use Rattle.cert_checker.specs.Promise.{IsBreachOf};
 
 use crate::fault::CheckFault;
-use crate::known::Known;
-use crate::state::State;
 use crate::visits::Visits;
+use abstract_state::{Known, State, limits};
 use certificate::Certificate;
 use domain::Domain;
 use domain::interval::Interval;
 use std::alloc::Global;
+use std::mem;
 use typed_tree::tree::{
     Access, Block, Dyadic, Expr, Link, Monadic, RangeTest, Stmt, Tree, Width, WriteParameter,
 };
-use types::OrdinalRange;
 
 /// A walk over the statements of a program, in the order in which they are run. The counter of entries is lent to it.
 #[derive(Drop)]
@@ -70,6 +69,7 @@ impl<'a> Walk<'a> {
         self.statement(&block.body, visits)
     }
 
+    #[cycle(statement)]
     fn statement(&mut self, statement: &Stmt, visits: &mut Visits) -> Result<(), CheckFault>
         ensures { Goes (statement_walk statement.now) self.old visits.old result self.new visits.new }
     {
@@ -95,11 +95,48 @@ impl<'a> Walk<'a> {
             }
             Stmt::Compound { number, statements } => {
                 self.enter(*number, visits)?;
-                for statement in statements {
-                    self.statement(statement, visits)?;
-                }
-                Ok(())
+                self.statements(statements, visits)
             }
+            Stmt::If {
+                number,
+                condition,
+                consequence,
+                alternative,
+            } => {
+                self.enter(*number, visits)?;
+                let known = self.expression(condition, visits)?;
+                let otherwise = self.part(known)?;
+                self.statement(consequence, visits)?;
+                let behind = mem::replace(&mut self.state, otherwise);
+                self.alternative(alternative, visits)?;
+                self.meet(behind)
+            }
+        }
+    }
+
+    /// Statements, one after another.
+    #[cycle(statement)]
+    fn statements(&mut self, statements: &[Stmt], visits: &mut Visits) -> Result<(), CheckFault>
+        ensures { Goes (all_of (map statement_walk statements.now)) self.old visits.old result self.new visits.new }
+    {
+        for statement in statements {
+            self.statement(statement, visits)?;
+        }
+        Ok(())
+    }
+
+    /// The statement behind `else`, if there is one.
+    #[cycle(statement)]
+    fn alternative(
+        &mut self,
+        alternative: &Option<Box<Stmt>>,
+        visits: &mut Visits,
+    ) -> Result<(), CheckFault>
+        ensures { Goes (else_walk alternative.now) self.old visits.old result self.new visits.new }
+    {
+        match alternative {
+            None => Ok(()),
+            Some(statement) => self.statement(statement, visits),
         }
     }
 
@@ -227,6 +264,29 @@ impl<'a> Walk<'a> {
     }
 }
 
+// Where a condition parts the walk, and where its ways meet.
+impl<'a> Walk<'a> {
+    /// Goes on where a condition is true; the state where it is false.
+    fn part(&mut self, known: Known) -> Result<State, CheckFault>
+        ensures { Parts known self.old result self.new }
+    {
+        let range = known.range();
+        let mut otherwise = self.state.copied(self.alloc)?;
+        otherwise.unless_empty(of_truth(false, range));
+        self.state.unless_empty(of_truth(true, range));
+        Ok(otherwise)
+    }
+
+    /// Goes on where the way that was walked before meets the one that was walked now.
+    fn meet(&mut self, before: State) -> Result<(), CheckFault>
+        ensures { Meets before self.old result self.new }
+    {
+        let now = mem::replace(&mut self.state, before);
+        self.state.join(now)?;
+        Ok(())
+    }
+}
+
 // Operations and tests, which enter nothing.
 impl<'a> Walk<'a> {
     /// What an operation gives for a value.
@@ -335,9 +395,13 @@ impl<'a> Walk<'a> {
     }
 }
 
-/// The values of a type, which are integers.
-fn limits(range: OrdinalRange) -> Interval
-    ensures { result ≡ limits_of range }
+/// The numbers of a range that are true, or those that are false.
+fn of_truth(truth: bool, range: Interval) -> Interval
+    ensures { result ≡ of_truth truth range }
 {
-    Interval::INTEGER.meet(&Interval::between(range.first, range.last))
+    if truth {
+        range.without_zero_end()
+    } else {
+        range.meet(&Interval::between(0, 0))
+    }
 }

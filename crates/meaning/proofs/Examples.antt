@@ -1,10 +1,12 @@
 -- The definitions on small rows, worked out by hand.
-use Rattle.std.proofs.Common.{◌≡◌, inl, inr, ℕ, ap, refl, true, false, pos, negsuc, List, [], ◌∷◌, Some, None, codes, slice_get}
+use Rattle.std.proofs.Common.{◌≡◌, inl, inr, ℕ, ap, refl, true, false, pos, negsuc, List, [], ◌∷◌, Option, Some, None, Box, Global, codes, if◌then◌else◌, slice_get}
 use Rattle.typed_tree.specs.declared.tree.Dyadic.{Dyadic}
 use Rattle.typed_tree.specs.declared.tree.Dyadic.TheVariants as dyadic
 use Rattle.typed_tree.specs.declared.tree.Monadic.TheVariants as monadic
 use Rattle.typed_tree.specs.declared.tree.Relation.TheVariants.{Equal}
 use Rattle.typed_tree.specs.declared.tree.Tree.{Tree}
+use Rattle.typed_tree.specs.declared.tree.Expr.{Expr}
+use Rattle.typed_tree.specs.declared.tree.Stmt.TheOpen.Stmt-F.{If}
 use Rattle.typed_tree.specs.declared.tree.WriteParameter.{WriteParameter}
 use Rattle.types.specs.declared.form.OrdinalRange.{OrdinalRange}
 use Rattle.types.specs.declared.form.TypeId.{TypeId}
@@ -14,8 +16,9 @@ use Rattle.meaning.specs.declared.store.Value.{Value}
 use Rattle.meaning.specs.declared.store.Value.TheVariants.{Number}
 use Rattle.meaning.specs.Store.{Place, Step, Element, Environment, stored, written, undefined, overlap}
 use Rattle.meaning.specs.Integers.{is_integer_number}
-use Rattle.meaning.specs.Effect.{State, Reply, Gives, Stops, Action, ◌>>=◌, and_then, give, fetch, store, use_turn, write, is_in, boolean_text, text_of}
-use Rattle.meaning.specs.Meaning.{Evaluation, Combination, link_step, in_turn, operated, value_of, width_of, parameter_of, completed, first_state}
+use Rattle.meaning.specs.Effect.{State, Reply, Gives, Stops, Action, ◌>>=◌, and_then, give, enter, fetch, store, use_turn, write, is_in, boolean_text, text_of}
+use Rattle.meaning.specs.Meaning.{Evaluation, Combination, Execution, effect_step, is_so, alternative_of, link_step, in_turn, operated}
+use Rattle.meaning.specs.Meaning.{value_of, width_of, parameter_of, completed, first_state}
 use Rattle.meaning.specs.Meaning.{home_of, program_environment}
 use Rattle.meaning.specs.Laws.{Extends}
 use Rattle.meaning.specs.Pending.{positive}
@@ -210,6 +213,33 @@ right_reached : told (in_turn (link (dyadic.Plus 3) nothing_there ∷ link (dyad
     (first_state [] 0)) ≡ End_of (Error 7)
 unfolding nowhere
 right_reached = refl
+
+-- where the condition is true the first statement is executed, and the other isn't
+first_branch : (condition : Expr) (one : Box Execution Global) (other : Option (Box Execution Global)) (environment : Environment) (s t : State) →
+    (enter 5 environment >>= λ _. value_of condition environment) s ≡ Gives (Number (pos 1)) t →
+    effect_step (If 5 condition one other) environment s ≡ one.value environment t
+first_branch condition one other environment s t so =
+    ap (λ (r : Reply Value). and_then r (λ v. if is_so v then one.value environment else alternative_of other environment)) so
+
+-- where it is false the statement behind `else` is executed, and nothing where there is none
+second_branch : (condition : Expr) (one other : Box Execution Global) (environment : Environment) (s t : State) →
+    (enter 5 environment >>= λ _. value_of condition environment) s ≡ Gives (Number (pos 0)) t →
+    effect_step (If 5 condition one (Some other)) environment s ≡ other.value environment t
+second_branch condition one other environment s t so =
+    ap (λ (r : Reply Value). and_then r (λ v. if is_so v then one.value environment else other.value environment)) so
+
+no_branch : (condition : Expr) (one : Box Execution Global) (environment : Environment) (s t : State) →
+    (enter 5 environment >>= λ _. value_of condition environment) s ≡ Gives (Number (pos 0)) t →
+    effect_step (If 5 condition one None) environment s ≡ Gives tt t
+no_branch condition one environment s t so =
+    ap (λ (r : Reply Value). and_then r (λ v. if is_so v then one.value environment else give tt)) so
+
+-- where the condition stops, no statement is executed
+stopped_before : (condition : Expr) (one : Box Execution Global) (other : Option (Box Execution Global)) (environment : Environment) (s t : State)
+    (end : Ending) → (enter 5 environment >>= λ _. value_of condition environment) s ≡ Stops end t →
+    effect_step (If 5 condition one other) environment s ≡ Stops end t
+stopped_before condition one other environment s t end stopped =
+    ap (λ (r : Reply Value). and_then r (λ v. if is_so v then one.value environment else alternative_of other environment)) stopped
 
 -- a turn of 2 leaves 1, and of 0 none can be used
 turn_used : use_turn (first_state [] 2) ≡ Gives tt (first_state [] 1)

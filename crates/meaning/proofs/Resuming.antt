@@ -1,8 +1,9 @@
 -- What pending work means, step by step.
 use Rattle.std.proofs.Common.{◌≡◌, ℕ, List, [], ◌∷◌, ◌++◌, Option, Some, None, Result, Ok, reverse, sym, ◌∙◌, ap, subst, refl, length, arith, Bool}
-use Rattle.std.proofs.Common.{true, false, if◌then◌else◌}
+use Rattle.std.proofs.Common.{true, false, if◌then◌else◌, Box, Global}
 use Rattle.std.specs.declared.alloc.AllocError.{AllocError}
 use Rattle.typed_tree.specs.declared.tree.RangeTest.{RangeTest}
+use Rattle.typed_tree.specs.declared.tree.Stmt.{Stmt}
 use Rattle.types.specs.declared.form.OrdinalRange.{OrdinalRange}
 use Rattle.meaning.specs.declared.outcome.Ending.{Ending}
 use Rattle.std.proofs.lemmas.List.{reverse-append}
@@ -14,8 +15,8 @@ use Rattle.meaning.specs.declared.work.Work.{Work}
 use Rattle.meaning.specs.declared.work.Work.TheVariants as work
 use Rattle.meaning.specs.Store.{Environment, Place, held, kept}
 use Rattle.meaning.specs.Effect.{State, Reply, Gives, Stops, Action, ◌>>=◌, and_then, fetched, fetch, is_in, require, store}
-use Rattle.meaning.specs.Meaning.{Meaning, ended}
-use Rattle.meaning.specs.Pending.{Resumption, Agrees, Continues, Does, pending_of, resumed, rest_of, answered, giving, top_of, below_top, checked}
+use Rattle.meaning.specs.Meaning.{Meaning, ended, effect_of, is_so}
+use Rattle.meaning.specs.Pending.{Resumption, Agrees, Continues, Does, pending_of, resumed, rest_of, answered, giving, with_top, chosen, top_of, below_top, checked}
 
 -- one more at the end of a stack is one more at its top
 pub reverse_push : {A : Type 0} (xs : List A) (x : A) → reverse (xs ++ x ∷ []) ≡ x ∷ reverse xs
@@ -88,18 +89,40 @@ module _ (old new : Run) where
       ∙ ap (λ (l : List Work). ended (pending_of env (reverse l) (reverse new.values.items) t)) none
       ∙ ap (λ (o : List ℕ). let m : Meaning = record { output = o; ending = Finished } in m) (sym agrees.output)
 
+-- a piece of work whose operands were taken from the stack
+pub goes_on_below : (old taken new : Run) (env : Environment) (s : State) (piece : Environment → Resumption → Resumption) (below : List Value)
+    (result : Result (Option Ending) AllocError) (start : Reply (Unit {0})) → taken ≡ record old { values = taken.values } →
+    reverse taken.values.items ≡ below → start ≡ piece env (pending_of env (reverse old.pending.items)) below s → Agrees env old s →
+    Does piece taken result new → Continues env start result new
+goes_on_below old taken new env s piece below result start same left is agrees does =
+    let agreed : Agrees env taken s = subst (λ (r : Run). Agrees env r s) (sym same) agrees in
+    continues_as env old new start _ result
+    (is
+    ∙ ap (λ (l : List Value). piece env (pending_of env (reverse old.pending.items)) l s) (sym left)
+    ∙ ap (λ (r : Run). piece env (pending_of env (reverse r.pending.items)) (reverse taken.values.items) s) (sym same))
+    (does env s agreed)
+
+-- a statement, and then the rest
+abbrev pub executing : Stmt → Environment → Resumption → Resumption
+executing statement env next operands = effect_of statement env >>= λ _. next operands
+
+-- the topmost operand chooses a branch
+pub chooses : (env : Environment) (consequence : Stmt) (alternative : Option (Box Stmt Global)) (next : Resumption) (operands : List Value) (s : State)
+    (so : Bool) → is_so (top_of operands) ≡ so →
+    with_top (λ v below. chosen (is_so v) consequence alternative env >>= λ _. next below) operands s ≡
+    and_then (chosen so consequence alternative env s) (λ _. next (below_top operands))
+chooses env consequence alternative next operands s so is =
+    ap (λ (b : Bool). and_then (chosen b consequence alternative env s) (λ _. next (below_top operands))) is
+
 -- a calculation with operands that were taken from the stack
 pub goes_on_by : (old taken new : Run) (env : Environment) (s : State) (action : Action Value) (answer : Result Value ℕ) (below : List Value)
     (result : Result (Option Ending) AllocError) → taken ≡ record old { values = taken.values } → reverse taken.values.items ≡ below →
     action s ≡ answered answer s → Agrees env old s → Does (λ env. giving (answered answer)) taken result new →
     Continues env (giving action (pending_of env (reverse old.pending.items)) below s) result new
 goes_on_by old taken new env s action answer below result same left gives agrees does =
-    let agreed : Agrees env taken s = subst (λ (r : Run). Agrees env r s) (sym same) agrees in
-    continues_as env old new _ _ result
-    (ap (λ (r : Reply Value). and_then r (λ v. pending_of env (reverse old.pending.items) (v ∷ below))) gives
-    ∙ ap (λ (l : List Value). giving (answered answer) (pending_of env (reverse old.pending.items)) l s) (sym left)
-    ∙ ap (λ (r : Run). giving (answered answer) (pending_of env (reverse r.pending.items)) (reverse taken.values.items) s) (sym same))
-    (does env s agreed)
+    goes_on_below old taken new env s (λ env. giving (answered answer)) below result _ same left
+    (ap (λ (r : Reply Value). and_then r (λ v. pending_of env (reverse old.pending.items) (v ∷ below))) gives)
+    agrees does
 
 -- the topmost piece of work is taken from the stack
 pub taken : (env : Environment) (run : Run) (left : List Work) (work : Work) (t : State) → run.pending.items ≡ left ++ work ∷ [] →

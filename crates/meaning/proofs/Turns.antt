@@ -1,6 +1,6 @@
 -- More turns only extend a run. For each action three facts: the output only grows, the turns only fall, and with more
 -- turns the action goes on from where it was with fewer. A loop's body and a routine's block will need them all.
-use Rattle.std.specs.Prelude.{int_div, int_le, not}
+use Rattle.std.specs.Prelude.{int_div, int_le, not, if◌then◌else◌}
 use Rattle.std.specs.Int.{int_rem_euclid}
 use Rattle.std.specs.Ordering.{int_eq}
 use Rattle.std.proofs.Common.{◌≡◌, ◌≢◌, inl, inr, ℕ, zero, suc, ◌+◌, ◌≤◌, ℤ, pos, ◌+ℤ◌, ◌-ℤ◌, ◌*ℤ◌, arith}
@@ -21,7 +21,7 @@ use Rattle.typed_tree.specs.declared.tree.Expr.TheOpen.{Expr-F, Link-F}
 use Rattle.typed_tree.specs.declared.tree.Expr.TheOpen.Expr-F.{Constant, Variable, Monadic as MonadicOf, Chain}
 use Rattle.typed_tree.specs.declared.tree.Expr.TheFolds.{map-Expr, map-Link, fold-roll-Expr, fold-roll-Link, ind-Expr}
 use Rattle.typed_tree.specs.declared.tree.Stmt.TheOpen.{Stmt-F}
-use Rattle.typed_tree.specs.declared.tree.Stmt.TheOpen.Stmt-F.{Empty, Assign, Write, Compound}
+use Rattle.typed_tree.specs.declared.tree.Stmt.TheOpen.Stmt-F.{Empty, Assign, Write, Compound, If}
 use Rattle.typed_tree.specs.declared.tree.Stmt.TheFolds.{map-Stmt, fold-roll-Stmt, ind-Stmt}
 use Rattle.meaning.specs.declared.outcome.Ending.{Ending}
 use Rattle.meaning.specs.declared.outcome.Ending.TheVariants as ending
@@ -32,7 +32,7 @@ use Rattle.meaning.specs.Store.{Environment, Place, held}
 use Rattle.meaning.specs.Effect.{State, Reply, Gives, Stops, Action, ◌>>=◌, and_then, give, stop, require, enter, take_turn, use_turn}
 use Rattle.meaning.specs.Effect.{fetched, fetch, store, write, is_in, is_positive, text_of}
 use Rattle.meaning.specs.Meaning.{Evaluation, Combination, Execution, value_step, link_step, effect_step, whole, operated, combined, in_turn, all_of}
-use Rattle.meaning.specs.Meaning.{width_of, parameter_of, line_ended, value_of, link_of, effect_of, Meaning, run_of, run, ended}
+use Rattle.meaning.specs.Meaning.{width_of, parameter_of, line_ended, is_so, value_of, link_of, effect_of, Meaning, run_of, run, ended}
 use Rattle.meaning.specs.Meaning.{program_environment, first_state}
 use Rattle.meaning.specs.Laws.{with_turns, reply_with_turns, state_after, Begins, Extends, TurnsGoOn, TurnsExtendTheOutput, EndingsStay}
 
@@ -260,6 +260,20 @@ extended_all_of (statement ∷ statements) env =
     extended_then (effect_of statement.0 env) (λ _. all_of (map effect_of (map (λ e. e.0) statements)) env) (statement.1 env)
     (λ _. extended_all_of statements env)
 
+-- one of two actions
+extended_chosen : (b : Bool) (one other : Action (Unit {0})) → Extended one → Extended other → Extended (if b then one else other)
+extended_chosen true one other first second = first
+extended_chosen false one other first second = second
+
+-- a condition, and then one of two actions
+extended_if : (number : ℕ) (condition : Expr) (env : Environment) (one other : Action (Unit {0})) → Extended one → Extended other →
+    Extended (enter number env >>= λ _. value_of condition env >>= λ v. if is_so v then one else other)
+extended_if number condition env one other first second =
+    let branch : Value → Action (Unit {0}) = λ v. if is_so v then one else other in
+    extended_then (enter number env) (λ _. value_of condition env >>= branch) (extended_enter number env)
+    (λ _. extended_then (value_of condition env) branch (extended_value condition env)
+    (λ v. extended_chosen (is_so v) one other first second))
+
 -- the statements of one layer
 abbrev executed : Stmt-F Stmt → Execution
 executed y = effect_step (map-Stmt Stmt Execution effect_of y)
@@ -283,6 +297,11 @@ effect-parts (Write number name parameters ends_line) env =
 effect-parts (Compound number statements) env =
     extended_then (enter number env) (λ _. all_of (map effect_of (map (λ e. e.0) statements.items)) env) (extended_enter number env)
     (λ _. extended_all_of statements.items env)
+effect-parts (If number condition consequence None) env =
+    extended_if number condition env (effect_of consequence.value.0 env) (give tt) (consequence.value.1 env) (extended_give tt)
+effect-parts (If number condition consequence (Some alternative)) env =
+    extended_if number condition env (effect_of consequence.value.0 env) (effect_of alternative.value.0 env) (consequence.value.1 env)
+    (alternative.value.1 env)
 
 extended_effect : (e : Stmt) (env : Environment) → Extended (effect_of e env)
 extended_effect = ind-Stmt

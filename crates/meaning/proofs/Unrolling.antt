@@ -1,5 +1,5 @@
 -- Each form of an expression and of a statement, as the work that an interpreter has to do for it.
-use Rattle.std.proofs.Common.{◌≡◌, ℕ, List, [], ◌∷◌, ◌++◌, Bool, Option, Some, Bor, Box, Vec, Global, map, sym, ◌∙◌, ap, refl}
+use Rattle.std.proofs.Common.{◌≡◌, ℕ, List, [], ◌∷◌, ◌++◌, Bool, Option, Some, None, Bor, Box, Vec, Global, map, sym, ◌∙◌, ap, refl}
 use Rattle.place.specs.declared.Place.{Place as SourcePlace}
 use Rattle.typed_tree.specs.declared.tree.Access.{Access}
 use Rattle.typed_tree.specs.declared.tree.Monadic.{Monadic}
@@ -12,7 +12,7 @@ use Rattle.typed_tree.specs.declared.tree.Stmt.{Stmt}
 use Rattle.typed_tree.specs.declared.tree.Expr.TheVariants as expr
 use Rattle.typed_tree.specs.declared.tree.Stmt.TheVariants as stmt
 use Rattle.typed_tree.specs.declared.tree.Expr.TheOpen.Expr-F.{Variable as Variable-F, Monadic as Monadic-F, Chain as Chain-F}
-use Rattle.typed_tree.specs.declared.tree.Stmt.TheOpen.Stmt-F.{Empty as Empty-F, Assign as Assign-F, Write as Write-F, Compound as Compound-F}
+use Rattle.typed_tree.specs.declared.tree.Stmt.TheOpen.Stmt-F.{Empty as Empty-F, Assign as Assign-F, Write as Write-F, Compound as Compound-F, If as If-F}
 use Rattle.typed_tree.specs.declared.tree.Expr.TheFolds.{fold-roll-Expr, fold_out-Link}
 use Rattle.typed_tree.specs.declared.tree.Stmt.TheFolds.{fold-roll-Stmt}
 use Rattle.meaning.specs.declared.store.Value.{Value}
@@ -21,8 +21,8 @@ use Rattle.meaning.specs.declared.work.Work.TheVariants as work
 use Rattle.meaning.specs.Store.{Environment}
 use Rattle.meaning.specs.Effect.{State, Reply, Action, ◌>>=◌, and_then, require, enter, fetch, store, write, is_in, text_of}
 use Rattle.meaning.specs.Meaning.{Evaluation, Combination, Execution, value_step, link_step, effect_step, operated, combined, in_turn, all_of}
-use Rattle.meaning.specs.Meaning.{width_of, parameter_of, line_ended, value_of, link_of, effect_of}
-use Rattle.meaning.specs.Pending.{Resumption, pending_of, resumed, line_ending, linking, giving, positive, top_of, below_top}
+use Rattle.meaning.specs.Meaning.{width_of, parameter_of, line_ended, is_so, value_of, link_of, effect_of}
+use Rattle.meaning.specs.Pending.{Resumption, pending_of, resumed, chosen, line_ending, linking, giving, with_top, positive, top_of, below_top}
 use Rattle.meaning.proofs.Resuming.{and_then-and_then, and_then-same}
 
 value-Variable : (a : Access) (defined : ℕ) (env : Environment) →
@@ -64,6 +64,14 @@ effect-Compound : (n : ℕ) (statements : Vec Stmt Global) (env : Environment) �
     effect_of (stmt.Compound n statements) env ≡ (enter n env >>= λ _. all_of (map effect_of statements.items) env)
 effect-Compound n statements env = ap (λ (e : Stmt). effect_of e env) (sym (stmt.rolls-Compound n statements))
     ∙ ap (λ (f : Execution). f env) (fold-roll-Stmt Execution effect_step (Compound-F n statements))
+
+effect-If : (n : ℕ) (condition : Expr) (consequence : Box Stmt Global) (alternative : Option (Box Stmt Global)) (env : Environment) →
+    effect_of (stmt.If n condition consequence alternative) env ≡
+    (enter n env >>= λ _. value_of condition env >>= λ v. chosen (is_so v) consequence.value alternative env)
+effect-If n condition consequence None env = ap (λ (e : Stmt). effect_of e env) (sym (stmt.rolls-If n condition consequence None))
+    ∙ ap (λ (f : Execution). f env) (fold-roll-Stmt Execution effect_step (If-F n condition consequence None))
+effect-If n condition consequence (Some other) env = ap (λ (e : Stmt). effect_of e env) (sym (stmt.rolls-If n condition consequence (Some other)))
+    ∙ ap (λ (f : Execution). f env) (fold-roll-Stmt Execution effect_step (If-F n condition consequence (Some other)))
 
 -- the state after an entry
 abbrev pub entered : ℕ → Environment → State → State
@@ -164,6 +172,22 @@ does-Compound n statements given is all same env works operands s =
     ap (λ (e : Stmt). executed env e works operands s) is
     ∙ ap (λ (a : Action (Unit {0})). and_then (a s) then_rest) (effect-Compound n statements env)
     ∙ ap (λ (l : List Stmt). and_then (all_of (map effect_of l) env (entered n env s)) then_rest) (sym same)
+
+-- what is pending after the condition of an if
+abbrev pub choosing : Environment → Stmt → Option (Box Stmt Global) → List Work → Resumption
+choosing env consequence alternative works = with_top (λ v below. chosen (is_so v) consequence alternative env >>= λ _. pending_of env works below)
+
+pub does-If : (n : ℕ) (condition : Expr) (consequence : Box Stmt Global) (alternative : Option (Box Stmt Global)) (given : Stmt) →
+    given ≡ stmt.If n condition consequence alternative → (one : Stmt) → one ≡ consequence.value →
+    (env : Environment) (works : List Work) (operands : List Value) (s : State) →
+    executed env given works operands s ≡ giving (value_of condition env) (choosing env one alternative works) operands (entered n env s)
+does-If n condition consequence alternative given is one same env works operands s =
+    let then_rest : Unit {0} → Action (Unit {0}) = λ _. pending_of env works operands in
+    let tested : Reply Value = value_of condition env (entered n env s) in
+    ap (λ (e : Stmt). executed env e works operands s) is
+    ∙ ap (λ (a : Action (Unit {0})). and_then (a s) then_rest) (effect-If n condition consequence alternative env)
+    ∙ and_then-and_then tested (λ v. chosen (is_so v) consequence.value alternative env) then_rest
+    ∙ ap (λ (e : Stmt). and_then tested (λ v. chosen (is_so v) e alternative env >>= then_rest)) (sym same)
 
 pub does-Statements : (first : Bor Stmt) (rest all : Bor (List Stmt)) → all.now ≡ first.now ∷ rest.now →
     (env : Environment) (works : List Work) (operands : List Value) (s : State) →

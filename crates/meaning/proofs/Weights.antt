@@ -1,5 +1,5 @@
 -- With fewer turns left there is no more to do: so a step that uses a turn leaves the rest no heavier than it was.
-use Rattle.std.proofs.Common.{ℕ, ◌+◌, ◌≤◌, List, [], ◌∷◌, Option, Some, None, map, sum_by, arith, sym, ◌∙◌, ap, subst}
+use Rattle.std.proofs.Common.{ℕ, ◌+◌, ◌≤◌, List, [], ◌∷◌, Option, Some, None, Box, Global, map, sum_by, arith, sym, ◌∙◌, ap, subst}
 use Rattle.typed_tree.specs.declared.tree.Width.{Width}
 use Rattle.typed_tree.specs.declared.tree.WriteParameter.{WriteParameter}
 use Rattle.typed_tree.specs.declared.tree.Expr.{Expr}
@@ -9,13 +9,13 @@ use Rattle.typed_tree.specs.declared.tree.Expr.TheOpen.{Expr-F, Link-F}
 use Rattle.typed_tree.specs.declared.tree.Expr.TheOpen.Expr-F.{Constant, Variable, Monadic, Chain}
 use Rattle.typed_tree.specs.declared.tree.Expr.TheFolds.{map-Expr, map-Link, fold-roll-Expr, fold-roll-Link, fold_out-Link, ind-Expr}
 use Rattle.typed_tree.specs.declared.tree.Stmt.TheOpen.{Stmt-F}
-use Rattle.typed_tree.specs.declared.tree.Stmt.TheOpen.Stmt-F.{Empty, Assign, Write, Compound}
+use Rattle.typed_tree.specs.declared.tree.Stmt.TheOpen.Stmt-F.{Empty, Assign, Write, Compound, If}
 use Rattle.typed_tree.specs.declared.tree.Stmt.TheFolds.{map-Stmt, fold-roll-Stmt, ind-Stmt}
 use Rattle.std.proofs.lemmas.List.Sums.{sum_by-cons}
 use Rattle.meaning.specs.declared.work.Work.{Work}
 use Rattle.meaning.specs.declared.work.Work.TheVariants as work
 use Rattle.meaning.specs.Weight.{Weight, row_weight, link_weight, expression_weight, weight_of_expression, weight_of_link, weight_of_width}
-use Rattle.meaning.specs.Weight.{weight_of_parameter, statement_weight, weight_of_statement, weight_of}
+use Rattle.meaning.specs.Weight.{weight_of_parameter, statement_weight, weight_of_statement, weight_of_alternative, weight_of}
 
 -- a weight that more turns never lower
 abbrev Rises : Weight → Type 0
@@ -105,14 +105,31 @@ statement-parts (Assign number becomes target fits value) =
     λ turns more. let inner = rising_expression value turns more in omega (arith, inner)
 statement-parts (Write number name parameters ends_line) = rising_row 1 weight_of_parameter parameters.items rising_parameter
 statement-parts (Compound number statements) = rising_statements statements.items
+statement-parts (If number condition consequence None) =
+    λ turns more. let tested = rising_expression condition turns more in let one = consequence.value.1 turns more in omega (arith, tested, one)
+statement-parts (If number condition consequence (Some alternative)) =
+    λ turns more.
+    let tested = rising_expression condition turns more in
+    let one = consequence.value.1 turns more in
+    let other = alternative.value.1 turns more in
+    omega (arith, tested, one, other)
 
 rising_statement : (e : Stmt) → Rises (weight_of_statement e)
 rising_statement = ind-Stmt (λ e. Rises (weight_of_statement e))
     (λ x y is. subst Rises (sym (fold-roll-Stmt Weight statement_weight x ∙ ap weighed_statement (sym is))) (statement-parts y))
 
+rising_alternative : (alternative : Option (Box Stmt Global)) → Rises (weight_of_alternative alternative)
+rising_alternative None = λ turns more. omega arith
+rising_alternative (Some statement) = rising_statement statement.value
+
 rising_work : (piece : Work) → Rises (λ turns. weight_of turns piece)
 rising_work (work.Statements statements) = rising_row 1 weight_of_statement statements.now rising_statement
 rising_work (work.Statement statement) = rising_statement statement.now
+rising_work (work.Choose consequence alternative) =
+    λ turns more.
+    let one = rising_statement consequence.now turns more in
+    let other = rising_alternative alternative.now turns more in
+    omega (arith, one, other)
 rising_work (work.Parameters parameters ends_line) = rising_row 1 weight_of_parameter parameters.now rising_parameter
 rising_work (work.Parameter parameter) = rising_parameter parameter.now
 rising_work (work.Width parameter) = rising_width parameter.now.width

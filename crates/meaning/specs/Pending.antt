@@ -4,7 +4,10 @@ use Rattle.std.specs.Prelude.{◌≡◌, ℕ, pos, Bool, List, [], ◌∷◌, Op
 use Rattle.std.specs.Prelude.{if◌then◌else◌, drop, map, reverse, slice_get}
 use Rattle.std.specs.BTreeMap.{BTreeMap, get}
 use Rattle.std.specs.declared.alloc.AllocError.{AllocError}
+use Rattle.std.specs.declared.alloc.Global.{Global}
+use Rattle.std.specs.declared.boxed.Box.{Box}
 use Rattle.types.specs.declared.form.OrdinalRange.{OrdinalRange}
+use Rattle.typed_tree.specs.declared.tree.Stmt.{Stmt}
 use Rattle.meaning.specs.declared.outcome.Ending.{Ending}
 use Rattle.meaning.specs.declared.outcome.Ending.TheVariants as ending
 use Rattle.meaning.specs.declared.store.Place.{Place as KeptPlace}
@@ -17,8 +20,8 @@ use Rattle.meaning.specs.contracts.store.PlaceOrd.TheImpl.{ghosts as places}
 use Rattle.meaning.specs.Store.{Environment, Place, Store, stored}
 use Rattle.meaning.specs.Effect.{State, Reply, Stops, Action, ◌>>=◌, give, stop, require, store, write}
 use Rattle.meaning.specs.Effect.{is_in, is_positive, text_of}
-use Rattle.meaning.specs.Meaning.{Combination, completed, ended, home_of, operated, combined, value_of, link_of, effect_of}
-use Rattle.meaning.specs.Meaning.{all_of, width_of, parameter_of, line_ended}
+use Rattle.meaning.specs.Meaning.{Combination, Execution, completed, ended, home_of, operated, combined, value_of, link_of}
+use Rattle.meaning.specs.Meaning.{effect_of, all_of, width_of, parameter_of, line_ended, is_so}
 
 -- what is done with the operands, the topmost first, and the state
 abbrev pub Resumption : Type 0
@@ -72,6 +75,15 @@ line_ending ends_line next operands = do
   _ ← line_ended ends_line
   next operands
 
+-- the statement behind `else`, or nothing where there is none
+abbrev pub otherwise : Option (Box Stmt Global) → Execution
+otherwise None env = give tt
+otherwise (Some statement) env = effect_of statement.value env
+
+-- the statement of an if that a truth value chooses
+abbrev pub chosen : Bool → Stmt → Option (Box Stmt Global) → Execution
+chosen so consequence alternative env = if so then effect_of consequence env else otherwise alternative env
+
 -- a piece of work, and then the rest
 abbrev pub resumed : Environment → Work → Resumption → Resumption
 resumed env (work.Statements statements) next operands = do
@@ -80,6 +92,10 @@ resumed env (work.Statements statements) next operands = do
 resumed env (work.Statement statement) next operands = do
   _ ← effect_of statement.now env
   next operands
+resumed env (work.Choose consequence alternative) next operands =
+    with_top
+    (λ v below. chosen (is_so v) consequence.now alternative.now env >>= λ _. next below)
+    operands
 resumed env (work.Parameters parameters ends_line) next operands = do
   _ ← all_of (map parameter_of parameters.now) env
   line_ending ends_line next operands

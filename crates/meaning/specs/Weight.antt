@@ -3,6 +3,8 @@
 -- It says nothing of what the steps do.
 use Rattle.std.specs.Prelude.{ℕ, ◌+◌, ◌<◌, List, Option, Some, None, Result, OnOk, map, sum_by}
 use Rattle.std.specs.declared.alloc.AllocError.{AllocError}
+use Rattle.std.specs.declared.alloc.Global.{Global}
+use Rattle.std.specs.declared.boxed.Box.{Box}
 use Rattle.typed_tree.specs.declared.tree.Width.{Width}
 use Rattle.typed_tree.specs.declared.tree.WriteParameter.{WriteParameter}
 use Rattle.typed_tree.specs.declared.tree.Expr.{Expr}
@@ -12,7 +14,7 @@ use Rattle.typed_tree.specs.declared.tree.Expr.TheOpen.Expr-F.{Constant, Variabl
 use Rattle.typed_tree.specs.declared.tree.Expr.TheFolds.{fold-Expr, fold-Link}
 use Rattle.typed_tree.specs.declared.tree.Stmt.{Stmt}
 use Rattle.typed_tree.specs.declared.tree.Stmt.TheOpen.{Stmt-F}
-use Rattle.typed_tree.specs.declared.tree.Stmt.TheOpen.Stmt-F.{Empty, Assign, Write, Compound}
+use Rattle.typed_tree.specs.declared.tree.Stmt.TheOpen.Stmt-F.{Empty, Assign, Write, Compound, If}
 use Rattle.typed_tree.specs.declared.tree.Stmt.TheFolds.{fold-Stmt}
 use Rattle.meaning.specs.declared.outcome.Ending.{Ending}
 use Rattle.meaning.specs.declared.interpreter.Run.{Run}
@@ -50,19 +52,32 @@ abbrev pub weight_of_parameter : WriteParameter → Weight
 weight_of_parameter parameter turns =
     2 + weight_of_expression parameter.value turns + weight_of_width parameter.width turns
 
+-- the statement behind `else`, or nothing
+abbrev pub alternative_weight : Option (Box Weight Global) → Weight
+alternative_weight None turns = 0
+alternative_weight (Some weight) turns = weight.value turns
+
 abbrev pub statement_weight : Stmt-F Weight → Weight
 statement_weight (Empty n) turns = 1
 statement_weight (Assign n becomes target fits value) turns = 2 + weight_of_expression value turns
 statement_weight (Write n name parameters ends_line) turns =
     row_weight 1 (map weight_of_parameter parameters.items) turns
 statement_weight (Compound n statements) turns = row_weight 1 statements.items turns
+statement_weight (If n condition consequence alternative) turns =
+    2 + weight_of_expression condition turns + consequence.value turns + alternative_weight alternative turns
 
 abbrev pub weight_of_statement : Stmt → Weight
 weight_of_statement = fold-Stmt Weight statement_weight
 
+abbrev pub weight_of_alternative : Option (Box Stmt Global) → Weight
+weight_of_alternative None turns = 0
+weight_of_alternative (Some statement) turns = weight_of_statement statement.value turns
+
 abbrev pub weight_of : ℕ → Work → ℕ
 weight_of turns (work.Statements statements) = row_weight 1 (map weight_of_statement statements.now) turns
 weight_of turns (work.Statement statement) = weight_of_statement statement.now turns
+weight_of turns (work.Choose consequence alternative) =
+    1 + weight_of_statement consequence.now turns + weight_of_alternative alternative.now turns
 weight_of turns (work.Parameters parameters ends_line) = row_weight 1 (map weight_of_parameter parameters.now) turns
 weight_of turns (work.Parameter parameter) = weight_of_parameter parameter.now turns
 weight_of turns (work.Width parameter) = weight_of_width parameter.now.width turns

@@ -7,7 +7,7 @@ ghost use Rattle.meaning.specs.Pending.{top_of, below_top};
 ghost use Rattle.meaning.specs.Meaning.{home_of, meaning, run_of};
 
 use crate::operations::{
-    combined_value, operated_value, positive_width, value_in, width_by_default,
+    combined_value, operated_value, positive_width, truth_of, value_in, width_by_default,
 };
 use crate::outcome::{Ending, Outcome};
 use crate::store::{Ordinal, Place, Value};
@@ -103,6 +103,10 @@ impl<'t> Run<'t, '_> {
         match work {
             Work::Statements(statements) => self.statements(statements),
             Work::Statement(statement) => self.statement(statement),
+            Work::Choose {
+                consequence,
+                alternative,
+            } => self.choose(consequence, alternative),
             Work::Parameters {
                 parameters,
                 ends_line,
@@ -117,6 +121,16 @@ impl<'t> Run<'t, '_> {
             Work::Links(links) => self.links(links),
             Work::Combine(operation) => self.combine(operation),
         }
+    }
+
+    // What is done next.
+    fn do_next(&mut self, next: Work<'t>) -> Result<Option<Ending>, AllocError>
+        ensures weight { OnOk result (pending_weight self.new
+            ≡ pending_weight self.old + weight_of self.old.turns next.entry) }
+        ensures does { Does (λ env. resumed env next.entry) self.old result self.new }
+    {
+        put(&mut self.pending, next)?;
+        Ok(None)
     }
 
     // What is done next, and what is done after it.
@@ -168,6 +182,36 @@ impl<'t> Run<'t, '_> {
                 ..
             } => self.parameters(parameters, *ends_line),
             Stmt::Compound { statements, .. } => self.statements(statements),
+            Stmt::If {
+                condition,
+                consequence,
+                alternative,
+                ..
+            } => self.plan(
+                Work::Value(condition),
+                Work::Choose {
+                    consequence,
+                    alternative,
+                },
+            ),
+        }
+    }
+
+    fn choose(
+        &mut self,
+        consequence: &'t Stmt,
+        alternative: &'t Option<Box<Stmt>>,
+    ) -> Result<Option<Ending>, AllocError>
+        ensures fewer { Lightens (Work.Choose consequence.entry alternative.entry) self.old result self.new }
+        ensures does { Does (λ env. resumed env (Work.Choose consequence.entry alternative.entry))
+            self.old result self.new }
+    {
+        if truth_of(self.popped()) {
+            self.do_next(Work::Statement(consequence))
+        } else if let Some(statement) = alternative {
+            self.do_next(Work::Statement(statement))
+        } else {
+            Ok(None)
         }
     }
 

@@ -1,6 +1,6 @@
 ghost use Rattle.std.specs.Prelude.{◌≡◌, pos};
 ghost use Rattle.meaning.specs.Effect.{is_in, is_positive};
-ghost use Rattle.meaning.specs.Meaning.{combined, default_width, operated, relates, whole};
+ghost use Rattle.meaning.specs.Meaning.{combined, default_width, is_so, operated, relates, whole};
 ghost use Rattle.meaning.specs.Pending.{Answers, checked, positive};
 
 use crate::store::{Ordinal, Value};
@@ -99,6 +99,14 @@ pub fn value_in(range: OrdinalRange, value: Value) -> Option<Value>
     } else {
         None
     }
+}
+
+/// The truth value that a value is.
+pub fn truth_of(value: Value) -> bool
+    ensures { result ≡ is_so value }
+{
+    let Value::Number(number) = value;
+    number.is_true()
 }
 
 /// A width that is at least 1, or the site of its test (ISO 7185:1990, 6.9.3.1).

@@ -11,6 +11,11 @@ pub enum Work<'t> {
     /// The statements of a compound statement, one after another.
     Statements(&'t [Stmt]),
     Statement(&'t Stmt),
+    /// The statement of an if that the topmost value chooses.
+    Choose {
+        consequence: &'t Stmt,
+        alternative: &'t Option<Box<Stmt>>,
+    },
     /// The parameters of a write, one after another, and behind them the line end of a writeln.
     Parameters {
         parameters: &'t [WriteParameter],

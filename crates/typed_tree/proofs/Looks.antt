@@ -1,6 +1,6 @@
 -- How the forms of a typed tree look, as code builds them; and that the look of a tree tells its entries, and whether its
 -- blocks are well formed.
-use Rattle.std.proofs.Common.{◌≡◌, ℕ, ℤ, Bool, [], ◌∷◌, ◌++◌, sym, ap, ◌∙◌}
+use Rattle.std.proofs.Common.{◌≡◌, ℕ, ℤ, Bool, [], ◌∷◌, ◌++◌, Some, None, sym, ap, ◌∙◌}
 use Rattle.std.proofs.Common.{Box, Vec}
 use Rattle.std.specs.Prelude.{flat_map}
 use Rattle.std.specs.declared.alloc.Global.{Global}
@@ -20,7 +20,7 @@ use Rattle.typed_tree.specs.declared.tree.Stmt.{Stmt}
 use Rattle.typed_tree.specs.declared.tree.Stmt.TheVariants as stmt
 use Rattle.typed_tree.specs.declared.tree.Stmt.TheOpen as stmt_layer
 use Rattle.typed_tree.specs.declared.tree.Stmt.TheFolds.{fold-roll-Stmt}
-use Rattle.typed_tree.specs.Look.{Look, link_look, expression_look, look_expr, look_link, look_parameter, statement_look, look_stmt, Constant, Variable, Operation, Begins, Operator, Ends, Empty, Assign, Target, Fits, Write, Compound}
+use Rattle.typed_tree.specs.Look.{Look, link_look, expression_look, look_expr, look_link, look_parameter, statement_look, look_stmt, Constant, Variable, Operation, Begins, Operator, Ends, Empty, Assign, Target, Fits, Write, Compound, If, Then, Else}
 pub use Rattle.typed_tree.proofs.Measured.{entries_are, formed_are}
 
 -- ---- expressions
@@ -76,3 +76,17 @@ pub look_compound : (number : ℕ) (statements : Vec Stmt Global)
 look_compound number statements =
     ap look_stmt (sym (stmt.rolls-Compound number statements)) ∙ fold-roll-Stmt Look statement_look (stmt_layer.Compound number statements)
     ∙ ap (λ rows. Compound number ∷ (rows ++ (Ends ∷ []))) (flat_map-map (λ (row : Look). row) look_stmt statements.items)
+
+pub look_if : (number : ℕ) (condition : Expr) (consequence : Box Stmt Global)
+    → look_stmt (stmt.If number condition consequence None)
+    ≡ If number ∷ (look_expr condition ++ (Then ∷ (look_stmt consequence.value ++ (Ends ∷ []))))
+look_if number condition consequence =
+    ap look_stmt (sym (stmt.rolls-If number condition consequence None))
+    ∙ fold-roll-Stmt Look statement_look (stmt_layer.If number condition consequence None)
+
+pub look_if_else : (number : ℕ) (condition : Expr) (consequence alternative : Box Stmt Global)
+    → look_stmt (stmt.If number condition consequence (Some alternative))
+    ≡ If number ∷ (look_expr condition ++ (Then ∷ (look_stmt consequence.value ++ (Else ∷ (look_stmt alternative.value ++ (Ends ∷ []))))))
+look_if_else number condition consequence alternative =
+    ap look_stmt (sym (stmt.rolls-If number condition consequence (Some alternative)))
+    ∙ fold-roll-Stmt Look statement_look (stmt_layer.If number condition consequence (Some alternative))

@@ -16,11 +16,11 @@ use Rattle.typed_tree.specs.declared.tree.Expr.TheOpen.Expr-F.{Constant, Variabl
 use Rattle.typed_tree.specs.declared.tree.Expr.TheFolds.{fold-Expr, fold-Link, map-Expr, map-Link, fold-roll-Expr, fold-roll-Link, ind-Expr}
 use Rattle.typed_tree.specs.declared.tree.Stmt.{Stmt}
 use Rattle.typed_tree.specs.declared.tree.Stmt.TheOpen.{Stmt-F}
-use Rattle.typed_tree.specs.declared.tree.Stmt.TheOpen.Stmt-F.{Empty, Assign, Write, Compound}
+use Rattle.typed_tree.specs.declared.tree.Stmt.TheOpen.Stmt-F.{Empty, Assign, Write, Compound, If}
 use Rattle.typed_tree.specs.declared.tree.Stmt.TheFolds.{fold-Stmt, map-Stmt, fold-roll-Stmt, ind-Stmt}
 use Rattle.typed_tree.specs.Entries.{joined, expression_entries, link_entries, entries_of_expression, entries_of_width, entries_of_parameter, statement_entries, entries_of_statement, entries_of}
 use Rattle.typed_tree.specs.WellFormed.{all_hold, is_whole, monadic_is_well_formed, dyadic_is_well_formed, link_is_well_formed, expr_is_well_formed, is_well_formed_expr, is_well_formed_link, is_well_formed_width, is_well_formed_parameter, is_well_formed_test, stmt_is_well_formed, is_well_formed_stmt, is_well_formed_block}
-use Rattle.typed_tree.specs.Look.{Mark, Look, link_look, expression_look, look_expr, look_link, look_width, look_parameter, statement_look, look_stmt, look_block, tree_look, mark_entries, entries_of_look, is_formed_mark, Ends, Fits as FitsMark, Written as WrittenMark, Width as WidthMark, BlockEnds}
+use Rattle.typed_tree.specs.Look.{Mark, Look, link_look, expression_look, look_expr, look_link, look_width, look_parameter, statement_look, look_stmt, look_block, tree_look, mark_entries, entries_of_look, is_formed_mark, Ends, If as IfMark, Then, Else, Fits as FitsMark, Written as WrittenMark, Width as WidthMark, BlockEnds}
 
 -- ---- a measure of looks that is a fold over trees
 
@@ -138,6 +138,16 @@ entries_parameter parameter =
     flat_map-append mark_entries (look_expr parameter.value) (WrittenMark parameter.representation ∷ look_width parameter.width)
     ∙ ap₂ (λ a b. a ++ b) (entries_expr parameter.value) (entries_width parameter.width)
 
+-- what an if enters, by what its two statements do
+entries_chosen : (number : ℕ) (condition : Expr) (look rest : Look)
+    → entries_of_look (IfMark number ∷ (look_expr condition ++ (Then ∷ (look ++ (rest ++ (Ends ∷ []))))))
+    ≡ number ∷ (entries_of_expression condition ++ (entries_of_look look ++ entries_of_look rest))
+entries_chosen number condition look rest =
+    ap (λ entries. number ∷ entries)
+    (flat_map-append mark_entries (look_expr condition) (Then ∷ (look ++ (rest ++ (Ends ∷ []))))
+    ∙ ap₂ (λ a b. a ++ b) (entries_expr condition)
+    (flat_map-append mark_entries look (rest ++ (Ends ∷ [])) ∙ ap (λ row. entries_of_look look ++ row) (entries_ended rest Ends refl)))
+
 entries_stmt_layer : (y : Stmt-F (ToldStmt entries_of_look statement_entries))
     → entries_of_look (statement_look (map-Stmt Stmt Look look_stmt (stmt_opened entries_of_look statement_entries y)))
     ≡ statement_entries (map-Stmt Stmt (List ℕ) entries_of_statement (stmt_opened entries_of_look statement_entries y))
@@ -151,6 +161,11 @@ entries_stmt_layer (Write number name parameters ends_line) =
 entries_stmt_layer (Compound number statements) =
     let rows = joined (map look_stmt (map (λ s. s.0) statements.items)) in
     ap (λ entries. number ∷ entries) (entries_ended rows Ends refl ∙ entries_joined look_stmt entries_of_statement statements.items)
+entries_stmt_layer (If number condition consequence None) =
+    entries_chosen number condition (look_stmt consequence.value.0) [] ∙ ap (λ row. number ∷ (entries_of_expression condition ++ (row ++ []))) consequence.value.1
+entries_stmt_layer (If number condition consequence (Some other)) =
+    entries_chosen number condition (look_stmt consequence.value.0) (Else ∷ look_stmt other.value.0)
+    ∙ ap₂ (λ row rest. number ∷ (entries_of_expression condition ++ (row ++ rest))) consequence.value.1 other.value.1
 
 entries_stmt : (s : Stmt) → entries_of_look (look_stmt s) ≡ entries_of_statement s
 entries_stmt = measured_stmt entries_of_look statement_entries entries_stmt_layer
@@ -220,6 +235,15 @@ module _ (variables sites : ℕ) where
   abbrev opened_stmt : Stmt-F (ToldStmt is_formed (stmt_is_well_formed variables sites)) → Stmt-F Stmt
   opened_stmt = stmt_opened is_formed (stmt_is_well_formed variables sites)
 
+  -- whether an if is well formed, by whether its two statements are
+  formed_chosen : (number : ℕ) (condition : Expr) (look rest : Look)
+      → is_formed (IfMark number ∷ (look_expr condition ++ (Then ∷ (look ++ (rest ++ (Ends ∷ []))))))
+      ≡ (is_well_formed_expr variables sites condition && (is_formed look && is_formed rest))
+  formed_chosen number condition look rest =
+      formed_cut (look_expr condition) (Then ∷ (look ++ (rest ++ (Ends ∷ []))))
+      ∙ ap₂ (λ a b. a && b) (formed_expr condition)
+      (formed_cut look (rest ++ (Ends ∷ [])) ∙ ap (λ b. is_formed look && b) (formed_ended rest Ends refl))
+
   formed_stmt_layer : (y : Stmt-F (ToldStmt is_formed (stmt_is_well_formed variables sites)))
       → is_formed (statement_look (map-Stmt Stmt Look look_stmt (opened_stmt y)))
       ≡ stmt_is_well_formed variables sites (map-Stmt Stmt Bool (is_well_formed_stmt variables sites) (opened_stmt y))
@@ -235,6 +259,12 @@ module _ (variables sites : ℕ) where
   formed_stmt_layer (Compound number statements) =
       formed_ended (joined (map look_stmt (map (λ s. s.0) statements.items))) Ends refl
       ∙ formed_joined look_stmt (is_well_formed_stmt variables sites) statements.items
+  formed_stmt_layer (If number condition consequence None) =
+      formed_chosen number condition (look_stmt consequence.value.0) []
+      ∙ ap (λ b. is_well_formed_expr variables sites condition && (b && true)) consequence.value.1
+  formed_stmt_layer (If number condition consequence (Some other)) =
+      formed_chosen number condition (look_stmt consequence.value.0) (Else ∷ look_stmt other.value.0)
+      ∙ ap₂ (λ a b. is_well_formed_expr variables sites condition && (a && b)) consequence.value.1 other.value.1
 
   formed_stmt : (s : Stmt) → is_formed (look_stmt s) ≡ is_well_formed_stmt variables sites s
   formed_stmt = measured_stmt is_formed (stmt_is_well_formed variables sites) formed_stmt_layer

@@ -1,6 +1,6 @@
 use Rattle.std.proofs.Common.{Result, map, drop}
 use Rattle.cert_checker.specs.declared.fault.CheckFault.{CheckFault}
-use Rattle.cert_checker.specs.declared.known.Known.{Known}
+use Rattle.abstract_state.specs.declared.known.Known.{Known}
 use Rattle.cert_checker.specs.declared.visits.Visits.{Visits}
 use Rattle.cert_checker.specs.declared.walk.Walk.{Walk}
 use Rattle.cert_checker.specs.Walk.{in_turn, value_walk, link_walk}

@@ -1,18 +1,49 @@
-use Rattle.std.proofs.Common.{Ok}
+use Rattle.std.proofs.Common.{refl, Ok, Err}
 use Rattle.cert_checker.specs.Walk.{statement_walk}
-use Rattle.cert_checker.proofs.Steps.{all-step, all-end}
+use Rattle.cert_checker.specs.View.{else_walk}
+use Rattle.cert_checker.proofs.Steps.{all-step, all-end, given-up, if-begun, branches-done, branches-stopped}
 use Rattle.cert_checker.proofs.walk.Walk.+statement.Goals as goal
 
-pub loop-statement-preserved : goal.loop-statement-preserved
-loop-statement-preserved t c = λ result new after goes.
+pub statements-loop-statement-preserved : goal.statements-loop-statement-preserved
+statements-loop-statement-preserved t c = λ result new after goes.
     let here = c.loop-statement in
     here.invariant result new after
-    (all-step statement_walk c.deref-statement-items.result.now here.statement-index c.statement-item.result here.self c.statement.new.self new here.visits
+    (all-step statement_walk c.args.statements.now here.statement-index c.statement-item.result here.self c.statement.new.self new here.visits
     c.statement.new.visits after tt result
-    c.loop-statement-test.true c.statement-item.is c.in_ok-statement-in-Compound.ensures goes)
+    c.loop-statement-test.true c.statement-item.is c.in_ok-statement.ensures goes)
 
-pub returns-after-loop-statement : goal.returns-after-loop-statement
-returns-after-loop-statement t c =
+pub statements-returns : goal.statements-returns
+statements-returns t c =
     let here = c.loop-statement in
-    here.invariant (Ok tt) here.self here.visits (all-end statement_walk c.deref-statement-items.result.now here.statement-index here.self here.visits
+    here.invariant (Ok tt) here.self here.visits (all-end statement_walk c.args.statements.now here.statement-index here.self here.visits
     c.loop-statement-test.false)
+
+pub statement-returns-in_err-statement-in-If : goal.statement-returns-in_err-statement-in-If
+statement-returns-in_err-statement-in-If t c =
+    let it = c.in-If in
+    let new = c.statement.new.self in
+    let after = c.statement.new.visits in
+    let valued = c.expression.new.self in
+    let between = c.expression.new.visits in
+    let known = c.in_ok-known-in-If.known in
+    let fault = c.in_err-statement-in-If.field-0.0 in
+    let left = c.from_residual-in_err-statement-in-If in
+    given-up (statement_walk c.args.statement.now) c.args.self.now new c.args.visits.now after fault left.result left.ensures
+    (if-begun c.args.statement.now it.number it.condition it.consequence it.alternative c.deref-in-If.result.now c.args.self.now c.enter-in-If.new.self
+    valued new c.args.visits.now c.enter-in-If.new.visits between after known (Err fault) it.is c.deref-in-If.ensures c.in_ok-enter-in-If.ensures
+    c.in_ok-known-in-If.ensures
+    (branches-stopped (statement_walk c.deref-in-If.result.now) (else_walk it.alternative) known valued c.part.new.self new between after
+    c.in_ok-otherwise-in-If.otherwise fault c.in_ok-otherwise-in-If.ensures c.in_err-statement-in-If.ensures))
+
+pub statement-returns-in_ok-alternative-in-If : goal.statement-returns-in_ok-alternative-in-If
+statement-returns-in_ok-alternative-in-If t c =
+    let it = c.in-If in
+    let valued = c.expression.new.self in
+    let known = c.in_ok-known-in-If.known in
+    if-begun c.args.statement.now it.number it.condition it.consequence it.alternative c.deref-in-If.result.now c.args.self.now c.enter-in-If.new.self
+    valued c.meet.new.self c.args.visits.now c.enter-in-If.new.visits c.expression.new.visits c.alternative.new.visits known c.meet.result
+    it.is c.deref-in-If.ensures c.in_ok-enter-in-If.ensures c.in_ok-known-in-If.ensures
+    (branches-done (statement_walk c.deref-in-If.result.now) (else_walk it.alternative) known valued c.part.new.self c.statement.new.self _
+    c.alternative.new.self c.meet.new.self c.expression.new.visits c.statement.new.visits c.alternative.new.visits c.replace-behind.result
+    c.in_ok-otherwise-in-If.otherwise c.meet.result c.in_ok-otherwise-in-If.ensures c.in_ok-statement-in-If.ensures c.replace-behind.ensures.value
+    c.replace-behind.ensures.after refl c.in_ok-alternative-in-If.ensures c.meet.ensures)

@@ -6,9 +6,9 @@ use Rattle.cert_checker.specs.Walk.{all_of, statement_walk}
 use Rattle.cert_checker.specs.View.{Goes}
 use Rattle.cert_checker.proofs.walk.Walk.+statement.Given as goal
 
--- whatever the checker does over the statements that are left, it did it over the whole one
-abbrev pub invariant-loop-statement : goal.invariant-loop-statement
-invariant-loop-statement l =
+-- whatever the checker does over the statements that are left, it did it over them all
+abbrev pub invariant-statements-loop-statement : goal.invariant-statements-loop-statement
+invariant-statements-loop-statement l =
     (result : Result (Unit {0}) CheckFault) (new : Walk) (after : Visits)
-    → Goes (all_of (map statement_walk (drop l.statement-index l.statement-items))) l.self l.visits result new after
-    → Goes (statement_walk l.statement) l.fn.self l.fn.visits result new after
+    → Goes (all_of (map statement_walk (drop l.statement-index l.statements))) l.self l.visits result new after
+    → Goes (all_of (map statement_walk l.statements)) l.fn.self l.fn.visits result new after

@@ -1,7 +1,7 @@
 use Rattle.std.proofs.Common.{ap}
 use Rattle.domain.specs.Interval.{quotient, remainder}
 use Rattle.typed_tree.specs.declared.tree.Dyadic.TheVariants.{Div, Mod}
-use Rattle.cert_checker.specs.declared.known.Known.TheVariants.{Ordinal}
+use Rattle.abstract_state.specs.declared.known.Known.TheVariants.{Ordinal}
 use Rattle.cert_checker.specs.Walk.{divisor, positive, combined}
 use Rattle.cert_checker.proofs.Held.{combined-as, sum-done, difference-done, product-done}
 use Rattle.cert_checker.proofs.Steps.{tested-goes, tested-stopped}

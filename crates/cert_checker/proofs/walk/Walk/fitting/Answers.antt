@@ -1,5 +1,5 @@
 use Rattle.std.proofs.Common.{refl}
-use Rattle.cert_checker.specs.declared.known.Known.TheVariants.{Ordinal}
+use Rattle.abstract_state.specs.declared.known.Known.TheVariants.{Ordinal}
 use Rattle.cert_checker.specs.Walk.{within, fitting}
 use Rattle.cert_checker.proofs.Steps.{fitting-as, tested-goes, tested-stopped}
 use Rattle.cert_checker.proofs.walk.Walk.fitting.Goals as goal

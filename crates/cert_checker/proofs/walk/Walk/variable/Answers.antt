@@ -1,5 +1,5 @@
 use Rattle.std.proofs.Common.{Err}
-use Rattle.cert_checker.specs.declared.known.Known.TheVariants.{Ordinal}
+use Rattle.abstract_state.specs.declared.known.Known.TheVariants.{Ordinal}
 use Rattle.cert_checker.specs.Walk.{enter, use_of, variable_walk}
 use Rattle.cert_checker.proofs.Steps.{given-up, goes-then, walks-then, use-walks, use-stopped}
 use Rattle.cert_checker.proofs.walk.Walk.variable.Goals as goal

@@ -1,6 +1,6 @@
 use Rattle.std.proofs.Common.{refl}
-use Rattle.cert_checker.specs.declared.known.Known.TheVariants.{Ordinal}
-use Rattle.cert_checker.specs.State.{integer}
+use Rattle.abstract_state.specs.declared.known.Known.TheVariants.{Ordinal}
+use Rattle.abstract_state.specs.State.{integer}
 use Rattle.cert_checker.specs.Walk.{within, whole}
 use Rattle.cert_checker.proofs.Steps.{tested-goes, tested-stopped}
 use Rattle.cert_checker.proofs.walk.Walk.whole.Goals as goal

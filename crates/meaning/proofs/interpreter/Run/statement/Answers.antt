@@ -1,6 +1,6 @@
 use Rattle.std.proofs.Common.{reverse, refl}
 use Rattle.meaning.proofs.Resuming.{continues_as, goes_on_to}
-use Rattle.meaning.proofs.Unrolling.{entered, does-Empty, does-Assign, does-Write, does-Compound}
+use Rattle.meaning.proofs.Unrolling.{entered, does-Empty, does-Assign, does-Write, does-Compound, does-If}
 use Rattle.meaning.proofs.interpreter.Run.statement.Goals as goal
 
 pub returns-in-Empty-clause-does : goal.returns-in-Empty-clause-does
@@ -34,3 +34,12 @@ returns-in-Compound-clause-does c = λ env s agrees.
     (does-Compound c.in-Compound.number c.in-Compound.statements c.args.statement.now c.in-Compound.is c.deref-in-Compound.result
     c.deref-in-Compound.ensures.value env (reverse old.pending.items) (reverse old.values.items) s)
     (c.statements.ensures.does env (entered c.in-Compound.number env s) agrees)
+
+pub returns-in-If-clause-does : goal.returns-in-If-clause-does
+returns-in-If-clause-does c = λ env s agrees.
+    let old = c.args.self.now in
+    let branches = c.in-If in
+    continues_as env old c.plan-in-If.new.self _ _ c.plan-in-If.result
+    (does-If branches.number branches.condition branches.consequence branches.alternative c.args.statement.now branches.is c.deref-in-If.result.now
+    c.deref-in-If.ensures env (reverse old.pending.items) (reverse old.values.items) s)
+    (c.plan-in-If.ensures.does env (entered branches.number env s) agrees)

@@ -8,6 +8,9 @@ returns-in-Statements-clause-does c =
 pub returns-in-Statement-clause-does : goal.returns-in-Statement-clause-does
 returns-in-Statement-clause-does c = does_as c.args.self.now c.statement.new.self c.args.work _ c.statement.result c.in-Statement.is c.statement.ensures.does
 
+pub returns-in-Choose-clause-does : goal.returns-in-Choose-clause-does
+returns-in-Choose-clause-does c = does_as c.args.self.now c.choose.new.self c.args.work _ c.choose.result c.in-Choose.is c.choose.ensures.does
+
 pub returns-in-Parameters-clause-does : goal.returns-in-Parameters-clause-does
 returns-in-Parameters-clause-does c =
     does_as c.args.self.now c.parameters.new.self c.args.work _ c.parameters.result c.in-Parameters.is c.parameters.ensures.does

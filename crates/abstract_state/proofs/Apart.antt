@@ -1,0 +1,83 @@
+-- Variables that share no place: what is written at the place of one leaves each part of another alone.
+use Rattle.std.proofs.Common.{arith, ◌≡◌, ◌≢◌, ⊎_elim, ◌∙◌, ap, refl, ℕ, Bool, true, false, cond, ◌&&◌, nat_eq, List, [], ◌∷◌, ◌++◌, append-nil, Option, Some, None}
+use Rattle.std.proofs.lemmas.Bool.{and_parts, and_from, eq-eqb, false_from_ne_true}
+use Rattle.std.specs.Cmp.{int_eq_equiv}
+use Rattle.std.specs.Cmp.Lexicographic.{pointwise, nat_list_eq_equiv}
+use Rattle.meaning.specs.declared.store.Value.{Value}
+use Rattle.meaning.specs.Store.{Step, Element, Field, Place, Store, Environment, step_eq, place_eq, is_beginning, overlap, stored, written}
+use Rattle.abstract_state.specs.Holds.{Separate, part_of}
+
+-- ---- places
+
+step-itself : (s : Step) → step_eq s s ≡ true
+step-itself (Element index) = int_eq_equiv.refl index
+step-itself (Field name) = nat_list_eq_equiv.refl name
+
+steps-themselves : (steps : List Step) → pointwise step_eq steps steps ≡ true
+steps-themselves [] = refl
+steps-themselves (s ∷ steps) = and_from (step_eq s s) (pointwise step_eq steps steps) (step-itself s) (steps-themselves steps)
+
+pub place-itself : (p : Place) → place_eq p p ≡ true
+place-itself p =
+    let same_steps = steps-themselves p.steps in
+    let same_variable = eq-eqb p.variable p.variable refl in
+    and_from (nat_eq p.activation p.activation) (nat_eq p.variable p.variable && pointwise step_eq p.steps p.steps) (eq-eqb p.activation p.activation refl)
+    (and_from (nat_eq p.variable p.variable) (pointwise step_eq p.steps p.steps) same_variable same_steps)
+
+step-back : (s t : Step) → step_eq s t ≡ true → step_eq t s ≡ true
+step-back (Element i) (Element j) is = int_eq_equiv.symm j i ∙ is
+step-back (Field a) (Field b) is = nat_list_eq_equiv.symm b a ∙ is
+step-back (Element i) (Field b) is = is
+step-back (Field a) (Element j) is = is
+
+-- steps that are some steps and more begin with these
+begins : (ps qs more : List Step) → pointwise step_eq ps (qs ++ more) ≡ true → is_beginning qs ps ≡ true
+begins ps [] more is = refl
+begins [] (t ∷ qs) more is = is
+begins (s ∷ ps) (t ∷ qs) more is =
+    let parts = and_parts (step_eq s t) (pointwise step_eq ps (qs ++ more)) is in
+    and_from (step_eq t s) (is_beginning qs ps) (step-back s t parts.0) (begins ps qs more parts.1)
+
+or-then : (b c : Bool) → c ≡ true → cond b true c ≡ true
+or-then true c is = refl
+or-then false c is = is
+
+-- a part of a place
+abbrev pub part : Place → List Step → Place
+part p steps = record p { steps = p.steps ++ steps }
+
+-- a place that is a part of another overlaps it
+pub part-overlaps : (p q : Place) (steps : List Step) → place_eq p (part q steps) ≡ true → overlap p q ≡ true
+part-overlaps p q steps is =
+    let rest = nat_eq p.variable q.variable && pointwise step_eq p.steps (q.steps ++ steps) in
+    let one = and_parts (nat_eq p.activation q.activation) rest is in
+    let two = and_parts (nat_eq p.variable q.variable) (pointwise step_eq p.steps (q.steps ++ steps)) one.1 in
+    let either = cond (is_beginning p.steps q.steps) true (is_beginning q.steps p.steps) in
+    and_from (nat_eq p.activation q.activation) (nat_eq p.variable q.variable && either) one.0
+    (and_from (nat_eq p.variable q.variable) either two.0
+    (or-then (is_beginning p.steps q.steps) (is_beginning q.steps p.steps) (begins p.steps q.steps steps two.1)))
+
+-- ---- the entire variable
+
+pub entire-stored : (store : Store) (p : Place) → part_of store (Some p) [] ≡ stored store p
+entire-stored store p = ap (λ (steps : List Step). stored store (record p { steps = steps })) (append-nil p.steps)
+
+-- what was written at a place is there
+pub written-stored : (store : Store) (p : Place) (v : Value) → stored (written store p v) p ≡ Some v
+written-stored store p v = ap (λ (same : Bool). cond same (Some v) (stored store p)) (place-itself p)
+
+-- ---- others
+
+-- no pair is listed, so no two variables share a place
+pub share-none : (env : Environment) → Separate env [] → (a b : ℕ) (p q : Place) → env a ≡ Some p → env b ≡ Some q → a ≢ b → overlap p q ≡ true → ⊥
+share-none env separate a b p q at_a at_b differ overlaps =
+    ⊎_elim (λ listed. absurd (omega (arith, listed.1))) (λ listed. absurd (omega (arith, listed.1))) (separate a b p q at_a at_b differ overlaps)
+
+-- a part of another variable has the value that it had
+pub other-kept : (env : Environment) → Separate env [] → (store : Store) (v : Value) (a b : ℕ) (p : Place) → env a ≡ Some p → a ≢ b → (found : Option Place)
+    → env b ≡ found → (steps : List Step)
+    → part_of (written store p v) found steps ≡ part_of store found steps
+other-kept env separate store v a b p at_a differ None at_b steps = refl
+other-kept env separate store v a b p at_a differ (Some q) at_b steps =
+    ap (λ (same : Bool). cond same (Some v) (stored store (part q steps)))
+    (false_from_ne_true (place_eq p (part q steps)) (λ same. share-none env separate a b p q at_a at_b differ (part-overlaps p q steps same)))

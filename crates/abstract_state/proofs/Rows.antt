@@ -1,0 +1,406 @@
+-- The rows of the checker's state, as facts.
+use Rattle.std.proofs.Common.{arith, ◌≡◌, ◌∙◌, sym, ap, refl, ℕ, zero, suc, ◌+◌, ◌-◌, ◌++◌, append-nil, append_assoc, length-append, ◌<◌, ◌≤◌, Bool, true, false, ◌&&◌, ◌||◌, cond, subst, ⊎_elim, max, filter, List, [], ◌∷◌, length, map, replicate, set, nat_lt, get_or, ap₂, if◌then◌else◌}
+use Rattle.std.proofs.lemmas.Bool.Decides.{nat_tests}
+use Rattle.std.specs.declared.cmp.Ordering.{Ordering}
+use Rattle.std.specs.declared.cmp.Ordering.TheVariants.{Less, Equal, Greater}
+use Rattle.std.specs.Ordering.{is_eq, nat_cmp, ordering_then}
+use Rattle.domain.specs.Interval.{Interval, vacant, joined}
+use Rattle.domain.specs.Facts.{Fact, Defined, entire, fact_order, has_fact, put, with_fact}
+use Rattle.abstract_state.specs.declared.state.Row.{Row}
+use Rattle.std.proofs.lemmas.Bool.{cases_lt}
+use Rattle.std.proofs.lemmas.List.{length-map, length-set, set-get_or, length-replicate, get_or-set_other, replicate_more}
+use Rattle.std.proofs.lemmas.Grind.{get_or-set_at}
+use Rattle.abstract_state.specs.State.{State, Facts, Live, gives, joined_facts, joined_ranges, start, with_defined, with_facts, with_value}
+use Rattle.abstract_state.specs.View.{AreJoined, defined_from, joined_row, no_row}
+
+-- ---- facts that variables are defined stand in the order of the variables
+
+then-equal : (order : Ordering) → ordering_then order Equal ≡ order
+then-equal Less = refl
+then-equal Equal = refl
+then-equal Greater = refl
+
+below : (a b : ℕ) → a < b → fact_order (Defined (entire a)) (Defined (entire b)) ≡ Less
+below a b less = then-equal (ordering_then (nat_cmp a b) Equal) ∙ then-equal (nat_cmp a b) ∙ (let is : nat_cmp a b ≡ Less = grind (arith, nat_tests) in is)
+
+same : (a : ℕ) → fact_order (Defined (entire a)) (Defined (entire a)) ≡ Equal
+same a = then-equal (ordering_then (nat_cmp a a) Equal) ∙ then-equal (nat_cmp a a) ∙ (let is : nat_cmp a a ≡ Equal = grind (arith, nat_tests) in is)
+
+above : (a b : ℕ) → b < a → fact_order (Defined (entire a)) (Defined (entire b)) ≡ Greater
+above a b more = then-equal (ordering_then (nat_cmp a b) Equal) ∙ then-equal (nat_cmp a b) ∙ (let is : nat_cmp a b ≡ Greater = grind (arith, nat_tests) in is)
+
+-- ---- the facts of rows
+
+abbrev rows_from : ℕ → Row → List Fact → List Fact
+rows_from root row facts = cond row.is_defined (Defined (entire root) ∷ facts) facts
+
+-- a row's own fact
+own : (root : ℕ) (bit : Bool) (facts : List Fact) → has_fact (Defined (entire root)) facts ≡ false
+    → has_fact (Defined (entire root)) (cond bit (Defined (entire root) ∷ facts) facts) ≡ bit
+own root true facts none = ap (λ order. is_eq order || has_fact (Defined (entire root)) facts) (same root)
+own root false facts none = none
+
+-- that of a row with another number
+other-below : (root first : ℕ) (bit : Bool) (facts : List Fact) → root < first
+    → has_fact (Defined (entire root)) (cond bit (Defined (entire first) ∷ facts) facts) ≡ has_fact (Defined (entire root)) facts
+other-below root first true facts less = ap (λ order. is_eq order || has_fact (Defined (entire root)) facts) (below root first less)
+other-below root first false facts less = refl
+
+other-above : (root first : ℕ) (bit : Bool) (facts : List Fact) → first < root
+    → has_fact (Defined (entire root)) (cond bit (Defined (entire first) ∷ facts) facts) ≡ has_fact (Defined (entire root)) facts
+other-above root first true facts more = ap (λ order. is_eq order || has_fact (Defined (entire root)) facts) (above root first more)
+other-above root first false facts more = refl
+
+-- rows from a number on say nothing of a lower one
+none-before : (root from : ℕ) (rows : List Row) → root < from → has_fact (Defined (entire root)) (defined_from from rows) ≡ false
+none-before root from [] less = refl
+none-before root from (row ∷ rows) less =
+    other-below root from row.is_defined (defined_from (suc from) rows) less ∙ none-before root (suc from) rows (omega arith)
+
+-- rows say of a variable what its own row says; a row that isn't there says nothing
+says-row : (rows : List Row) (none : Row) (from i root : ℕ) → none.is_defined ≡ false → root ≡ from + i
+    → has_fact (Defined (entire root)) (defined_from from rows) ≡ (get_or rows i none).is_defined
+says-row [] none from i root says is = sym says
+says-row (row ∷ rows) none from zero root says is =
+    let here : root ≡ from = omega (arith, is) in
+    ap (λ r. has_fact (Defined (entire r)) (defined_from from (row ∷ rows))) here
+    ∙ own from row.is_defined (defined_from (suc from) rows) (none-before from (suc from) rows (omega arith))
+says-row (row ∷ rows) none from (suc i) root says is =
+    other-above root from row.is_defined (defined_from (suc from) rows) (omega (arith, is))
+    ∙ says-row rows none (suc from) i root says (omega (arith, is))
+
+pub has-row : (rows : List Row) (none : Row) (from i root : ℕ) → none.is_defined ≡ false → root ≡ from + i
+    → (get_or rows i none).is_defined ≡ has_fact (Defined (entire root)) (defined_from from rows)
+has-row rows none from i root says is = sym (says-row rows none from i root says is)
+
+-- ---- a row becomes defined
+
+-- a fact that comes before a first one
+ahead : (root first : ℕ) (facts : List Fact) → root < first
+    → with_fact (Defined (entire root)) (Defined (entire first) ∷ facts) ≡ Defined (entire root) ∷ Defined (entire first) ∷ facts
+ahead root first facts less =
+    ap (λ order. put order (Defined (entire root)) (Defined (entire first)) facts (with_fact (Defined (entire root)) facts)) (below root first less)
+
+-- or that comes behind it
+behind : (root first : ℕ) (facts : List Fact) → first < root
+    → with_fact (Defined (entire root)) (Defined (entire first) ∷ facts) ≡ Defined (entire first) ∷ with_fact (Defined (entire root)) facts
+behind root first facts more =
+    ap (λ order. put order (Defined (entire root)) (Defined (entire first)) facts (with_fact (Defined (entire root)) facts)) (above root first more)
+
+again : (root : ℕ) (facts : List Fact) → with_fact (Defined (entire root)) (Defined (entire root) ∷ facts) ≡ Defined (entire root) ∷ facts
+again root facts = ap (λ order. put order (Defined (entire root)) (Defined (entire root)) facts (with_fact (Defined (entire root)) facts)) (same root)
+
+ahead-or : (root first : ℕ) (bit : Bool) (facts : List Fact) → root < first → with_fact (Defined (entire root)) facts ≡ Defined (entire root) ∷ facts
+    → with_fact (Defined (entire root)) (cond bit (Defined (entire first) ∷ facts) facts) ≡ Defined (entire root) ∷ cond bit (Defined
+    (entire first) ∷ facts) facts
+ahead-or root first true facts less rest = ahead root first facts less
+ahead-or root first false facts less rest = rest
+
+behind-or : (root first : ℕ) (bit : Bool) (facts : List Fact) → first < root
+    → with_fact (Defined (entire root)) (cond bit (Defined (entire first) ∷ facts) facts) ≡ cond bit (Defined (entire first) ∷ with_fact (Defined
+    (entire root)) facts) (with_fact (Defined (entire root)) facts)
+behind-or root first true facts more = behind root first facts more
+behind-or root first false facts more = refl
+
+before-all : (root from : ℕ) (rows : List Row) → root < from
+    → with_fact (Defined (entire root)) (defined_from from rows) ≡ Defined (entire root) ∷ defined_from from rows
+before-all root from [] less = refl
+before-all root from (row ∷ rows) less =
+    ahead-or root from row.is_defined (defined_from (suc from) rows) less (before-all root (suc from) rows (omega arith))
+
+first-defined : (root : ℕ) (bit : Bool) (facts : List Fact) → with_fact (Defined (entire root)) facts ≡ Defined (entire root) ∷ facts
+    → with_fact (Defined (entire root)) (cond bit (Defined (entire root) ∷ facts) facts) ≡ Defined (entire root) ∷ facts
+first-defined root true facts rest = again root facts
+first-defined root false facts rest = rest
+
+-- a row with a bit that is set says what the rows said, and that its variable is defined
+pub row-defined : (rows : List Row) (from i root : ℕ) (row : Row) → i < length rows → root ≡ from + i → row.is_defined ≡ true
+    → with_fact (Defined (entire root)) (defined_from from rows) ≡ defined_from from (set rows i row)
+row-defined [] from i root row inside is bit = absurd (omega (arith, inside))
+row-defined (first ∷ rows) from zero root row inside is bit =
+    let here : root ≡ from = omega (arith, is) in
+    ap (λ r. with_fact (Defined (entire r)) (defined_from from (first ∷ rows))) here
+    ∙ first-defined from first.is_defined (defined_from (suc from) rows) (before-all from (suc from) rows (omega arith))
+    ∙ ap (λ b. cond b (Defined (entire from) ∷ defined_from (suc from) rows) (defined_from (suc from) rows)) (sym bit)
+row-defined (first ∷ rows) from (suc i) root row inside is bit =
+    behind-or root from first.is_defined (defined_from (suc from) rows) (omega (arith, is))
+    ∙ ap (λ facts. cond first.is_defined (Defined (entire from) ∷ facts) facts) (row-defined rows (suc from) i root row (omega (arith, inside)) (omega
+    (arith, is)) bit)
+
+-- ---- the ranges of rows
+
+abbrev pub ranges_of : List Row → List Interval
+ranges_of = map (λ row. row.range)
+
+pub range-set : (rows : List Row) (i : ℕ) (row : Row) → ranges_of (set rows i row) ≡ set (ranges_of rows) i row.range
+range-set [] i row = refl
+range-set (first ∷ rows) zero row = refl
+range-set (first ∷ rows) (suc i) row = ap (λ ranges. first.range ∷ ranges) (range-set rows i row)
+
+-- a row whose range stays
+pub range-kept : (rows : List Row) (i : ℕ) (row : Row) → (get_or rows i row).range ≡ row.range → ranges_of (set rows i row) ≡ ranges_of rows
+range-kept [] i row kept = refl
+range-kept (first ∷ rows) zero row kept = ap (λ range. range ∷ ranges_of rows) (sym kept)
+range-kept (first ∷ rows) (suc i) row kept = ap (λ ranges. first.range ∷ ranges) (range-kept rows i row kept)
+
+-- the start of a block
+pub none-defined : (n from : ℕ) (row : Row) → row.is_defined ≡ false → defined_from from (replicate n row) ≡ []
+none-defined zero from row none = refl
+none-defined (suc n) from row none =
+    ap (λ b. cond b (Defined (entire from) ∷ defined_from (suc from) (replicate n row)) (defined_from (suc from) (replicate n row))) none
+    ∙ none-defined n (suc from) row none
+
+pub all-ranges : (n : ℕ) (row : Row) → ranges_of (replicate n row) ≡ replicate n row.range
+all-ranges zero row = refl
+all-ranges (suc n) row = ap (λ ranges. row.range ∷ ranges) (all-ranges n row)
+
+-- ---- states
+
+abbrev rows_state : List Interval → List Fact → State
+rows_state ranges facts = Live (record { ranges = ranges; facts = facts })
+
+listed : {A : Type 0} (one other : A) (i n : ℕ) → i < n → (if nat_lt i n then one else other) ≡ one
+listed one other i n less = let is : nat_lt i n ≡ true = grind (arith, nat_tests) in ap (λ b. cond b one other) is
+
+-- a row whose bit becomes set
+pub defined-again : (rows : List Row) (root : ℕ) (row : Row) → root < length rows → (get_or rows root row).range ≡ row.range → row.is_defined ≡ true
+    → rows_state (ranges_of (set rows root row)) (defined_from 0 (set rows root row)) ≡ with_defined root (rows_state (ranges_of rows) (defined_from 0 rows))
+defined-again rows root row inside kept bit =
+    let facts = defined_from 0 rows in
+    ap₂ rows_state (range-kept rows root row kept) (sym (row-defined rows 0 root root row inside (omega arith) bit))
+    ∙ sym (listed (rows_state (ranges_of rows) (with_fact (Defined (entire root)) facts)) (rows_state (ranges_of rows) facts) root (length (ranges_of rows))
+    (rw length-map inside))
+
+-- so many rows that say nothing
+pub started : (rows : List Row) (n : ℕ) (row : Row) → rows ≡ replicate n row → row.range ≡ vacant → row.is_defined ≡ false
+    → rows_state (ranges_of rows) (defined_from 0 rows) ≡ start n
+started rows n row are range bit =
+    ap (λ (some : List Row). rows_state (ranges_of some) (defined_from 0 some)) are
+    ∙ ap₂ rows_state (all-ranges n row ∙ ap (replicate n) range) (none-defined n 0 row bit)
+
+-- a row is written
+pub assigned : (rows : List Row) (root : ℕ) (row : Row) → root < length rows → row.is_defined ≡ true
+    → rows_state (ranges_of (set rows root row)) (defined_from 0 (set rows root row)) ≡ with_value root row.range (rows_state (ranges_of rows)
+    (defined_from 0 rows))
+assigned rows root row inside bit =
+    let facts = defined_from 0 rows in
+    let ranges = set (ranges_of rows) root row.range in
+    ap₂ rows_state (range-set rows root row) (sym (row-defined rows 0 root root row inside (omega arith) bit))
+    ∙ sym (listed (rows_state ranges (with_fact (Defined (entire root)) facts)) (rows_state ranges facts) root (length ranges)
+    (rw length-set (rw length-map inside)))
+
+-- no row stands there
+pub past : (rows : List Row) (i : ℕ) (none : Row) → length rows ≤ i → get_or rows i none ≡ none
+past [] i none beyond = refl
+past (row ∷ rows) zero none beyond = absurd (omega (arith, beyond))
+past (row ∷ rows) (suc i) none beyond = past rows i none (omega (arith, beyond))
+
+-- ---- rows of two ways
+
+-- whether a variable is known to be defined
+abbrev pub bit : List Row → ℕ → Bool
+bit rows root = (get_or rows root no_row).is_defined
+
+no-bit : (i : ℕ) → bit [] i ≡ false
+no-bit i = refl
+
+cond-same : (root : ℕ) (b c : Bool) (facts others : List Fact) → b ≡ c → facts ≡ others
+    → cond b (Defined (entire root) ∷ facts) facts ≡ cond c (Defined (entire root) ∷ others) others
+cond-same root b c facts others b_is is = ap₂ (λ (bit : Bool) (rest : List Fact). cond bit (Defined (entire root) ∷ rest) rest) b_is is
+
+-- rows say the same where they have the same bits
+pub same-defined : (rows others : List Row) (from : ℕ) → ((i : ℕ) → bit rows i ≡ bit others i) → defined_from from rows ≡ defined_from from others
+same-defined [] [] from same = refl
+same-defined [] (other ∷ others) from same =
+    same-defined [] others (suc from) (λ i. same (suc i))
+    ∙ ap (λ (b : Bool). cond b (Defined (entire from) ∷ defined_from (suc from) others) (defined_from (suc from) others)) (same 0)
+same-defined (row ∷ rows) [] from same =
+    ap (λ (b : Bool). cond b (Defined (entire from) ∷ defined_from (suc from) rows) (defined_from (suc from) rows)) (same 0)
+    ∙ same-defined rows [] (suc from) (λ i. same (suc i))
+same-defined (row ∷ rows) (other ∷ others) from same =
+    cond-same from row.is_defined other.is_defined (defined_from (suc from) rows) (defined_from (suc from) others) (same 0)
+    (same-defined rows others (suc from) (λ i. same (suc i)))
+
+-- the rows with bits that pass a test
+abbrev tested_bits : (Fact → Bool) → ℕ → List Row → List Row
+tested_bits test from [] = []
+tested_bits test from (row ∷ rows) =
+    record row { is_defined = row.is_defined && test (Defined (entire from)) } ∷ tested_bits test (suc from) rows
+
+tested-bit : (test : Fact → Bool) (rows : List Row) (from i root : ℕ) → root ≡ from + i
+    → bit (tested_bits test from rows) i ≡ (bit rows i && test (Defined (entire root)))
+tested-bit test [] from i root is = refl
+tested-bit test (row ∷ rows) from zero root is =
+    ap (λ (r : ℕ). row.is_defined && test (Defined (entire r))) (let here : from ≡ root = omega (arith, is) in here)
+tested-bit test (row ∷ rows) from (suc i) root is = tested-bit test rows (suc from) i root (omega (arith, is))
+
+filter-first : (test : Fact → Bool) (fact : Fact) (b c : Bool) (facts : List Fact) → test fact ≡ c
+    → filter test (cond b (fact ∷ facts) facts) ≡ cond (b && c) (fact ∷ filter test facts) (filter test facts)
+filter-first test fact true c facts is = ap (λ (t : Bool). cond t (fact ∷ filter test facts) (filter test facts)) is
+filter-first test fact false c facts is = refl
+
+pub filter-defined : (test : Fact → Bool) (rows : List Row) (from : ℕ) → filter test (defined_from from rows) ≡ defined_from from (tested_bits test from rows)
+filter-defined test [] from = refl
+filter-defined test (row ∷ rows) from =
+    filter-first test (Defined (entire from)) row.is_defined (test (Defined (entire from))) (defined_from (suc from) rows) refl
+    ∙ ap (λ (rest : List Fact). cond (row.is_defined && test (Defined (entire from))) (Defined (entire from) ∷ rest) rest)
+    (filter-defined test rows (suc from))
+
+-- a fact that rows say needs no place of its own
+pub with-had : (rows : List Row) (root : ℕ) → bit rows root ≡ true → with_fact (Defined (entire root)) (defined_from 0 rows) ≡ defined_from 0 rows
+with-had rows root is =
+    let row = get_or rows root no_row in
+    ⊎_elim
+    (λ inside. row-defined rows 0 root root row inside (omega arith) is ∙ ap (defined_from 0) (set-get_or rows root no_row))
+    (λ beyond. absurd (let none : bit rows root ≡ false = ap (λ (row : Row). row.is_defined) (past rows root no_row beyond) in cc))
+    (cases_lt root (length rows))
+
+had-first : (rows : List Row) (b : Bool) (from : ℕ) (more : List Fact) → (b ≡ true → bit rows from ≡ true)
+    → with_facts more (defined_from 0 rows) ≡ defined_from 0 rows
+    → with_facts (cond b (Defined (entire from) ∷ more) more) (defined_from 0 rows) ≡ defined_from 0 rows
+had-first rows true from more had rest = ap (with_facts more) (with-had rows from (had refl)) ∙ rest
+had-first rows false from more had rest = rest
+
+-- nor do facts that rows say
+pub with-had_facts : (rows : List Row) (more : List Row) (from : ℕ) → ((i : ℕ) → bit more i ≡ true → bit rows (from + i) ≡ true)
+    → with_facts (defined_from from more) (defined_from 0 rows) ≡ defined_from 0 rows
+with-had_facts rows [] from had = refl
+with-had_facts rows (row ∷ more) from had =
+    let rest = with-had_facts rows more (suc from) (λ i is. subst (λ (r : ℕ). bit rows r ≡ true) (omega arith) (had (suc i) is)) in
+    had-first rows row.is_defined from (defined_from (suc from) more)
+    (λ is. subst (λ (r : ℕ). bit rows r ≡ true) (let none : from + 0 ≡ from = omega arith in none) (had 0 is)) rest
+
+and-back : (a b : Bool) → (a && b) ≡ (b && a)
+and-back true true = refl
+and-back true false = refl
+and-back false true = refl
+and-back false false = refl
+
+abbrev facts_of : List Row → Facts
+facts_of rows = record { ranges = ranges_of rows; facts = defined_from 0 rows }
+
+module _ (one other both : List Row) (joined_rows : AreJoined one other both) where
+  bit-of : (rows : List Row) (i : ℕ) → has_fact (Defined (entire i)) (defined_from 0 rows) ≡ bit rows i
+  bit-of rows i = sym (has-row rows no_row 0 i i refl (omega arith))
+
+  bit-both : (i : ℕ) → bit both i ≡ (bit one i && bit other i)
+  bit-both i = ap (λ (row : Row). row.is_defined) (joined_rows.each i)
+
+  kept-one : filter (gives (facts_of other)) (defined_from 0 one) ≡ defined_from 0 both
+  kept-one =
+      filter-defined (gives (facts_of other)) one 0
+      ∙ same-defined (tested_bits (gives (facts_of other)) 0 one) both 0
+      (λ i. tested-bit (gives (facts_of other)) one 0 i i (omega arith) ∙ ap (λ (b : Bool). bit one i && b) (bit-of other i) ∙ sym (bit-both i))
+
+  kept-other : filter (gives (facts_of one)) (defined_from 0 other) ≡ defined_from 0 both
+  kept-other =
+      filter-defined (gives (facts_of one)) other 0
+      ∙ same-defined (tested_bits (gives (facts_of one)) 0 other) both 0
+      (λ i. tested-bit (gives (facts_of one)) other 0 i i (omega arith) ∙ ap (λ (b : Bool). bit other i && b) (bit-of one i)
+      ∙ and-back (bit other i) (bit one i) ∙ sym (bit-both i))
+
+  pub facts-both : defined_from 0 both ≡ (joined_facts (facts_of one) (facts_of other)).facts
+  facts-both =
+      sym (ap₂ with_facts kept-other kept-one ∙ with-had_facts both both 0 (λ i is. subst (λ (r : ℕ). bit both r ≡ true) (omega arith) is))
+
+range-pair : (a b : Interval) (xs ys : List Interval) → a ≡ b → xs ≡ ys → ◌≡◌ {A = List Interval} (a ∷ xs) (b ∷ ys)
+range-pair a b xs ys first rest = ap₂ (λ (r : Interval) (rs : List Interval). r ∷ rs) first rest
+
+abbrev range_at : List Row → ℕ → Interval
+range_at rows root = (get_or rows root no_row).range
+
+pub ranges-both : (one other both : List Row) → length both ≡ max (length one) (length other)
+    → ((i : ℕ) → range_at both i ≡ joined (range_at one i) (range_at other i)) → ranges_of both ≡ joined_ranges (ranges_of one) (ranges_of other)
+ranges-both [] [] [] count each = refl
+ranges-both [] [] (row ∷ both) count each = absurd (omega (arith, count))
+ranges-both [] (o ∷ other) [] count each = absurd (omega (arith, count))
+ranges-both [] (o ∷ other) (row ∷ both) count each =
+    range-pair row.range o.range (ranges_of both) (ranges_of other) (each 0)
+    (ranges-both [] other both (omega (arith, count)) (λ i. each (suc i)))
+ranges-both (row ∷ one) [] [] count each = absurd (omega (arith, count))
+ranges-both (row ∷ one) [] (r ∷ both) count each =
+    range-pair r.range (joined row.range vacant) (ranges_of both) (joined_ranges (ranges_of one) []) (each 0)
+    (ranges-both one [] both (omega (arith, count)) (λ i. each (suc i)))
+ranges-both (row ∷ one) (o ∷ other) [] count each = absurd (omega (arith, count))
+ranges-both (row ∷ one) (o ∷ other) (r ∷ both) count each =
+    range-pair r.range (joined row.range o.range) (ranges_of both) (joined_ranges (ranges_of one) (ranges_of other)) (each 0)
+    (ranges-both one other both (omega (arith, count)) (λ i. each (suc i)))
+
+pub joined-rows : (one other both : List Row) → AreJoined one other both → facts_of both ≡ joined_facts (facts_of one) (facts_of other)
+joined-rows one other both joined_rows =
+    ap₂ (λ (ranges : List Interval) (facts : List Fact). record { ranges = ranges; facts = facts })
+    (ranges-both one other both joined_rows.count (λ i. ap (λ (row : Row). row.range) (joined_rows.each i)))
+    (facts-both one other both joined_rows)
+
+-- ---- rows that are filled up
+
+pub filled-none : (rows : List Row) (n : ℕ) → n ≡ 0 → rows ≡ rows ++ replicate n no_row
+filled-none rows n none = sym (append-nil rows) ∙ ap (λ (m : ℕ). rows ++ replicate m no_row) (sym none)
+
+pub filled-more : (rows old : List Row) (n m : ℕ) → rows ≡ old ++ replicate n no_row → m ≡ n + 1 → rows ++ no_row ∷ [] ≡ old ++ replicate m no_row
+filled-more rows old n m are more =
+    ap (λ (some : List Row). some ++ no_row ∷ []) are ∙ append_assoc old (replicate n no_row) (no_row ∷ []) ∙ ap (λ (rest : List Row). old ++ rest) (replicate_more n no_row)
+    ∙ ap (λ (k : ℕ). old ++ replicate k no_row) (sym more)
+
+pub filled-all : (rows old : List Row) (n m : ℕ) → rows ≡ old ++ replicate n no_row → n ≡ m → rows ≡ old ++ replicate m no_row
+filled-all rows old n m are same = are ∙ ap (λ (k : ℕ). old ++ replicate k no_row) same
+
+pub filled-length : (rows old : List Row) (m : ℕ) → rows ≡ old ++ replicate (m - length old) no_row → length old ≤ m → length rows ≡ m
+filled-length rows old m are fits =
+    ap length are ∙ length-append old (replicate (m - length old) no_row) ∙ omega (arith, length-replicate (m - length old) no_row, fits)
+
+no-rows-at : (n k : ℕ) → get_or (replicate n no_row) k no_row ≡ no_row
+no-rows-at zero k = refl
+no-rows-at (suc n) zero = refl
+no-rows-at (suc n) (suc k) = no-rows-at n k
+
+filled-at : (rows : List Row) (n k : ℕ) → get_or (rows ++ replicate n no_row) k no_row ≡ get_or rows k no_row
+filled-at [] n k = no-rows-at n k
+filled-at (row ∷ rows) n zero = refl
+filled-at (row ∷ rows) n (suc k) = filled-at rows n k
+
+pub filled-at_as : (rows old : List Row) (n k : ℕ) → rows ≡ old ++ replicate n no_row → get_or rows k no_row ≡ get_or old k no_row
+filled-at_as rows old n k are = ap (λ (some : List Row). get_or some k no_row) are ∙ filled-at old n k
+
+-- ---- the loop over the rows of two ways
+
+-- the first rows are joined, and the others as they were
+pub record JoinedUpTo (start others rows : List Row) (i : ℕ) : Type 0 where
+  pub count : length rows ≡ length start
+  pub done : (k : ℕ) → k < i → get_or rows k no_row ≡ joined_row (get_or start k no_row) (get_or others k no_row)
+  pub left : (k : ℕ) → i ≤ k → get_or rows k no_row ≡ get_or start k no_row
+
+pub joined-none : (start others : List Row) → JoinedUpTo start others start 0
+joined-none start others = record { count = refl; done = λ k below. absurd (omega (arith, below)); left = λ k above. refl }
+
+pub joined-next : (start others rows : List Row) (i : ℕ) → JoinedUpTo start others rows i → i < length rows
+    → JoinedUpTo start others (set rows i (joined_row (get_or rows i no_row) (get_or others i no_row))) (i + 1)
+joined-next start others rows i so_far inside =
+    let row = joined_row (get_or rows i no_row) (get_or others i no_row) in
+    record {
+      count = length-set rows i row ∙ so_far.count;
+      done = λ k below.
+          ⊎_elim (λ before. get_or-set_other rows i k row no_row (λ same. absurd (omega (arith, before, same))) ∙ so_far.done k before)
+          (λ here.
+          let same : k ≡ i = omega (arith, below, here) in
+          get_or-set_at rows i k row no_row same inside
+          ∙ ap (λ (r : Row). joined_row r (get_or others i no_row)) (so_far.left i (omega arith))
+          ∙ ap (λ (r : ℕ). joined_row (get_or start r no_row) (get_or others r no_row)) (sym same))
+          (cases_lt k i);
+      left = λ k above.
+          get_or-set_other rows i k row no_row (λ same. absurd (omega (arith, above, same))) ∙ so_far.left k (omega (arith, above));
+    }
+
+pub joined-all : (one other start others rows : List Row) (n m count : ℕ) → JoinedUpTo start others rows count → count ≡ max (length one) (length other)
+    → start ≡ one ++ replicate n no_row → others ≡ other ++ replicate m no_row → length start ≡ count → AreJoined one other rows
+joined-all one other start others rows n m count all count_is start_is others_are length_is = record {
+  count = all.count ∙ length_is ∙ count_is;
+  each = λ root.
+      let first = filled-at_as start one n root start_is in
+      let second = filled-at_as others other m root others_are in
+      ⊎_elim (λ below. all.done root below ∙ ap₂ joined_row first second)
+      (λ beyond.
+      past rows root no_row (omega (arith, all.count, length_is, beyond))
+      ∙ sym (ap₂ joined_row (past one root no_row (omega (arith, count_is, beyond))) (past other root no_row (omega (arith, count_is, beyond)))))
+      (cases_lt root count);
+}

@@ -1,0 +1,4 @@
+pub mod State
+pub mod View
+pub mod Holds
+pub mod Laws
