@@ -59,8 +59,8 @@ Standard error has a line for each place at which the program can fail, in order
 No line means that it cannot fail. With --go it then runs, with the checks of
 these places alone. Standard output has its output and nothing else.
 
-A certificate says what a loop changes and what holds whenever a turn begins;
-the compiler uses what it can check. Without one, loops may change nothing.
+A certificate says which variables each loop assigns, and what holds whenever a
+turn of it begins. Each claim is checked. Without one no loop may assign any.
 
 Status, and what else is written to standard error:
   0  nothing, and with --go the program finished
