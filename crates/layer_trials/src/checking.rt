@@ -39,6 +39,7 @@ fn narrow(body: &mut Stmt, range: OrdinalRange) {
 fn checked(alloc: Global, tree: &Tree) -> Result<Verdict, TypeFault> {
     let certificate = Certificate {
         version: Version::One,
+        sections: Vec::new(alloc),
     };
     match check(alloc, tree, &certificate) {
         Ok(verdict) => Ok(verdict),

@@ -13,12 +13,14 @@ use test_words::rows::all_hold;
 const LEAST: &str = "program p; begin end.";
 
 // Certificates of the least program, and the line of their refusal; none at the plain one.
-static CERTIFICATES: [(&str, &str); 6] = [
+static CERTIFICATES: [(&str, &str); 8] = [
     ("pcert 1\n", ""),
     ("", "certificate:1: refused F1\n"),
     ("pcert 2\n", "certificate:1: refused F1\n"),
     ("pcert 1", "certificate:1: refused F5\n"),
-    ("pcert 1\nproc 0\n", "certificate:2: refused F2\n"),
+    ("pcert 1\nproc 00\n", "certificate:2: refused F2\n"),
+    ("pcert 1\nproc 0\n", "certificate:2: refused F3\n"),
+    ("pcert 1\nproc 1000000\n", "certificate:2: refused F4\n"),
     ("pcert 1\nproc 0", "certificate:2: refused F5\n"),
 ];
 
@@ -68,42 +70,42 @@ static BROKEN_RULES: [(Fault, &str); 6] = [
             rule: Rule::LoopEntry,
             place: PLACE,
         }),
-        "3:14: refused C2\n",
+        "3:14: certificate refused C2\n",
     ),
     (
         Fault::Check(CheckFault::Broken {
             rule: Rule::LoopTurn,
             place: PLACE,
         }),
-        "3:14: refused C3\n",
+        "3:14: certificate refused C3\n",
     ),
     (
         Fault::Check(CheckFault::Broken {
             rule: Rule::Exit,
             place: PLACE,
         }),
-        "3:14: refused C4\n",
+        "3:14: certificate refused C4\n",
     ),
     (
         Fault::Check(CheckFault::Broken {
             rule: Rule::CallEntry,
             place: PLACE,
         }),
-        "3:14: refused C5\n",
+        "3:14: certificate refused C5\n",
     ),
     (
         Fault::Check(CheckFault::Broken {
             rule: Rule::Aliases,
             place: PLACE,
         }),
-        "3:14: refused C6\n",
+        "3:14: certificate refused C6\n",
     ),
     (
         Fault::Check(CheckFault::Broken {
             rule: Rule::Changes,
             place: PLACE,
         }),
-        "3:14: refused C7\n",
+        "3:14: certificate refused C7\n",
     ),
 ];
 
