@@ -24,7 +24,7 @@ use Rattle.typed_tree.specs.declared.tree.Stmt.{Stmt}
 use Rattle.typed_tree.specs.declared.tree.Stmt.TheOpen.{Stmt-F}
 use Rattle.typed_tree.specs.declared.tree.Stmt.TheOpen.Stmt-F.{Empty, Assign, Write, Compound, If, While, Repeat, For}
 use Rattle.typed_tree.specs.declared.tree.Stmt.TheFolds.{fold-Stmt}
-use Rattle.typed_tree.specs.Loops.{loops_of, is_loop}
+use Rattle.typed_tree.specs.Loops.{loops_of, AreLoops}
 
 -- they all hold
 abbrev pub all_hold : List Bool → Bool
@@ -121,5 +121,5 @@ pub record IsWellFormed (tree : Tree) : Type 0 where
   pub blocks :
       list_all (is_well_formed_block (length tree.variables.items) (length tree.sites.items)) tree.blocks.items ≡ true
   -- each loop has its row in the table; until routines come, each stands in the program's block
-  pub loops : list_all (is_loop tree.loops.items) (loops_of tree) ≡ true
+  pub loops : AreLoops tree.loops.items (loops_of tree)
   pub in_program : list_all (λ row. nat_eq row.block 0) tree.loops.items ≡ true
