@@ -185,18 +185,13 @@ choice place w consequence other = do
   alternative other
   mark Ends
 
--- a while as far as its `do`
-unfoldable pub while_head : Place → Written → Passing (Unit {0})
-while_head place w = do
+-- a while (6.8.3.8)
+unfoldable pub while_loop : Place → Written → Passing (Unit {0}) → Passing (Unit {0})
+while_loop place w body = do
   pass place
   enter_loop (λ n l. While n l place)
   condition w
   mark Do
-
--- a while (6.8.3.8)
-unfoldable pub while_loop : Place → Written → Passing (Unit {0}) → Passing (Unit {0})
-while_loop place w body = do
-  while_head place w
   body
   mark Ends
 
@@ -234,14 +229,18 @@ for_head place variable first direction last = do
   mark Do
   pure control.0
 
--- a for (6.8.3.9): its statement changes the control variable nowhere
-unfoldable pub for_loop : Place → Name → Written → SyntaxDirection → Written → Passing (Unit {0}) → Passing (Unit {0})
-for_loop place variable first direction last body = do
-  control ← for_head place variable first direction last
+-- the statement of a for changes the control variable nowhere
+unfoldable pub for_body : ℕ → Passing (Unit {0}) → Passing (Unit {0})
+for_body control body = do
   begin_control control
   body
   end_control
   mark Ends
+
+-- a for (6.8.3.9)
+unfoldable pub for_loop : Place → Name → Written → SyntaxDirection → Written → Passing (Unit {0}) → Passing (Unit {0})
+for_loop place variable first direction last body =
+    for_head place variable first direction last >>= (λ control. for_body control body)
 
 abbrev pub statement_step : Stmt-F (Passing (Unit {0})) → Passing (Unit {0})
 statement_step EmptyOf = enter_as Empty

@@ -30,8 +30,8 @@ use Rattle.typed_tree.specs.Look.{Assign, Target, Fits, Write, Written as Writte
 use Rattle.typing.specs.Passing.{Checked, Passing, and_then, each}
 use Rattle.typing.specs.Expressions.{Typed, Written, WrittenActual, fits, or_mismatch, expression, written_actual}
 use Rattle.typing.specs.Statements.{as_variable, fitting, assignment, as_procedure, ends_line, is_output, names_file, unless_wide, is_file, written_values}
-use Rattle.typing.specs.Statements.{has_values, measured, width, parameter, write, procedure_call, compound, condition, alternative, tested, choice, while_head, while_loop}
-use Rattle.typing.specs.Statements.{repeat_loop, way, bound, for_head, for_loop, statement_step, statement}
+use Rattle.typing.specs.Statements.{has_values, measured, width, parameter, write, procedure_call, compound, condition, alternative, tested, choice, while_loop}
+use Rattle.typing.specs.Statements.{repeat_loop, way, bound, for_head, for_body, for_loop, statement_step, statement}
 use Rattle.typing_laws.proofs.Sound.{IsSound}
 use Rattle.typing_laws.proofs.Covers.{Covers, covers_both, covers_none, covers_behind, covers_skip, covers_lower, covers_ahead, leads_first}
 use Rattle.typing_laws.proofs.Grown.{both_true}
@@ -242,24 +242,18 @@ module _ (variables : ℕ) where
 
   -- ---- loops
 
-  while_head_does : (least : ℕ) (place : Place) (places : List Place) (w : Written) → LawfulWritten variables places w
-      → Does variables least (Covers 0 (place ∷ places)) (while_head place w) Anything
-  unfolding while_head
-  while_head_does least place places w law =
-      sited (λ sites. covers_skip 0 place places sites)
-      (quietly (pass_does place) λ _ _ _ _.
-      quietly (enter_loop_does (λ n l. While n l place) (λ n l. refl) (λ n l. refl) (λ n l m h. refl)) λ _ now _ _.
-      last (condition_does now places w law) λ _ _ _ _.
-      mark_does Do refl refl (λ n h. refl))
-
   while_does : (place : Place) (tests inside : List Place) (w : Written) (body : Passing (Unit {0})) → LawfulWritten variables tests w
       → LawfulStatement inside body → LawfulStatement (place ∷ (tests ++ inside)) (while_loop place w body)
   unfolding while_loop
   while_does place tests inside w body law one = record {
     passes = λ least.
-        joins (covers_both 0 (place ∷ tests) inside) (while_head_does least place tests w law) λ _ there _ _.
+        sited (λ sites. covers_skip 0 place (tests ++ inside) sites)
+        (quietly (pass_does place) λ _ _ _ _.
+        quietly (enter_loop_does (λ n l. While n l place) (λ n l. refl) (λ n l. refl) (λ n l m h. refl)) λ _ now _ _.
+        joins (covers_both 0 tests inside) (condition_does now tests w law) λ _ _ _ _.
+        quietly (mark_does Do refl refl (λ n h. refl)) λ _ there _ _.
         last (one.passes there) λ _ _ _ _.
-        mark_does Ends refl refl (λ n h. refl);
+        mark_does Ends refl refl (λ n h. refl));
   }
 
   repeat_does : (place : Place) (inside tests : List Place) (statements : List (Passing (Unit {0}))) (w : Written)
@@ -313,7 +307,7 @@ module _ (variables : ℕ) where
   for_does : (place : Place) (name : Name) (firsts lasts inside : List Place) (first : Written) (d : SyntaxDirection) (end : Written) (body : Passing (Unit {0}))
       → LawfulWritten variables firsts first → LawfulWritten variables lasts end → LawfulStatement inside body
       → LawfulStatement (place ∷ name.place ∷ (firsts ++ (lasts ++ inside))) (for_loop place name first d end body)
-  unfolding for_loop
+  unfolding for_loop for_body
   for_does place name firsts lasts inside first d end body one two three = record {
     passes = λ least.
         sited (λ sites. subst (λ p. Covers 0 (place ∷ name.place ∷ p) sites) (append_assoc firsts lasts inside))
@@ -365,7 +359,6 @@ module _ (variables : ℕ) where
   statement_layer (layer.If place condition consequence (Some other)) =
       from_layer (bare (layer.If place condition consequence (Some other)))
       (choice_does place (expr_places condition) _ _ (expression condition) _ _ (expression_lawful variables condition) consequence.value.1 other.value.1)
-
   statement_layer (layer.While place condition body) =
       from_layer (bare (layer.While place condition body))
       (while_does place (expr_places condition) _ (expression condition) _ (expression_lawful variables condition) body.value.1)
