@@ -1,8 +1,10 @@
 -- Programs: their typing goes on from that of their declarations and of their statements; and what the typed tree of one
 -- has by the laws of typing.
-use Rattle.std.proofs.Common.{◌≡◌, ◌<◌, ◌≤◌, [], ◌∷◌, ◌++◌, length, map, nat_eq, Ok, inl, inr, sym, ap, subst, ◌∙◌, append-nil, arith}
+use Rattle.std.proofs.Common.{◌≡◌, ℕ, ◌+◌, ◌<◌, ◌≤◌, true, ◌&&◌, List, [], ◌∷◌, ◌++◌, length, map, nat_eq, nat_lt, Ok, inl, inr, refl, sym, ap, subst, ◌∙◌, append-nil, arith}
 use Rattle.std.specs.List.{list_all, range_with_len, flat_map}
 use Rattle.std.proofs.lemmas.List.{length-map}
+use Rattle.std.proofs.lemmas.List.Folds.{list_all-map}
+use Rattle.std.proofs.lemmas.Bool.Decides.{nat_tests}
 use Rattle.place.specs.Place.{ArePlacesInOrder}
 use Rattle.syntax_tree.specs.declared.Program.{Program}
 use Rattle.syntax_tree.specs.Places.{program_places}
@@ -10,6 +12,9 @@ use Rattle.types.specs.Types.{required_forms}
 use Rattle.typed_tree.specs.declared.fault.TypeFault.{TypeFault}
 use Rattle.typed_tree.specs.declared.tree.Tree.{Tree}
 use Rattle.typed_tree.specs.declared.tree.Block.{Block}
+use Rattle.typed_tree.specs.declared.tree.Loop.{Loop}
+use Rattle.typed_tree.specs.Loops.{is_loop, loops_of, loops_of_statement}
+use Rattle.typed_tree.proofs.LoopNumbers.{loop_numbers_are}
 use Rattle.typed_tree.specs.Entries.{entries_of}
 use Rattle.typed_tree.specs.Ids.{AreInOrder, AreByPlace}
 use Rattle.typed_tree.specs.Look.{Look, BlockEnds, look_stmt, look_block, tree_look, is_formed_mark}
@@ -24,6 +29,34 @@ use Rattle.typing_laws.specs.Lawful.{Lawful}
 use Rattle.typing_laws.proofs.Programs.{typing_is_lawful}
 use Rattle.declarations.specs.Declared.{declared}
 use Rattle.resolver.specs.Made.{IsResolved}
+use Rattle.resolver.specs.Table.{blocks_of, of_loops, IsTableOf}
+
+-- ---- the rows of loops
+
+-- there are as many
+rows_are : (rows : List Loop) (ones : List (ℕ × List ℕ)) → blocks_of rows ≡ of_loops ones → length rows ≡ length ones
+rows_are rows ones is =
+    sym (length-map rows (λ (row : Loop). row.block)) ∙ ap length is ∙ length-map ones (λ (one : ℕ × List ℕ). 0)
+
+-- the program's block
+in_program : (rows : List Loop) (ones : List (ℕ × List ℕ)) → blocks_of rows ≡ of_loops ones → list_all (λ row. nat_eq row.block 0) rows ≡ true
+in_program rows ones is =
+    sym (list_all-map (λ block. nat_eq block 0) (λ (row : Loop). row.block) rows) ∙ ap (list_all (λ block. nat_eq block 0)) is ∙ by ones
+  where
+    by : (ones : List (ℕ × List ℕ)) → list_all (λ block. nat_eq block 0) (of_loops ones) ≡ true
+    by [] = refl
+    by (one ∷ ones) = by ones
+
+-- the rows of loops that are numbered
+each_has_row : (rows : List Loop) (from : ℕ) (ones : List (ℕ × List ℕ)) → from + length ones ≤ length rows
+    → map (λ one. one.0) ones ≡ range_with_len from (length ones) → list_all (is_loop rows) ones ≡ true
+each_has_row rows from [] room numbers = refl
+each_has_row rows from (one ∷ ones) room numbers =
+    let number : one.0 ≡ from = cc in
+    let more : map (λ (o : ℕ × List ℕ). o.0) ones ≡ range_with_len (from + 1) (length ones) = cc in
+    let within : one.0 < length rows = omega (arith, number, room) in
+    let there : nat_lt one.0 (length rows) ≡ true = grind (arith, nat_tests) in
+    ap (λ test. test && list_all (is_loop rows) ones) there ∙ each_has_row rows (from + 1) ones (omega (arith, room)) more
 
 -- ---- from the parts to the program
 
@@ -52,8 +85,8 @@ module _ (program : Program) where
 
     -- the tree of the program
     pub is_resolved : (n : Passed) (block : Block) (tree : Tree) → compound (map statement program.block.statements.items) m ≡ Ok (after tt (look_stmt block.body) n)
-        → block.end ≡ program.block.end → tree.blocks.items ≡ block ∷ [] → IsLeft n tree → IsResolved program tree
-    is_resolved n block tree ends end blocks left = record {
+        → block.end ≡ program.block.end → tree.blocks.items ≡ block ∷ [] → IsLeft n tree → IsTableOf block.body tree.loops.items → IsResolved program tree
+    is_resolved n block tree ends end blocks left table = record {
       is_typed = record {
         left = n;
         typed =
@@ -62,6 +95,12 @@ module _ (program : Program) where
             ∙ ap (λ look. Ok (after tt look n)) (sym (append-nil (look_stmt block.body ++ (BlockEnds block.end ∷ []))))
             ∙ ap (λ bs. Ok (after tt (flat_map look_block bs) n)) (sym blocks);
         is_left = left;
+        has_loops = record {
+          rows = rows_are tree.loops.items (loops_of_statement block.body) table
+              ∙ ap length (sym (append-nil (loops_of_statement block.body)))
+              ∙ ap (λ bs. length (flat_map (λ b. loops_of_statement b.body) bs)) (sym blocks);
+          in_program = in_program tree.loops.items (loops_of_statement block.body) table;
+        };
       };
       block = block;
       blocks = blocks;
@@ -105,6 +144,16 @@ module _ (program : Program) (tree : Tree) (resolved : IsResolved program tree) 
   pub is_numbered : entries_of tree ≡ range_with_len 0 (length (entries_of tree))
   is_numbered = subst (λ es. es ≡ range_with_len 0 (length es)) (entries_are tree) lawful.numbered
 
+  -- loops are numbered, and each has its row
+  pub loops_are_numbered : map (λ l. l.0) (loops_of tree) ≡ range_with_len 0 (length (loops_of tree))
+  loops_are_numbered =
+      sym (loop_numbers_are tree) ∙ lawful.loops
+      ∙ ap (λ numbers. range_with_len 0 (length numbers)) (loop_numbers_are tree)
+      ∙ ap (range_with_len 0) (length-map (loops_of tree) (λ l. l.0))
+
+  has_rows : list_all (is_loop tree.loops.items) (loops_of tree) ≡ true
+  has_rows = each_has_row tree.loops.items 0 (loops_of tree) (omega (arith, resolved.is_typed.has_loops.rows)) loops_are_numbered
+
   pub sites_by_place : ArePlacesInOrder (program_places program) → AreByPlace (map stands tree.sites.items)
   sites_by_place order = subst AreByPlace (sym is_left.sites) (lawful.by_place order)
 
@@ -118,8 +167,10 @@ module _ (program : Program) (tree : Tree) (resolved : IsResolved program tree) 
         ∙ ap (λ n. list_all (is_formed_mark n (length tree.sites.items)) (tree_look tree)) (ap length is_left.variables)
         ∙ ap (λ n. list_all (is_formed_mark (length passed.variables) n) (tree_look tree)) as_many_sites
         ∙ lawful.formed;
+    loops = has_rows;
+    in_program = resolved.is_typed.has_loops.in_program;
   }
 
 -- all of these
 pub ruleset has_it_all =
-    (is_typed, ids_in_order, has_no_points, has_required_types, has_one_block, has_few_sites, is_numbered, sites_by_place, is_well_formed)
+    (is_typed, ids_in_order, has_no_points, has_required_types, has_one_block, has_few_sites, is_numbered, loops_are_numbered, sites_by_place, is_well_formed)

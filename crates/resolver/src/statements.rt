@@ -49,6 +49,16 @@ pub(crate) fn statement(typer: &mut Typer, written: &syntax::Stmt) -> Result<Stm
                 alternative,
             })
         }
+        syntax::Stmt::While {
+            place,
+            condition,
+            body,
+        } => while_loop(typer, body, *place, condition),
+        syntax::Stmt::Repeat {
+            place,
+            statements,
+            condition,
+        } => repeat_loop(typer, *place, statements, condition),
     }
 }
 
@@ -83,6 +93,56 @@ fn tested(typer: &mut Typer, place: Place, written: &syntax::Expr) -> Result<(u3
     typer.pass(place);
     let number = typer.enter()?;
     Ok((number, condition(typer, written)?))
+}
+
+// A while (6.8.3.8).
+#[cycle(statements)]
+#[tactic(auto, using(typed_tree::proofs::Looks::look_while), unfolding(typing::specs::Statements::while_loop, typing::specs::Steps::enter_loop))]
+fn while_loop(
+    typer: &mut Typer,
+    body: &syntax::Stmt,
+    place: Place,
+    tested: &syntax::Expr,
+) -> Result<Stmt, TypeFault>
+    ensures { MakesStmt (spec.while_loop place (expression tested.now) (spec.statement body.now) typer.old)
+        result typer.new }
+{
+    typer.pass(place);
+    let (number, loop_number) = typer.enter_loop()?;
+    let condition = condition(typer, tested)?;
+    let body = boxed(typer, body)?;
+    Ok(Stmt::While {
+        number,
+        loop_number,
+        place,
+        condition,
+        body,
+    })
+}
+
+// A repeat (6.8.3.7).
+#[cycle(statements)]
+#[tactic(auto, using(typed_tree::proofs::Looks::look_repeat), unfolding(typing::specs::Statements::repeat_loop, typing::specs::Steps::enter_loop))]
+fn repeat_loop(
+    typer: &mut Typer,
+    place: Place,
+    written: &[syntax::Stmt],
+    tested: &syntax::Expr,
+) -> Result<Stmt, TypeFault>
+    ensures { MakesStmt (spec.repeat_loop place (map spec.statement written.now) (expression tested.now) typer.old)
+        result typer.new }
+{
+    typer.pass(place);
+    let (number, loop_number) = typer.enter_loop()?;
+    let statements = statements(typer, written)?;
+    let condition = condition(typer, tested)?;
+    Ok(Stmt::Repeat {
+        number,
+        loop_number,
+        place,
+        statements,
+        condition,
+    })
 }
 
 // A condition, which is Boolean.

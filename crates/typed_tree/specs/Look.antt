@@ -155,6 +155,16 @@ mark_entries (BlockEnds end) = []
 abbrev pub entries_of_look : Look → List ℕ
 entries_of_look = flat_map mark_entries
 
+-- the number of a loop
+abbrev pub mark_loops : Mark → List ℕ
+mark_loops (While number loop_number place) = loop_number ∷ []
+mark_loops (Repeat number loop_number place) = loop_number ∷ []
+mark_loops other = []
+
+-- the numbers of the loops of what looks so
+abbrev pub loops_of_look : Look → List ℕ
+loops_of_look = flat_map mark_loops
+
 -- with so many variables and so many sites, a form alone is well formed
 abbrev pub is_formed_mark : ℕ → ℕ → Mark → Bool
 is_formed_mark variables sites (Constant number value) = is_whole value

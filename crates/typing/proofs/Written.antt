@@ -17,7 +17,7 @@ use Rattle.syntax_tree.specs.declared.Stmt.TheOpen as stmt_layer
 use Rattle.syntax_tree.specs.declared.Stmt.TheFolds.{map-Stmt, fold-roll-Stmt}
 use Rattle.typing.specs.Passing.{Passing}
 use Rattle.typing.specs.Expressions.{Written, WrittenActual, WrittenLink, written, expression_step, actual_step, link_step, expression, written_link, written_actual, number, named, call, parenthesized, negation, signed, chain, link}
-use Rattle.typing.specs.Statements.{statement, statement_step, assignment, procedure_call, compound, choice}
+use Rattle.typing.specs.Statements.{statement, statement_step, assignment, procedure_call, compound, choice, while_loop, repeat_loop}
 use Rattle.typing.specs.Steps.{enter_as}
 use Rattle.typed_tree.specs.Look as Look
 
@@ -103,5 +103,18 @@ typing_if place condition consequence alternative =
     mapped None = refl
     mapped (Some other) = refl
 
+pub typing_while : (place : Place) (condition : Expr) (body : Box Stmt Global)
+    → statement (stmt.While place condition body) ≡ while_loop place (expression condition) (statement body.value)
+typing_while place condition body =
+    ap statement (sym (stmt.rolls-While place condition body))
+    ∙ fold-roll-Stmt (Passing (Unit {0})) statement_step (stmt_layer.While place condition body)
+
+pub typing_repeat : (place : Place) (statements : Vec Stmt Global) (condition : Expr)
+    → statement (stmt.Repeat place statements condition) ≡ repeat_loop place (map statement statements.items) (expression condition)
+typing_repeat place statements condition =
+    ap statement (sym (stmt.rolls-Repeat place statements condition))
+    ∙ fold-roll-Stmt (Passing (Unit {0})) statement_step (stmt_layer.Repeat place statements condition)
+
 -- those of all statements
-pub ruleset written_statements = (typing_empty, typing_assign, typing_procedure_call, typing_compound, typing_if)
+pub ruleset written_statements =
+    (typing_empty, typing_assign, typing_procedure_call, typing_compound, typing_if, typing_while, typing_repeat)

@@ -26,6 +26,8 @@ pub record Passed : Type 0 where
   pub sites : List Stands
   -- how many statements and expressions were entered
   pub entries : ℕ
+  -- how many loops began
+  pub loops : ℕ
   -- the latest token that was passed
   pub latest : Place
 

@@ -11,7 +11,7 @@ use Rattle.syntax_tree.specs.declared.Expr.TheViews.{out-Expr, out-Actual}
 use Rattle.syntax_tree.specs.declared.Link.{Link}
 use Rattle.syntax_tree.specs.declared.Stmt.{Stmt}
 use Rattle.syntax_tree.specs.declared.Stmt.TheOpen.{Stmt-F}
-use Rattle.syntax_tree.specs.declared.Stmt.TheOpen.Stmt-F.{Empty as EmptyOf, Assign as AssignOf, Call as CallOf, Compound as CompoundOf, If as IfOf}
+use Rattle.syntax_tree.specs.declared.Stmt.TheOpen.Stmt-F.{Empty as EmptyOf, Assign as AssignOf, Call as CallOf, Compound as CompoundOf, If as IfOf, While as WhileOf, Repeat as RepeatOf}
 use Rattle.syntax_tree.specs.declared.Stmt.TheFolds.{fold-Stmt}
 use Rattle.types.specs.declared.form.TypeForm.{TypeForm}
 use Rattle.types.specs.declared.form.TypeForm.TheVariants as form
@@ -26,9 +26,9 @@ use Rattle.typed_tree.specs.declared.fault.TypeFault.TheVariants as fault
 use Rattle.typed_tree.specs.declared.site.SiteKind.TheVariants as kind
 use Rattle.typed_tree.specs.declared.tree.Representation.{Representation}
 use Rattle.typed_tree.specs.declared.tree.Representation.TheVariants as representation
-use Rattle.typed_tree.specs.Look.{Assign, Target, Fits, Write, Written as WrittenMark, Width, Empty, Compound, If, Then, Else, Ends}
+use Rattle.typed_tree.specs.Look.{Assign, Target, Fits, Write, Written as WrittenMark, Width, Empty, Compound, If, Then, Else, While, Do, Repeat, Until, Ends}
 use Rattle.typing.specs.Passing.{Checked, Passing, and_then, pure, given, mark, each, ◌>>=◌, ◌>>◌, ◌>>?◌}
-use Rattle.typing.specs.Steps.{pass, enter_as, site, find, wants_output}
+use Rattle.typing.specs.Steps.{pass, enter_as, enter_loop, site, find, wants_output}
 use Rattle.typing.specs.Expressions.{Typed, Written, WrittenActual, fits, or_mismatch, expression, written_actual}
 
 -- the variable that a name denotes: its root and its type
@@ -180,6 +180,26 @@ choice place w consequence other = do
   alternative other
   mark Ends
 
+-- a while (6.8.3.8)
+unfoldable pub while_loop : Place → Written → Passing (Unit {0}) → Passing (Unit {0})
+while_loop place w body = do
+  pass place
+  enter_loop (λ n l. While n l place)
+  condition w
+  mark Do
+  body
+  mark Ends
+
+-- a repeat (6.8.3.7)
+unfoldable pub repeat_loop : Place → List (Passing (Unit {0})) → Written → Passing (Unit {0})
+repeat_loop place statements w = do
+  pass place
+  enter_loop (λ n l. Repeat n l place)
+  each (λ s. s) statements
+  mark Until
+  condition w
+  mark Ends
+
 abbrev pub statement_step : Stmt-F (Passing (Unit {0})) → Passing (Unit {0})
 statement_step EmptyOf = enter_as Empty
 statement_step (AssignOf name becomes value) = assignment name becomes (expression value)
@@ -187,6 +207,8 @@ statement_step (CallOf name actuals) = procedure_call name actuals.items
 statement_step (CompoundOf statements) = compound statements.items
 statement_step (IfOf place condition consequence alternative) =
     choice place (expression condition) consequence.value (option_map (λ statement. statement.value) alternative)
+statement_step (WhileOf place condition body) = while_loop place (expression condition) body.value
+statement_step (RepeatOf place statements condition) = repeat_loop place statements.items (expression condition)
 
 -- a statement
 abbrev pub statement : Stmt → Passing (Unit {0})

@@ -1,4 +1,4 @@
--- The steps of typing: a token that is passed, a form that is entered, a site, a name that is found, a region, a
+-- The steps of typing: a token that is passed, a form that is entered, a loop, a site, a name that is found, a region, a
 -- definition, a variable. It says nothing of the forms that take them.
 use Rattle.std.specs.Prelude.{ℕ, ◌+◌, ◌++◌, true, false, List, [], ◌∷◌, Result, Ok, Err, if◌then◌else◌, nat_le, nat_lt, length}
 use Rattle.place.specs.declared.Place.{Place}
@@ -14,7 +14,7 @@ use Rattle.typed_tree.specs.declared.fault.TypeFault.TheVariants as fault
 use Rattle.typed_tree.specs.declared.site.SiteKind.{SiteKind}
 use Rattle.typed_tree.specs.Look.{Mark}
 use Rattle.typing.specs.Names.{folded, required_region}
-use Rattle.typing.specs.Passing.{Passed, Checked, Passing, after, and_then, mark, ◌>>=◌}
+use Rattle.typing.specs.Passing.{Passed, Checked, Passing, after, and_then, pure, mark, ◌>>=◌}
 
 -- the most sites of a program
 abbrev pub most_sites : ℕ
@@ -38,6 +38,7 @@ begins start = record {
   has_output = false;
   sites = [];
   entries = 0;
+  loops = 0;
   latest = start;
 }
 
@@ -54,6 +55,18 @@ enter = λ s.
 -- a form that looks so is entered
 unfoldable pub enter_as : (ℕ → Mark) → Passing (Unit {0})
 enter_as marked = enter >>= (λ number. mark (marked number))
+
+-- the number of a loop that begins
+unfoldable pub number_loop : Passing ℕ
+number_loop = λ s. Ok (after s.loops [] (record s { loops = s.loops + 1 }))
+
+-- a loop is entered, by its number among the entries and its number among the loops
+unfoldable pub begin_loop : Passing (ℕ × ℕ)
+begin_loop = enter >>= (λ number. number_loop >>= (λ loop_number. pure (number, loop_number)))
+
+-- a loop that looks so is entered
+unfoldable pub enter_loop : (ℕ → ℕ → Mark) → Passing (Unit {0})
+enter_loop marked = begin_loop >>= (λ numbers. mark (marked numbers.0 numbers.1))
 
 -- a site, by its id
 unfoldable pub site : SiteKind → Place → Passing ℕ

@@ -37,6 +37,17 @@ impl Typer {
         Ok(number)
     }
 
+    /// The numbers of the loop that is entered: among the statements and expressions, and among the loops.
+    #[tactic(auto, unfolding(crate::specs::Steps::begin_loop, crate::specs::Steps::enter, crate::specs::Steps::number_loop))]
+    pub fn enter_loop(&mut self) -> Result<(u32, u32), TypeFault>
+        ensures { Tells (spec.begin_loop self.old) result self.new }
+    {
+        let loop_number = self.loops;
+        let number = self.enter()?;
+        self.loops = loop_number + 1;
+        Ok((number, loop_number))
+    }
+
     /// The id of a new site. Sites come in the order of their tokens.
     #[tactic(auto, using(crate::proofs::Rows::one_site_more), unfolding(crate::specs::Steps::site))]
     pub fn site(&mut self, kind: SiteKind, place: Place) -> Result<u32, TypeFault>

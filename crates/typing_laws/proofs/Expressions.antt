@@ -81,7 +81,7 @@ module _ (variables : ℕ) where
           joins (leads_first place (led lead) []) (behind_does lead place) λ id now _ known.
           quietly (given_does (fits (nat_le value 2147483647) place (typed integer id))) λ t _ more is.
           let fit = fits_is (nat_le value 2147483647) place (typed integer id) t is in
-          quietly (enter_does (λ n. Constant n (pos value)) (λ n. refl) (λ n m h. fit.0)) λ _ next later _.
+          quietly (enter_does (λ n. Constant n (pos value)) (λ n. refl) (λ n. refl) (λ n m h. fit.0)) λ _ next later _.
           pure_does t (λ n h. subst (λ (z : Typed). IsKnown z.site n) fit.1 (known_later id now n (omega arith) known))
 
   denoted_does : (denotation : Denotation) (place : Place) {least : ℕ} (lead : Option SiteKind) → IsLed lead → IsSound variables denotation
@@ -92,7 +92,7 @@ module _ (variables : ℕ) where
       by : {least : ℕ} → Does variables least (Leads place (led lead) []) (denoted (denotes.Constant value type_id) place lead) Types
       by =
           joins (leads_first place (led lead) []) (behind_does lead place) λ id now _ known.
-          quietly (enter_does (λ n. Constant n value) (λ n. refl) (λ n m h. sound)) λ _ _ more _.
+          quietly (enter_does (λ n. Constant n value) (λ n. refl) (λ n. refl) (λ n m h. sound)) λ _ _ more _.
           pure_does (typed type_id id) (λ n h. known_later id now n (omega arith) known)
   denoted_does (denotes.Variable root type_id) place lead is sound =
       led_covers place [] (kind.UndefinedVariable ∷ led lead) (led_behind kind.UndefinedVariable lead (omega arith) is) by
@@ -101,7 +101,7 @@ module _ (variables : ℕ) where
       by =
           joins (leads_more place (kind.UndefinedVariable ∷ []) (led lead) []) (site_does kind.UndefinedVariable place) λ defined there _ test.
           joins (leads_first place (led lead) []) (behind_does lead place) λ id now later known.
-          quietly (enter_does (λ n. Variable n root defined) (λ n. refl)
+          quietly (enter_does (λ n. Variable n root defined) (λ n. refl) (λ n. refl)
           (λ n m h. both_true _ _ (lt_true root variables sound) (lt_true defined m (omega (arith, test, later, h))))) λ _ _ more _.
           pure_does (typed type_id id) (λ n h. known_later id now n (omega arith) known)
   denoted_does (denotes.Procedure procedure) place lead is sound = fail_does (fault.WrongParameters place)
@@ -146,7 +146,7 @@ module _ (variables : ℕ) where
       by least lead =
           quietly (pass_does place) λ _ _ _ _.
           joins (leads_first place (led lead) places) (behind_does lead place) λ id now _ known.
-          quietly (enter_does (λ n. Operation n monadic.Not) (λ n. refl) (λ n m h. refl)) λ _ next later _.
+          quietly (enter_does (λ n. Operation n monadic.Not) (λ n. refl) (λ n. refl) (λ n m h. refl)) λ _ next later _.
           checks (law.types next None tt) λ types t b n more is _. fits_known (is_same t.type_id boolean) place boolean id b now n is known (omega arith)
 
   signs_formed : (s : Sign) (sites : ℕ) → monadic_is_well_formed variables sites (sign_operation s) ≡ true
@@ -162,5 +162,5 @@ module _ (variables : ℕ) where
       by least lead =
           quietly (pass_does place) λ _ _ _ _.
           joins (leads_first place (led lead) places) (behind_does lead place) λ id now _ known.
-          quietly (enter_does (λ n. Operation n (sign_operation s)) (λ n. refl) (λ n m h. signs_formed s m)) λ _ next later _.
+          quietly (enter_does (λ n. Operation n (sign_operation s)) (λ n. refl) (λ n. refl) (λ n m h. signs_formed s m)) λ _ next later _.
           checks (law.types next None tt) λ types t b n more is _. fits_known (is_same t.type_id integer) place integer id b now n is known (omega arith)

@@ -96,7 +96,7 @@ module _ (variables : ℕ) where
       by : (least : ℕ) (left : TypeId) → Does variables least (Leads place (operator_kinds o) places) (link o place operand left) Anything
       by least left =
           joins (leads_first place (operator_kinds o) places) (operation_does o place) λ tests now _ formed.
-          quietly (enter_does (λ n. OperatorMark n tests) (λ n. refl) (λ n m h. formed m h)) λ _ next _ _.
+          quietly (enter_does (λ n. OperatorMark n tests) (λ n. refl) (λ n. refl) (λ n m h. formed m h)) λ _ next _ _.
           checks (law.types next None tt) λ types t b n more is _. tt
 
   -- ---- chains
@@ -115,10 +115,10 @@ module _ (variables : ℕ) where
   unfolding chain
   chain_does first ls places others law more = record {
     types = λ least lead is.
-        quietly (mark_does Begins refl (λ n h. refl)) λ _ now _ _.
+        quietly (mark_does Begins refl refl (λ n h. refl)) λ _ now _ _.
         joins (covers_both places others) (law.types now lead is) λ f there _ known.
         last (more there f.type_id) λ type_id next later _.
-        quietly (mark_does Ends refl (λ n h. refl)) λ _ m further _.
+        quietly (mark_does Ends refl refl (λ n h. refl)) λ _ m further _.
         pure_does (typed type_id f.site) (λ n h. known_later f.site there n (omega arith) known);
   }
 
@@ -157,7 +157,7 @@ module _ (variables : ℕ) where
         led_covers variables name.place places (function_kinds f ++ led lead) (function_ascending f lead is)
         (joins (leads_more name.place (function_kinds f) (led lead) places) (function_does f name.place) λ tests met _ formed.
         joins (leads_first name.place (led lead) places) (behind_does lead name.place) λ id now seen known.
-        quietly (enter_does (λ n. Operation n tests) (λ n. refl) (λ n m h. formed m (omega (arith, seen, h)))) λ _ _ entered _.
+        quietly (enter_does (λ n. Operation n tests) (λ n. refl) (λ n. refl) (λ n m h. formed m (omega (arith, seen, h)))) λ _ _ entered _.
         quietly (given_does (only name.place actuals)) λ actual m more right.
         checks ((laws actual right).types m None tt) λ types t b n later fit _.
         fits_known variables (is_same t.type_id integer) actual.first (function_type f) id b now n fit known (omega arith));

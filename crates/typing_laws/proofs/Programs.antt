@@ -5,7 +5,7 @@ use Rattle.syntax_tree.specs.declared.Program.{Program}
 use Rattle.syntax_tree.specs.declared.Block.{Block}
 use Rattle.syntax_tree.specs.Places.{name_places, group_places, stmt_places, program_places}
 use Rattle.typed_tree.specs.Ids.{Stands, AreByPlace}
-use Rattle.typed_tree.specs.Look.{BlockEnds, entries_of_look, is_formed_mark}
+use Rattle.typed_tree.specs.Look.{BlockEnds, entries_of_look, loops_of_look, is_formed_mark}
 use Rattle.typing.specs.Passing.{Passed, After, after, behind_marks}
 use Rattle.typing.specs.Steps.{begins}
 use Rattle.typing.specs.Statements.{statement}
@@ -24,7 +24,7 @@ unfolding statement_part
 statement_part_does variables block =
     let items = block.statements.items in
     last ((compound_does variables (flat_map stmt_places items) (map statement items) (statements_lawful variables items)).passes 0) λ _ _ _ _.
-    mark_does (BlockEnds block.end) refl (λ n h. refl)
+    mark_does (BlockEnds block.end) refl refl (λ n h. refl)
 
 -- the places of the statements are among those of the program
 program_covers : (program : Program) (sites : List Stands) → Covers (flat_map stmt_places program.block.statements.items) sites
@@ -46,6 +46,7 @@ grown_lawful : (program : Program) (s : Passed) (a : After (Unit {0})) → IsRea
 grown_lawful program s a r g = record {
   numbered = g.numbered ∙ ap (λ n. range_with_len n (length (entries_of_look a.look))) r.entries;
   few_entries = omega (arith, g.entered, g.few_entries);
+  loops = g.looped ∙ ap (λ n. range_with_len n (length (loops_of_look a.look))) r.loops;
   formed = ap (λ n. list_all (is_formed_mark n (length a.passed.sites)) a.look) kept ∙ g.formed (length a.passed.sites) (omega arith);
   few_variables = omega (arith, kept, r.declared, r.room);
   declared = ap (list_all (λ variable. nat_eq variable.block 0)) g.variables_kept ∙ r.by_program;
@@ -71,6 +72,7 @@ typing_is_lawful program a is =
       types = refl;
       sites = refl;
       entries = refl;
+      loops = refl;
       by_program = refl;
       declared = omega arith;
       room = omega arith;

@@ -24,16 +24,17 @@ use Rattle.scopes.specs.declared.denotation.RequiredProcedure.{RequiredProcedure
 use Rattle.typed_tree.specs.declared.site.SiteKind.TheVariants as kind
 use Rattle.typed_tree.specs.Ids.{Stands}
 use Rattle.typed_tree.specs.WellFormed.{is_whole}
-use Rattle.typed_tree.specs.Look.{Assign, Target, Fits, Write, Written as WrittenMark, Width, Empty, Compound, If, Then, Else, Ends}
+use Rattle.typed_tree.specs.Look.{Assign, Target, Fits, Write, Written as WrittenMark, Width, Empty, Compound, If, Then, Else, While, Do, Repeat, Until, Ends}
 use Rattle.typing.specs.Passing.{Checked, Passing, and_then, each}
 use Rattle.typing.specs.Expressions.{Typed, Written, WrittenActual, fits, or_mismatch, expression, written_actual}
 use Rattle.typing.specs.Statements.{as_variable, fitting, assignment, as_procedure, ends_line, is_output, names_file, unless_wide, is_file, written_values}
-use Rattle.typing.specs.Statements.{has_values, measured, width, parameter, write, procedure_call, compound, condition, alternative, tested, choice, statement_step, statement}
+use Rattle.typing.specs.Statements.{has_values, measured, width, parameter, write, procedure_call, compound, condition, alternative, tested, choice, while_loop}
+use Rattle.typing.specs.Statements.{repeat_loop, statement_step, statement}
 use Rattle.typing_laws.proofs.Sound.{IsSound}
 use Rattle.typing_laws.proofs.Covers.{Covers, covers_both, covers_none, covers_behind, covers_skip, leads_first}
 use Rattle.typing_laws.proofs.Grown.{both_true}
 use Rattle.typing_laws.proofs.Steps.{Does, Anything, Nothing, joins, quietly, last, checks, sited, pure_does, given_does, find_does, pass_does, wants_output_does}
-use Rattle.typing_laws.proofs.Steps.{mark_does, enter_does, site_does, IsKnown}
+use Rattle.typing_laws.proofs.Steps.{mark_does, enter_does, enter_loop_does, site_does, IsKnown}
 use Rattle.typing_laws.proofs.Expressions.{lt_true, LawfulWritten, led_covers}
 use Rattle.typing_laws.proofs.EveryExpression.{LawfulActual, IsLawfulWidth, expression_lawful, actual_lawful}
 
@@ -86,17 +87,17 @@ module _ (variables : ℕ) where
   unfolding assignment
   assignment_does name becomes places value law = record {
     passes = λ least.
-        quietly (enter_does (λ n. Assign n becomes) (λ n. refl) (λ n m h. refl)) λ _ _ _ _.
+        quietly (enter_does (λ n. Assign n becomes) (λ n. refl) (λ n. refl) (λ n m h. refl)) λ _ _ _ _.
         quietly (find_does name) λ d _ _ sound.
         quietly (given_does (as_variable name.place d)) λ target _ _ is.
         let within = variable_is variables name.place d target is sound in
-        quietly (enter_does (λ n. Target n target.0) (λ n. refl) (λ n m h. lt_true target.0 variables within)) λ _ now _ _.
+        quietly (enter_does (λ n. Target n target.0) (λ n. refl) (λ n. refl) (λ n m h. lt_true target.0 variables within)) λ _ now _ _.
         sited (λ sites. covers_skip name.place (becomes ∷ places) sites)
         (led_covers variables becomes places (kind.Subrange ∷ []) tt
         (joins (leads_first becomes (kind.Subrange ∷ []) places) (site_does kind.Subrange becomes) λ id there _ known.
         last (checks {L = λ range n. IsWholeRange range} (law.types there None tt) λ types t range n more whole _.
         fitting_whole becomes types target.1 t.type_id range whole) λ range n more whole.
-        mark_does (Fits (record { site = id; range = range })) refl (λ m h. both_true _ _ (lt_true id m (omega (arith, known, more, h))) whole)));
+        mark_does (Fits (record { site = id; range = range })) refl refl (λ m h. both_true _ _ (lt_true id m (omega (arith, known, more, h))) whole)));
   }
 
   -- ---- what is written
@@ -140,7 +141,7 @@ module _ (variables : ℕ) where
   width_does least places (Some w) law =
       last (checks {L = λ id n. IsKnown (Some id) n} (law.types least (Some kind.Width) (omega arith)) λ types t id n more is known.
       subst (λ z. IsKnown z n) (measured_is w.first t id is) known) λ id n more known.
-      mark_does (Width id) refl (λ m h. lt_true id m (omega (arith, known, h)))
+      mark_does (Width id) refl refl (λ m h. lt_true id m (omega (arith, known, h)))
 
   parameter_does : (least : ℕ) (places : List Place) (a : WrittenActual) → LawfulActual variables places a
       → Does variables least (Covers places) (parameter a) Anything
@@ -148,7 +149,7 @@ module _ (variables : ℕ) where
   parameter_does least places a law =
       sited (λ sites. subst (λ p. Covers p sites) (sym law.places_are))
       (joins (covers_both law.of_value law.of_width) (checks {L = Anything} (law.value.types least None tt) λ types t b n more is _. tt) λ written now _ _.
-      quietly (mark_does (WrittenMark written) refl (λ n h. refl)) λ _ next _ _.
+      quietly (mark_does (WrittenMark written) refl refl (λ n h. refl)) λ _ next _ _.
       width_does next law.of_width a.width law.width)
 
   parameters_do : (least : ℕ) (values : List Actual)
@@ -164,12 +165,12 @@ module _ (variables : ℕ) where
   unfolding write
   write_does least name actuals procedure =
       quietly (wants_output_does name.place) λ _ _ _ _.
-      quietly (enter_does (λ n. Write n name.place (ends_line procedure)) (λ n. refl) (λ n m h. refl)) λ _ _ _ _.
+      quietly (enter_does (λ n. Write n name.place (ends_line procedure)) (λ n. refl) (λ n. refl) (λ n m h. refl)) λ _ _ _ _.
       quietly (written_values_do actuals) λ values now _ among.
       sited among
       (quietly (given_does (has_values name.place procedure values)) λ _ there _ _.
       last (parameters_do there values) λ _ m _ _.
-      mark_does Ends refl (λ n h. refl))
+      mark_does Ends refl refl (λ n h. refl))
 
   call_does : (name : Name) (actuals : List Actual) → LawfulStatement (name.place ∷ flat_map actual_places actuals) (procedure_call name actuals)
   unfolding procedure_call
@@ -188,9 +189,9 @@ module _ (variables : ℕ) where
   unfolding compound
   compound_does places statements row = record {
     passes = λ least.
-        quietly (enter_does Compound (λ n. refl) (λ n m h. refl)) λ _ now _ _.
+        quietly (enter_does Compound (λ n. refl) (λ n. refl) (λ n m h. refl)) λ _ now _ _.
         last (row now) λ _ m _ _.
-        mark_does Ends refl (λ n h. refl);
+        mark_does Ends refl refl (λ n h. refl);
   }
 
   -- ---- branches
@@ -208,7 +209,7 @@ module _ (variables : ℕ) where
       → Does variables least (Covers places) (alternative other) Anything
   unfolding alternative
   alternative_does least places None law = sited (λ sites none. subst (Covers places) (sym none) (covers_none places)) (pure_does {K = Anything} tt (λ n h. tt))
-  alternative_does least places (Some other) law = quietly (mark_does Else refl (λ n h. refl)) λ _ now _ _. law.passes now
+  alternative_does least places (Some other) law = quietly (mark_does Else refl refl (λ n h. refl)) λ _ now _ _. law.passes now
 
   tested_does : (least : ℕ) (place : Place) (places : List Place) (w : Written) → LawfulWritten variables places w
       → Does variables least (Covers (place ∷ places)) (tested place w) Anything
@@ -216,9 +217,9 @@ module _ (variables : ℕ) where
   tested_does least place places w law =
       sited (λ sites. covers_skip place places sites)
       (quietly (pass_does place) λ _ _ _ _.
-      quietly (enter_does If (λ n. refl) (λ n m h. refl)) λ _ now _ _.
+      quietly (enter_does If (λ n. refl) (λ n. refl) (λ n m h. refl)) λ _ now _ _.
       last (condition_does now places w law) λ _ _ _ _.
-      mark_does Then refl (λ n h. refl))
+      mark_does Then refl refl (λ n h. refl))
 
   choice_does : (place : Place) (tests first second : List Place) (w : Written) (consequence : Passing (Unit {0})) (other : Option (Passing (Unit {0})))
       → LawfulWritten variables tests w → LawfulStatement first consequence → IsLawfulAlternative second other
@@ -229,7 +230,38 @@ module _ (variables : ℕ) where
         joins (covers_both (place ∷ tests) (first ++ second)) (tested_does least place tests w law) λ _ there _ _.
         joins (covers_both first second) (one.passes there) λ _ next _ _.
         last (alternative_does next second other two) λ _ _ _ _.
-        mark_does Ends refl (λ n h. refl);
+        mark_does Ends refl refl (λ n h. refl);
+  }
+
+  -- ---- loops
+
+  while_does : (place : Place) (tests inside : List Place) (w : Written) (body : Passing (Unit {0})) → LawfulWritten variables tests w
+      → LawfulStatement inside body → LawfulStatement (place ∷ (tests ++ inside)) (while_loop place w body)
+  unfolding while_loop
+  while_does place tests inside w body law one = record {
+    passes = λ least.
+        sited (λ sites. covers_skip place (tests ++ inside) sites)
+        (quietly (pass_does place) λ _ _ _ _.
+        quietly (enter_loop_does (λ n l. While n l place) (λ n l. refl) (λ n l. refl) (λ n l m h. refl)) λ _ now _ _.
+        joins (covers_both tests inside) (condition_does now tests w law) λ _ _ _ _.
+        quietly (mark_does Do refl refl (λ n h. refl)) λ _ there _ _.
+        last (one.passes there) λ _ _ _ _.
+        mark_does Ends refl refl (λ n h. refl));
+  }
+
+  repeat_does : (place : Place) (inside tests : List Place) (statements : List (Passing (Unit {0}))) (w : Written)
+      → ((least : ℕ) → Does variables least (Covers inside) (each (λ s. s) statements) Anything) → LawfulWritten variables tests w
+      → LawfulStatement (place ∷ (inside ++ tests)) (repeat_loop place statements w)
+  unfolding repeat_loop
+  repeat_does place inside tests statements w row law = record {
+    passes = λ least.
+        sited (λ sites. covers_skip place (inside ++ tests) sites)
+        (quietly (pass_does place) λ _ _ _ _.
+        quietly (enter_loop_does (λ n l. Repeat n l place) (λ n l. refl) (λ n l. refl) (λ n l m h. refl)) λ _ now _ _.
+        joins (covers_both inside tests) (row now) λ _ _ _ _.
+        quietly (mark_does Until refl refl (λ n h. refl)) λ _ there _ _.
+        last (condition_does there tests w law) λ _ _ _ _.
+        mark_does Ends refl refl (λ n h. refl));
   }
 
   -- ---- every statement
@@ -261,7 +293,7 @@ module _ (variables : ℕ) where
       row_lawful ys now
 
   statement_layer : (y : layer.Stmt-F WithStmt) → LawfulStmt (roll-Stmt (bare y))
-  statement_layer layer.Empty = from_layer layer.Empty (record { passes = λ least. enter_does Empty (λ n. refl) (λ n m h. refl) })
+  statement_layer layer.Empty = from_layer layer.Empty (record { passes = λ least. enter_does Empty (λ n. refl) (λ n. refl) (λ n m h. refl) })
   statement_layer (layer.Assign name becomes value) =
       from_layer (layer.Assign name becomes value)
       (assignment_does name becomes (expr_places value) (expression value) (expression_lawful variables value))
@@ -273,6 +305,12 @@ module _ (variables : ℕ) where
   statement_layer (layer.If place condition consequence (Some other)) =
       from_layer (bare (layer.If place condition consequence (Some other)))
       (choice_does place (expr_places condition) _ _ (expression condition) _ _ (expression_lawful variables condition) consequence.value.1 other.value.1)
+  statement_layer (layer.While place condition body) =
+      from_layer (bare (layer.While place condition body))
+      (while_does place (expr_places condition) _ (expression condition) _ (expression_lawful variables condition) body.value.1)
+  statement_layer (layer.Repeat place statements condition) =
+      from_layer (bare (layer.Repeat place statements condition))
+      (repeat_does place _ (expr_places condition) _ (expression condition) (row_lawful statements.items) (expression_lawful variables condition))
 
   -- every statement
   pub statement_lawful : (w : Stmt) → LawfulStmt w
