@@ -165,8 +165,8 @@ if_else_code test consequence alternative scope place =
     test ++ (instr.JumpIfFalse no ∷ (consequence scope yes
     ++ (instr.Jump (no + length (alternative scope no)) ∷ alternative scope no)))
 
--- the code of a while statement (6.8.3.8): where the condition is false, a jump behind the loop; and behind the body one
--- back to the condition
+-- the code of a while statement (6.8.3.8): where the condition is false, a jump behind the loop; and behind the body
+-- one back to the condition
 abbrev pub while_code : List Instr → Placed → Placed
 while_code test body scope place =
     let inside = place + length test + 1 in

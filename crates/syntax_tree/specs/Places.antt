@@ -1,5 +1,6 @@
 -- The places that a syntax tree keeps, in the order of the text: of names, numbers, operators and `:=`, of the opening
--- parenthesis of an expression, of the words `if`, `while` and `repeat`, and of the last `end`. It says nothing of what stands there.
+-- parenthesis of an expression, of the words `if`, `while` and `repeat`, and of the last `end`. It says nothing of what
+-- stands there.
 use Rattle.std.specs.Prelude.{List, [], ◌∷◌, ◌++◌, Option, Some, None, map, flat_map}
 use Rattle.std.specs.declared.alloc.Global.{Global}
 use Rattle.std.specs.declared.boxed.Box.{Box}
