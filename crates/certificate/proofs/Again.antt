@@ -101,7 +101,8 @@ range_again root first last true false true less one low plain = absurd (both_be
 range_again root first last true false false less one low plain = absurd cc
 range_again root first last false one below less one_is low plain = rw less refl
 
-range_fact_again : (root : ℕ) (range : Interval) → is_fact (Range root range) ≡ true → range_fact (variable root ++ 32 ∷ (signed_decimal range.first ++ 32 ∷ signed_decimal range.last)) ≡ Ok (Range root range)
+range_fact_again : (root : ℕ) (range : Interval) → is_fact (Range root range) ≡ true
+    → range_fact (variable root ++ 32 ∷ (signed_decimal range.first ++ 32 ∷ signed_decimal range.last)) ≡ Ok (Range root range)
 range_fact_again root range fits =
     let small = and_parts (is_small root) _ fits in
     let low = and_parts (is_constant range.first) _ small.1 in
@@ -115,7 +116,8 @@ range_fact_again root range fits =
     )
     (range_again root range.first range.last _ _ _ refl refl refl high.1)
 
-order_fact_again : (root other : ℕ) (number : ℤ) → is_fact (Order root other number) ≡ true → order_fact (variable root ++ 32 ∷ (variable other ++ 32 ∷ signed_decimal number)) ≡ Ok (Order root other number)
+order_fact_again : (root other : ℕ) (number : ℤ) → is_fact (Order root other number) ≡ true
+    → order_fact (variable root ++ 32 ∷ (variable other ++ 32 ∷ signed_decimal number)) ≡ Ok (Order root other number)
 order_fact_again root other number fits =
     let small = and_parts (is_small root) _ fits in
     let bound = and_parts (is_small other) (is_constant number) small.1 in

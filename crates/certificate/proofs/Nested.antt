@@ -34,7 +34,8 @@ loop_added : (claim : Claim) (front : List Section) (block : ℕ) (loops : List 
     → in_last (in_section claim) (ending front block loops last) ≡ ending front block loops (in_loop claim last)
 loop_added claim front block loops last is =
     last_snoc (in_section claim) front (record { block = block; loops = loops ++ last ∷ [] })
-    ∙ ap (λ (section : Section). front ++ section ∷ []) (is ∙ ap (λ (l : List LoopClaims). record { block = block; loops = l }) (last_snoc (in_loop claim) loops last))
+    ∙ ap (λ (section : Section). front ++ section ∷ []) (is
+    ∙ ap (λ (l : List LoopClaims). record { block = block; loops = l }) (last_snoc (in_loop claim) loops last))
 
 built_changes : (front : List Section) (block : ℕ) (loops : List LoopClaims) (number : ℕ) (changes more : List ℕ)
     → built (ending front block loops (record { number = number; changes = changes; facts = [] })) (map Change more)

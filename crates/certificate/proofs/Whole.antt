@@ -45,7 +45,8 @@ text_spelled : (text : List ℕ) (first : Line) (below : List Line) (claims : Li
     → heading_fault first ≡ None → below ≡ map said_line claims
     → text ≡ ended (heading version) ++ flat_map (λ claim. ended (line_of claim)) claims
 text_spelled text first below claims One text_is none below_is =
-    sym (unlines-lines text) ∙ ap unlines (text_is ∙ ap (λ line. line ∷ below) (ended_heading first.bytes first.ended none) ∙ ap (λ more. heading_line ∷ more) below_is)
+    sym (unlines-lines text) ∙ ap unlines (text_is ∙ ap (λ line. line ∷ below) (ended_heading first.bytes first.ended none)
+    ∙ ap (λ more. heading_line ∷ more) below_is)
     ∙ ap (λ rest. codes "pcert 1" ++ 10 ∷ rest) (unlines_said claims)
 
 -- sections that are read are in order, and the text is their spelling

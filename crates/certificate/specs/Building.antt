@@ -62,5 +62,6 @@ IsClaimAt (Err fault) number above line more = line_fault number above line more
 abbrev pub AreRead : Result (Vec KeptSection) ReadFault → List Line → Type 0
 AreRead (Ok sections) below =
     (fault_from 2 nothing below ≡ None)
-    × (claims : List Claim) × (list_all is_claim claims ≡ true) × (below ≡ map said_line claims) × (map section_of sections.items ≡ built [] claims)
+    × (claims : List Claim) × (list_all is_claim claims ≡ true) × (below ≡ map said_line claims)
+    × (map section_of sections.items ≡ built [] claims)
 AreRead (Err fault) below = fault ≢ Memory → fault_from 2 nothing below ≡ Some fault

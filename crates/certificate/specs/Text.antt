@@ -1,5 +1,5 @@
--- The lines of a text, and the first fault of one that is no certificate's. ISO 7185:1990 knows no certificates. It does
--- not say what a certificate claims of a program.
+-- The lines of a text, and the first fault of one that is no certificate's. ISO 7185:1990 knows no certificates. It
+-- does not say what a certificate claims of a program.
 use Rattle.std.specs.Prelude.{ℕ, suc, Bool, true, false, not, ◌&&◌, if◌then◌else◌, ◌==◌, List, [], ◌∷◌, Option, Some, None, Result, Ok, Err, codes}
 use Rattle.std.specs.Str.{bytes_eq}
 use Rattle.std.specs.Option.{is_some, is_none}

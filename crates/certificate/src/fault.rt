@@ -4,8 +4,8 @@ ghost use Rattle.certificate.specs.declared.fault.ReadFault.TheVariants.{Memory}
 use std::alloc::{AllocError, AllocFailed};
 use thiserror::Error;
 
-/// Why a text is no certificate. Lines are numbered from 1, in 64 bits since a text has no greatest length. F1 to F5 are
-/// the codes that a user is told.
+/// Why a text is no certificate. Lines are numbered from 1, in 64 bits since a text has no greatest length. F1 to F5
+/// are the codes that a user is told.
 #[derive(Clone, Copy, Debug, Error)]
 pub enum ReadFault {
     #[error("no memory")]

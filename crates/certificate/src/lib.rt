@@ -42,6 +42,6 @@ pub struct LoopClaims {
     pub number: u32,
     /// The root numbers, at most 999,999, of the variables that it changes, in ascending order.
     pub changes: Vec<u32>,
-    /// What holds whenever a turn of it begins, in the order of facts, one range a variable and one order a pair of them.
+    /// What holds whenever a turn of it begins, in the order of facts: one range a variable and one order a pair.
     pub facts: Vec<Fact>,
 }

@@ -25,9 +25,9 @@ struct Line<'a> {
 /// Reads a certificate text of any length.
 ///
 /// # Errors
-/// The first faulty line, and of its faults the first of these: F5 where it lacks its end, F1 where it is the first and no
-/// heading, F2 where no certificate has such a line, F4 where a number is out of its range, F3 where the line may not
-/// stand here or a heading has nothing below it. A text without lines is F1 at line 1. Or `Memory`.
+/// The first faulty line, and of its faults the first of these: F5 where it lacks its end, F1 where it is the first and
+/// no heading, F2 where no certificate has such a line, F4 where a number is out of its range, F3 where the line may
+/// not stand here or a heading has nothing below it. A text without lines is F1 at line 1. Or `Memory`.
 pub fn read(alloc: Global, text: &[u8]) -> Result<Certificate, ReadFault>
     // The certificate is in order, and the text is its spelling.
     ensures exact { IfOk result (Spells text.now) }
