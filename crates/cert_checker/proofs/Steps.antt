@@ -18,7 +18,7 @@ use Rattle.std.specs.declared.boxed.Box.{Box}
 use Rattle.std.specs.declared.vec.Vec.{Vec}
 use Rattle.std.specs.declared.alloc.Global.{Global}
 use Rattle.cert_checker.specs.declared.fault.CheckFault.{CheckFault}
-use Rattle.cert_checker.specs.declared.fault.CheckFault.TheVariants.{Memory, Broken}
+use Rattle.cert_checker.specs.declared.fault.CheckFault.TheVariants.{Memory, Foreign, Broken}
 use Rattle.abstract_state.specs.declared.known.Known.{Known}
 use Rattle.cert_checker.specs.declared.visits.Visits.{Visits}
 use Rattle.cert_checker.specs.declared.walk.Walk.{Walk}
@@ -120,6 +120,7 @@ first-stays (first ∷ one) two breach is = is
 breach-stays : {A B : Type 0} (walked : Walked A) (more : Walked B) (fault : CheckFault) (both : Walked B) → both.broken ≡ walked.broken ++ more.broken
     → IsBreachOf walked fault → IsBreachOf both fault
 breach-stays walked more Memory both are is = tt
+breach-stays walked more Foreign both are is = absurd is
 breach-stays walked more (Broken rule place) both are is =
     ap first_breach are ∙ first-stays walked.broken more.broken (record { rule = rule; place = place }) is
 
@@ -127,6 +128,7 @@ breach-stays walked more (Broken rule place) both are is =
 breach-same : {A B : Type 0} (walked : Walked A) (other : Walked B) (fault : CheckFault) → walked.broken ≡ other.broken → IsBreachOf walked fault
     → IsBreachOf other fault
 breach-same walked other Memory same is = tt
+breach-same walked other Foreign same is = absurd is
 breach-same walked other (Broken rule place) same is = ap first_breach (sym same) ∙ is
 
 -- the first piece was walked over: what the checker did over the next is what it did over both

@@ -13,7 +13,7 @@ use Rattle.meaning.specs.Effect.{Reply, Gives, Stops, Visit}
 use Rattle.meaning.specs.Meaning.{run, meaning}
 use Rattle.abstract_state.specs.State.{State}
 use Rattle.cert_checker.specs.declared.fault.CheckFault.{CheckFault}
-use Rattle.cert_checker.specs.declared.fault.CheckFault.TheVariants.{Memory, Broken}
+use Rattle.cert_checker.specs.declared.fault.CheckFault.TheVariants.{Memory, Foreign, Broken}
 use Rattle.cert_checker.specs.Walk.{Breach, Context, Linked, Walked, block_walk, program_walk, numbers_of}
 use Rattle.abstract_state.specs.Holds.{Moment, StateHolds, Separate}
 
@@ -34,6 +34,7 @@ first_breach (breach ∷ breaches) = Some breach
 -- why a certificate is refused: for the first rule that the walk by it breaks, or for want of memory
 abbrev pub IsBreachOf : {A : Type 0} → Walked A → CheckFault → Type 0
 IsBreachOf walked Memory = Unit {0}
+IsBreachOf walked Foreign = ⊥
 IsBreachOf walked (Broken rule place) = first_breach walked.broken ≡ Some (record { rule = rule; place = place })
 
 -- each error of a run is at a site of the table that is open

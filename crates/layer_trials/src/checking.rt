@@ -2,6 +2,7 @@ use crate::sources::{fault_told, sites_told, tree_of};
 use cert_checker::fault::CheckFault;
 use cert_checker::{Verdict, check};
 use certificate::{Certificate, Version};
+use place::Place;
 use std::alloc::{AllocError, Global};
 use std::test::Fail;
 use test_words::rows::all_hold;
@@ -45,6 +46,7 @@ fn checked(alloc: Global, tree: &Tree) -> Result<Verdict, TypeFault> {
         Ok(verdict) => Ok(verdict),
         Err(CheckFault::Memory) => Err(TypeFault::Memory),
         // A certificate without claims breaks no rule, so no row has this.
+        Err(CheckFault::Foreign) => Err(TypeFault::Mismatch(Place::START)),
         Err(CheckFault::Broken { place, .. }) => Err(TypeFault::Mismatch(place)),
     }
 }

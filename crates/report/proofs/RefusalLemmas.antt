@@ -65,6 +65,7 @@ typing-refusal source text fault program written h = (program, written, ⊎_elim
 pub checking-refusal : (source text : List ℕ) (tree : Tree) (certificate : CertificateRead) (fault : CheckFault) → AreOf source text tree certificate
     → IsBreachOf (program_walk tree certificate) fault → IsRefusal source text (checker_fault fault)
 checking-refusal source text tree certificate check.Memory are h = tt
+checking-refusal source text tree certificate check.Foreign are h = (tree, certificate, are, h)
 checking-refusal source text tree certificate (check.Broken rule place) are h = (tree, certificate, are, h)
 
 -- code is refused where there is too much of it

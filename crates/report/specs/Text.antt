@@ -29,7 +29,7 @@ use Rattle.report.specs.declared.fault.Fault.{Fault}
 use Rattle.report.specs.declared.fault.Fault.TheVariants as fault
 use Rattle.report.specs.declared.text.RuleCode.{RuleCode}
 use Rattle.report.specs.declared.text.Refusal.{Refusal}
-use Rattle.report.specs.declared.text.Refusal.TheVariants.{Memory, At, Certificate, Claim, Whole}
+use Rattle.report.specs.declared.text.Refusal.TheVariants.{Memory, At, Certificate, Claim, Claims, Whole}
 
 -- how many digits a number of 64 bits has at most, and how long the name of an error or a fault is
 abbrev pub number_size : ℕ
@@ -129,6 +129,7 @@ rule_number rule.Changes = 7
 
 abbrev pub checker_refusal : CheckFault → Refusal
 checker_refusal check.Memory = Memory
+checker_refusal check.Foreign = Claims (record { letter = letter_c; number = 1 })
 checker_refusal (check.Broken broken place) =
     Claim place (record { letter = letter_c; number = rule_number broken })
 
@@ -154,6 +155,7 @@ refusal_line (Certificate line code) =
     codes "certificate:" ++ decimal line ++ codes ": refused " ++ code_text code ++ 10 ∷ []
 refusal_line (Claim place code) =
     place_text place.line place.column ++ codes ": certificate refused " ++ code_text code ++ 10 ∷ []
+refusal_line (Claims code) = codes "certificate refused " ++ code_text code ++ 10 ∷ []
 refusal_line (Whole code) = codes "refused " ++ code_text code ++ 10 ∷ []
 
 -- the status of a refusal: 3 for want of memory, 2 for all else
@@ -162,6 +164,7 @@ refusal_status Memory = 3
 refusal_status (At place code) = 2
 refusal_status (Certificate line code) = 2
 refusal_status (Claim place code) = 2
+refusal_status (Claims code) = 2
 refusal_status (Whole code) = 2
 
 -- the name of an error by its number

@@ -88,7 +88,7 @@ impl From<CheckFault> for Fault {
     fn from(fault: CheckFault) -> Fault {
         match fault {
             CheckFault::Memory => Fault::Memory,
-            CheckFault::Broken { .. } => Fault::Check(fault),
+            CheckFault::Foreign | CheckFault::Broken { .. } => Fault::Check(fault),
         }
     }
 }

@@ -47,6 +47,10 @@ pub fn fault_text(alloc: Global, fault: &Fault) -> (Line, u8)
             refused(sentence_start(Line::new(alloc), "refused "), code),
             2,
         ),
+        Refusal::Claims(code) => {
+            let start = sentence_start(Line::new(alloc), "certificate refused ");
+            (refused(start, code), 2)
+        }
         Refusal::At { place, code } => {
             let start = placed(alloc, place.line, place.column);
             (refused(sentence_start(start, ": refused "), code), 2)
@@ -109,6 +113,8 @@ pub enum Refusal {
     Certificate { line: u64, code: RuleCode },
     /// Of what the certificate claims, at a place of the source.
     Claim { place: Place, code: RuleCode },
+    /// Of what the certificate claims, as a whole.
+    Claims(RuleCode),
     /// Of the program as a whole.
     Whole(RuleCode),
 }
@@ -206,6 +212,10 @@ fn checker_refusal(fault: CheckFault) -> Refusal
 {
     match fault {
         CheckFault::Memory => Refusal::Memory,
+        CheckFault::Foreign => Refusal::Claims(RuleCode {
+            letter: b'C',
+            number: 1,
+        }),
         CheckFault::Broken { rule, place } => Refusal::Claim {
             place,
             code: RuleCode {

@@ -64,7 +64,11 @@ const PLACE: Place = Place {
 };
 
 // The line for each rule that a certificate may break.
-static BROKEN_RULES: [(Fault, &str); 6] = [
+static BROKEN_RULES: [(Fault, &str); 7] = [
+    (
+        Fault::Check(CheckFault::Foreign),
+        "certificate refused C1\n",
+    ),
     (
         Fault::Check(CheckFault::Broken {
             rule: Rule::LoopEntry,
