@@ -1,5 +1,5 @@
--- The steps of typing: a token that is passed, a form that is entered, a loop, a site, a name that is found, a region, a
--- definition, a variable. It says nothing of the forms that take them.
+-- The steps of typing: a token that is passed, a form that is entered, a loop, a site, a name that is found, a region,
+-- a definition, a variable. It says nothing of the forms that take them.
 use Rattle.std.specs.Prelude.{ℕ, ◌+◌, ◌++◌, true, false, List, [], ◌∷◌, Result, Ok, Err, if◌then◌else◌, nat_le, nat_lt, length}
 use Rattle.place.specs.declared.Place.{Place}
 use Rattle.syntax_tree.specs.declared.Name.{Name}
