@@ -9,5 +9,6 @@ meet_all-returns t c =
 
 pub meet_all-loop-statement-preserved : goal.meet_all-loop-statement-preserved
 meet_all-loop-statement-preserved t c =
-    next_met c.args.statements.now (blocks_of c.args.rows.now.items) c.loop-statement.statement-index c.statement-item.result (blocks_of c.loop-statement.rows.items)
-    (blocks_of c.meet.new.rows.items) c.loop-statement-test.true c.statement-item.is c.loop-statement.invariant c.in_ok-meet.ensures
+    next_met c.args.statements.now (blocks_of c.args.rows.now.items) c.loop-statement.statement-index c.statement-item.result
+    (blocks_of c.loop-statement.rows.items) (blocks_of c.meet.new.rows.items) c.loop-statement-test.true
+    c.statement-item.is c.loop-statement.invariant c.in_ok-meet.ensures
