@@ -1,9 +1,10 @@
 -- The definitions on small rows, worked out by hand.
-use Rattle.std.proofs.Common.{◌≡◌, inl, inr, ℕ, ap, refl, true, false, pos, negsuc, List, [], ◌∷◌, Option, Some, None, Box, Global, codes, if◌then◌else◌, slice_get}
+use Rattle.std.proofs.Common.{◌≡◌, inl, inr, ℕ, ℤ, ap, refl, true, false, pos, negsuc, List, [], ◌∷◌, Option, Some, None, Box, Global, codes, if◌then◌else◌, slice_get}
 use Rattle.typed_tree.specs.declared.tree.Dyadic.{Dyadic}
+use Rattle.typed_tree.specs.declared.tree.Relation.{Relation}
 use Rattle.typed_tree.specs.declared.tree.Dyadic.TheVariants as dyadic
 use Rattle.typed_tree.specs.declared.tree.Monadic.TheVariants as monadic
-use Rattle.typed_tree.specs.declared.tree.Relation.TheVariants.{Equal}
+use Rattle.typed_tree.specs.declared.tree.Relation.TheVariants.{Equal, Less}
 use Rattle.typed_tree.specs.declared.tree.Tree.{Tree}
 use Rattle.typed_tree.specs.declared.tree.Expr.{Expr}
 use Rattle.typed_tree.specs.declared.tree.Stmt.TheOpen.Stmt-F.{If}
@@ -11,13 +12,13 @@ use Rattle.typed_tree.specs.declared.tree.WriteParameter.{WriteParameter}
 use Rattle.types.specs.declared.form.OrdinalRange.{OrdinalRange}
 use Rattle.types.specs.declared.form.TypeId.{TypeId}
 use Rattle.meaning.specs.declared.outcome.Ending.{Ending}
-use Rattle.meaning.specs.declared.outcome.Ending.TheVariants.{Error, More}
+use Rattle.meaning.specs.declared.outcome.Ending.TheVariants.{Error, Finished, More}
 use Rattle.meaning.specs.declared.store.Value.{Value}
 use Rattle.meaning.specs.declared.store.Value.TheVariants.{Number}
 use Rattle.meaning.specs.Store.{Place, Step, Element, Environment, stored, written, undefined, overlap}
 use Rattle.meaning.specs.Integers.{is_integer_number}
-use Rattle.meaning.specs.Effect.{State, Reply, Gives, Stops, Action, ◌>>=◌, and_then, give, enter, fetch, store, use_turn, write, is_in, boolean_text, text_of}
-use Rattle.meaning.specs.Meaning.{Evaluation, Combination, Execution, effect_step, is_so, alternative_of, link_step, in_turn, operated}
+use Rattle.meaning.specs.Effect.{State, Reply, Gives, Stops, Action, Round, looped, ◌>>=◌, and_then, give, enter, fetch, store, use_turn, write, is_in, boolean_text, text_of}
+use Rattle.meaning.specs.Meaning.{Evaluation, Combination, Execution, effect_step, is_so, alternative_of, combined, while_round, repeat_round, Meaning, ended, link_step, in_turn, operated}
 use Rattle.meaning.specs.Meaning.{value_of, width_of, parameter_of, completed, first_state}
 use Rattle.meaning.specs.Meaning.{home_of, program_environment}
 use Rattle.meaning.specs.Laws.{Extends}
@@ -270,3 +271,59 @@ one_more_turn = inr (record (first_state [] 0) { output = codes "a" }, refl, (co
 turns_to_spare : Extends 1 (two_bytes (first_state [] 1)) (two_bytes (first_state [] 2))
 unfolding two_bytes
 turns_to_spare = inl refl
+
+-- whether the counter, the variable of root 0, is in this relation to a number
+abbrev compared : Relation → ℤ → Evaluation
+compared relation number environment = do
+  v ← fetch (Some (place 0 [])) 7
+  combined (dyadic.Relation relation) v (Number number)
+
+-- writes a byte and increases the counter
+abbrev counts : Execution
+counts environment = do
+  _ ← write (codes "a")
+  v ← fetch (Some (place 0 [])) 7
+  w ← combined (dyadic.Plus 3) v (Number (pos 1))
+  store (Some (place 0 [])) w
+
+-- what a loop writes and how it ends, where the counter is 0 at first
+abbrev from_zero : Round (Unit {0}) → ℕ → Meaning
+from_zero round turns = ended (looped round tt (record (first_state [] turns) { store = written [] (place 0 []) (Number (pos 0)) }))
+
+-- while the counter is less than a number, and until it is that number
+abbrev while_less : ℤ → Round (Unit {0})
+while_less number = while_round (compared Less number) counts nowhere
+
+abbrev until_equal : ℤ → Round (Unit {0})
+until_equal number = repeat_round counts (compared Equal number) nowhere
+
+-- a while tests before its first turn, and uses none where its condition is false at once
+no_turn_of_while : from_zero (while_less (pos 0)) 0 ≡ record { output = []; ending = Finished }
+unfolding nowhere
+no_turn_of_while = refl
+
+turns_of_while : from_zero (while_less (pos 3)) 3 ≡ record { output = codes "aaa"; ending = Finished }
+unfolding nowhere
+turns_of_while = refl
+
+-- with a turn less than it asks for, the run stops where the next would begin
+while_wants_more : from_zero (while_less (pos 3)) 2 ≡ record { output = codes "aa"; ending = More }
+unfolding nowhere
+while_wants_more = refl
+
+-- a repeat tests behind its first turn
+no_turn_of_repeat : from_zero (until_equal (pos 1)) 0 ≡ record { output = []; ending = More }
+unfolding nowhere
+no_turn_of_repeat = refl
+
+turn_of_repeat : from_zero (until_equal (pos 1)) 1 ≡ record { output = codes "a"; ending = Finished }
+unfolding nowhere
+turn_of_repeat = refl
+
+turns_of_repeat : from_zero (until_equal (pos 3)) 5 ≡ record { output = codes "aaa"; ending = Finished }
+unfolding nowhere
+turns_of_repeat = refl
+
+repeat_wants_more : from_zero (until_equal (pos 0)) 4 ≡ record { output = codes "aaaa"; ending = More }
+unfolding nowhere
+repeat_wants_more = refl

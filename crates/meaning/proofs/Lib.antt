@@ -1,7 +1,8 @@
 mod Examples
 mod LeftToRight
+pub mod Loops
 mod Resuming
 mod Starting
-mod Turns
+pub mod Turns
 mod Unrolling
 mod Weights

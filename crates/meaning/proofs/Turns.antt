@@ -1,5 +1,5 @@
 -- More turns only extend a run. For each action three facts: the output only grows, the turns only fall, and with more
--- turns the action goes on from where it was with fewer. A loop's body and a routine's block will need them all.
+-- turns the action goes on from where it was with fewer.
 use Rattle.std.specs.Prelude.{int_div, int_le, not, if◌then◌else◌}
 use Rattle.std.specs.Int.{int_rem_euclid}
 use Rattle.std.specs.Ordering.{int_eq}
@@ -21,7 +21,7 @@ use Rattle.typed_tree.specs.declared.tree.Expr.TheOpen.{Expr-F, Link-F}
 use Rattle.typed_tree.specs.declared.tree.Expr.TheOpen.Expr-F.{Constant, Variable, Monadic as MonadicOf, Chain}
 use Rattle.typed_tree.specs.declared.tree.Expr.TheFolds.{map-Expr, map-Link, fold-roll-Expr, fold-roll-Link, ind-Expr}
 use Rattle.typed_tree.specs.declared.tree.Stmt.TheOpen.{Stmt-F}
-use Rattle.typed_tree.specs.declared.tree.Stmt.TheOpen.Stmt-F.{Empty, Assign, Write, Compound, If}
+use Rattle.typed_tree.specs.declared.tree.Stmt.TheOpen.Stmt-F.{Empty, Assign, Write, Compound, If, While, Repeat}
 use Rattle.typed_tree.specs.declared.tree.Stmt.TheFolds.{map-Stmt, fold-roll-Stmt, ind-Stmt}
 use Rattle.meaning.specs.declared.outcome.Ending.{Ending}
 use Rattle.meaning.specs.declared.outcome.Ending.TheVariants as ending
@@ -29,10 +29,10 @@ use Rattle.meaning.specs.declared.store.Value.{Value}
 use Rattle.meaning.specs.declared.store.Value.TheVariants.{Number}
 use Rattle.meaning.specs.Integers.{is_integer_number}
 use Rattle.meaning.specs.Store.{Environment, Place, held}
-use Rattle.meaning.specs.Effect.{State, Reply, Gives, Stops, Action, ◌>>=◌, and_then, give, stop, require, enter, take_turn, use_turn}
+use Rattle.meaning.specs.Effect.{State, Reply, Gives, Stops, Action, Round, ◌>>=◌, and_then, give, stop, require, enter, take_turn, use_turn, another, looping, looped}
 use Rattle.meaning.specs.Effect.{fetched, fetch, store, write, is_in, is_positive, text_of}
 use Rattle.meaning.specs.Meaning.{Evaluation, Combination, Execution, value_step, link_step, effect_step, whole, operated, combined, in_turn, all_of}
-use Rattle.meaning.specs.Meaning.{width_of, parameter_of, line_ended, is_so, value_of, link_of, effect_of, Meaning, run_of, run, ended}
+use Rattle.meaning.specs.Meaning.{width_of, parameter_of, line_ended, is_so, turn_if, while_round, repeat_round, value_of, link_of, effect_of, Meaning, run_of, run, ended}
 use Rattle.meaning.specs.Meaning.{program_environment, first_state}
 use Rattle.meaning.specs.Laws.{with_turns, reply_with_turns, state_after, Begins, Extends, TurnsGoOn, TurnsExtendTheOutput, EndingsStay}
 
@@ -46,10 +46,10 @@ further first second third begun more =
     (begun.0 ++ more.0, more.1 ∙ ap (λ written. written ++ more.0) begun.1 ∙ append_assoc first begun.0 more.0)
 
 -- an action that more turns only extend, and that gives no turns back: a loop's turns are then enough for its rounds
-record Extended {A : Type 0} (action : Action A) : Type 0 where
-  grows : (s : State) → Begins s.output (state_after (action s)).output
-  falls : (s : State) → (state_after (action s)).turns ≤ s.turns
-  extends : (more : ℕ) (s : State) → Extends more (action s) (action (with_turns more s))
+pub record Extended {A : Type 0} (action : Action A) : Type 0 where
+  pub grows : (s : State) → Begins s.output (state_after (action s)).output
+  pub falls : (s : State) → (state_after (action s)).turns ≤ s.turns
+  pub extends : (more : ℕ) (s : State) → Extends more (action s) (action (with_turns more s))
 
 -- what comes after a reply only adds to its output
 grown_rest : {A B : Type 0} (output : List ℕ) (reply : Reply A) (rest : A → Action B) → Begins output (state_after reply).output →
@@ -81,7 +81,7 @@ extended_rest {A} {B} more first second rest longer_rest (inl same) each grows =
 extended_rest more first second rest longer_rest (inr stopped) each grows =
     inr (stopped.0, ap (λ reply. and_then reply rest) stopped.1, grown_rest stopped.0.output second longer_rest stopped.2 grows)
 
-extended_then : {A B : Type 0} (action : Action A) (rest : A → Action B) → Extended action → ((a : A) → Extended (rest a)) →
+pub extended_then : {A B : Type 0} (action : Action A) (rest : A → Action B) → Extended action → ((a : A) → Extended (rest a)) →
     Extended (action >>= rest)
 extended_then action rest first each = record {
   grows = λ s. grown_rest s.output (action s) rest (first.grows s) (λ a t. (each a).grows t);
@@ -90,7 +90,7 @@ extended_then action rest first each = record {
       (λ a t. (each a).extends more t) (λ a t. (each a).grows t);
 }
 
-extended_give : {A : Type 0} (a : A) → Extended (give a)
+pub extended_give : {A : Type 0} (a : A) → Extended (give a)
 extended_give a = record { grows = λ s. nothing s.output; falls = λ s. omega arith; extends = λ more s. inl refl }
 
 extended_stop : {A : Type 0} (e : Ending) → Extended (stop {A = A} e)
@@ -122,13 +122,72 @@ turn_extends (suc left) more s =
     let one_more : suc left + more ≡ suc (left + more) = omega arith in
     inl (ap (λ turns. take_turn turns (with_turns more s)) one_more)
 
--- no form uses a turn yet; this is what the start of a loop's body and of a routine's block will cite
-extended_use_turn : Extended use_turn
+-- the start of a loop's body or of a routine's block
+pub extended_use_turn : Extended use_turn
 extended_use_turn = record {
   grows = λ s. turn_grows s.turns s;
   falls = λ s. turn_falls s.turns s (omega arith);
   extends = λ more s. turn_extends s.turns more s;
 }
+
+-- another round, if one follows
+extended_another : {A : Type 0} (more : Option A) (next : A → Action (Unit {0})) → ((a : A) → Extended (next a)) → Extended (another more next)
+extended_another None next each = extended_give tt
+extended_another (Some a) next each = each a
+
+-- a loop whose rounds more turns only extend
+module _ {A : Type 0} (round : Round A) (each : (a : A) → Extended (round a)) where
+  -- its rounds up to a bound
+  extended_looping : (bound : ℕ) (a : A) → Extended (looping bound round a)
+  extended_looping zero a =
+      let last : Option A → Action (Unit {0}) = λ more. another more (λ b. stop ending.More) in
+      extended_then (round a) last (each a) (λ more. extended_another more (λ b. stop ending.More) (λ b. extended_stop ending.More))
+  extended_looping (suc left) a =
+      let next : Option A → Action (Unit {0}) = λ more. another more (looping left round) in
+      extended_then (round a) next (each a) (λ more. extended_another more (looping left round) (extended_looping left))
+
+  -- where the bound stopped the loop, a greater one may go on
+  stopped_round : (more : ℕ) (follows : Option A) (next : A → Action (Unit {0})) → ((a : A) → Extended (next a)) → (s : State) →
+      Extends more (another follows (λ b. stop ending.More) s) (another follows next (with_turns more s))
+  stopped_round more None next grown s = inl refl
+  stopped_round more (Some a) next grown s = inr (s, refl, (grown a).grows (with_turns more s))
+
+  last_round : (more bound : ℕ) (a : A) (s : State) → Extends more (looping zero round a s) (looping bound round a (with_turns more s))
+  last_round more zero a s =
+      extended_rest more (round a s) (round a (with_turns more s)) (λ follows. another follows (λ b. stop ending.More))
+      (λ follows. another follows (λ b. stop ending.More)) ((each a).extends more s)
+      (λ follows t. stopped_round more follows (λ b. stop ending.More) (λ b. extended_stop ending.More) t)
+      (λ follows t. (extended_another follows (λ b. stop ending.More) (λ b. extended_stop ending.More)).grows t)
+  last_round more (suc left) a s =
+      extended_rest more (round a s) (round a (with_turns more s)) (λ follows. another follows (λ b. stop ending.More))
+      (λ follows. another follows (looping left round)) ((each a).extends more s)
+      (λ follows t. stopped_round more follows (looping left round) (extended_looping left) t)
+      (λ follows t. (extended_another follows (looping left round) (extended_looping left)).grows t)
+
+  same_round : (more : ℕ) (follows : Option A) (next longer : A → Action (Unit {0})) →
+      ((a : A) (s : State) → Extends more (next a s) (longer a (with_turns more s))) → (s : State) →
+      Extends more (another follows next s) (another follows longer (with_turns more s))
+  same_round more None next longer extends s = inl refl
+  same_round more (Some a) next longer extends s = extends a s
+
+  -- more turns, and a bound that is greater by them
+  extends_looping : (bound more : ℕ) (a : A) (s : State) →
+      Extends more (looping bound round a s) (looping (bound + more) round a (with_turns more s))
+  extends_looping zero more a s = last_round more (zero + more) a s
+  extends_looping (suc left) more a s =
+      let one_more : suc (left + more) ≡ suc left + more = omega arith in
+      subst (λ bound. Extends more (looping (suc left) round a s) (looping bound round a (with_turns more s))) one_more
+      (extended_rest more (round a s) (round a (with_turns more s)) (λ follows. another follows (looping left round))
+      (λ follows. another follows (looping (left + more) round)) ((each a).extends more s)
+      (λ follows t. same_round more follows (looping left round) (looping (left + more) round) (extends_looping left more) t)
+      (λ follows t. (extended_another follows (looping (left + more) round) (extended_looping (left + more))).grows t))
+
+  extended_looped : (a : A) → Extended (looped round a)
+  extended_looped a = record {
+    grows = λ s. (extended_looping s.turns a).grows s;
+    falls = λ s. (extended_looping s.turns a).falls s;
+    extends = λ more s. extends_looping s.turns more a s;
+  }
 
 extended_require : (b : Bool) (site : ℕ) → Extended (require b site)
 extended_require true site = extended_give tt
@@ -215,7 +274,7 @@ link-parts y env left =
     extended_then (enter y.number env) (λ _. right >>= result) (extended_enter y.number env)
     (λ _. extended_then right result (y.operand.1 env) (λ v. extended_combined y.operation left v))
 
-extended_value : (e : Expr) (env : Environment) → Extended (value_of e env)
+pub extended_value : (e : Expr) (env : Environment) → Extended (value_of e env)
 extended_value = ind-Expr
     (λ e. (env : Environment) → Extended (value_of e env))
     (λ l. (env : Environment) (v : Value) → Extended (link_of l env v))
@@ -274,6 +333,26 @@ extended_if number condition env one other first second =
     (λ _. extended_then (value_of condition env) branch (extended_value condition env)
     (λ v. extended_chosen (is_so v) one other first second))
 
+-- a turn of a while
+pub extended_turn_if : (so : Bool) (body : Action (Unit {0})) → Extended body → Extended (turn_if so body)
+extended_turn_if false body done = extended_give None
+extended_turn_if true body done =
+    extended_then use_turn (λ _. body >>= λ _. give (Some tt)) extended_use_turn
+    (λ _. extended_then body (λ _. give (Some tt)) done (λ _. extended_give (Some tt)))
+
+pub extended_while_round : (condition : Evaluation) (body : Execution) (env : Environment) → Extended (condition env) → Extended (body env) →
+    (start : Unit {0}) → Extended (while_round condition body env start)
+extended_while_round condition body env tested done start =
+    extended_then (condition env) (λ v. turn_if (is_so v) (body env)) tested (λ v. extended_turn_if (is_so v) (body env) done)
+
+pub extended_repeat_round : (body : Execution) (condition : Evaluation) (env : Environment) → Extended (body env) → Extended (condition env) →
+    (start : Unit {0}) → Extended (repeat_round body condition env start)
+extended_repeat_round body condition env done tested start =
+    let until : Value → Action (Option (Unit {0})) = λ v. give (if is_so v then None else Some tt) in
+    extended_then use_turn (λ _. body env >>= λ _. condition env >>= until) extended_use_turn
+    (λ _. extended_then (body env) (λ _. condition env >>= until) done
+    (λ _. extended_then (condition env) until tested (λ v. extended_give (if is_so v then None else Some tt))))
+
 -- the statements of one layer
 abbrev executed : Stmt-F Stmt → Execution
 executed y = effect_step (map-Stmt Stmt Execution effect_of y)
@@ -302,12 +381,29 @@ effect-parts (If number condition consequence None) env =
 effect-parts (If number condition consequence (Some alternative)) env =
     extended_if number condition env (effect_of consequence.value.0 env) (effect_of alternative.value.0 env) (consequence.value.1 env)
     (alternative.value.1 env)
+effect-parts (While number loop_number place condition body) env =
+    let round = while_round (value_of condition) (effect_of body.value.0) env in
+    extended_then (enter number env) (λ _. looped round tt) (extended_enter number env)
+    (λ _. extended_looped round
+    (extended_while_round (value_of condition) (effect_of body.value.0) env (extended_value condition env) (body.value.1 env)) tt)
+effect-parts (Repeat number loop_number place statements condition) env =
+    let all : Execution = all_of (map effect_of (map (λ e. e.0) statements.items)) in
+    let round = repeat_round all (value_of condition) env in
+    extended_then (enter number env) (λ _. looped round tt) (extended_enter number env)
+    (λ _. extended_looped round
+    (extended_repeat_round all (value_of condition) env (extended_all_of statements.items env) (extended_value condition env)) tt)
 
-extended_effect : (e : Stmt) (env : Environment) → Extended (effect_of e env)
+pub extended_effect : (e : Stmt) (env : Environment) → Extended (effect_of e env)
 extended_effect = ind-Stmt
     (λ e. (env : Environment) → Extended (effect_of e env))
     (λ x y is env. subst (λ (f : Execution). Extended (f env))
     (sym (fold-roll-Stmt Execution effect_step x ∙ ap executed (sym is))) (effect-parts y env))
+
+pub extended_statements : (statements : List Stmt) (env : Environment) → Extended (all_of (map effect_of statements) env)
+extended_statements [] env = extended_give tt
+extended_statements (statement ∷ statements) env =
+    extended_then (effect_of statement env) (λ _. all_of (map effect_of statements) env) (extended_effect statement env)
+    (λ _. extended_statements statements env)
 
 extended_run : (o : Option Block) (env : Environment) → Extended (run_of o env)
 extended_run None env = extended_give tt

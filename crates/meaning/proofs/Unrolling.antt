@@ -1,5 +1,5 @@
 -- Each form of an expression and of a statement, as the work that an interpreter has to do for it.
-use Rattle.std.proofs.Common.{◌≡◌, ℕ, List, [], ◌∷◌, ◌++◌, Bool, Option, Some, None, Bor, Box, Vec, Global, map, sym, ◌∙◌, ap, refl}
+use Rattle.std.proofs.Common.{◌≡◌, ℕ, List, [], ◌∷◌, ◌++◌, Bool, true, false, Option, Some, None, Bor, if◌then◌else◌, Box, Vec, Global, map, sym, ◌∙◌, ap, refl}
 use Rattle.place.specs.declared.Place.{Place as SourcePlace}
 use Rattle.typed_tree.specs.declared.tree.Access.{Access}
 use Rattle.typed_tree.specs.declared.tree.Monadic.{Monadic}
@@ -12,17 +12,21 @@ use Rattle.typed_tree.specs.declared.tree.Stmt.{Stmt}
 use Rattle.typed_tree.specs.declared.tree.Expr.TheVariants as expr
 use Rattle.typed_tree.specs.declared.tree.Stmt.TheVariants as stmt
 use Rattle.typed_tree.specs.declared.tree.Expr.TheOpen.Expr-F.{Variable as Variable-F, Monadic as Monadic-F, Chain as Chain-F}
-use Rattle.typed_tree.specs.declared.tree.Stmt.TheOpen.Stmt-F.{Empty as Empty-F, Assign as Assign-F, Write as Write-F, Compound as Compound-F, If as If-F}
+use Rattle.typed_tree.specs.declared.tree.Stmt.TheOpen.Stmt-F.{Empty as Empty-F, Assign as Assign-F, Write as Write-F, Compound as Compound-F, If as If-F, While as While-F, Repeat as Repeat-F}
 use Rattle.typed_tree.specs.declared.tree.Expr.TheFolds.{fold-roll-Expr, fold_out-Link}
 use Rattle.typed_tree.specs.declared.tree.Stmt.TheFolds.{fold-roll-Stmt}
 use Rattle.meaning.specs.declared.store.Value.{Value}
 use Rattle.meaning.specs.declared.work.Work.{Work}
 use Rattle.meaning.specs.declared.work.Work.TheVariants as work
 use Rattle.meaning.specs.Store.{Environment}
-use Rattle.meaning.specs.Effect.{State, Reply, Action, ◌>>=◌, and_then, require, enter, fetch, store, write, is_in, text_of}
+use Rattle.meaning.specs.Effect.{State, Reply, Gives, Stops, Action, ◌>>=◌, and_then, give, require, enter, use_turn, another, looped}
+use Rattle.meaning.specs.Effect.{fetch, store, write, is_in, text_of}
 use Rattle.meaning.specs.Meaning.{Evaluation, Combination, Execution, value_step, link_step, effect_step, operated, combined, in_turn, all_of}
-use Rattle.meaning.specs.Meaning.{width_of, parameter_of, line_ended, is_so, value_of, link_of, effect_of}
-use Rattle.meaning.specs.Pending.{Resumption, pending_of, resumed, chosen, line_ending, linking, giving, with_top, positive, top_of, below_top}
+use Rattle.meaning.specs.Meaning.{width_of, parameter_of, line_ended, is_so, turn_if, value_of, link_of, effect_of}
+use Rattle.meaning.specs.Pending.{Resumption, pending_of, resumed, chosen, further, while_rounds, repeat_rounds, turning, line_ending, linking, giving, with_top}
+use Rattle.meaning.specs.Pending.{positive, top_of, below_top}
+use Rattle.meaning.proofs.Turns.{extended_value, extended_effect, extended_statements}
+use Rattle.meaning.proofs.Loops.{looped-rounds, while_uses, repeat_uses}
 use Rattle.meaning.proofs.Resuming.{and_then-and_then, and_then-same}
 
 value-Variable : (a : Access) (defined : ℕ) (env : Environment) →
@@ -72,6 +76,18 @@ effect-If n condition consequence None env = ap (λ (e : Stmt). effect_of e env)
     ∙ ap (λ (f : Execution). f env) (fold-roll-Stmt Execution effect_step (If-F n condition consequence None))
 effect-If n condition consequence (Some other) env = ap (λ (e : Stmt). effect_of e env) (sym (stmt.rolls-If n condition consequence (Some other)))
     ∙ ap (λ (f : Execution). f env) (fold-roll-Stmt Execution effect_step (If-F n condition consequence (Some other)))
+
+effect-While : (n loop_number : ℕ) (place : SourcePlace) (condition : Expr) (body : Box Stmt Global) (env : Environment) →
+    effect_of (stmt.While n loop_number place condition body) env ≡ (enter n env >>= λ _. looped (while_rounds env condition body.value) tt)
+effect-While n loop_number place condition body env = ap (λ (e : Stmt). effect_of e env) (sym (stmt.rolls-While n loop_number place condition body))
+    ∙ ap (λ (f : Execution). f env) (fold-roll-Stmt Execution effect_step (While-F n loop_number place condition body))
+
+effect-Repeat : (n loop_number : ℕ) (place : SourcePlace) (statements : Vec Stmt Global) (condition : Expr) (env : Environment) →
+    effect_of (stmt.Repeat n loop_number place statements condition) env ≡
+    (enter n env >>= λ _. looped (repeat_rounds env statements.items condition) tt)
+effect-Repeat n loop_number place statements condition env =
+    ap (λ (e : Stmt). effect_of e env) (sym (stmt.rolls-Repeat n loop_number place statements condition))
+    ∙ ap (λ (f : Execution). f env) (fold-roll-Stmt Execution effect_step (Repeat-F n loop_number place statements condition))
 
 -- the state after an entry
 abbrev pub entered : ℕ → Environment → State → State
@@ -188,6 +204,99 @@ does-If n condition consequence alternative given is one same env works operands
     ∙ ap (λ (a : Action (Unit {0})). and_then (a s) then_rest) (effect-If n condition consequence alternative env)
     ∙ and_then-and_then tested (λ v. chosen (is_so v) consequence.value alternative env) then_rest
     ∙ ap (λ (e : Stmt). and_then tested (λ v. chosen (is_so v) e alternative env >>= then_rest)) (sym same)
+
+-- the rounds of a while, and then what is pending
+abbrev pub whiling : Environment → Expr → Stmt → List Work → List Value → Action (Unit {0})
+whiling env condition body works operands = looped (while_rounds env condition body) tt >>= λ _. pending_of env works operands
+
+pub does-While : (n loop_number : ℕ) (place : SourcePlace) (condition : Expr) (body : Box Stmt Global) (given : Stmt) →
+    given ≡ stmt.While n loop_number place condition body → (inner : Stmt) → inner ≡ body.value →
+    (env : Environment) (works : List Work) (operands : List Value) (s : State) →
+    executed env given works operands s ≡ whiling env condition inner works operands (entered n env s)
+does-While n loop_number place condition body given is inner same env works operands s =
+    let then_rest : Unit {0} → Action (Unit {0}) = λ _. pending_of env works operands in
+    ap (λ (e : Stmt). executed env e works operands s) is
+    ∙ ap (λ (a : Action (Unit {0})). and_then (a s) then_rest) (effect-While n loop_number place condition body env)
+    ∙ ap (λ (e : Stmt). whiling env condition e works operands (entered n env s)) (sym same)
+
+-- what is pending after the condition of a while
+abbrev pub while_tested : Environment → Expr → Stmt → List Work → Resumption
+while_tested env condition body works =
+    with_top (λ v below. further (while_rounds env condition body) (turn_if (is_so v) (effect_of body env)) >>= λ _. pending_of env works below)
+
+pub does-while-round : (env : Environment) (condition : Expr) (body : Stmt) (works : List Work) (operands : List Value) (s : State) →
+    whiling env condition body works operands s ≡ giving (value_of condition env) (while_tested env condition body works) operands s
+does-while-round env condition body works operands s =
+    let then_rest : Unit {0} → Action (Unit {0}) = λ _. pending_of env works operands in
+    let round = while_rounds env condition body in
+    let again : Option (Unit {0}) → Action (Unit {0}) = λ more. another more (looped round) in
+    let turn : Value → Action (Option (Unit {0})) = λ v. turn_if (is_so v) (effect_of body env) in
+    let uses = while_uses (value_of condition) (effect_of body) env (extended_value condition env) (extended_effect body env) in
+    ap (λ (r : Reply (Unit {0})). and_then r then_rest) (looped-rounds round uses tt s)
+    ∙ and_then-and_then (round tt s) again then_rest
+    ∙ and_then-and_then (value_of condition env s) turn (λ more. again more >>= then_rest)
+    ∙ and_then-same (value_of condition env s) _ _ (λ v t. sym (and_then-and_then (turn v t) again then_rest))
+
+-- what comes behind the body of a while
+body-done : (reply : Reply (Unit {0})) (again : Option (Unit {0}) → Action (Unit {0})) (rest : Unit {0} → Action (Unit {0})) →
+    and_then (and_then (and_then reply (λ _. give (Some tt))) again) rest ≡ and_then reply (λ _. again (Some tt) >>= rest)
+body-done (Gives a s) again rest = refl
+body-done (Stops e s) again rest = refl
+
+turn-done : (reply : Reply (Unit {0})) (body : Action (Unit {0})) (again : Option (Unit {0}) → Action (Unit {0})) (rest : Unit {0} → Action (Unit {0})) →
+    and_then (and_then (and_then reply (λ _. body >>= λ _. give (Some tt))) again) rest ≡ and_then reply (λ _. body >>= λ _. again (Some tt) >>= rest)
+turn-done (Gives a s) body again rest = body-done (body s) again rest
+turn-done (Stops e s) body again rest = refl
+
+pub does-while-turn : (env : Environment) (condition : Bor Expr) (body : Bor Stmt) (works : List Work) (operands : List Value) (s : State) →
+    is_so (top_of operands) ≡ true → while_tested env condition.now body.now works operands s ≡
+    turning env (work.Statement body) (work.While condition body) (pending_of env works) (below_top operands) s
+does-while-turn env condition body works operands s so =
+    let then_rest : Unit {0} → Action (Unit {0}) = λ _. pending_of env works (below_top operands) in
+    let round = while_rounds env condition.now body.now in
+    let again : Option (Unit {0}) → Action (Unit {0}) = λ more. another more (looped round) in
+    ap (λ (b : Bool). and_then (further round (turn_if b (effect_of body.now env)) s) then_rest) so
+    ∙ turn-done (use_turn s) (effect_of body.now env) again then_rest
+
+-- the rounds of a repeat, and then what is pending
+abbrev pub repeating : Environment → List Stmt → Expr → List Work → List Value → Action (Unit {0})
+repeating env statements condition works operands = looped (repeat_rounds env statements condition) tt >>= λ _. pending_of env works operands
+
+pub does-Repeat : (n loop_number : ℕ) (place : SourcePlace) (statements : Vec Stmt Global) (condition : Expr) (given : Stmt) →
+    given ≡ stmt.Repeat n loop_number place statements condition → (all : List Stmt) → all ≡ statements.items →
+    (env : Environment) (works : List Work) (operands : List Value) (s : State) →
+    executed env given works operands s ≡ repeating env all condition works operands (entered n env s)
+does-Repeat n loop_number place statements condition given is all same env works operands s =
+    let then_rest : Unit {0} → Action (Unit {0}) = λ _. pending_of env works operands in
+    ap (λ (e : Stmt). executed env e works operands s) is
+    ∙ ap (λ (a : Action (Unit {0})). and_then (a s) then_rest) (effect-Repeat n loop_number place statements condition env)
+    ∙ ap (λ (l : List Stmt). repeating env l condition works operands (entered n env s)) (sym same)
+
+pub does-repeat-round : (env : Environment) (statements : Bor (List Stmt)) (condition : Bor Expr) (works : List Work) (operands : List Value) (s : State) →
+    repeating env statements.now condition.now works operands s ≡
+    turning env (work.Statements statements) (work.Until statements condition) (pending_of env works) operands s
+does-repeat-round env statements condition works operands s =
+    let then_rest : Unit {0} → Action (Unit {0}) = λ _. pending_of env works operands in
+    let round = repeat_rounds env statements.now condition.now in
+    let again : Option (Unit {0}) → Action (Unit {0}) = λ more. another more (looped round) in
+    let all : Action (Unit {0}) = all_of (map effect_of statements.now) env in
+    let tested : Action Value = value_of condition.now env in
+    let until : Value → Action (Option (Unit {0})) = λ v. give (if is_so v then None else Some tt) in
+    let rest : Option (Unit {0}) → Action (Unit {0}) = λ more. again more >>= then_rest in
+    let uses = repeat_uses (all_of (map effect_of statements.now)) (value_of condition.now) env (extended_statements statements.now env)
+    (extended_value condition.now env) in
+    ap (λ (r : Reply (Unit {0})). and_then r then_rest) (looped-rounds round uses tt s)
+    ∙ and_then-and_then (round tt s) again then_rest
+    ∙ and_then-and_then (use_turn s) (λ _. all >>= λ _. tested >>= until) rest
+    ∙ and_then-same (use_turn s) _ _ (λ _ t. and_then-and_then (all t) (λ _. tested >>= until) rest
+    ∙ and_then-same (all t) _ _ (λ _ u. and_then-and_then (tested u) until rest))
+
+pub does-unless : (env : Environment) (statements : Bor (List Stmt)) (condition : Bor Expr) (works : List Work) (operands : List Value) (s : State) →
+    is_so (top_of operands) ≡ false → resumed env (work.Unless statements condition) (pending_of env works) operands s ≡
+    repeating env statements.now condition.now works (below_top operands) s
+does-unless env statements condition works operands s so =
+    ap (λ (b : Bool). and_then (further (repeat_rounds env statements.now condition.now) (give (if b then None else Some tt)) s)
+    (λ _. pending_of env works (below_top operands))) so
 
 pub does-Statements : (first : Bor Stmt) (rest all : Bor (List Stmt)) → all.now ≡ first.now ∷ rest.now →
     (env : Environment) (works : List Work) (operands : List Value) (s : State) →

@@ -1,5 +1,5 @@
 -- With fewer turns left there is no more to do: so a step that uses a turn leaves the rest no heavier than it was.
-use Rattle.std.proofs.Common.{ℕ, ◌+◌, ◌≤◌, List, [], ◌∷◌, Option, Some, None, Box, Global, map, sum_by, arith, sym, ◌∙◌, ap, subst}
+use Rattle.std.proofs.Common.{◌≡◌, ℕ, zero, suc, ◌+◌, ◌≤◌, List, [], ◌∷◌, Option, Some, None, Result, Ok, Err, OnOk, Box, Global, map, sum_by, arith, sym, ◌∙◌, ap, subst}
 use Rattle.typed_tree.specs.declared.tree.Width.{Width}
 use Rattle.typed_tree.specs.declared.tree.WriteParameter.{WriteParameter}
 use Rattle.typed_tree.specs.declared.tree.Expr.{Expr}
@@ -9,13 +9,15 @@ use Rattle.typed_tree.specs.declared.tree.Expr.TheOpen.{Expr-F, Link-F}
 use Rattle.typed_tree.specs.declared.tree.Expr.TheOpen.Expr-F.{Constant, Variable, Monadic, Chain}
 use Rattle.typed_tree.specs.declared.tree.Expr.TheFolds.{map-Expr, map-Link, fold-roll-Expr, fold-roll-Link, fold_out-Link, ind-Expr}
 use Rattle.typed_tree.specs.declared.tree.Stmt.TheOpen.{Stmt-F}
-use Rattle.typed_tree.specs.declared.tree.Stmt.TheOpen.Stmt-F.{Empty, Assign, Write, Compound, If}
+use Rattle.typed_tree.specs.declared.tree.Stmt.TheOpen.Stmt-F.{Empty, Assign, Write, Compound, If, While, Repeat}
 use Rattle.typed_tree.specs.declared.tree.Stmt.TheFolds.{map-Stmt, fold-roll-Stmt, ind-Stmt}
 use Rattle.std.proofs.lemmas.List.Sums.{sum_by-cons}
+use Rattle.std.specs.declared.alloc.AllocError.{AllocError}
+use Rattle.meaning.specs.declared.outcome.Ending.{Ending}
 use Rattle.meaning.specs.declared.work.Work.{Work}
 use Rattle.meaning.specs.declared.work.Work.TheVariants as work
-use Rattle.meaning.specs.Weight.{Weight, row_weight, link_weight, expression_weight, weight_of_expression, weight_of_link, weight_of_width}
-use Rattle.meaning.specs.Weight.{weight_of_parameter, statement_weight, weight_of_statement, weight_of_alternative, weight_of}
+use Rattle.meaning.specs.Weight.{Weight, row_weight, rounds_weight, link_weight, expression_weight, weight_of_expression, weight_of_link, weight_of_width}
+use Rattle.meaning.specs.Weight.{weight_of_parameter, round_weight, statement_weight, weight_of_statement, weight_of_alternative, weight_of, turn_weight}
 
 -- a weight that more turns never lower
 abbrev Rises : Weight → Type 0
@@ -86,6 +88,16 @@ rising_parameter parameter turns more =
     let width = rising_width parameter.width turns more in
     omega (arith, value, width)
 
+-- each turn more allows a round more
+rising_rounds : (round : Weight) → Rises (rounds_weight round)
+rising_rounds round turns zero =
+    let same : turns ≡ turns + zero = omega arith in
+    subst (λ n. rounds_weight round turns ≤ rounds_weight round n) same (omega arith)
+rising_rounds round turns (suc more) =
+    let one_more : suc (turns + more) ≡ turns + suc more = omega arith in
+    let fewer = rising_rounds round turns more in
+    subst (λ n. rounds_weight round turns ≤ rounds_weight round n) one_more (omega (arith, fewer))
+
 -- a statement whose weight rises
 abbrev RisingStmt : Type 0
 RisingStmt = (e : Stmt) × Rises (weight_of_statement e)
@@ -113,6 +125,16 @@ statement-parts (If number condition consequence (Some alternative)) =
     let one = consequence.value.1 turns more in
     let other = alternative.value.1 turns more in
     omega (arith, tested, one, other)
+statement-parts (While number loop_number place condition body) =
+    λ turns more.
+    let tested = rising_expression condition turns more in
+    let rounds = rising_rounds (round_weight (weight_of_statement body.value.0) (weight_of_expression condition)) turns more in
+    omega (arith, tested, rounds)
+statement-parts (Repeat number loop_number place statements condition) =
+    λ turns more.
+    let all = row_weight 1 (map weight_of_statement (map (λ e. e.0) statements.items)) in
+    let rounds = rising_rounds (round_weight all (weight_of_expression condition)) turns more in
+    omega (arith, rounds)
 
 rising_statement : (e : Stmt) → Rises (weight_of_statement e)
 rising_statement = ind-Stmt (λ e. Rises (weight_of_statement e))
@@ -130,6 +152,31 @@ rising_work (work.Choose consequence alternative) =
     let one = rising_statement consequence.now turns more in
     let other = rising_alternative alternative.now turns more in
     omega (arith, one, other)
+rising_work (work.While condition body) =
+    λ turns more.
+    let tested = rising_expression condition.now turns more in
+    let rounds = rising_rounds (round_weight (weight_of_statement body.now) (weight_of_expression condition.now)) turns more in
+    omega (arith, tested, rounds)
+rising_work (work.WhileTurn condition body) =
+    λ turns more.
+    let rounds = rising_rounds (round_weight (weight_of_statement body.now) (weight_of_expression condition.now)) turns more in
+    omega (arith, rounds)
+rising_work (work.Repeat statements condition) =
+    λ turns more.
+    let all = row_weight 1 (map weight_of_statement statements.now) in
+    let rounds = rising_rounds (round_weight all (weight_of_expression condition.now)) turns more in
+    omega (arith, rounds)
+rising_work (work.Until statements condition) =
+    λ turns more.
+    let tested = rising_expression condition.now turns more in
+    let all = row_weight 1 (map weight_of_statement statements.now) in
+    let rounds = rising_rounds (round_weight all (weight_of_expression condition.now)) turns more in
+    omega (arith, tested, rounds)
+rising_work (work.Unless statements condition) =
+    λ turns more.
+    let all = row_weight 1 (map weight_of_statement statements.now) in
+    let rounds = rising_rounds (round_weight all (weight_of_expression condition.now)) turns more in
+    omega (arith, rounds)
 rising_work (work.Parameters parameters ends_line) = rising_row 1 weight_of_parameter parameters.now rising_parameter
 rising_work (work.Parameter parameter) = rising_parameter parameter.now
 rising_work (work.Width parameter) = rising_width parameter.now.width
@@ -141,8 +188,8 @@ rising_work (work.Monadic operation) = λ turns more. omega arith
 rising_work (work.Links links) = rising_row 2 weight_of_link links.now rising_link
 rising_work (work.Combine operation) = λ turns more. omega arith
 
--- what is pending; no step uses a turn yet, and the one that does will cite this
-rising_pending : (works : List Work) (turns more : ℕ) → sum_by (weight_of turns) works ≤ sum_by (weight_of (turns + more)) works
+-- what is pending
+pub rising_pending : (works : List Work) (turns more : ℕ) → sum_by (weight_of turns) works ≤ sum_by (weight_of (turns + more)) works
 rising_pending [] turns more = omega arith
 rising_pending (piece ∷ works) turns more =
     let here = rising_work piece turns more in
@@ -150,3 +197,15 @@ rising_pending (piece ∷ works) turns more =
     let fewer = sum_by-cons (weight_of turns) piece works in
     let all = sum_by-cons (weight_of (turns + more)) piece works in
     omega (arith, here, there, fewer, all)
+
+-- a turn and two pieces of work in it: the rest weighs no more than before
+pub turn_weighs : (works : List Work) (next later : Work) (turns left new : ℕ) (result : Result (Option Ending) AllocError) → turns ≡ suc left →
+    OnOk result (new ≡ sum_by (weight_of left) works + weight_of left later + weight_of left next) →
+    OnOk result (new ≤ sum_by (weight_of turns) works + turn_weight turns next later)
+turn_weighs works next later turns left new (Ok ending) is weighs =
+    let one_more : left + 1 ≡ turns = omega (arith, is) in
+    let fewer : sum_by (weight_of left) works ≤ sum_by (weight_of turns) works =
+    subst (λ n. sum_by (weight_of left) works ≤ sum_by (weight_of n) works) one_more (rising_pending works left 1) in
+    let behind : turn_weight turns next later ≡ weight_of left next + weight_of left later = ap (λ n. turn_weight n next later) is in
+    omega (arith, weighs, fewer, behind)
+turn_weighs works next later turns left new (Err refused) is weighs = tt

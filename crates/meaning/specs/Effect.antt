@@ -73,6 +73,25 @@ take_turn (suc left) s = Gives tt (record s { turns = left })
 abbrev pub use_turn : Action (Unit {0})
 use_turn s = take_turn s.turns s
 
+-- a round of a loop: it tells whether another follows, and from what
+abbrev pub Round : Type 0 → Type 0
+Round A = A → Action (Option A)
+
+-- another round, if one follows
+abbrev pub another : {A : Type 0} → Option A → (A → Action (Unit {0})) → Action (Unit {0})
+another None next = give tt
+another (Some a) next = next a
+
+-- the rounds of a loop, at most one more than a bound
+abbrev pub looping : {A : Type 0} → ℕ → Round A → A → Action (Unit {0})
+looping zero round a = round a >>= λ more. another more (λ b. stop ending.More)
+looping (suc left) round a = round a >>= λ more. another more (looping left round)
+
+-- a loop, from a start. A round behind which another follows uses a turn, so the bound ends no run that its turns
+-- wouldn't end
+abbrev pub looped : {A : Type 0} → Round A → A → Action (Unit {0})
+looped round a s = looping s.turns round a s
+
 -- the value of a place, or an error at the site where it is undefined
 abbrev pub fetched : Option Value → ℕ → Action Value
 fetched None site = stop (ending.Error site)

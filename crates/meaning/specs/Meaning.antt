@@ -2,7 +2,7 @@
 -- every value of an undefined variable an error, every result outside integer an error. A sign and a function come
 -- after their operand, an operator after its right one.
 -- It says nothing of code, of cells, or of what an implementation does where memory runs out.
-use Rattle.std.specs.Prelude.{ℕ, ℤ, pos, ◌+ℤ◌, ◌-ℤ◌, ◌*ℤ◌, neg_ℤ, int_div, int_le, int_lt, Bool, ◌&&◌, ◌||◌, not, List, [], ◌∷◌, Option, Some, None, if◌then◌else◌, map, nat_eq, slice_get}
+use Rattle.std.specs.Prelude.{ℕ, ℤ, pos, ◌+ℤ◌, ◌-ℤ◌, ◌*ℤ◌, neg_ℤ, int_div, int_le, int_lt, Bool, true, false, ◌&&◌, ◌||◌, not, List, [], ◌∷◌, Option, Some, None, if◌then◌else◌, map, nat_eq, slice_get}
 use Rattle.std.specs.declared.alloc.Global.{Global}
 use Rattle.std.specs.declared.boxed.Box.{Box}
 use Rattle.typed_tree.specs.declared.tree.Tree.{Tree}
@@ -27,7 +27,7 @@ use Rattle.typed_tree.specs.declared.tree.Expr.TheOpen.Expr-F.{Constant, Variabl
 use Rattle.typed_tree.specs.declared.tree.Expr.TheFolds.{fold-Expr, fold-Link}
 use Rattle.typed_tree.specs.declared.tree.Stmt.{Stmt}
 use Rattle.typed_tree.specs.declared.tree.Stmt.TheOpen.{Stmt-F}
-use Rattle.typed_tree.specs.declared.tree.Stmt.TheOpen.Stmt-F.{Empty, Assign, Write, Compound, If}
+use Rattle.typed_tree.specs.declared.tree.Stmt.TheOpen.Stmt-F.{Empty, Assign, Write, Compound, If, While, Repeat}
 use Rattle.typed_tree.specs.declared.tree.Stmt.TheFolds.{fold-Stmt}
 use Rattle.meaning.specs.declared.outcome.Ending.{Ending}
 use Rattle.meaning.specs.declared.outcome.Ending.TheVariants as ending
@@ -35,7 +35,8 @@ use Rattle.meaning.specs.declared.store.Value.{Value}
 use Rattle.meaning.specs.declared.store.Value.TheVariants.{Number}
 use Rattle.meaning.specs.Integers.{is_integer_number, truth, is_true, is_odd, magnitude}
 use Rattle.meaning.specs.Store.{Environment, Place}
-use Rattle.meaning.specs.Effect.{State, Reply, Gives, Stops, Action, ◌>>=◌, give, require, enter, fetch, store, write, is_in, is_positive, text_of}
+use Rattle.meaning.specs.Effect.{State, Reply, Gives, Stops, Action, Round, ◌>>=◌, give, require, enter, use_turn, looped}
+use Rattle.meaning.specs.Effect.{fetch, store, write, is_in, is_positive, text_of}
 
 -- what an expression does in an environment: it gives its value
 abbrev pub Evaluation : Type 0
@@ -168,6 +169,28 @@ abbrev pub alternative_of : Option (Box Execution Global) → Execution
 alternative_of None env = give tt
 alternative_of (Some execution) env = execution.value env
 
+-- a turn of a while, where its condition asks for one; then another round follows
+abbrev pub turn_if : Bool → Action (Unit {0}) → Action (Option (Unit {0}))
+turn_if false body = give None
+turn_if true body = do
+  _ ← use_turn
+  _ ← body
+  give (Some tt)
+
+-- a round of a while: the condition, and then a turn (6.8.3.8)
+abbrev pub while_round : Evaluation → Execution → Environment → Round (Unit {0})
+while_round condition body env start = do
+  v ← condition env
+  turn_if (is_so v) (body env)
+
+-- a round of a repeat: a turn, and then the condition, which ends it (6.8.3.7)
+abbrev pub repeat_round : Execution → Evaluation → Environment → Round (Unit {0})
+repeat_round body condition env start = do
+  _ ← use_turn
+  _ ← body env
+  v ← condition env
+  give (if is_so v then None else Some tt)
+
 -- one layer of a statement
 abbrev pub effect_step : Stmt-F Execution → Execution
 effect_step (Empty number) env = enter number env
@@ -188,6 +211,12 @@ effect_step (If number condition consequence alternative) env = do
   _ ← enter number env
   v ← value_of condition env
   if is_so v then consequence.value env else alternative_of alternative env
+effect_step (While number loop_number place condition body) env = do
+  _ ← enter number env
+  looped (while_round (value_of condition) body.value env) tt
+effect_step (Repeat number loop_number place statements condition) env = do
+  _ ← enter number env
+  looped (repeat_round (all_of statements.items) (value_of condition) env) tt
 
 -- what a statement does
 abbrev pub effect_of : Stmt → Execution

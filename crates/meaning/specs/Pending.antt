@@ -7,6 +7,7 @@ use Rattle.std.specs.declared.alloc.AllocError.{AllocError}
 use Rattle.std.specs.declared.alloc.Global.{Global}
 use Rattle.std.specs.declared.boxed.Box.{Box}
 use Rattle.types.specs.declared.form.OrdinalRange.{OrdinalRange}
+use Rattle.typed_tree.specs.declared.tree.Expr.{Expr}
 use Rattle.typed_tree.specs.declared.tree.Stmt.{Stmt}
 use Rattle.meaning.specs.declared.outcome.Ending.{Ending}
 use Rattle.meaning.specs.declared.outcome.Ending.TheVariants as ending
@@ -18,10 +19,10 @@ use Rattle.meaning.specs.declared.work.Work.TheVariants as work
 use Rattle.meaning.specs.declared.interpreter.Run.{Run}
 use Rattle.meaning.specs.contracts.store.PlaceOrd.TheImpl.{ghosts as places}
 use Rattle.meaning.specs.Store.{Environment, Place, Store, stored}
-use Rattle.meaning.specs.Effect.{State, Reply, Stops, Action, ◌>>=◌, give, stop, require, store, write}
-use Rattle.meaning.specs.Effect.{is_in, is_positive, text_of}
+use Rattle.meaning.specs.Effect.{State, Reply, Stops, Action, Round, ◌>>=◌, give, stop, require, use_turn}
+use Rattle.meaning.specs.Effect.{another, looped, store, write, is_in, is_positive, text_of}
 use Rattle.meaning.specs.Meaning.{Combination, Execution, completed, ended, home_of, operated, combined, value_of, link_of}
-use Rattle.meaning.specs.Meaning.{effect_of, all_of, width_of, parameter_of, line_ended, is_so}
+use Rattle.meaning.specs.Meaning.{effect_of, all_of, width_of, parameter_of, line_ended, is_so, turn_if, while_round, repeat_round}
 
 -- what is done with the operands, the topmost first, and the state
 abbrev pub Resumption : Type 0
@@ -84,6 +85,24 @@ otherwise (Some statement) env = effect_of statement.value env
 abbrev pub chosen : Bool → Stmt → Option (Box Stmt Global) → Execution
 chosen so consequence alternative env = if so then effect_of consequence env else otherwise alternative env
 
+-- the rounds that follow on one that was begun
+abbrev pub further : {A : Type 0} → Round A → Action (Option A) → Action (Unit {0})
+further round begun = begun >>= λ more. another more (looped round)
+
+-- the rounds of a while, and of a repeat
+abbrev pub while_rounds : Environment → Expr → Stmt → Round (Unit {0})
+while_rounds env condition body = while_round (value_of condition) (effect_of body) env
+
+abbrev pub repeat_rounds : Environment → List Stmt → Expr → Round (Unit {0})
+repeat_rounds env statements condition = repeat_round (all_of (map effect_of statements)) (value_of condition) env
+
+-- further rounds of a repeat, unless the topmost operand ends it, and then the rest
+abbrev pub unless_so : Environment → List Stmt → Expr → Resumption → Resumption
+unless_so env statements condition next =
+    with_top
+    (λ v below. further (repeat_rounds env statements condition) (give (if is_so v then None else Some tt))
+    >>= λ _. next below)
+
 -- a piece of work, and then the rest
 abbrev pub resumed : Environment → Work → Resumption → Resumption
 resumed env (work.Statements statements) next operands = do
@@ -96,6 +115,21 @@ resumed env (work.Choose consequence alternative) next operands =
     with_top
     (λ v below. chosen (is_so v) consequence.now alternative.now env >>= λ _. next below)
     operands
+resumed env (work.While condition body) next operands = do
+  _ ← looped (while_rounds env condition.now body.now) tt
+  next operands
+resumed env (work.WhileTurn condition body) next operands =
+    with_top
+    (λ v below. further (while_rounds env condition.now body.now) (turn_if (is_so v) (effect_of body.now env))
+    >>= λ _. next below)
+    operands
+resumed env (work.Repeat statements condition) next operands = do
+  _ ← looped (repeat_rounds env statements.now condition.now) tt
+  next operands
+resumed env (work.Until statements condition) next operands =
+    giving (value_of condition.now env) (unless_so env statements.now condition.now next) operands
+resumed env (work.Unless statements condition) next operands =
+    unless_so env statements.now condition.now next operands
 resumed env (work.Parameters parameters ends_line) next operands = do
   _ ← all_of (map parameter_of parameters.now) env
   line_ending ends_line next operands
@@ -116,6 +150,12 @@ resumed env (work.Monadic operation) next operands = with_top (λ v. giving (ope
 resumed env (work.Links links) next operands = linking env (map link_of links.now) next operands
 resumed env (work.Combine operation) next operands =
     with_top (λ right rest. with_top (λ left. giving (combined operation left right) next) rest) operands
+
+-- two pieces of work in a turn, and then the rest
+abbrev pub turning : Environment → Work → Work → Resumption → Resumption
+turning env first second next operands = do
+  _ ← use_turn
+  resumed env first (resumed env second next) operands
 
 -- what is pending, the next first
 abbrev pub pending_of : Environment → List Work → Resumption

@@ -1,7 +1,7 @@
 -- How many steps of the interpreter a piece of pending work needs at most, for the turns that are left: the measure by
 -- which it ends.
 -- It says nothing of what the steps do.
-use Rattle.std.specs.Prelude.{ℕ, ◌+◌, ◌<◌, List, Option, Some, None, Result, OnOk, map, sum_by}
+use Rattle.std.specs.Prelude.{ℕ, zero, suc, ◌+◌, ◌<◌, List, Option, Some, None, Result, OnOk, map, sum_by}
 use Rattle.std.specs.declared.alloc.AllocError.{AllocError}
 use Rattle.std.specs.declared.alloc.Global.{Global}
 use Rattle.std.specs.declared.boxed.Box.{Box}
@@ -14,7 +14,7 @@ use Rattle.typed_tree.specs.declared.tree.Expr.TheOpen.Expr-F.{Constant, Variabl
 use Rattle.typed_tree.specs.declared.tree.Expr.TheFolds.{fold-Expr, fold-Link}
 use Rattle.typed_tree.specs.declared.tree.Stmt.{Stmt}
 use Rattle.typed_tree.specs.declared.tree.Stmt.TheOpen.{Stmt-F}
-use Rattle.typed_tree.specs.declared.tree.Stmt.TheOpen.Stmt-F.{Empty, Assign, Write, Compound, If}
+use Rattle.typed_tree.specs.declared.tree.Stmt.TheOpen.Stmt-F.{Empty, Assign, Write, Compound, If, While, Repeat}
 use Rattle.typed_tree.specs.declared.tree.Stmt.TheFolds.{fold-Stmt}
 use Rattle.meaning.specs.declared.outcome.Ending.{Ending}
 use Rattle.meaning.specs.declared.interpreter.Run.{Run}
@@ -57,6 +57,23 @@ abbrev pub alternative_weight : Option (Box Weight Global) → Weight
 alternative_weight None turns = 0
 alternative_weight (Some weight) turns = weight.value turns
 
+-- the rounds that the turns that are left allow, each weighed with the turns behind its own
+abbrev pub rounds_weight : Weight → Weight
+rounds_weight round zero = 0
+rounds_weight round (suc left) = round left + rounds_weight round left
+
+-- a round of a while or repeat
+abbrev pub round_weight : Weight → Weight → Weight
+round_weight body condition turns = 3 + body turns + condition turns
+
+-- a while, from its condition
+abbrev pub while_weight : Weight → Weight → Weight
+while_weight condition body turns = 2 + condition turns + rounds_weight (round_weight body condition) turns
+
+-- a repeat, from its first turn
+abbrev pub repeat_weight : Weight → Weight → Weight
+repeat_weight statements condition turns = 1 + rounds_weight (round_weight statements condition) turns
+
 abbrev pub statement_weight : Stmt-F Weight → Weight
 statement_weight (Empty n) turns = 1
 statement_weight (Assign n becomes target fits value) turns = 2 + weight_of_expression value turns
@@ -65,6 +82,10 @@ statement_weight (Write n name parameters ends_line) turns =
 statement_weight (Compound n statements) turns = row_weight 1 statements.items turns
 statement_weight (If n condition consequence alternative) turns =
     2 + weight_of_expression condition turns + consequence.value turns + alternative_weight alternative turns
+statement_weight (While n loop_number place condition body) turns =
+    while_weight (weight_of_expression condition) body.value turns
+statement_weight (Repeat n loop_number place statements condition) turns =
+    repeat_weight (row_weight 1 statements.items) (weight_of_expression condition) turns
 
 abbrev pub weight_of_statement : Stmt → Weight
 weight_of_statement = fold-Stmt Weight statement_weight
@@ -78,6 +99,17 @@ weight_of turns (work.Statements statements) = row_weight 1 (map weight_of_state
 weight_of turns (work.Statement statement) = weight_of_statement statement.now turns
 weight_of turns (work.Choose consequence alternative) =
     1 + weight_of_statement consequence.now turns + weight_of_alternative alternative.now turns
+weight_of turns (work.While condition body) =
+    while_weight (weight_of_expression condition.now) (weight_of_statement body.now) turns
+weight_of turns (work.WhileTurn condition body) =
+    1 + rounds_weight (round_weight (weight_of_statement body.now) (weight_of_expression condition.now)) turns
+weight_of turns (work.Repeat statements condition) =
+    repeat_weight (row_weight 1 (map weight_of_statement statements.now)) (weight_of_expression condition.now) turns
+weight_of turns (work.Until statements condition) =
+    2 + weight_of_expression condition.now turns
+    + repeat_weight (row_weight 1 (map weight_of_statement statements.now)) (weight_of_expression condition.now) turns
+weight_of turns (work.Unless statements condition) =
+    1 + repeat_weight (row_weight 1 (map weight_of_statement statements.now)) (weight_of_expression condition.now) turns
 weight_of turns (work.Parameters parameters ends_line) = row_weight 1 (map weight_of_parameter parameters.now) turns
 weight_of turns (work.Parameter parameter) = weight_of_parameter parameter.now turns
 weight_of turns (work.Width parameter) = weight_of_width parameter.now.width turns
@@ -88,6 +120,11 @@ weight_of turns (work.Value expression) = weight_of_expression expression.now tu
 weight_of turns (work.Monadic operation) = 1
 weight_of turns (work.Links links) = row_weight 2 (map weight_of_link links.now) turns
 weight_of turns (work.Combine operation) = 1
+
+-- two pieces of work in a turn, if one is left
+abbrev pub turn_weight : ℕ → Work → Work → ℕ
+turn_weight zero next later = 0
+turn_weight (suc left) next later = weight_of left next + weight_of left later
 
 -- all that a run has still to do, for the turns that it has left
 abbrev pub pending_weight : Run → ℕ

@@ -1,8 +1,8 @@
-ghost use Rattle.std.specs.Prelude.{◌≡◌, ◌+◌, OnOk, IfOk, IfSome, [], ◌∷◌, ◌++◌, option_map, reverse, slice_get};
-ghost use Rattle.meaning.specs.Weight.{Lightens, pending_weight, weight_of};
+ghost use Rattle.std.specs.Prelude.{◌≡◌, ◌+◌, ◌≤◌, OnOk, IfOk, IfSome, [], ◌∷◌, ◌++◌, option_map, reverse, slice_get};
+ghost use Rattle.meaning.specs.Weight.{Lightens, pending_weight, turn_weight, weight_of};
 ghost use Rattle.meaning.specs.Effect.{fetch};
 ghost use Rattle.meaning.specs.Store.{Store, held, kept};
-ghost use Rattle.meaning.specs.Pending.{Does, Finishes, StoreAgrees, answered, giving, line_ending, resumed, rest_of, place_seen};
+ghost use Rattle.meaning.specs.Pending.{Does, Finishes, StoreAgrees, answered, giving, line_ending, resumed, turning, rest_of, place_seen};
 ghost use Rattle.meaning.specs.Pending.{top_of, below_top};
 ghost use Rattle.meaning.specs.Meaning.{home_of, meaning, run_of};
 
@@ -107,6 +107,20 @@ impl<'t> Run<'t, '_> {
                 consequence,
                 alternative,
             } => self.choose(consequence, alternative),
+            Work::While { condition, body } => self.while_round(condition, body),
+            Work::WhileTurn { condition, body } => self.while_turn(condition, body),
+            Work::Repeat {
+                statements,
+                condition,
+            } => self.repeat_round(statements, condition),
+            Work::Until {
+                statements,
+                condition,
+            } => self.until(statements, condition),
+            Work::Unless {
+                statements,
+                condition,
+            } => self.unless(statements, condition),
             Work::Parameters {
                 parameters,
                 ends_line,
@@ -143,6 +157,19 @@ impl<'t> Run<'t, '_> {
         put(&mut self.pending, later)?;
         put(&mut self.pending, next)?;
         Ok(None)
+    }
+
+    // A turn, and what is done in it; with none left the run ends.
+    fn turn(&mut self, next: Work<'t>, later: Work<'t>) -> Result<Option<Ending>, AllocError>
+        ensures weight { OnOk result (pending_weight self.new
+            ≤ pending_weight self.old + turn_weight self.old.turns next.entry later.entry) }
+        ensures does { Does (λ env. turning env next.entry later.entry) self.old result self.new }
+    {
+        if self.turns == 0 {
+            return Ok(Some(Ending::More));
+        }
+        self.turns -= 1;
+        self.plan(next, later)
     }
 }
 
@@ -194,6 +221,16 @@ impl<'t> Run<'t, '_> {
                     alternative,
                 },
             ),
+            Stmt::While {
+                condition,
+                body,
+                ..
+            } => self.while_round(condition, body),
+            Stmt::Repeat {
+                statements,
+                condition,
+                ..
+            } => self.repeat_round(statements, condition),
         }
     }
 
@@ -212,6 +249,88 @@ impl<'t> Run<'t, '_> {
             self.do_next(Work::Statement(statement))
         } else {
             Ok(None)
+        }
+    }
+
+    fn while_round(
+        &mut self,
+        condition: &'t Expr,
+        body: &'t Stmt,
+    ) -> Result<Option<Ending>, AllocError>
+        ensures fewer { Lightens (Work.While condition.entry body.entry) self.old result self.new }
+        ensures does { Does (λ env. resumed env (Work.While condition.entry body.entry)) self.old result self.new }
+    {
+        self.plan(Work::Value(condition), Work::WhileTurn { condition, body })
+    }
+
+    fn while_turn(
+        &mut self,
+        condition: &'t Expr,
+        body: &'t Stmt,
+    ) -> Result<Option<Ending>, AllocError>
+        ensures fewer { Lightens (Work.WhileTurn condition.entry body.entry) self.old result self.new }
+        ensures does { Does (λ env. resumed env (Work.WhileTurn condition.entry body.entry))
+            self.old result self.new }
+    {
+        if truth_of(self.popped()) {
+            self.turn(Work::Statement(body), Work::While { condition, body })
+        } else {
+            Ok(None)
+        }
+    }
+
+    fn repeat_round(
+        &mut self,
+        statements: &'t [Stmt],
+        condition: &'t Expr,
+    ) -> Result<Option<Ending>, AllocError>
+        ensures fewer { Lightens (Work.Repeat statements.entry condition.entry) self.old result self.new }
+        ensures does { Does (λ env. resumed env (Work.Repeat statements.entry condition.entry))
+            self.old result self.new }
+    {
+        self.turn(
+            Work::Statements(statements),
+            Work::Until {
+                statements,
+                condition,
+            },
+        )
+    }
+
+    fn until(
+        &mut self,
+        statements: &'t [Stmt],
+        condition: &'t Expr,
+    ) -> Result<Option<Ending>, AllocError>
+        ensures fewer { Lightens (Work.Until statements.entry condition.entry) self.old result self.new }
+        ensures does { Does (λ env. resumed env (Work.Until statements.entry condition.entry))
+            self.old result self.new }
+    {
+        self.plan(
+            Work::Value(condition),
+            Work::Unless {
+                statements,
+                condition,
+            },
+        )
+    }
+
+    fn unless(
+        &mut self,
+        statements: &'t [Stmt],
+        condition: &'t Expr,
+    ) -> Result<Option<Ending>, AllocError>
+        ensures fewer { Lightens (Work.Unless statements.entry condition.entry) self.old result self.new }
+        ensures does { Does (λ env. resumed env (Work.Unless statements.entry condition.entry))
+            self.old result self.new }
+    {
+        if truth_of(self.popped()) {
+            Ok(None)
+        } else {
+            self.do_next(Work::Repeat {
+                statements,
+                condition,
+            })
         }
     }
 

@@ -16,6 +16,31 @@ pub enum Work<'t> {
         consequence: &'t Stmt,
         alternative: &'t Option<Box<Stmt>>,
     },
+    /// The rounds of a while.
+    While {
+        condition: &'t Expr,
+        body: &'t Stmt,
+    },
+    /// A turn of a while, and its further rounds, if the topmost value asks for them.
+    WhileTurn {
+        condition: &'t Expr,
+        body: &'t Stmt,
+    },
+    /// The rounds of a repeat.
+    Repeat {
+        statements: &'t [Stmt],
+        condition: &'t Expr,
+    },
+    /// The condition of a repeat, behind its statements.
+    Until {
+        statements: &'t [Stmt],
+        condition: &'t Expr,
+    },
+    /// Further rounds of a repeat, unless the topmost value ends it.
+    Unless {
+        statements: &'t [Stmt],
+        condition: &'t Expr,
+    },
     /// The parameters of a write, one after another, and behind them the line end of a writeln.
     Parameters {
         parameters: &'t [WriteParameter],

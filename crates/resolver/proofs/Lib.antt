@@ -1,3 +1,4 @@
+mod Branches
 mod Chains
 mod Files
 mod MadeRows

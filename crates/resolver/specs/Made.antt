@@ -1,8 +1,9 @@
 -- How the resolver's answers are what typing says: what is made of a form has the type and the leading site that typing
 -- answers, and looks so. It says nothing of what typing answers.
-use Rattle.std.specs.Prelude.{◌≡◌, List, [], ◌∷◌, ◌++◌, flat_map, Result, Option, Some, Vec}
+use Rattle.std.specs.Prelude.{◌≡◌, ℕ, List, [], ◌∷◌, ◌++◌, flat_map, Result, Option, Some, None, Vec}
 use Rattle.std.specs.Borrow.{Bor}
 use Rattle.std.specs.declared.alloc.Global.{Global}
+use Rattle.std.specs.declared.boxed.Box.{Box}
 use Rattle.syntax_tree.specs.declared.Program.{Program}
 use Rattle.syntax_tree.specs.declared.Actual.{Actual}
 use Rattle.syntax_tree.specs.declared.Expr.{Expr as SyntaxExpr}
@@ -10,11 +11,12 @@ use Rattle.syntax_tree.specs.declared.Expr.TheViews.{out-Actual}
 use Rattle.typed_tree.specs.declared.fault.TypeFault.{TypeFault}
 use Rattle.typed_tree.specs.declared.tree.Tree.{Tree}
 use Rattle.typed_tree.specs.declared.tree.Block.{Block}
+use Rattle.typed_tree.specs.declared.tree.Expr.{Expr}
 use Rattle.typed_tree.specs.declared.tree.Stmt.{Stmt}
 use Rattle.typed_tree.specs.declared.tree.WriteParameter.{WriteParameter}
 use Rattle.typed_tree.specs.declared.tree.Width.{Width}
 use Rattle.types.specs.declared.form.TypeId.{TypeId}
-use Rattle.typed_tree.specs.Look.{Begins, Ends, look_expr, look_link, look_stmt, look_parameter, look_width}
+use Rattle.typed_tree.specs.Look.{Look, Begins, Ends, If, Then, Else, look_expr, look_link, look_stmt, look_parameter, look_width}
 use Rattle.typing.specs.Passing.{Passed, Checked, After}
 use Rattle.typing.specs.Expressions.{Typed, typed}
 use Rattle.typing.specs.Outcomes.{Makes}
@@ -53,6 +55,27 @@ MakesStmt = Makes (λ s. tt) look_stmt
 -- statements, one after another
 abbrev pub MakesStmts : Checked (After (Unit {0})) → Result (Vec Stmt Global) TypeFault → Passed → Type 0
 MakesStmts = Makes (λ made. tt) (λ made. flat_map look_stmt made.items)
+
+-- a condition
+abbrev pub MakesCondition : Checked (After (Unit {0})) → Result Expr TypeFault → Passed → Type 0
+MakesCondition = Makes (λ made. tt) look_expr
+
+-- an if as far as its `then`, by its number and its condition
+abbrev pub MakesTested : Checked (After (Unit {0})) → Result (ℕ × Expr) TypeFault → Passed → Type 0
+MakesTested = Makes (λ made. tt) (λ made. If made.0 ∷ (look_expr made.1 ++ (Then ∷ [])))
+
+-- a statement in a box
+abbrev pub MakesBoxed : Checked (After (Unit {0})) → Result (Box Stmt Global) TypeFault → Passed → Type 0
+MakesBoxed = Makes (λ made. tt) (λ made. look_stmt made.value)
+
+-- how the statement behind `else` looks, where there is one
+abbrev pub look_else : Option (Box Stmt Global) → Look
+look_else None = []
+look_else (Some made) = Else ∷ look_stmt made.value
+
+-- the statement behind `else`, if there is one
+abbrev pub MakesAlternative : Checked (After (Unit {0})) → Result (Option (Box Stmt Global)) TypeFault → Passed → Type 0
+MakesAlternative = Makes (λ made. tt) look_else
 
 -- the values that are written
 abbrev pub MakesValues : Checked (After (List Actual)) → Result (Bor (List Actual)) TypeFault → Passed → Type 0

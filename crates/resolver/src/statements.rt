@@ -3,7 +3,7 @@ ghost use Rattle.typing.specs.Passing.{each};
 ghost use Rattle.typing.specs.Expressions.{expression, written_actual};
 ghost use Rattle.typing.specs.Statements as spec;
 ghost use Rattle.typing.specs.Outcomes.{Takes};
-ghost use Rattle.resolver.specs.Made.{MakesStmt, MakesStmts, MakesParameter, MakesParameters, MakesWidth, MakesOwnWidth, MakesValues};
+ghost use Rattle.resolver.specs.Made.{MakesStmt, MakesStmts, MakesBoxed, MakesAlternative, MakesCondition, MakesTested, MakesParameter, MakesParameters, MakesWidth, MakesOwnWidth, MakesValues};
 
 use crate::expressions::{expression, first_place};
 use place::Place;
@@ -11,14 +11,14 @@ use scopes::RequiredProcedure;
 use syntax_tree as syntax;
 use typed_tree::fault::TypeFault;
 use typed_tree::site::SiteKind;
-use typed_tree::tree::{Access, RangeTest, Stmt, Width, WriteParameter};
+use typed_tree::tree::{Access, Expr, RangeTest, Stmt, Width, WriteParameter};
 use types::TypeTable;
 use typing::Typer;
 use typing::rules::{as_procedure, as_variable, ends_line, is_output};
 
 /// A statement.
 #[cycle(statements)]
-#[tactic(auto, using(typing::proofs::Written::written_statements, typed_tree::proofs::Looks::look_empty), unfolding(typing::specs::Steps::enter_as))]
+#[tactic(auto, using(typing::proofs::Written::written_statements, typed_tree::proofs::Looks::look_empty, crate::proofs::Branches::look_choice), unfolding(typing::specs::Steps::enter_as, typing::specs::Statements::choice))]
 pub(crate) fn statement(typer: &mut Typer, written: &syntax::Stmt) -> Result<Stmt, TypeFault>
     ensures { MakesStmt (spec.statement written.now typer.old) result typer.new }
 {
@@ -33,6 +33,22 @@ pub(crate) fn statement(typer: &mut Typer, written: &syntax::Stmt) -> Result<Stm
         } => assignment(typer, name, *becomes, value),
         syntax::Stmt::Call { name, actuals } => procedure_call(typer, name, actuals),
         syntax::Stmt::Compound { statements } => compound(typer, statements),
+        syntax::Stmt::If {
+            place,
+            condition,
+            consequence,
+            alternative,
+        } => {
+            let (number, condition) = tested(typer, *place, condition)?;
+            let consequence = boxed(typer, consequence)?;
+            let alternative = other(typer, alternative)?;
+            Ok(Stmt::If {
+                number,
+                condition,
+                consequence,
+                alternative,
+            })
+        }
     }
 }
 
@@ -57,6 +73,53 @@ fn statements(typer: &mut Typer, written: &[syntax::Stmt]) -> Result<Vec<Stmt>, 
         statements.push(statement(typer, next)?)?;
     }
     Ok(statements)
+}
+
+// An if as far as its `then`.
+#[tactic(auto, unfolding(typing::specs::Statements::tested, typing::specs::Steps::enter_as))]
+fn tested(typer: &mut Typer, place: Place, written: &syntax::Expr) -> Result<(u32, Expr), TypeFault>
+    ensures { MakesTested (spec.tested place (expression written.now) typer.old) result typer.new }
+{
+    typer.pass(place);
+    let number = typer.enter()?;
+    Ok((number, condition(typer, written)?))
+}
+
+// A condition, which is Boolean.
+#[tactic(auto, unfolding(typing::specs::Statements::condition))]
+fn condition(typer: &mut Typer, written: &syntax::Expr) -> Result<Expr, TypeFault>
+    ensures { MakesCondition (spec.condition (expression written.now) typer.old) result typer.new }
+{
+    let condition = expression(typer, written, None)?;
+    if !condition.type_id.same(TypeTable::BOOLEAN) {
+        return Err(TypeFault::Mismatch(first_place(written)));
+    }
+    Ok(condition.expression)
+}
+
+// The statement behind `else`, if there is one.
+#[cycle(statements)]
+#[tactic(auto, unfolding(typing::specs::Statements::alternative))]
+fn other(
+    typer: &mut Typer,
+    written: &Option<Box<syntax::Stmt>>,
+) -> Result<Option<Box<Stmt>>, TypeFault>
+    ensures { MakesAlternative (spec.alternative (option_map (λ s. spec.statement s.value) written.now) typer.old)
+        result typer.new }
+{
+    match written {
+        None => Ok(None),
+        Some(written) => Ok(Some(boxed(typer, written)?)),
+    }
+}
+
+// A statement inside another.
+#[cycle(statements)]
+fn boxed(typer: &mut Typer, written: &syntax::Stmt) -> Result<Box<Stmt>, TypeFault>
+    ensures { MakesBoxed (spec.statement written.now typer.old) result typer.new }
+{
+    let made = statement(typer, written)?;
+    Ok(Box::new(typer.alloc, made)?)
 }
 
 // The variable is accessed first, then comes the value, then its test (6.8.2.2).

@@ -68,6 +68,18 @@ pub enum Stmt<'a> {
         consequence: Box<Stmt<'a>>,
         alternative: Option<Box<Stmt<'a>>>,
     },
+    /// `while condition do body` (6.8.3.8), with the place of the word `while`.
+    While {
+        place: Place,
+        condition: Expr<'a>,
+        body: Box<Stmt<'a>>,
+    },
+    /// `repeat statements until condition` (6.8.3.7), with the place of the word `repeat`: one or more statements.
+    Repeat {
+        place: Place,
+        statements: Vec<Stmt<'a>>,
+        condition: Expr<'a>,
+    },
 }
 
 /// A sign (6.7.2.2).

@@ -1,2 +1,3 @@
+pub mod Insides
 pub mod Looks
 pub mod Measured

@@ -20,7 +20,7 @@ use Rattle.typed_tree.specs.declared.tree.Stmt.{Stmt}
 use Rattle.typed_tree.specs.declared.tree.Stmt.TheVariants as stmt
 use Rattle.typed_tree.specs.declared.tree.Stmt.TheOpen as stmt_layer
 use Rattle.typed_tree.specs.declared.tree.Stmt.TheFolds.{fold-roll-Stmt}
-use Rattle.typed_tree.specs.Look.{Look, link_look, expression_look, look_expr, look_link, look_parameter, statement_look, look_stmt, Constant, Variable, Operation, Begins, Operator, Ends, Empty, Assign, Target, Fits, Write, Compound, If, Then, Else}
+use Rattle.typed_tree.specs.Look.{Look, link_look, expression_look, look_expr, look_link, look_parameter, statement_look, look_stmt, Constant, Variable, Operation, Begins, Operator, Ends, Empty, Assign, Target, Fits, Write, Compound, If, Then, Else, While, Do, Repeat, Until}
 pub use Rattle.typed_tree.proofs.Measured.{entries_are, formed_are}
 
 -- ---- expressions
@@ -90,3 +90,19 @@ pub look_if_else : (number : ℕ) (condition : Expr) (consequence alternative : 
 look_if_else number condition consequence alternative =
     ap look_stmt (sym (stmt.rolls-If number condition consequence (Some alternative)))
     ∙ fold-roll-Stmt Look statement_look (stmt_layer.If number condition consequence (Some alternative))
+
+pub look_while : (number loop_number : ℕ) (place : Place) (condition : Expr) (body : Box Stmt Global)
+    → look_stmt (stmt.While number loop_number place condition body)
+    ≡ While number loop_number place ∷ (look_expr condition ++ (Do ∷ (look_stmt body.value ++ (Ends ∷ []))))
+look_while number loop_number place condition body =
+    ap look_stmt (sym (stmt.rolls-While number loop_number place condition body))
+    ∙ fold-roll-Stmt Look statement_look (stmt_layer.While number loop_number place condition body)
+
+pub look_repeat : (number loop_number : ℕ) (place : Place) (statements : Vec Stmt Global) (condition : Expr)
+    → look_stmt (stmt.Repeat number loop_number place statements condition)
+    ≡ Repeat number loop_number place ∷ (flat_map look_stmt statements.items ++ (Until ∷ (look_expr condition ++ (Ends ∷ []))))
+look_repeat number loop_number place statements condition =
+    ap look_stmt (sym (stmt.rolls-Repeat number loop_number place statements condition))
+    ∙ fold-roll-Stmt Look statement_look (stmt_layer.Repeat number loop_number place statements condition)
+    ∙ ap (λ rows. Repeat number loop_number place ∷ (rows ++ (Until ∷ (look_expr condition ++ (Ends ∷ [])))))
+    (flat_map-map (λ (row : Look). row) look_stmt statements.items)

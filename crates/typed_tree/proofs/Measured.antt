@@ -16,11 +16,11 @@ use Rattle.typed_tree.specs.declared.tree.Expr.TheOpen.Expr-F.{Constant, Variabl
 use Rattle.typed_tree.specs.declared.tree.Expr.TheFolds.{fold-Expr, fold-Link, map-Expr, map-Link, fold-roll-Expr, fold-roll-Link, ind-Expr}
 use Rattle.typed_tree.specs.declared.tree.Stmt.{Stmt}
 use Rattle.typed_tree.specs.declared.tree.Stmt.TheOpen.{Stmt-F}
-use Rattle.typed_tree.specs.declared.tree.Stmt.TheOpen.Stmt-F.{Empty, Assign, Write, Compound, If}
+use Rattle.typed_tree.specs.declared.tree.Stmt.TheOpen.Stmt-F.{Empty, Assign, Write, Compound, If, While, Repeat}
 use Rattle.typed_tree.specs.declared.tree.Stmt.TheFolds.{fold-Stmt, map-Stmt, fold-roll-Stmt, ind-Stmt}
 use Rattle.typed_tree.specs.Entries.{joined, expression_entries, link_entries, entries_of_expression, entries_of_width, entries_of_parameter, statement_entries, entries_of_statement, entries_of}
 use Rattle.typed_tree.specs.WellFormed.{all_hold, is_whole, monadic_is_well_formed, dyadic_is_well_formed, link_is_well_formed, expr_is_well_formed, is_well_formed_expr, is_well_formed_link, is_well_formed_width, is_well_formed_parameter, is_well_formed_test, stmt_is_well_formed, is_well_formed_stmt, is_well_formed_block}
-use Rattle.typed_tree.specs.Look.{Mark, Look, link_look, expression_look, look_expr, look_link, look_width, look_parameter, statement_look, look_stmt, look_block, tree_look, mark_entries, entries_of_look, is_formed_mark, Ends, If as IfMark, Then, Else, Fits as FitsMark, Written as WrittenMark, Width as WidthMark, BlockEnds}
+use Rattle.typed_tree.specs.Look.{Mark, Look, link_look, expression_look, look_expr, look_link, look_width, look_parameter, statement_look, look_stmt, look_block, tree_look, mark_entries, entries_of_look, is_formed_mark, Ends, If as IfMark, Then, Else, Do, Until, Fits as FitsMark, Written as WrittenMark, Width as WidthMark, BlockEnds}
 
 -- ---- a measure of looks that is a fold over trees
 
@@ -166,6 +166,16 @@ entries_stmt_layer (If number condition consequence None) =
 entries_stmt_layer (If number condition consequence (Some other)) =
     entries_chosen number condition (look_stmt consequence.value.0) (Else ∷ look_stmt other.value.0)
     ∙ ap₂ (λ row rest. number ∷ (entries_of_expression condition ++ (row ++ rest))) consequence.value.1 other.value.1
+entries_stmt_layer (While number loop_number place condition body) =
+    ap (λ entries. number ∷ entries)
+    (flat_map-append mark_entries (look_expr condition) (Do ∷ (look_stmt body.value.0 ++ (Ends ∷ [])))
+    ∙ ap₂ (λ a b. a ++ b) (entries_expr condition) (entries_ended (look_stmt body.value.0) Ends refl ∙ body.value.1))
+entries_stmt_layer (Repeat number loop_number place statements condition) =
+    let rows = joined (map look_stmt (map (λ s. s.0) statements.items)) in
+    ap (λ entries. number ∷ entries)
+    (flat_map-append mark_entries rows (Until ∷ (look_expr condition ++ (Ends ∷ [])))
+    ∙ ap₂ (λ a b. a ++ b) (entries_joined look_stmt entries_of_statement statements.items)
+    (entries_ended (look_expr condition) Ends refl ∙ entries_expr condition))
 
 entries_stmt : (s : Stmt) → entries_of_look (look_stmt s) ≡ entries_of_statement s
 entries_stmt = measured_stmt entries_of_look statement_entries entries_stmt_layer
@@ -265,6 +275,14 @@ module _ (variables sites : ℕ) where
   formed_stmt_layer (If number condition consequence (Some other)) =
       formed_chosen number condition (look_stmt consequence.value.0) (Else ∷ look_stmt other.value.0)
       ∙ ap₂ (λ a b. is_well_formed_expr variables sites condition && (a && b)) consequence.value.1 other.value.1
+  formed_stmt_layer (While number loop_number place condition body) =
+      formed_cut (look_expr condition) (Do ∷ (look_stmt body.value.0 ++ (Ends ∷ [])))
+      ∙ ap₂ (λ a b. a && b) (formed_expr condition) (formed_ended (look_stmt body.value.0) Ends refl ∙ body.value.1)
+  formed_stmt_layer (Repeat number loop_number place statements condition) =
+      let rows = joined (map look_stmt (map (λ s. s.0) statements.items)) in
+      formed_cut rows (Until ∷ (look_expr condition ++ (Ends ∷ [])))
+      ∙ ap₂ (λ a b. a && b) (formed_joined look_stmt (is_well_formed_stmt variables sites) statements.items)
+      (formed_ended (look_expr condition) Ends refl ∙ formed_expr condition)
 
   formed_stmt : (s : Stmt) → is_formed (look_stmt s) ≡ is_well_formed_stmt variables sites s
   formed_stmt = measured_stmt is_formed (stmt_is_well_formed variables sites) formed_stmt_layer

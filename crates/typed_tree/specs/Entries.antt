@@ -13,7 +13,7 @@ use Rattle.typed_tree.specs.declared.tree.Expr.TheOpen.Expr-F.{Constant, Variabl
 use Rattle.typed_tree.specs.declared.tree.Expr.TheFolds.{fold-Expr}
 use Rattle.typed_tree.specs.declared.tree.Stmt.{Stmt}
 use Rattle.typed_tree.specs.declared.tree.Stmt.TheOpen.{Stmt-F}
-use Rattle.typed_tree.specs.declared.tree.Stmt.TheOpen.Stmt-F.{Empty, Assign, Write, Compound, If}
+use Rattle.typed_tree.specs.declared.tree.Stmt.TheOpen.Stmt-F.{Empty, Assign, Write, Compound, If, While, Repeat}
 use Rattle.typed_tree.specs.declared.tree.Stmt.TheFolds.{fold-Stmt}
 
 -- several rows as one
@@ -54,6 +54,10 @@ statement_entries (Write number name parameters ends_line) = number ∷ flat_map
 statement_entries (Compound number statements) = number ∷ joined statements.items
 statement_entries (If number condition consequence alternative) =
     number ∷ (entries_of_expression condition ++ (consequence.value ++ alternative_entries alternative))
+statement_entries (While number loop_number place condition body) =
+    number ∷ (entries_of_expression condition ++ body.value)
+statement_entries (Repeat number loop_number place statements condition) =
+    number ∷ (joined statements.items ++ entries_of_expression condition)
 
 -- the numbers of a statement's entries
 abbrev pub entries_of_statement : Stmt → List ℕ

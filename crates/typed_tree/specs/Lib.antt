@@ -2,4 +2,5 @@ pub mod Sites
 pub mod Ids
 pub mod Entries
 pub mod Look
+pub mod Loops
 pub mod WellFormed

@@ -20,7 +20,7 @@ use Rattle.typed_tree.specs.declared.tree.Expr.TheOpen.Expr-F.{Constant as Const
 use Rattle.typed_tree.specs.declared.tree.Expr.TheFolds.{fold-Expr, fold-Link}
 use Rattle.typed_tree.specs.declared.tree.Stmt.{Stmt}
 use Rattle.typed_tree.specs.declared.tree.Stmt.TheOpen.{Stmt-F}
-use Rattle.typed_tree.specs.declared.tree.Stmt.TheOpen.Stmt-F.{Empty as EmptyOf, Assign as AssignOf, Write as WriteOf, Compound as CompoundOf, If as IfOf}
+use Rattle.typed_tree.specs.declared.tree.Stmt.TheOpen.Stmt-F.{Empty as EmptyOf, Assign as AssignOf, Write as WriteOf, Compound as CompoundOf, If as IfOf, While as WhileOf, Repeat as RepeatOf}
 use Rattle.typed_tree.specs.declared.tree.Stmt.TheFolds.{fold-Stmt}
 use Rattle.typed_tree.specs.Entries.{joined}
 use Rattle.typed_tree.specs.WellFormed.{is_whole, monadic_is_well_formed, dyadic_is_well_formed, is_well_formed_test}
@@ -37,7 +37,7 @@ pub data Mark : Type 0 where
   Begins : Mark
   -- an operator between operands
   Operator : ℕ → Dyadic → Mark
-  -- a chain, a write, a compound statement or an if ends
+  -- a chain, a write, a compound statement, an if or a loop ends
   Ends : Mark
   Empty : ℕ → Mark
   -- an assignment, with the place of `:=`
@@ -57,6 +57,12 @@ pub data Mark : Type 0 where
   If : ℕ → Mark
   Then : Mark
   Else : Mark
+  -- a while: its number, the loop's number, the place of its word; its body begins
+  While : ℕ → ℕ → Place → Mark
+  Do : Mark
+  -- a repeat: its number, the loop's number, the place of its word; its condition begins
+  Repeat : ℕ → ℕ → Place → Mark
+  Until : Mark
   -- a block ends, at its last `end`
   BlockEnds : Place → Mark
 
@@ -104,6 +110,10 @@ statement_look (CompoundOf number statements) = Compound number ∷ (joined stat
 statement_look (IfOf number condition consequence alternative) =
     If number
     ∷ (look_expr condition ++ (Then ∷ (consequence.value ++ (look_alternative alternative ++ (Ends ∷ [])))))
+statement_look (WhileOf number loop_number place condition body) =
+    While number loop_number place ∷ (look_expr condition ++ (Do ∷ (body.value ++ (Ends ∷ []))))
+statement_look (RepeatOf number loop_number place statements condition) =
+    Repeat number loop_number place ∷ (joined statements.items ++ (Until ∷ (look_expr condition ++ (Ends ∷ []))))
 
 -- how a statement looks
 abbrev pub look_stmt : Stmt → Look
@@ -135,6 +145,10 @@ mark_entries (Compound number) = number ∷ []
 mark_entries (If number) = number ∷ []
 mark_entries Then = []
 mark_entries Else = []
+mark_entries (While number loop_number place) = number ∷ []
+mark_entries Do = []
+mark_entries (Repeat number loop_number place) = number ∷ []
+mark_entries Until = []
 mark_entries (BlockEnds end) = []
 
 -- the numbers of the entries of what looks so
@@ -160,4 +174,8 @@ is_formed_mark variables sites (Compound number) = true
 is_formed_mark variables sites (If number) = true
 is_formed_mark variables sites Then = true
 is_formed_mark variables sites Else = true
+is_formed_mark variables sites (While number loop_number place) = true
+is_formed_mark variables sites Do = true
+is_formed_mark variables sites (Repeat number loop_number place) = true
+is_formed_mark variables sites Until = true
 is_formed_mark variables sites (BlockEnds end) = true

@@ -1,7 +1,7 @@
 -- Well formed trees: each constant and each range of a test lies in that of integer (ISO 7185:1990, 6.4.2.2), each
--- variable is one of the program's (6.2.2), which its block declares, each test names a site of the table, there is a
--- block, and the program has no more variables than a block has cells. It does not say that a tree is that of a
--- program.
+-- variable is one of the program's (6.2.2), which its block declares, each test names a site of the table, each loop
+-- stands in the table of loops, there is a block, and the program has no more variables than a block has cells. It does
+-- not say that a tree is that of a program.
 use Rattle.std.specs.Prelude.{◌≡◌, ℕ, ℤ, ◌<◌, ◌≤◌, pos, neg_ℤ, ◌&&◌, Bool, true, List, Option, Some, None, int_le, nat_lt, nat_eq, length, map}
 use Rattle.std.specs.List.{list_all}
 use Rattle.std.specs.declared.alloc.Global.{Global}
@@ -22,8 +22,9 @@ use Rattle.typed_tree.specs.declared.tree.Expr.TheOpen.Expr-F.{Constant, Variabl
 use Rattle.typed_tree.specs.declared.tree.Expr.TheFolds.{fold-Expr, fold-Link}
 use Rattle.typed_tree.specs.declared.tree.Stmt.{Stmt}
 use Rattle.typed_tree.specs.declared.tree.Stmt.TheOpen.{Stmt-F}
-use Rattle.typed_tree.specs.declared.tree.Stmt.TheOpen.Stmt-F.{Empty, Assign, Write, Compound, If}
+use Rattle.typed_tree.specs.declared.tree.Stmt.TheOpen.Stmt-F.{Empty, Assign, Write, Compound, If, While, Repeat}
 use Rattle.typed_tree.specs.declared.tree.Stmt.TheFolds.{fold-Stmt}
+use Rattle.typed_tree.specs.Loops.{loops_of, is_loop}
 
 -- they all hold
 abbrev pub all_hold : List Bool → Bool
@@ -92,6 +93,9 @@ module _ (variables sites : ℕ) where
   stmt_is_well_formed (Compound number statements) = all_hold statements.items
   stmt_is_well_formed (If number condition consequence alternative) =
       is_well_formed_expr condition && (consequence.value && alternative_is_well_formed alternative)
+  stmt_is_well_formed (While number loop_number place condition body) = is_well_formed_expr condition && body.value
+  stmt_is_well_formed (Repeat number loop_number place statements condition) =
+      all_hold statements.items && is_well_formed_expr condition
 
   -- a statement is well formed
   abbrev pub is_well_formed_stmt : Stmt → Bool
@@ -111,3 +115,6 @@ pub record IsWellFormed (tree : Tree) : Type 0 where
   pub a_block : 0 < length tree.blocks.items
   pub blocks :
       list_all (is_well_formed_block (length tree.variables.items) (length tree.sites.items)) tree.blocks.items ≡ true
+  -- each loop has its row in the table; until routines come, each stands in the program's block
+  pub loops : list_all (is_loop tree.loops.items) (loops_of tree) ≡ true
+  pub in_program : list_all (λ row. nat_eq row.block 0) tree.loops.items ≡ true

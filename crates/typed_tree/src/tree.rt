@@ -15,7 +15,16 @@ pub struct Tree {
     pub sites: Vec<Site>,
     /// By id: in the order of places.
     pub points: Vec<Point>,
+    /// By loop number: in the order of their first words.
+    pub loops: Vec<Loop>,
     pub types: TypeTable,
+}
+
+/// A repetitive statement (ISO 7185:1990, 6.8.3.6), by its number in the order of their first words over the program.
+#[derive(Drop)]
+pub struct Loop {
+    /// The number of the block in which it stands.
+    pub block: u32,
 }
 
 /// The body of a block.
@@ -84,6 +93,22 @@ pub enum Stmt {
         condition: Expr,
         consequence: Box<Stmt>,
         alternative: Option<Box<Stmt>>,
+    },
+    /// The condition is tested before each execution of the body. With the place of the word `while`.
+    While {
+        number: u32,
+        loop_number: u32,
+        place: Place,
+        condition: Expr,
+        body: Box<Stmt>,
+    },
+    /// The condition is tested behind each execution of the statements. With the place of the word `repeat`.
+    Repeat {
+        number: u32,
+        loop_number: u32,
+        place: Place,
+        statements: Vec<Stmt>,
+        condition: Expr,
     },
 }
 

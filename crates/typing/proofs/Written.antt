@@ -14,10 +14,10 @@ use Rattle.syntax_tree.specs.declared.Expr.TheFolds.{map-Expr, map-Actual, fold-
 use Rattle.syntax_tree.specs.declared.Stmt.{Stmt}
 use Rattle.syntax_tree.specs.declared.Stmt.TheVariants as stmt
 use Rattle.syntax_tree.specs.declared.Stmt.TheOpen as stmt_layer
-use Rattle.syntax_tree.specs.declared.Stmt.TheFolds.{fold-roll-Stmt}
+use Rattle.syntax_tree.specs.declared.Stmt.TheFolds.{map-Stmt, fold-roll-Stmt}
 use Rattle.typing.specs.Passing.{Passing}
 use Rattle.typing.specs.Expressions.{Written, WrittenActual, WrittenLink, written, expression_step, actual_step, link_step, expression, written_link, written_actual, number, named, call, parenthesized, negation, signed, chain, link}
-use Rattle.typing.specs.Statements.{statement, statement_step, assignment, procedure_call, compound}
+use Rattle.typing.specs.Statements.{statement, statement_step, assignment, procedure_call, compound, choice}
 use Rattle.typing.specs.Steps.{enter_as}
 use Rattle.typed_tree.specs.Look as Look
 
@@ -89,5 +89,19 @@ pub typing_compound : (statements : Vec Stmt Global) → statement (stmt.Compoun
 typing_compound statements =
     ap statement (sym (stmt.rolls-Compound statements)) ∙ fold-roll-Stmt (Passing (Unit {0})) statement_step (stmt_layer.Compound statements)
 
+pub typing_if : (place : Place) (condition : Expr) (consequence : Box Stmt Global) (alternative : Option (Box Stmt Global))
+    → statement (stmt.If place condition consequence alternative)
+    ≡ choice place (expression condition) (statement consequence.value) (option_map (λ (s : Box Stmt Global). statement s.value) alternative)
+typing_if place condition consequence alternative =
+    ap statement (sym (stmt.rolls-If place condition consequence alternative))
+    ∙ fold-roll-Stmt (Passing (Unit {0})) statement_step (stmt_layer.If place condition consequence alternative)
+    ∙ mapped alternative
+  where
+    mapped : (other : Option (Box Stmt Global))
+        → statement_step (map-Stmt Stmt (Passing (Unit {0})) statement (stmt_layer.If place condition consequence other))
+        ≡ choice place (expression condition) (statement consequence.value) (option_map (λ (s : Box Stmt Global). statement s.value) other)
+    mapped None = refl
+    mapped (Some other) = refl
+
 -- those of all statements
-pub ruleset written_statements = (typing_empty, typing_assign, typing_procedure_call, typing_compound)
+pub ruleset written_statements = (typing_empty, typing_assign, typing_procedure_call, typing_compound, typing_if)

@@ -1,6 +1,6 @@
 -- The typing of statements (ISO 7185:1990, 6.8, 6.9): of each form the first rule that it breaks, or how its typed form
 -- looks, and its sites. It says nothing of what a program does.
-use Rattle.std.specs.Prelude.{ℕ, Bool, true, false, List, [], ◌∷◌, Option, Some, None, Ok, Err, if◌then◌else◌, map}
+use Rattle.std.specs.Prelude.{ℕ, Bool, true, false, List, [], ◌∷◌, Option, Some, None, Ok, Err, if◌then◌else◌, map, option_map}
 use Rattle.place.specs.declared.Place.{Place}
 use Rattle.syntax_tree.specs.declared.Name.{Name}
 use Rattle.syntax_tree.specs.declared.Expr.{Expr}
@@ -11,13 +11,13 @@ use Rattle.syntax_tree.specs.declared.Expr.TheViews.{out-Expr, out-Actual}
 use Rattle.syntax_tree.specs.declared.Link.{Link}
 use Rattle.syntax_tree.specs.declared.Stmt.{Stmt}
 use Rattle.syntax_tree.specs.declared.Stmt.TheOpen.{Stmt-F}
-use Rattle.syntax_tree.specs.declared.Stmt.TheOpen.Stmt-F.{Empty as EmptyOf, Assign as AssignOf, Call as CallOf, Compound as CompoundOf}
+use Rattle.syntax_tree.specs.declared.Stmt.TheOpen.Stmt-F.{Empty as EmptyOf, Assign as AssignOf, Call as CallOf, Compound as CompoundOf, If as IfOf}
 use Rattle.syntax_tree.specs.declared.Stmt.TheFolds.{fold-Stmt}
 use Rattle.types.specs.declared.form.TypeForm.{TypeForm}
 use Rattle.types.specs.declared.form.TypeForm.TheVariants as form
 use Rattle.types.specs.declared.form.TypeId.{TypeId}
 use Rattle.types.specs.declared.form.OrdinalRange.{OrdinalRange}
-use Rattle.types.specs.Types.{integer, is_same, is_assignable, form_at, range_of}
+use Rattle.types.specs.Types.{integer, boolean, is_same, is_assignable, form_at, range_of}
 use Rattle.scopes.specs.declared.denotation.Denotation.{Denotation}
 use Rattle.scopes.specs.declared.denotation.Denotation.TheVariants as denotes
 use Rattle.scopes.specs.declared.denotation.RequiredProcedure.{RequiredProcedure}
@@ -26,9 +26,9 @@ use Rattle.typed_tree.specs.declared.fault.TypeFault.TheVariants as fault
 use Rattle.typed_tree.specs.declared.site.SiteKind.TheVariants as kind
 use Rattle.typed_tree.specs.declared.tree.Representation.{Representation}
 use Rattle.typed_tree.specs.declared.tree.Representation.TheVariants as representation
-use Rattle.typed_tree.specs.Look.{Assign, Target, Fits, Write, Written as WrittenMark, Width, Empty, Compound, Ends}
+use Rattle.typed_tree.specs.Look.{Assign, Target, Fits, Write, Written as WrittenMark, Width, Empty, Compound, If, Then, Else, Ends}
 use Rattle.typing.specs.Passing.{Checked, Passing, and_then, pure, given, mark, each, ◌>>=◌, ◌>>◌, ◌>>?◌}
-use Rattle.typing.specs.Steps.{enter_as, site, find, wants_output}
+use Rattle.typing.specs.Steps.{pass, enter_as, site, find, wants_output}
 use Rattle.typing.specs.Expressions.{Typed, Written, WrittenActual, fits, or_mismatch, expression, written_actual}
 
 -- the variable that a name denotes: its root and its type
@@ -155,11 +155,38 @@ compound statements = do
   each (λ s. s) statements
   mark Ends
 
+-- a condition is Boolean; K1 at its first token where it isn't
+unfoldable pub condition : Written → Passing (Unit {0})
+condition w = w.typing None >>? (λ types t. fits (is_same t.type_id boolean) w.first tt)
+
+-- the statement behind `else`, if there is one
+unfoldable pub alternative : Option (Passing (Unit {0})) → Passing (Unit {0})
+alternative None = pure tt
+alternative (Some statement) = mark Else >> statement
+
+-- an if as far as its `then`
+unfoldable pub tested : Place → Written → Passing (Unit {0})
+tested place w = do
+  pass place
+  enter_as If
+  condition w
+  mark Then
+
+-- an if (6.8.3.4)
+unfoldable pub choice : Place → Written → Passing (Unit {0}) → Option (Passing (Unit {0})) → Passing (Unit {0})
+choice place w consequence other = do
+  tested place w
+  consequence
+  alternative other
+  mark Ends
+
 abbrev pub statement_step : Stmt-F (Passing (Unit {0})) → Passing (Unit {0})
 statement_step EmptyOf = enter_as Empty
 statement_step (AssignOf name becomes value) = assignment name becomes (expression value)
 statement_step (CallOf name actuals) = procedure_call name actuals.items
 statement_step (CompoundOf statements) = compound statements.items
+statement_step (IfOf place condition consequence alternative) =
+    choice place (expression condition) consequence.value (option_map (λ statement. statement.value) alternative)
 
 -- a statement
 abbrev pub statement : Stmt → Passing (Unit {0})

@@ -1,5 +1,5 @@
 -- What statements do, form by form, and the law of every statement, by induction over its form.
-use Rattle.std.proofs.Common.{◌≡◌, ℕ, ◌<◌, Bool, true, false, ◌&&◌, if◌then◌else◌, List, [], ◌∷◌, map, Option, Some, None, Ok, Err, refl, sym, subst, arith}
+use Rattle.std.proofs.Common.{◌≡◌, ℕ, ◌<◌, Bool, true, false, ◌&&◌, if◌then◌else◌, List, [], ◌∷◌, ◌++◌, map, Option, Some, None, Ok, Err, refl, sym, subst, arith}
 use Rattle.std.specs.List.{flat_map}
 use Rattle.place.specs.declared.Place.{Place}
 use Rattle.syntax_tree.specs.declared.Name.{Name}
@@ -24,15 +24,15 @@ use Rattle.scopes.specs.declared.denotation.RequiredProcedure.{RequiredProcedure
 use Rattle.typed_tree.specs.declared.site.SiteKind.TheVariants as kind
 use Rattle.typed_tree.specs.Ids.{Stands}
 use Rattle.typed_tree.specs.WellFormed.{is_whole}
-use Rattle.typed_tree.specs.Look.{Assign, Target, Fits, Write, Written as WrittenMark, Width, Empty, Compound, Ends}
+use Rattle.typed_tree.specs.Look.{Assign, Target, Fits, Write, Written as WrittenMark, Width, Empty, Compound, If, Then, Else, Ends}
 use Rattle.typing.specs.Passing.{Checked, Passing, and_then, each}
 use Rattle.typing.specs.Expressions.{Typed, Written, WrittenActual, fits, or_mismatch, expression, written_actual}
 use Rattle.typing.specs.Statements.{as_variable, fitting, assignment, as_procedure, ends_line, is_output, names_file, unless_wide, is_file, written_values}
-use Rattle.typing.specs.Statements.{has_values, measured, width, parameter, write, procedure_call, compound, statement_step, statement}
+use Rattle.typing.specs.Statements.{has_values, measured, width, parameter, write, procedure_call, compound, condition, alternative, tested, choice, statement_step, statement}
 use Rattle.typing_laws.proofs.Sound.{IsSound}
 use Rattle.typing_laws.proofs.Covers.{Covers, covers_both, covers_none, covers_behind, covers_skip, leads_first}
 use Rattle.typing_laws.proofs.Grown.{both_true}
-use Rattle.typing_laws.proofs.Steps.{Does, Anything, Nothing, joins, quietly, last, checks, sited, pure_does, given_does, find_does, wants_output_does}
+use Rattle.typing_laws.proofs.Steps.{Does, Anything, Nothing, joins, quietly, last, checks, sited, pure_does, given_does, find_does, pass_does, wants_output_does}
 use Rattle.typing_laws.proofs.Steps.{mark_does, enter_does, site_does, IsKnown}
 use Rattle.typing_laws.proofs.Expressions.{lt_true, LawfulWritten, led_covers}
 use Rattle.typing_laws.proofs.EveryExpression.{LawfulActual, IsLawfulWidth, expression_lawful, actual_lawful}
@@ -193,6 +193,45 @@ module _ (variables : ℕ) where
         mark_does Ends refl (λ n h. refl);
   }
 
+  -- ---- branches
+
+  condition_does : (least : ℕ) (places : List Place) (w : Written) → LawfulWritten variables places w
+      → Does variables least (Covers places) (condition w) Anything
+  unfolding condition
+  condition_does least places w law = checks {L = Anything} (law.types least None tt) λ types t b n more is _. tt
+
+  abbrev IsLawfulAlternative : List Place → Option (Passing (Unit {0})) → Type 0
+  IsLawfulAlternative places None = Unit {0}
+  IsLawfulAlternative places (Some other) = LawfulStatement places other
+
+  alternative_does : (least : ℕ) (places : List Place) (other : Option (Passing (Unit {0}))) → IsLawfulAlternative places other
+      → Does variables least (Covers places) (alternative other) Anything
+  unfolding alternative
+  alternative_does least places None law = sited (λ sites none. subst (Covers places) (sym none) (covers_none places)) (pure_does {K = Anything} tt (λ n h. tt))
+  alternative_does least places (Some other) law = quietly (mark_does Else refl (λ n h. refl)) λ _ now _ _. law.passes now
+
+  tested_does : (least : ℕ) (place : Place) (places : List Place) (w : Written) → LawfulWritten variables places w
+      → Does variables least (Covers (place ∷ places)) (tested place w) Anything
+  unfolding tested
+  tested_does least place places w law =
+      sited (λ sites. covers_skip place places sites)
+      (quietly (pass_does place) λ _ _ _ _.
+      quietly (enter_does If (λ n. refl) (λ n m h. refl)) λ _ now _ _.
+      last (condition_does now places w law) λ _ _ _ _.
+      mark_does Then refl (λ n h. refl))
+
+  choice_does : (place : Place) (tests first second : List Place) (w : Written) (consequence : Passing (Unit {0})) (other : Option (Passing (Unit {0})))
+      → LawfulWritten variables tests w → LawfulStatement first consequence → IsLawfulAlternative second other
+      → LawfulStatement (place ∷ (tests ++ (first ++ second))) (choice place w consequence other)
+  unfolding choice
+  choice_does place tests first second w consequence other law one two = record {
+    passes = λ least.
+        joins (covers_both (place ∷ tests) (first ++ second)) (tested_does least place tests w law) λ _ there _ _.
+        joins (covers_both first second) (one.passes there) λ _ next _ _.
+        last (alternative_does next second other two) λ _ _ _ _.
+        mark_does Ends refl (λ n h. refl);
+  }
+
   -- ---- every statement
 
   abbrev LawfulStmt : Stmt → Type 0
@@ -228,6 +267,12 @@ module _ (variables : ℕ) where
       (assignment_does name becomes (expr_places value) (expression value) (expression_lawful variables value))
   statement_layer (layer.Call name actuals) = from_layer (layer.Call name actuals) (call_does name actuals.items)
   statement_layer (layer.Compound statements) = from_layer (bare (layer.Compound statements)) (compound_does _ _ (row_lawful statements.items))
+  statement_layer (layer.If place condition consequence None) =
+      from_layer (bare (layer.If place condition consequence None))
+      (choice_does place (expr_places condition) _ [] (expression condition) _ None (expression_lawful variables condition) consequence.value.1 tt)
+  statement_layer (layer.If place condition consequence (Some other)) =
+      from_layer (bare (layer.If place condition consequence (Some other)))
+      (choice_does place (expr_places condition) _ _ (expression condition) _ _ (expression_lawful variables condition) consequence.value.1 other.value.1)
 
   -- every statement
   pub statement_lawful : (w : Stmt) → LawfulStmt w

@@ -1,6 +1,6 @@
 use Rattle.std.proofs.Common.{reverse, refl}
 use Rattle.meaning.proofs.Resuming.{continues_as, goes_on_to}
-use Rattle.meaning.proofs.Unrolling.{entered, does-Empty, does-Assign, does-Write, does-Compound, does-If}
+use Rattle.meaning.proofs.Unrolling.{entered, does-Empty, does-Assign, does-Write, does-Compound, does-If, does-While, does-Repeat}
 use Rattle.meaning.proofs.interpreter.Run.statement.Goals as goal
 
 pub returns-in-Empty-clause-does : goal.returns-in-Empty-clause-does
@@ -43,3 +43,21 @@ returns-in-If-clause-does c = λ env s agrees.
     (does-If branches.number branches.condition branches.consequence branches.alternative c.args.statement.now branches.is c.deref-in-If.result.now
     c.deref-in-If.ensures env (reverse old.pending.items) (reverse old.values.items) s)
     (c.plan-in-If.ensures.does env (entered branches.number env s) agrees)
+
+pub returns-in-While-clause-does : goal.returns-in-While-clause-does
+returns-in-While-clause-does c = λ env s agrees.
+    let old = c.args.self.now in
+    let given = c.in-While in
+    continues_as env old c.while_round.new.self _ _ c.while_round.result
+    (does-While given.number given.loop_number given.place given.condition given.body c.args.statement.now given.is c.deref-in-While.result.now
+    c.deref-in-While.ensures env (reverse old.pending.items) (reverse old.values.items) s)
+    (c.while_round.ensures.does env (entered given.number env s) agrees)
+
+pub returns-in-Repeat-clause-does : goal.returns-in-Repeat-clause-does
+returns-in-Repeat-clause-does c = λ env s agrees.
+    let old = c.args.self.now in
+    let given = c.in-Repeat in
+    continues_as env old c.repeat_round.new.self _ _ c.repeat_round.result
+    (does-Repeat given.number given.loop_number given.place given.statements given.condition c.args.statement.now given.is c.deref-in-Repeat.result.now
+    c.deref-in-Repeat.ensures.value env (reverse old.pending.items) (reverse old.values.items) s)
+    (c.repeat_round.ensures.does env (entered given.number env s) agrees)

@@ -11,6 +11,21 @@ returns-in-Statement-clause-does c = does_as c.args.self.now c.statement.new.sel
 pub returns-in-Choose-clause-does : goal.returns-in-Choose-clause-does
 returns-in-Choose-clause-does c = does_as c.args.self.now c.choose.new.self c.args.work _ c.choose.result c.in-Choose.is c.choose.ensures.does
 
+pub returns-in-While-clause-does : goal.returns-in-While-clause-does
+returns-in-While-clause-does c = does_as c.args.self.now c.while_round.new.self c.args.work _ c.while_round.result c.in-While.is c.while_round.ensures.does
+
+pub returns-in-WhileTurn-clause-does : goal.returns-in-WhileTurn-clause-does
+returns-in-WhileTurn-clause-does c = does_as c.args.self.now c.while_turn.new.self c.args.work _ c.while_turn.result c.in-WhileTurn.is c.while_turn.ensures.does
+
+pub returns-in-Repeat-clause-does : goal.returns-in-Repeat-clause-does
+returns-in-Repeat-clause-does c = does_as c.args.self.now c.repeat_round.new.self c.args.work _ c.repeat_round.result c.in-Repeat.is c.repeat_round.ensures.does
+
+pub returns-in-Until-clause-does : goal.returns-in-Until-clause-does
+returns-in-Until-clause-does c = does_as c.args.self.now c.until.new.self c.args.work _ c.until.result c.in-Until.is c.until.ensures.does
+
+pub returns-in-Unless-clause-does : goal.returns-in-Unless-clause-does
+returns-in-Unless-clause-does c = does_as c.args.self.now c.unless.new.self c.args.work _ c.unless.result c.in-Unless.is c.unless.ensures.does
+
 pub returns-in-Parameters-clause-does : goal.returns-in-Parameters-clause-does
 returns-in-Parameters-clause-does c =
     does_as c.args.self.now c.parameters.new.self c.args.work _ c.parameters.result c.in-Parameters.is c.parameters.ensures.does

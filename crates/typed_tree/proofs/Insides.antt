@@ -1,0 +1,56 @@
+-- What stands inside the statements of a typed tree, as code makes them.
+use Rattle.std.proofs.Common.{◌≡◌, ℕ, Bool, Option, Some, None, map, Box, Vec, sym, ap, ◌∙◌}
+use Rattle.std.specs.declared.alloc.Global.{Global}
+use Rattle.place.specs.declared.Place.{Place}
+use Rattle.typed_tree.specs.declared.tree.Access.{Access}
+use Rattle.typed_tree.specs.declared.tree.RangeTest.{RangeTest}
+use Rattle.typed_tree.specs.declared.tree.WriteParameter.{WriteParameter}
+use Rattle.typed_tree.specs.declared.tree.Expr.{Expr}
+use Rattle.typed_tree.specs.declared.tree.Stmt.{Stmt}
+use Rattle.typed_tree.specs.declared.tree.Stmt.TheVariants as stmt
+use Rattle.typed_tree.specs.declared.tree.Stmt.TheOpen as layer
+use Rattle.typed_tree.specs.declared.tree.Stmt.TheViews.{roll-Stmt}
+use Rattle.typed_tree.specs.declared.tree.Stmt.TheFolds.{map-Stmt, fold-roll-Stmt}
+use Rattle.typed_tree.specs.Loops.{Inside, no_loop, both_inside, all_inside, looped, statement_inside, inside_of}
+
+rolled : (s : Stmt) (d : layer.Stmt-F Stmt) → roll-Stmt d ≡ s → inside_of s ≡ statement_inside (map-Stmt Stmt Inside inside_of d)
+rolled s d is = ap inside_of (sym is) ∙ fold-roll-Stmt Inside statement_inside d
+
+pub inside_empty : (number : ℕ) → inside_of (stmt.Empty number) ≡ no_loop
+inside_empty number = rolled (stmt.Empty number) (layer.Empty number) (stmt.rolls-Empty number)
+
+pub inside_assign : (number : ℕ) (becomes : Place) (target : Access) (fits : RangeTest) (value : Expr)
+    → inside_of (stmt.Assign number becomes target fits value) ≡ no_loop
+inside_assign number becomes target fits value =
+    rolled (stmt.Assign number becomes target fits value) (layer.Assign number becomes target fits value) (stmt.rolls-Assign number becomes target fits value)
+
+pub inside_write : (number : ℕ) (name : Place) (parameters : Vec WriteParameter Global) (ends_line : Bool)
+    → inside_of (stmt.Write number name parameters ends_line) ≡ no_loop
+inside_write number name parameters ends_line =
+    rolled (stmt.Write number name parameters ends_line) (layer.Write number name parameters ends_line) (stmt.rolls-Write number name parameters ends_line)
+
+pub inside_compound : (number : ℕ) (statements : Vec Stmt Global) → inside_of (stmt.Compound number statements) ≡ all_inside (map inside_of statements.items)
+inside_compound number statements = rolled (stmt.Compound number statements) (layer.Compound number statements) (stmt.rolls-Compound number statements)
+
+pub inside_if : (number : ℕ) (condition : Expr) (consequence : Box Stmt Global)
+    → inside_of (stmt.If number condition consequence None) ≡ both_inside (inside_of consequence.value) no_loop
+inside_if number condition consequence =
+    rolled (stmt.If number condition consequence None) (layer.If number condition consequence None) (stmt.rolls-If number condition consequence None)
+
+pub inside_if_else : (number : ℕ) (condition : Expr) (consequence alternative : Box Stmt Global)
+    → inside_of (stmt.If number condition consequence (Some alternative)) ≡ both_inside (inside_of consequence.value) (inside_of alternative.value)
+inside_if_else number condition consequence alternative =
+    rolled (stmt.If number condition consequence (Some alternative)) (layer.If number condition consequence (Some alternative))
+    (stmt.rolls-If number condition consequence (Some alternative))
+
+pub inside_while : (number loop_number : ℕ) (place : Place) (condition : Expr) (body : Box Stmt Global)
+    → inside_of (stmt.While number loop_number place condition body) ≡ looped loop_number (inside_of body.value)
+inside_while number loop_number place condition body =
+    rolled (stmt.While number loop_number place condition body) (layer.While number loop_number place condition body)
+    (stmt.rolls-While number loop_number place condition body)
+
+pub inside_repeat : (number loop_number : ℕ) (place : Place) (statements : Vec Stmt Global) (condition : Expr)
+    → inside_of (stmt.Repeat number loop_number place statements condition) ≡ looped loop_number (all_inside (map inside_of statements.items))
+inside_repeat number loop_number place statements condition =
+    rolled (stmt.Repeat number loop_number place statements condition) (layer.Repeat number loop_number place statements condition)
+    (stmt.rolls-Repeat number loop_number place statements condition)

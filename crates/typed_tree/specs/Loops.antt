@@ -1,0 +1,68 @@
+-- The loops of a typed tree, its repetitive statements (ISO 7185:1990, 6.8.3.6), in the order of their first words: the
+-- number of each, and the control variables of the for statements inside it. It says nothing of what a loop does.
+use Rattle.std.specs.Prelude.{ℕ, ◌++◌, Bool, List, [], ◌∷◌, Option, Some, None, flat_map, length, nat_lt}
+use Rattle.std.specs.declared.alloc.Global.{Global}
+use Rattle.std.specs.declared.boxed.Box.{Box}
+use Rattle.typed_tree.specs.declared.tree.Tree.{Tree}
+use Rattle.typed_tree.specs.declared.tree.Loop.{Loop}
+use Rattle.typed_tree.specs.declared.tree.Stmt.{Stmt}
+use Rattle.typed_tree.specs.declared.tree.Stmt.TheOpen.{Stmt-F}
+use Rattle.typed_tree.specs.declared.tree.Stmt.TheOpen.Stmt-F.{Empty, Assign, Write, Compound, If, While, Repeat}
+use Rattle.typed_tree.specs.declared.tree.Stmt.TheFolds.{fold-Stmt}
+
+-- what stands inside a statement
+pub record Inside : Type 0 where
+  -- its loops: the number of each, and the control variables of the for statements inside that loop
+  pub loops : List (ℕ × List ℕ)
+  -- the control variables of its for statements
+  pub controls : List ℕ
+
+abbrev pub no_loop : Inside
+no_loop = record { loops = []; controls = [] }
+
+abbrev pub both_inside : Inside → Inside → Inside
+both_inside a b = record { loops = a.loops ++ b.loops; controls = a.controls ++ b.controls }
+
+abbrev pub all_inside : List Inside → Inside
+all_inside parts = record {
+  loops = flat_map (λ part. part.loops) parts;
+  controls = flat_map (λ part. part.controls) parts;
+}
+
+abbrev pub alternative_inside : Option (Box Inside Global) → Inside
+alternative_inside None = no_loop
+alternative_inside (Some inside) = inside.value
+
+-- a loop of a number round others
+abbrev pub looped : ℕ → Inside → Inside
+looped loop_number body = record { loops = (loop_number, body.controls) ∷ body.loops; controls = body.controls }
+
+abbrev pub statement_inside : Stmt-F Inside → Inside
+statement_inside (Empty number) = no_loop
+statement_inside (Assign number becomes target fits value) = no_loop
+statement_inside (Write number name parameters ends_line) = no_loop
+statement_inside (Compound number statements) = all_inside statements.items
+statement_inside (If number condition consequence alternative) =
+    both_inside consequence.value (alternative_inside alternative)
+statement_inside (While number loop_number place condition body) = looped loop_number body.value
+statement_inside (Repeat number loop_number place statements condition) =
+    looped loop_number (all_inside statements.items)
+
+abbrev pub inside_of : Stmt → Inside
+inside_of = fold-Stmt Inside statement_inside
+
+-- the loops of a statement
+abbrev pub loops_of_statement : Stmt → List (ℕ × List ℕ)
+loops_of_statement statement = (inside_of statement).loops
+
+-- the control variables of the for statements of a statement
+abbrev pub controls_of : Stmt → List ℕ
+controls_of statement = (inside_of statement).controls
+
+-- the loops of a program
+abbrev pub loops_of : Tree → List (ℕ × List ℕ)
+loops_of tree = flat_map (λ block. loops_of_statement block.body) tree.blocks.items
+
+-- whether a loop has its row in the table
+abbrev pub is_loop : List Loop → ℕ × List ℕ → Bool
+is_loop loops one = nat_lt one.0 (length loops)
