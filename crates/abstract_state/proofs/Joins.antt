@@ -10,7 +10,8 @@ use Rattle.meaning.specs.declared.store.Value.TheVariants.{Number}
 use Rattle.abstract_state.specs.State.{State, Facts, Dead, Live, gives, joined_ranges, joined_facts, joined_states}
 use Rattle.abstract_state.specs.Holds.{Moment, FactsHold, Holds, IsIn, StateHolds}
 use Rattle.abstract_state.specs.Laws.{JoinHolds}
-use Rattle.abstract_state.proofs.Like.{defined-like, of-had, with-all_facts, each-of, filter-all}
+use Rattle.abstract_state.proofs.Given.{given-holds}
+use Rattle.abstract_state.proofs.Like.{with-all_facts, each-of, filter-all}
 
 -- ---- ranges
 
@@ -39,15 +40,6 @@ in-right : (a b : Interval) (v : Value) → IsIn b v → IsIn (joined a b) v
 in-right a b (Number n) inside = join_has_right-law a b n inside
 
 -- ---- facts
-
--- a fact that is given holds
-pub given-holds : (known : Facts) (moment : Moment) → FactsHold known moment → (fact : Fact) → gives known fact ≡ true → Holds fact moment
-given-holds known moment holds (Defined path) is =
-    let P = λ (one : Fact). Holds one moment in
-    of-had P (Defined path) (defined-like path) known.facts (each-of P known.facts holds.facts) is
-given-holds known moment holds (Range path range) is = absurd (cc)
-given-holds known moment holds (Stretch path first last) is = absurd (cc)
-given-holds known moment holds (Order a b number) is = absurd (cc)
 
 -- the facts that one way gives, beside those that it knows and the other gives
 facts-one : (one other : Facts) (moment : Moment) → FactsHold one moment → (fact : Fact) → Contains (joined_facts one other).facts fact → Holds fact moment

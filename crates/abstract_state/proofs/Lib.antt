@@ -1,6 +1,10 @@
 pub mod Apart
+pub mod Bounded
+pub mod Changed
+pub mod Given
 pub mod Joins
 pub mod Knows
 pub mod Like
 pub mod Ranged
+pub mod Refined
 pub mod Rows

@@ -1,7 +1,8 @@
 -- Facts that stand at the same place of the order are the same; what holds of each fact of a list holds of one that the
 -- list has, and of those that are added.
-use Rattle.std.proofs.Common.{◌≡◌, ⊎_elim, sym, ap, ap₂, refl, subst, ℕ, Bool, true, false, cond, List, [], ◌∷◌}
-use Rattle.std.specs.List.{Contains, All, filter}
+use Rattle.std.proofs.Common.{◌≡◌, ⊎_elim, sym, ap, ap₂, refl, subst, ℕ, Bool, true, false, cond, List, [], ◌∷◌, Option, Some, None}
+use Rattle.std.specs.List.{Contains, All, filter, filter_map, list_any}
+use Rattle.std.specs.List.{cons_option}
 use Rattle.std.specs.Ordering.{is_eq, nat_cmp, ordering_then}
 use Rattle.std.specs.Cmp.Lexicographic.{slice_cmp}
 use Rattle.std.specs.declared.cmp.Ordering.{Ordering}
@@ -94,3 +95,24 @@ filter-all P Q test so [] all = All-nil P
 filter-all P Q test so (fact ∷ facts) all =
     kept-first P (test fact) fact (filter test facts) (λ passes. so fact passes (All-head Q fact facts all))
     (filter-all P Q test so facts (All-tail Q fact facts all))
+
+kept-some : (P : Fact → Type 0) (found : Option Fact) (facts : List Fact) → ((fact : Fact) → found ≡ Some fact → P fact) → All P facts
+    → All P (cons_option found facts)
+kept-some P None facts so all = all
+kept-some P (Some fact) facts so all = All-cons P fact facts (so fact refl) all
+
+-- the facts that others become
+pub changed-all : (P Q : Fact → Type 0) (change : Fact → Option Fact) → ((before after : Fact) → change before ≡ Some after → Q before → P after)
+    → (facts : List Fact) → All Q facts → All P (filter_map change facts)
+changed-all P Q change so [] all = All-nil P
+changed-all P Q change so (fact ∷ facts) all =
+    kept-some P (change fact) (filter_map change facts) (λ after is. so fact after is (All-head Q fact facts all))
+    (changed-all P Q change so facts (All-tail Q fact facts all))
+
+-- a fact that passes a test is among those of which some do
+pub any-of : (P : Fact → Type 0) (test : Fact → Bool) (facts : List Fact) → All P facts → list_any test facts ≡ true
+    → (fact : Fact) × P fact × (test fact ≡ true)
+any-of P test [] all is = absurd (cc)
+any-of P test (first ∷ rest) all is =
+    ⊎_elim (λ passes. (first, All-head P first rest all, passes)) (λ later. any-of P test rest (All-tail P first rest all) later)
+    (or_cases (test first) (list_any test rest) is)

@@ -1,10 +1,11 @@
 -- What a checker knows at a point of a program: of each variable the range of its values, and facts
--- (ISO 7185:1990, 6.5.1: a variable is undefined or has a value); and what it knows behind two ways that meet. It does
--- not say how such a state comes about, nor what it means for a run.
-use Rattle.std.specs.Prelude.{ℕ, Bool, true, false, neg_ℤ, List, [], ◌∷◌, filter, if◌then◌else◌, length, nat_lt, replicate, slice_index_or, slice_set}
+-- (ISO 7185:1990, 6.5.1: a variable is undefined or has a value); which facts that gives; and what it knows behind two
+-- ways that meet. It does not say how such a state comes about, nor what it means for a run.
+use Rattle.std.specs.Prelude.{ℕ, ℤ, pos, ◌+ℤ◌, neg_ℤ, int_le, Bool, true, false, not, ◌&&◌, ◌||◌, List, [], ◌∷◌, filter, if◌then◌else◌, length, nat_eq, nat_lt, replicate, slice_index_or, slice_set}
+use Rattle.std.specs.List.{list_any}
 use Rattle.types.specs.declared.form.OrdinalRange.{OrdinalRange}
-use Rattle.domain.specs.Interval.{Interval, common, joined, vacant, is_vacant}
-use Rattle.domain.specs.Facts.{Fact, Range, Defined, Stretch, Order, entire, has_fact, with_fact}
+use Rattle.domain.specs.Interval.{Interval, common, is_included, is_vacant, joined, vacant}
+use Rattle.domain.specs.Facts.{Step, Path, Bound, Number, Plus, Fact, Range, Defined, Stretch, Order, entire, has_fact, with_fact}
 use Rattle.meaning.specs.Integers.{maxint}
 
 -- a row for each variable by its root number, with the range of its values, and the facts in their order, each once
@@ -65,14 +66,61 @@ with_value root range state = with_defined root (with_range root range state)
 abbrev pub unless_empty : Interval → State → State
 unless_empty range state = if is_vacant range then Dead else state
 
--- ---- the join of two ways
+-- ---- the facts that a state gives
 
--- a state gives a fact: it is known there
+-- a range whose numbers are greater by a number
+abbrev pub moved : ℤ → Interval → Interval
+moved n range = record { first = range.first +ℤ n; last = range.last +ℤ n }
+
+-- where the number of a bound lies
+abbrev pub bound_range : State → Bound → Interval
+bound_range state (Number n) = record { first = n; last = n }
+bound_range state (Plus root n) = moved n (range_of state root)
+
+-- of two bounds of the same variable, or of none, the first is at most the second
+abbrev pub is_at_most : Bound → Bound → Bool
+is_at_most (Number m) (Number n) = int_le m n
+is_at_most (Plus root m) (Plus other n) = nat_eq root other && int_le m n
+is_at_most a b = false
+
+-- each number of a range is at most each of another, and neither is empty
+abbrev pub is_below : Interval → Interval → Bool
+is_below a b = not (is_vacant a || is_vacant b) && int_le a.last b.first
+
+-- a fact says that a bound is at most another
+abbrev pub says_at_most : Bound → Bound → Fact → Bool
+says_at_most (Plus root m) (Plus other n) (Order a b number) =
+    nat_eq root a && (nat_eq other b && int_le (number +ℤ m) n)
+says_at_most a b fact = false
+
+-- a bound is known to be at most another: by itself, by ranges, or by an order fact
+abbrev pub le : Facts → Bound → Bound → Bool
+le known a b =
+    is_at_most a b
+    || (is_below (bound_range (Live known) a) (bound_range (Live known) b)
+    || list_any (says_at_most a b) known.facts)
+
+-- a path to an entire variable
+abbrev pub is_entire : List Step → Bool
+is_entire [] = true
+is_entire (step ∷ steps) = false
+
+-- what is known gives a fact: the range lies inside; it is held that the variable is defined; both are, and the first
+-- is at most the second and the number. There are no arrays, so no stretch is given
 abbrev pub gives : Facts → Fact → Bool
+gives known (Range path range) = is_entire path.steps && is_included (range_of (Live known) path.root) range
 gives known (Defined path) = has_fact (Defined path) known.facts
-gives known (Range path range) = false
 gives known (Stretch path first last) = false
-gives known (Order root other number) = false
+gives known (Order root other number) =
+    has_fact (Defined (entire root)) known.facts
+    && (has_fact (Defined (entire other)) known.facts && le known (Plus root (pos 0)) (Plus other number))
+
+-- a state gives a fact: a dead one gives each
+abbrev pub gives_fact : State → Fact → Bool
+gives_fact Dead fact = true
+gives_fact (Live known) fact = gives known fact
+
+-- ---- the join of two ways
 
 -- facts with some more, each in its place
 abbrev pub with_facts : (more : List Fact) → List Fact → List Fact

@@ -112,6 +112,10 @@ without_zero_end a =
 abbrev pub at_least : ℤ → Interval → Interval
 at_least n a = between (int_max n a.first) a.last
 
+-- the numbers of a range up to n
+abbrev pub at_most : ℤ → Interval → Interval
+at_most n a = between a.first (int_min n a.last)
+
 -- the quotients of a number of a by one of b that isn't 0; div cuts toward zero
 abbrev pub quotient : Interval → Interval → Interval
 quotient a b =

@@ -5,7 +5,7 @@ use Rattle.std.proofs.lemmas.Int.{ints, clamps, by_lt_z, to_z-of_z}
 use Rattle.std.proofs.lemmas.Bool.{cond_both, false_from_ne_true, false≢true, not-true, not_from_false, and_parts, and_from, and_left, and_right, or_parts, or_from, or_left, or_right, or_cases}
 use Rattle.std.specs.Int.{int_min, int_max, int_rem_euclid}
 use Rattle.std.specs.Ordering.{int_eq}
-use Rattle.domain.specs.Interval.{Interval, vacant, IsPlain, IsInner, IsEnd, limit, nearest_end, HasMember, Includes, has_number, is_vacant, is_included, joined, between, common, sum, difference, negated, hull, product, magnitude, size, squared, absolute, without_zero_end, at_least, quotient, remainder, truth, is_true, always_true, never_true, truths, both, either, complement, held}
+use Rattle.domain.specs.Interval.{Interval, vacant, IsPlain, IsInner, IsEnd, limit, nearest_end, HasMember, Includes, has_number, is_vacant, is_included, joined, between, common, sum, difference, negated, hull, product, magnitude, size, squared, absolute, without_zero_end, at_least, at_most, quotient, remainder, truth, is_true, always_true, never_true, truths, both, either, complement, held}
 use Rattle.domain.specs.Order.{span, span-ascending, span-descending, product-between, product-between_right, square-le, quotient-between, quotient-between_positive, quotient-between_negative, quotient-le_magnitude, remainder-below, remainder-le}
 
 not-vacant : (first last : ℤ) → first ≤ℤ last → int_lt last first ≡ false
@@ -279,6 +279,9 @@ without_zero_end-has a x has present =
 pub at_least-has : (n : ℤ) (a : Interval) (x : ℤ) → HasMember a x → n ≤ℤ x → HasMember (at_least n a) x
 at_least-has n a x has low = between-has (int_max n a.first) a.last x (omega (arith, ints, clamps)) has.1
 
+pub at_most-has : (n : ℤ) (a : Interval) (x : ℤ) → HasMember a x → x ≤ℤ n → HasMember (at_most n a) x
+at_most-has n a x has high = between-has a.first (int_min n a.last) x has.0 (omega (arith, ints, clamps))
+
 -- ---- truth values
 
 truths-has : (first value last : Bool) → (first ≡ true → value ≡ true) → (value ≡ true → last ≡ true)
@@ -357,6 +360,13 @@ min-near last high near below = omega (arith, ints, clamps)
 
 vacant-between : (first last : ℤ) → last <ℤ first → between first last ≡ vacant
 vacant-between first last below = grind (arith, ints)
+
+-- the code's tests of the numbers that are cut off
+pub at_least-none : (n : ℤ) (a : Interval) → a.last <ℤ n → at_least n a ≡ vacant
+at_least-none n a above = vacant-between (int_max n a.first) a.last (omega (arith, ints, clamps))
+
+pub at_most-none : (n : ℤ) (a : Interval) → n <ℤ a.first → at_most n a ≡ vacant
+at_most-none n a below = vacant-between a.first (int_min n a.last) (omega (arith, ints, clamps))
 
 -- what a range has in common with the numbers from a first to a last one
 pub common-between : (a : Interval) (first last : ℤ) → common a (between first last) ≡ common a (record { first = first; last = last })

@@ -2,7 +2,7 @@ ghost use Rattle.std.specs.Prelude.{◌≡◌, if◌then◌else◌, true, ℤ, p
 ghost use Rattle.std.specs.Int.{int_rem_euclid};
 ghost use Rattle.std.specs.Ordering.{int_eq};
 ghost use Rattle.domain.specs.Order.{span};
-ghost use Rattle.domain.specs.Interval.{IsEnd, HasMember, held, nearest_end, hull, product, squared, magnitude, size, absolute, without_zero_end, at_least, quotient, remainder, is_true};
+ghost use Rattle.domain.specs.Interval.{IsEnd, HasMember, held, nearest_end, hull, product, squared, magnitude, size, absolute, without_zero_end, at_least, at_most, quotient, remainder, is_true};
 
 use crate::Domain;
 use crate::interval::{Interval, LIMIT};
@@ -70,11 +70,25 @@ impl Interval {
     }
 
     /// The numbers of the range from a first one on.
-    pub fn at_least(&self, first: i32) -> Interval
+    pub fn at_least(&self, first: i64) -> Interval
         ensures ends { result ≡ at_least first self.now }
         ensures members { (x : ℤ) → HasMember self.now x → first ≤ℤ x → HasMember result x }
     {
-        Interval::between_ends(i64::from(first).max(self.first()), self.last())
+        if self.last() < first {
+            return Interval::EMPTY;
+        }
+        Interval::between_ends(first.max(self.first()), self.last())
+    }
+
+    /// The numbers of the range up to a last one.
+    pub fn at_most(&self, last: i64) -> Interval
+        ensures ends { result ≡ at_most last self.now }
+        ensures members { (x : ℤ) → HasMember self.now x → x ≤ℤ last → HasMember result x }
+    {
+        if last < self.first() {
+            return Interval::EMPTY;
+        }
+        Interval::between_ends(self.first(), last.min(self.last()))
     }
 
     /// The quotients of a number of the range by a divisor that isn't 0, as by div (ISO 7185:1990, 6.7.2.2).

@@ -1,0 +1,560 @@
+-- Where a condition had a truth value, what is known of its branch holds: an induction over expressions, which change
+-- no variable.
+use Rattle.std.proofs.Common.{arith, ◌≡◌, ⊎_elim, ◌∙◌, sym, ap, ap₂, refl, subst, ℕ, ℤ, pos, ◌+ℤ◌, ◌-ℤ◌, ◌*ℤ◌, neg_ℤ, int_div, int_le, Bool, true, false, not, ◌&&◌, ◌||◌, cond, List, [], ◌∷◌, ◌++◌, map, Option, Some, None}
+use Rattle.std.specs.List.{list_all}
+use Rattle.std.specs.Int.{int_rem_euclid}
+use Rattle.std.specs.Ordering.{int_eq}
+use Rattle.std.proofs.lemmas.Int.{ints}
+use Rattle.std.proofs.lemmas.Bool.{and_parts, or_parts, cond_both}
+use Rattle.typed_tree.specs.declared.tree.Monadic.{Monadic}
+use Rattle.typed_tree.specs.declared.tree.Monadic.TheVariants as monadic
+use Rattle.typed_tree.specs.declared.tree.Dyadic.{Dyadic}
+use Rattle.typed_tree.specs.declared.tree.Dyadic.TheVariants as dyadic
+use Rattle.typed_tree.specs.declared.tree.Relation.{Relation}
+use Rattle.typed_tree.specs.declared.tree.Expr.{Expr}
+use Rattle.typed_tree.specs.declared.tree.Link.{Link}
+use Rattle.typed_tree.specs.declared.tree.Expr.TheOpen.{Expr-F, Link-F}
+use Rattle.typed_tree.specs.declared.tree.Expr.TheViews.{roll-Expr, roll-Link}
+use Rattle.typed_tree.specs.declared.tree.Expr.TheOpen.Expr-F.{Constant, Variable, Monadic as MonadicOf, Chain}
+use Rattle.typed_tree.specs.declared.tree.Expr.TheFolds.{map-Expr, map-Link, fold-roll-Expr, fold-roll-Link, ind-Expr}
+use Rattle.domain.specs.Interval.{Interval, HasMember, always_true, never_true, has_number}
+use Rattle.domain.specs.Facts.{Bound, Plus}
+use Rattle.domain.specs.Facts as fact
+use Rattle.meaning.specs.declared.store.Value.{Value}
+use Rattle.meaning.specs.declared.store.Value.TheVariants.{Number}
+use Rattle.meaning.specs.Integers.{integer_or_none, is_integer_number, is_odd, is_true, magnitude, truth}
+use Rattle.meaning.specs.Store.{Environment, Place, Store, held}
+use Rattle.meaning.specs.Effect as effect
+use Rattle.meaning.specs.Effect.{Reply, Gives, Stops, and_then}
+use Rattle.meaning.specs.Meaning as meaning
+use Rattle.meaning.specs.Meaning.{Evaluation, is_so, link_of, relates, value_of}
+use Rattle.abstract_state.specs.State.{State, Dead}
+use Rattle.abstract_state.specs.Forms.{Form, Literal, Signed, Entire, Moved, Other, Operand, bound_of, chain_form, constant_of, moved_form, negative, offset_form, sign_form, signed}
+use Rattle.abstract_state.specs.Conditions.{Condition, Conjunct, all_refined, bound_form, branched, chain_refined, condition_of, condition_step, conjunct_of, link_condition, monadic_refined, operand_of, operation_refined, opposite, refined, related, related_forms, single_refined, takes_both, unless_excluded}
+use Rattle.abstract_state.specs.Holds.{Moment, HasNumber, IsBound, IsIn, part_of, value_at}
+use Rattle.abstract_state.proofs.Apart.{entire-stored}
+use Rattle.abstract_state.proofs.Bounded.{opposite-relates, related-known}
+use Rattle.abstract_state.proofs.Changed.{IsOfForm}
+use Rattle.abstract_state.proofs.Knows.{Knows, moment}
+
+-- ---- replies that give a value
+
+pub given-same : {A : Type 0} (a b : A) (s t : effect.State) → Gives a s ≡ Gives b t → (a ≡ b) × (s ≡ t)
+given-same a b s t is = (cc, cc)
+
+pub then-gives : {A B : Type 0} (reply : Reply A) (next : A → effect.State → Reply B) (b : B) (t : effect.State) → and_then reply next ≡ Gives b t
+    → (a : A) × (u : effect.State) × (reply ≡ Gives a u) × (next a u ≡ Gives b t)
+then-gives (Gives a u) next b t is = (a, u, refl, is)
+then-gives (Stops ending u) next b t is = absurd (cc)
+
+required : {B : Type 0} (holds : Bool) (site : ℕ) (s t : effect.State) (next : Unit {0} → effect.State → Reply B) (b : B)
+    → and_then (effect.require holds site s) next ≡ Gives b t → (holds ≡ true) × (next tt s ≡ Gives b t)
+required true site s t next b is = (refl, is)
+required false site s t next b is = absurd (cc)
+
+-- ---- forms and values
+
+-- what the form of an expression says of its value
+abbrev pub IsForm : Form → Moment → Value → Type 0
+IsForm (Literal n) moment v = v ≡ Number n
+IsForm (Signed n) moment v = v ≡ Number n
+IsForm (Entire root) moment v = value_at moment root [] ≡ Some v
+IsForm (Moved root k) moment v = (old : ℤ) × HasNumber moment root old × (v ≡ Number (old +ℤ k))
+IsForm Other moment v = Unit {0}
+
+pub form-bound : (form : Form) (moment : Moment) (v : Value) → IsForm form moment v → IsOfForm moment (bound_of form) v
+form-bound (Literal n) moment v is = (n, is, refl)
+form-bound (Signed n) moment v is = (n, is, refl)
+form-bound (Entire root) moment (Number n) is = (n, refl, (n, is, omega (arith, ints)))
+form-bound (Moved root k) moment v (old, has, is) = (old +ℤ k, is, (old, has, refl))
+form-bound Other moment v is = tt
+
+some-number : (test : Bool) (n m : ℤ) → cond test (Some n) None ≡ Some m → n ≡ m
+some-number true n m is = cc
+some-number false n m is = absurd (cc)
+
+integer-is : (n m : ℤ) → integer_or_none n ≡ Some m → n ≡ m
+integer-is n m is = some-number (is_integer_number n) n m is
+
+signed-form : (n : ℤ) (found : Option ℤ) (moment : Moment) → ((m : ℤ) → found ≡ Some m → n ≡ m) → IsForm (signed found) moment (Number n)
+signed-form n None moment is = tt
+signed-form n (Some m) moment is = ap Number (is m refl)
+
+sign-form : (form : Form) (operation : Monadic) (moment : Moment) (n : ℤ) (w : Value) (s t : effect.State) → IsForm form moment (Number n)
+    → meaning.operated operation (Number n) s ≡ Gives w t → IsForm (sign_form form operation) moment w
+sign-form (Literal k) monadic.Plus moment n w s t is gives = let same = given-same (Number n) w s t gives in sym same.0 ∙ is
+sign-form (Literal k) monadic.Minus moment n w s t is gives =
+    let same = given-same (Number (neg_ℤ n)) w s t gives in
+    let number : n ≡ k = cc in
+    subst (λ (v : Value). IsForm (signed (integer_or_none (neg_ℤ k))) moment v) (ap (λ (m : ℤ). Number (neg_ℤ m)) (sym number) ∙ same.0)
+    (signed-form (neg_ℤ k) (integer_or_none (neg_ℤ k)) moment (λ m found. integer-is (neg_ℤ k) m found))
+sign-form (Literal k) monadic.Not moment n w s t is gives = tt
+sign-form (Literal k) monadic.Abs moment n w s t is gives = tt
+sign-form (Literal k) (monadic.Sqr overflow) moment n w s t is gives = tt
+sign-form (Literal k) monadic.Odd moment n w s t is gives = tt
+sign-form (Signed k) operation moment n w s t is gives = tt
+sign-form (Entire root) operation moment n w s t is gives = tt
+sign-form (Moved root k) operation moment n w s t is gives = tt
+sign-form Other operation moment n w s t is gives = tt
+
+-- ---- operations change no variable
+
+whole-gives : (overflow : ℕ) (n : ℤ) (w : Value) (s t : effect.State) → meaning.whole overflow n s ≡ Gives w t → (w ≡ Number n) × (t ≡ s)
+whole-gives overflow n w s t is =
+    let passed = required (is_integer_number n) overflow s t (λ done. effect.give (Number n)) w is in
+    let same = given-same (Number n) w s t passed.1 in
+    (sym same.0, sym same.1)
+
+operated-kept : (operation : Monadic) (v w : Value) (s t : effect.State) → meaning.operated operation v s ≡ Gives w t → t ≡ s
+operated-kept monadic.Plus (Number n) w s t is = sym (given-same (Number n) w s t is).1
+operated-kept monadic.Minus (Number n) w s t is = sym (given-same (Number (neg_ℤ n)) w s t is).1
+operated-kept monadic.Not (Number n) w s t is = sym (given-same (Number (truth (not (is_true n)))) w s t is).1
+operated-kept monadic.Abs (Number n) w s t is = sym (given-same (Number (magnitude n)) w s t is).1
+operated-kept (monadic.Sqr overflow) (Number n) w s t is = (whole-gives overflow (n *ℤ n) w s t is).1
+operated-kept monadic.Odd (Number n) w s t is = sym (given-same (Number (truth (is_odd n))) w s t is).1
+
+-- what is known of the result of an operation on two operands
+abbrev pub IsResult : Dyadic → ℤ → ℤ → Value → Type 0
+IsResult (dyadic.Plus overflow) a b w = w ≡ Number (a +ℤ b)
+IsResult (dyadic.Minus overflow) a b w = w ≡ Number (a -ℤ b)
+IsResult (dyadic.Times overflow) a b w = Unit {0}
+IsResult (dyadic.Div by_zero) a b w = Unit {0}
+IsResult (dyadic.Mod by_zero_or_less) a b w = Unit {0}
+IsResult dyadic.And a b w = is_so w ≡ (is_true a && is_true b)
+IsResult dyadic.Or a b w = is_so w ≡ (is_true a || is_true b)
+IsResult (dyadic.Relation r) a b w = is_so w ≡ relates r a b
+
+truth-is : (b : Bool) → is_true (truth b) ≡ b
+truth-is true = refl
+truth-is false = refl
+
+combined-gives : (operation : Dyadic) (a b : ℤ) (w : Value) (s t : effect.State) → meaning.combined operation (Number a) (Number b) s ≡ Gives w t
+    → IsResult operation a b w × (t ≡ s)
+combined-gives (dyadic.Plus overflow) a b w s t is = whole-gives overflow (a +ℤ b) w s t is
+combined-gives (dyadic.Minus overflow) a b w s t is = whole-gives overflow (a -ℤ b) w s t is
+combined-gives (dyadic.Times overflow) a b w s t is = (tt, (whole-gives overflow (a *ℤ b) w s t is).1)
+combined-gives (dyadic.Div by_zero) a b w s t is =
+    let n = Number (int_div a b) in
+    let passed = required (not (int_eq b (pos 0))) by_zero s t (λ done. effect.give n) w is in
+    (tt, sym (given-same n w s t passed.1).1)
+combined-gives (dyadic.Mod by_zero_or_less) a b w s t is =
+    let n = Number (int_rem_euclid a b) in
+    let passed = required (int_le (pos 1) b) by_zero_or_less s t (λ done. effect.give n) w is in
+    (tt, sym (given-same n w s t passed.1).1)
+combined-gives dyadic.And a b w s t is =
+    let both = is_true a && is_true b in
+    let same = given-same (Number (truth both)) w s t is in
+    (ap is_so (sym same.0) ∙ truth-is both, sym same.1)
+combined-gives dyadic.Or a b w s t is =
+    let either = is_true a || is_true b in
+    let same = given-same (Number (truth either)) w s t is in
+    (ap is_so (sym same.0) ∙ truth-is either, sym same.1)
+combined-gives (dyadic.Relation r) a b w s t is =
+    let holds = relates r a b in
+    let same = given-same (Number (truth holds)) w s t is in
+    (ap is_so (sym same.0) ∙ truth-is holds, sym same.1)
+
+-- ---- what an expression tells
+
+-- an expression was evaluated over a store, with a value: the store stays, the form tells of the value, and what is
+-- known where the value was true, or false, holds
+pub record Evaluates (env : Environment) (condition : Condition) (before after : Store) (v : Value) : Type 0 where
+  pub store_is : after ≡ before
+  pub form_is : IsForm condition.form (moment env before) v
+  pub refines : (variables : ℕ) (state : State) → Knows variables env state before → Knows variables env (condition.refined (is_so v) state) before
+
+-- an operator and its right operand were evaluated
+pub record Combines (env : Environment) (conjunct : Conjunct) (before after : Store) (left result : Value) : Type 0 where
+  pub store_is : after ≡ before
+  pub right : Value
+  pub right_is : Evaluates env conjunct.right before before right
+  pub a : ℤ
+  pub b : ℤ
+  pub left_is : left ≡ Number a
+  pub b_is : right ≡ Number b
+  pub result_is : IsResult conjunct.operation a b result
+
+abbrev pub EvaluatesAs : Evaluation → Condition → Type 0
+EvaluatesAs evaluation condition = (env : Environment) (s t : effect.State) (v : Value) → evaluation env s ≡ Gives v t
+    → Evaluates env condition s.store t.store v
+
+abbrev pub CombinesAs : meaning.Combination → Conjunct → Type 0
+CombinesAs combination conjunct = (env : Environment) (s t : effect.State) (left result : Value) → combination env left s ≡ Gives result t
+    → Combines env conjunct s.store t.store left result
+
+-- ---- operators from left to right
+
+-- a relation of two operands
+forms-known : (variables : ℕ) (env : Environment) (store : Store) (r : Relation) (truth : Bool) (left right : Option Bound) (a b : ℤ) (state : State)
+    → IsOfForm (moment env store) left (Number a) → IsOfForm (moment env store) right (Number b) → relates r a b ≡ truth → Knows variables env state store
+    → Knows variables env (related_forms r truth left right state) store
+forms-known variables env store r true (Some left) (Some right) a b state (m, m_is, left_is) (n, n_is, right_is) is known =
+    let one : m ≡ a = cc in
+    let two : n ≡ b = cc in
+    related-known variables env store r state left right m n left_is right_is (ap₂ (relates r) one two ∙ is) known
+forms-known variables env store r false (Some left) (Some right) a b state (m, m_is, left_is) (n, n_is, right_is) is known =
+    let one : m ≡ a = cc in
+    let two : n ≡ b = cc in
+    related-known variables env store (opposite r) state left right m n left_is right_is
+    (opposite-relates r m n (ap₂ (relates r) one two ∙ is)) known
+forms-known variables env store r true None right a b state left_is right_is is known = known
+forms-known variables env store r false None right a b state left_is right_is is known = known
+forms-known variables env store r true (Some left) None a b state left_is right_is is known = known
+forms-known variables env store r false (Some left) None a b state left_is right_is is known = known
+
+operation-known : (variables : ℕ) (env : Environment) (store : Store) (operation : Dyadic) (left right : Form) (a b : ℤ) (w : Value) (state : State)
+    → IsForm left (moment env store) (Number a) → IsForm right (moment env store) (Number b) → IsResult operation a b w → Knows variables env state store
+    → Knows variables env (operation_refined operation (is_so w) left right state) store
+operation-known variables env store (dyadic.Relation r) left right a b w state left_is right_is is known =
+    forms-known variables env store r (is_so w) (bound_of left) (bound_of right) a b state (form-bound left (moment env store) (Number a) left_is)
+    (form-bound right (moment env store) (Number b) right_is) (sym is) known
+operation-known variables env store (dyadic.Plus overflow) left right a b w state left_is right_is is known = known
+operation-known variables env store (dyadic.Minus overflow) left right a b w state left_is right_is is known = known
+operation-known variables env store (dyadic.Times overflow) left right a b w state left_is right_is is known = known
+operation-known variables env store (dyadic.Div by_zero) left right a b w state left_is right_is is known = known
+operation-known variables env store (dyadic.Mod by_zero_or_less) left right a b w state left_is right_is is known = known
+operation-known variables env store dyadic.And left right a b w state left_is right_is is known = known
+operation-known variables env store dyadic.Or left right a b w state left_is right_is is known = known
+
+-- both operands have the truth value that the whole takes from both
+both-so : (operation : Dyadic) (a b : ℤ) (w : Value) (truth : Bool) → takes_both truth operation ≡ true → IsResult operation a b w → is_so w ≡ truth
+    → (is_true a ≡ truth) × (is_true b ≡ truth)
+both-so dyadic.And a b w true takes is so = and_parts (is_true a) (is_true b) (sym is ∙ so)
+both-so dyadic.Or a b w false takes is so = or_parts (is_true a) (is_true b) (sym is ∙ so)
+both-so dyadic.And a b w false takes is so = absurd (cc)
+both-so dyadic.Or a b w true takes is so = absurd (cc)
+both-so (dyadic.Plus overflow) a b w true takes is so = absurd (cc)
+both-so (dyadic.Plus overflow) a b w false takes is so = absurd (cc)
+both-so (dyadic.Minus overflow) a b w true takes is so = absurd (cc)
+both-so (dyadic.Minus overflow) a b w false takes is so = absurd (cc)
+both-so (dyadic.Times overflow) a b w true takes is so = absurd (cc)
+both-so (dyadic.Times overflow) a b w false takes is so = absurd (cc)
+both-so (dyadic.Div by_zero) a b w true takes is so = absurd (cc)
+both-so (dyadic.Div by_zero) a b w false takes is so = absurd (cc)
+both-so (dyadic.Mod by_zero_or_less) a b w true takes is so = absurd (cc)
+both-so (dyadic.Mod by_zero_or_less) a b w false takes is so = absurd (cc)
+both-so (dyadic.Relation r) a b w true takes is so = absurd (cc)
+both-so (dyadic.Relation r) a b w false takes is so = absurd (cc)
+
+abbrev pub ProvedExpr : Type 0
+ProvedExpr = (e : Expr) × EvaluatesAs (value_of e) (condition_of e)
+
+abbrev pub ProvedLink : Type 0
+ProvedLink = (l : Link) × CombinesAs (link_of l) (conjunct_of l)
+
+abbrev links_of : List ProvedLink → List Link
+links_of = map (λ (l : ProvedLink). l.0)
+
+abbrev conjuncts_of : List ProvedLink → List Conjunct
+conjuncts_of links = map conjunct_of (links_of links)
+
+abbrev turns : List ProvedLink → meaning.Combination
+turns links = meaning.in_turn (map link_of (links_of links))
+
+-- the operators of a chain change no variable
+turns-kept : (links : List ProvedLink) (env : Environment) (s t : effect.State) (left result : Value) → turns links env left s ≡ Gives result t
+    → t.store ≡ s.store
+turns-kept [] env s t left result is = ap (λ (u : effect.State). u.store) (sym (given-same left result s t is).1)
+turns-kept (link ∷ links) env s t left result is =
+    let step = then-gives (link_of link.0 env left s) (turns links env) result t is in
+    turns-kept links env step.1 t step.0 result step.3 ∙ (link.1 env s step.1 left step.0 step.2).store_is
+
+-- where the whole takes its truth value from both operands at each operator, each operand has it
+turns-refine : (links : List ProvedLink) (env : Environment) (s t : effect.State) (left result : Value) (truth : Bool)
+    → list_all (λ conjunct. takes_both truth conjunct.operation) (conjuncts_of links) ≡ true → turns links env left s ≡ Gives result t → is_so result ≡ truth
+    → (is_so left ≡ truth) × ((variables : ℕ) (state : State) → Knows variables env state s.store
+    → Knows variables env (all_refined truth (conjuncts_of links) state) s.store)
+turns-refine [] env s t left result truth takes is so =
+    (ap is_so (given-same left result s t is).0 ∙ so, λ variables state known. known)
+turns-refine (link ∷ links) env s t left result truth takes is so =
+    let conjunct = conjunct_of link.0 in
+    let parts = and_parts (takes_both truth conjunct.operation) (list_all (λ c. takes_both truth c.operation) (conjuncts_of links)) takes in
+    let step = then-gives (link_of link.0 env left s) (turns links env) result t is in
+    let combines = link.1 env s step.1 left step.0 step.2 in
+    let rest = turns-refine links env step.1 t step.0 result truth parts.1 step.3 so in
+    let both = both-so conjunct.operation combines.a combines.b step.0 truth parts.0 combines.result_is rest.0 in
+    let right_so : is_so combines.right ≡ truth = ap is_so combines.b_is ∙ both.1 in
+    (ap is_so combines.left_is ∙ both.0,
+    λ variables state known.
+    let one : Knows variables env (conjunct.right.refined truth state) s.store =
+    subst (λ (b : Bool). Knows variables env (conjunct.right.refined b state) s.store) right_so (combines.right_is.refines variables state known) in
+    subst (λ (store : Store). Knows variables env (all_refined truth (conjuncts_of links) (conjunct.right.refined truth state)) store) combines.store_is
+    (rest.1 variables (conjunct.right.refined truth state)
+    (subst (λ (store : Store). Knows variables env (conjunct.right.refined truth state) store) (sym combines.store_is) one)))
+
+-- a single operator
+single-known : (links : List ProvedLink) (env : Environment) (s t : effect.State) (left result : Value) (form : Form) → turns links env left s ≡ Gives result t
+    → IsForm form (moment env s.store) left → (variables : ℕ) (state : State) → Knows variables env state s.store
+    → Knows variables env (single_refined (is_so result) form (conjuncts_of links) state) s.store
+single-known [] env s t left result form is form_is variables state known = known
+single-known (link ∷ []) env s t left result form is form_is variables state known =
+    let step = then-gives (link_of link.0 env left s) (turns [] env) result t is in
+    let combines = link.1 env s step.1 left step.0 step.2 in
+    let conjunct = conjunct_of link.0 in
+    let m = moment env s.store in
+    let same : step.0 ≡ result = (given-same step.0 result step.1 t step.3).0 in
+    operation-known variables env s.store conjunct.operation form conjunct.right.form combines.a combines.b result state
+    (subst (IsForm form m) combines.left_is form_is) (subst (IsForm conjunct.right.form m) combines.b_is combines.right_is.form_is)
+    (subst (IsResult conjunct.operation combines.a combines.b) same combines.result_is) known
+single-known (link ∷ next ∷ links) env s t left result form is form_is variables state known = known
+
+-- ---- forms of chains
+
+constant-is : (form : Form) (moment : Moment) (b k : ℤ) → IsForm form moment (Number b) → constant_of form ≡ Some k → b ≡ k
+constant-is (Literal n) moment b k is found = cc
+constant-is (Signed n) moment b k is found = cc
+constant-is (Entire root) moment b k is found = absurd (cc)
+constant-is (Moved root n) moment b k is found = absurd (cc)
+constant-is Other moment b k is found = absurd (cc)
+
+negative-is : (found : Option ℤ) (b k : ℤ) → ((n : ℤ) → found ≡ Some n → b ≡ n) → negative found ≡ Some k → neg_ℤ b ≡ k
+negative-is None b k is negated = absurd (cc)
+negative-is (Some n) b k is negated = ap neg_ℤ (is n refl) ∙ integer-is (neg_ℤ n) k negated
+
+moved-form : (root : ℕ) (found : Option ℤ) (moment : Moment) (a : ℤ) (w : Value) → HasNumber moment root a → ((k : ℤ) → found ≡ Some k → w ≡ Number (a +ℤ k))
+    → IsForm (moved_form root found) moment w
+moved-form root None moment a w has is = tt
+moved-form root (Some k) moment a w has is = (a, has, is k refl)
+
+offset-form : (root : ℕ) (operation : Dyadic) (form : Form) (moment : Moment) (a b : ℤ) (w : Value) → HasNumber moment root a
+    → IsForm form moment (Number b) → IsResult operation a b w → IsForm (offset_form root operation (constant_of form)) moment w
+offset-form root (dyadic.Plus overflow) form moment a b w has form_is is =
+    moved-form root (constant_of form) moment a w has
+    (λ k found. is ∙ ap (λ (n : ℤ). Number (a +ℤ n)) (constant-is form moment b k form_is found))
+offset-form root (dyadic.Minus overflow) form moment a b w has form_is is =
+    moved-form root (negative (constant_of form)) moment a w has
+    (λ k found.
+    let negated : neg_ℤ b ≡ k = negative-is (constant_of form) b k (λ n one. constant-is form moment b n form_is one) found in
+    is ∙ ap Number (let sum : (a -ℤ b) ≡ (a +ℤ k) = omega (arith, ints, negated) in sum))
+offset-form root (dyadic.Times overflow) form moment a b w has form_is is = tt
+offset-form root (dyadic.Div by_zero) form moment a b w has form_is is = tt
+offset-form root (dyadic.Mod by_zero_or_less) form moment a b w has form_is is = tt
+offset-form root dyadic.And form moment a b w has form_is is = tt
+offset-form root dyadic.Or form moment a b w has form_is is = tt
+offset-form root (dyadic.Relation r) form moment a b w has form_is is = tt
+
+abbrev chain_of : Form → List ProvedLink → Form
+chain_of form links = chain_form form (map operand_of (conjuncts_of links))
+
+chain-form : (links : List ProvedLink) (form : Form) (env : Environment) (s t : effect.State) (left result : Value) → turns links env left s ≡ Gives result t
+    → IsForm form (moment env s.store) left → IsForm (chain_of form links) (moment env s.store) result
+chain-form links (Literal n) env s t left result is form_is = tt
+chain-form links (Signed n) env s t left result is form_is = tt
+chain-form links (Moved root k) env s t left result is form_is = tt
+chain-form links Other env s t left result is form_is = tt
+chain-form [] (Entire root) env s t left result is form_is = tt
+chain-form (link ∷ next ∷ links) (Entire root) env s t left result is form_is = tt
+chain-form (link ∷ []) (Entire root) env s t left result is form_is =
+    let step = then-gives (link_of link.0 env left s) (turns [] env) result t is in
+    let combines = link.1 env s step.1 left step.0 step.2 in
+    let conjunct = conjunct_of link.0 in
+    let m = moment env s.store in
+    let same : step.0 ≡ result = (given-same step.0 result step.1 t step.3).0 in
+    subst (IsForm (offset_form root conjunct.operation (constant_of conjunct.right.form)) m) same
+    (offset-form root conjunct.operation conjunct.right.form m combines.a combines.b step.0 (form_is ∙ ap Some combines.left_is)
+    (subst (IsForm conjunct.right.form m) combines.b_is combines.right_is.form_is) combines.result_is)
+
+-- ---- the forms of expressions
+
+fetch-gives : (found : Option Value) (site : ℕ) (s t : effect.State) (v : Value) → effect.fetched found site s ≡ Gives v t → (found ≡ Some v) × (s ≡ t)
+fetch-gives None site s t v is = absurd (cc)
+fetch-gives (Some w) site s t v is = let same = given-same w v s t is in (ap Some same.0, same.1)
+
+held-part : (store : Store) (found : Option Place) → part_of store found [] ≡ held store found
+held-part store None = refl
+held-part store (Some p) = entire-stored store p
+
+not-not : (b : Bool) → not (not b) ≡ b
+not-not true = refl
+not-not false = refl
+
+monadic-known : (operation : Monadic) (condition : Condition) (variables : ℕ) (env : Environment) (store : Store) (n : ℤ) (w : Value) (s t : effect.State)
+    → ((state : State) → Knows variables env state store → Knows variables env (condition.refined (is_true n) state) store)
+    → meaning.operated operation (Number n) s ≡ Gives w t → (state : State) → Knows variables env state store
+    → Knows variables env (monadic_refined operation condition (is_so w) state) store
+monadic-known monadic.Not condition variables env store n w s t refines is state known =
+    let same = (given-same (Number (truth (not (is_true n)))) w s t is).0 in
+    let swapped : is_true n ≡ not (is_so w) =
+    sym (not-not (is_true n)) ∙ ap not (sym (truth-is (not (is_true n)))) ∙ ap (λ (v : Value). not (is_so v)) same in
+    subst (λ (b : Bool). Knows variables env (condition.refined b state) store) swapped (refines state known)
+monadic-known monadic.Plus condition variables env store n w s t refines is state known = known
+monadic-known monadic.Minus condition variables env store n w s t refines is state known = known
+monadic-known monadic.Abs condition variables env store n w s t refines is state known = known
+monadic-known (monadic.Sqr overflow) condition variables env store n w s t refines is state known = known
+monadic-known monadic.Odd condition variables env store n w s t refines is state known = known
+
+monadic-evaluates : (operation : Monadic) (condition : Condition) (env : Environment) (s u t : effect.State) (a w : Value)
+    → Evaluates env condition s.store u.store a → meaning.operated operation a u ≡ Gives w t
+    → Evaluates env (record { form = sign_form condition.form operation; refined = monadic_refined operation condition }) s.store t.store w
+monadic-evaluates operation condition env s u t (Number n) w one is = record {
+  store_is = ap (λ (x : effect.State). x.store) (operated-kept operation (Number n) w u t is) ∙ one.store_is;
+  form_is = sign-form condition.form operation (moment env s.store) n w u t one.form_is is;
+  refines = λ variables state known.
+      monadic-known operation condition variables env s.store n w u t (λ state known. one.refines variables state known) is state known;
+}
+
+chain-evaluates : (first : Condition) (links : List ProvedLink) (env : Environment) (s u t : effect.State) (left result : Value)
+    → Evaluates env first s.store u.store left → turns links env left u ≡ Gives result t
+    → Evaluates env (record { form = chain_of first.form links; refined = chain_refined first (conjuncts_of links) }) s.store t.store result
+chain-evaluates first links env s u t left result one is =
+    let conjuncts = conjuncts_of links in
+    let back = sym one.store_is in
+    let truth = is_so result in
+    record {
+      store_is = turns-kept links env u t left result is ∙ one.store_is;
+      form_is =
+          subst (λ (store : Store). IsForm (chain_of first.form links) (moment env store) result) one.store_is
+          (chain-form links first.form env u t left result is (subst (λ (store : Store). IsForm first.form (moment env store) left) back one.form_is));
+      refines = λ variables state known.
+          let Here = λ (state : State). Knows variables env state s.store in
+          cond_both (list_all (λ conjunct. takes_both truth conjunct.operation) conjuncts) (all_refined truth conjuncts (first.refined truth state))
+          (single_refined truth first.form conjuncts state) Here
+          (λ takes.
+          let rest = turns-refine links env u t left result truth takes is refl in
+          let after_first : Here (first.refined truth state) =
+          subst (λ (b : Bool). Here (first.refined b state)) rest.0 (one.refines variables state known) in
+          subst (λ (store : Store). Knows variables env (all_refined truth conjuncts (first.refined truth state)) store) one.store_is
+          (rest.1 variables (first.refined truth state) (subst (λ (store : Store). Knows variables env (first.refined truth state) store) back after_first)))
+          (λ single.
+          subst (λ (store : Store). Knows variables env (single_refined truth first.form conjuncts state) store) one.store_is
+          (single-known links env u t left result first.form is (subst (λ (store : Store). IsForm first.form (moment env store) left) back one.form_is)
+          variables state (subst (λ (store : Store). Knows variables env state store) back known)));
+    }
+
+evaluated-same : (env : Environment) (condition : Condition) (before after : Store) (v : Value) → Evaluates env condition before after v
+    → Evaluates env condition before before v
+evaluated-same env condition before after v one = record { store_is = refl; form_is = one.form_is; refines = one.refines }
+
+link-combines : (operation : Dyadic) (condition : Condition) (env : Environment) (s u t : effect.State) (left right result : Value)
+    → Evaluates env condition s.store u.store right → meaning.combined operation left right u ≡ Gives result t
+    → Combines env (record { operation = operation; right = condition }) s.store t.store left result
+link-combines operation condition env s u t (Number a) (Number b) result one is =
+    let gives = combined-gives operation a b result u t is in
+    record {
+      store_is = ap (λ (x : effect.State). x.store) gives.1 ∙ one.store_is;
+      right = Number b;
+      right_is = evaluated-same env condition s.store u.store (Number b) one;
+      a = a;
+      b = b;
+      left_is = refl;
+      b_is = refl;
+      result_is = gives.0;
+    }
+
+-- a layer of an expression, of which the parts are proved
+abbrev ExprLayer : Expr-F Expr Link → Type 0
+ExprLayer x =
+    EvaluatesAs (meaning.value_step (map-Expr Expr Link Evaluation meaning.Combination value_of link_of x))
+    (condition_step (map-Expr Expr Link Condition Conjunct condition_of conjunct_of x))
+
+abbrev LinkLayer : Link-F Expr Link → Type 0
+LinkLayer x =
+    CombinesAs (meaning.link_step (map-Link Expr Link Evaluation meaning.Combination value_of link_of x))
+    (link_condition (map-Link Expr Link Condition Conjunct condition_of conjunct_of x))
+
+abbrev entered : ℕ → Environment → effect.State → effect.State
+entered number env s =
+    record s { visited = s.visited ++ record { number = number; environment = env; store = s.store } ∷ [] }
+
+value-layer : (y : Expr-F ProvedExpr ProvedLink) → ExprLayer (map-Expr ProvedExpr ProvedLink Expr Link (λ e. e.0) (λ l. l.0) y)
+value-layer (Constant number value) env s t v is =
+    let same = given-same (Number value) v (entered number env s) t is in
+    record {
+      store_is = ap (λ (x : effect.State). x.store) (sym same.1);
+      form_is = sym same.0;
+      refines = λ variables state known. known;
+    }
+value-layer (Variable access defined) env s t v is =
+    let fetched = fetch-gives (held s.store (env access.root)) defined (entered access.number env s) t v is in
+    record {
+      store_is = ap (λ (x : effect.State). x.store) (sym fetched.1);
+      form_is = held-part s.store (env access.root) ∙ fetched.0;
+      refines = λ variables state known. known;
+    }
+value-layer (MonadicOf number operation operand) env s t v is =
+    let start = entered number env s in
+    let step = then-gives (value_of operand.value.0 env start) (meaning.operated operation) v t is in
+    monadic-evaluates operation (condition_of operand.value.0) env start step.1 t step.0 v (operand.value.1 env start step.1 step.0 step.2) step.3
+value-layer (Chain first rest) env s t v is =
+    let step = then-gives (value_of first.value.0 env s) (turns rest.items env) v t is in
+    chain-evaluates (condition_of first.value.0) rest.items env s step.1 t step.0 v (first.value.1 env s step.1 step.0 step.2) step.3
+
+link-layer : (y : Link-F ProvedExpr ProvedLink) → LinkLayer (map-Link ProvedExpr ProvedLink Expr Link (λ e. e.0) (λ l. l.0) y)
+link-layer y env s t left result is =
+    let start = entered y.number env s in
+    let step = then-gives (value_of y.operand.0 env start) (meaning.combined y.operation left) result t is in
+    link-combines y.operation (condition_of y.operand.0) env start step.1 t left step.0 result (y.operand.1 env start step.1 step.0 step.2) step.3
+
+rolled-expr : (x : Expr-F Expr Link) → ExprLayer x → EvaluatesAs (value_of (roll-Expr x)) (condition_of (roll-Expr x))
+rolled-expr x layer =
+    subst (λ (e : Evaluation). EvaluatesAs e (condition_of (roll-Expr x))) (sym (fold-roll-Expr Evaluation meaning.Combination meaning.value_step meaning.link_step x))
+    (subst (λ (c : Condition). EvaluatesAs (meaning.value_step (map-Expr Expr Link Evaluation meaning.Combination value_of link_of x)) c)
+    (sym (fold-roll-Expr Condition Conjunct condition_step link_condition x)) layer)
+
+rolled-link : (x : Link-F Expr Link) → LinkLayer x → CombinesAs (link_of (roll-Link x)) (conjunct_of (roll-Link x))
+rolled-link x layer =
+    subst (λ (e : meaning.Combination). CombinesAs e (conjunct_of (roll-Link x)))
+    (sym (fold-roll-Link Evaluation meaning.Combination meaning.value_step meaning.link_step x))
+    (subst (λ (c : Conjunct). CombinesAs (meaning.link_step (map-Link Expr Link Evaluation meaning.Combination value_of link_of x)) c)
+    (sym (fold-roll-Link Condition Conjunct condition_step link_condition x)) layer)
+
+pub evaluates : (e : Expr) → EvaluatesAs (value_of e) (condition_of e)
+evaluates =
+    ind-Expr (λ e. EvaluatesAs (value_of e) (condition_of e)) (λ l. CombinesAs (link_of l) (conjunct_of l))
+    (λ x y is. subst (λ (z : Expr-F Expr Link). EvaluatesAs (value_of (roll-Expr z)) (condition_of (roll-Expr z))) is
+    (rolled-expr (map-Expr ProvedExpr ProvedLink Expr Link (λ e. e.0) (λ l. l.0) y) (value-layer y)))
+    (λ x y is. subst (λ (z : Link-F Expr Link). CombinesAs (link_of (roll-Link z)) (conjunct_of (roll-Link z))) is
+    (rolled-link (map-Link ProvedExpr ProvedLink Expr Link (λ e. e.0) (λ l. l.0) y) (link-layer y)))
+
+-- ---- what the walk uses
+
+-- an expression changes no variable
+pub expression-kept : (e : Expr) (env : Environment) (s t : effect.State) (v : Value) → value_of e env s ≡ Gives v t → t.store ≡ s.store
+expression-kept e env s t v is = (evaluates e env s t v is).store_is
+
+-- the value of an expression of a bound form is its bound
+pub form-known : (e : Expr) (env : Environment) (s t : effect.State) (v : Value) → value_of e env s ≡ Gives v t
+    → IsOfForm (moment env t.store) (bound_form e) v
+form-known e env s t v is =
+    let one = evaluates e env s t v is in
+    subst (λ (store : Store). IsOfForm (moment env store) (bound_form e) v) (sym one.store_is)
+    (form-bound (condition_of e).form (moment env s.store) v one.form_is)
+
+never-so : (range : Interval) (n : ℤ) → HasMember range n → is_true n ≡ true → never_true range ≡ true → ⊥
+never-so range n inside is never =
+    let parts = and_parts (int_eq range.first (pos 0)) (int_eq range.last (pos 0)) never in
+    let first : range.first ≡ pos 0 = grind (arith, ints, parts.0) in
+    let last : range.last ≡ pos 0 = grind (arith, ints, parts.1) in
+    let low = inside.0 in
+    let high = inside.1 in
+    let zero : n ≡ pos 0 = omega (arith, ints) in
+    let so : not (int_eq (pos 0) (pos 0)) ≡ true = ap is_true (sym zero) ∙ is in
+    cc
+
+always-so : (range : Interval) (n : ℤ) → HasMember range n → is_true n ≡ false → always_true range ≡ true → ⊥
+always-so range n inside is always =
+    let zero : n ≡ pos 0 = grind (arith, ints) in
+    let low = inside.0 in
+    let high = inside.1 in
+    let has : has_number range (pos 0) ≡ true = grind (arith, ints) in
+    let none : not (has_number range (pos 0)) ≡ false = ap not has in
+    cc
+
+-- a truth value isn't excluded by the range of the condition
+excluded-known : (variables : ℕ) (env : Environment) (store : Store) (n : ℤ) (truth : Bool) (range : Interval) (state : State) → HasMember range n
+    → is_true n ≡ truth → Knows variables env state store → Knows variables env (unless_excluded truth range state) store
+excluded-known variables env store n true range state inside is known =
+    cond_both (never_true range) Dead state (λ state. Knows variables env state store) (λ never. absurd (never-so range n inside is never)) (λ may. known)
+excluded-known variables env store n false range state inside is known =
+    cond_both (always_true range) Dead state (λ state. Knows variables env state store) (λ always. absurd (always-so range n inside is always)) (λ may. known)
+
+-- what is known of the branch that is taken
+pub branched-known : (variables : ℕ) (env : Environment) (condition : Expr) (s t : effect.State) (v : Value) (range : Interval) (state : State)
+    → value_of condition env s ≡ Gives v t → IsIn range v → Knows variables env state t.store
+    → Knows variables env (branched (is_so v) condition range state) t.store
+branched-known variables env condition s t (Number n) range state is inside known =
+    let one = evaluates condition env s t (Number n) is in
+    let taken = unless_excluded (is_true n) range state in
+    let here : Knows variables env taken t.store = excluded-known variables env t.store n (is_true n) range state inside refl known in
+    subst (λ (store : Store). Knows variables env (refined (is_true n) condition taken) store) (sym one.store_is)
+    (one.refines variables taken (subst (λ (store : Store). Knows variables env taken store) one.store_is here))

@@ -1,0 +1,75 @@
+-- Bound forms: expressions that are a constant, perhaps with a sign, or a variable, or a variable plus or minus such a
+-- constant (ISO 7185:1990, 6.7.1, 6.7.2.2). It says nothing of expressions that have the same value in another form.
+use Rattle.std.specs.Prelude.{ℕ, ℤ, pos, neg_ℤ, List, [], ◌∷◌, Option, Some, None}
+use Rattle.typed_tree.specs.declared.tree.Monadic.{Monadic}
+use Rattle.typed_tree.specs.declared.tree.Monadic.TheVariants as monadic
+use Rattle.typed_tree.specs.declared.tree.Dyadic.{Dyadic}
+use Rattle.typed_tree.specs.declared.tree.Dyadic.TheVariants as dyadic
+use Rattle.domain.specs.Facts.{Bound, Number, Plus}
+use Rattle.meaning.specs.Integers.{integer_or_none}
+
+-- the form of an expression, as far as it is part of a bound form
+pub data Form : Type 0 where
+  -- a constant without a sign, and with one
+  Literal : ℤ → Form
+  Signed : ℤ → Form
+  Entire : ℕ → Form
+  -- a variable plus a number
+  Moved : ℕ → ℤ → Form
+  Other : Form
+
+-- an operator and the form of its right operand
+pub record Operand : Type 0 where
+  pub operation : Dyadic
+  pub form : Form
+
+-- a number, if it is one of integer
+abbrev pub signed : Option ℤ → Form
+signed None = Other
+signed (Some n) = Signed n
+
+-- a sign before a constant that has none
+abbrev pub signed_literal : Monadic → ℤ → Form
+signed_literal monadic.Plus n = Signed n
+signed_literal monadic.Minus n = signed (integer_or_none (neg_ℤ n))
+signed_literal operation n = Other
+
+-- an operation on one operand
+abbrev pub sign_form : Form → Monadic → Form
+sign_form (Literal n) operation = signed_literal operation n
+sign_form form operation = Other
+
+-- the number of a constant
+abbrev pub constant_of : Form → Option ℤ
+constant_of (Literal n) = Some n
+constant_of (Signed n) = Some n
+constant_of form = None
+
+-- a variable plus a number, if it is one of integer
+abbrev pub moved_form : ℕ → Option ℤ → Form
+moved_form root None = Other
+moved_form root (Some n) = Moved root n
+
+-- the negative of a number, if it is one of integer
+abbrev pub negative : Option ℤ → Option ℤ
+negative None = None
+negative (Some n) = integer_or_none (neg_ℤ n)
+
+-- a variable and an operator behind it
+abbrev pub offset_form : ℕ → Dyadic → Option ℤ → Form
+offset_form root (dyadic.Plus overflow) constant = moved_form root constant
+offset_form root (dyadic.Minus overflow) constant = moved_form root (negative constant)
+offset_form root operation constant = Other
+
+-- the first operand of a chain, and its operators
+abbrev pub chain_form : Form → List Operand → Form
+chain_form (Entire root) (link ∷ []) = offset_form root link.operation (constant_of link.form)
+chain_form first links = Other
+
+-- the bound of a form, if it is a bound form
+abbrev pub bound_of : Form → Option Bound
+bound_of (Literal n) = Some (Number n)
+bound_of (Signed n) = Some (Number n)
+bound_of (Entire root) = Some (Plus root (pos 0))
+bound_of (Moved root n) = Some (Plus root n)
+bound_of Other = None
