@@ -26,8 +26,11 @@ use Rattle.domain.specs.Interval.{Interval}
 use Rattle.abstract_state.specs.declared.state.State.{State as Kept}
 use Rattle.abstract_state.specs.declared.known.Known.TheVariants.{Ordinal}
 use Rattle.abstract_state.specs.View.{viewed}
-use Rattle.abstract_state.specs.State.{State, Dead, Live, is_defined, joined_states, limits_of, range_of, with_defined, with_value}
-use Rattle.cert_checker.specs.Walk.{Breach, Context, Linked, Walked, Walking, use_of, tested, positive, within, width_test, assign, fitting, ◌>>=◌, give, ordinal, enter, variable_walk, operated, combined, in_turn, value_walk, link_walk, parameter_walk, statement_walk, all_of, assignment, branches, where_so, numbers_of}
+use Rattle.abstract_state.specs.Changes.{assigned}
+use Rattle.abstract_state.specs.Conditions.{bound_form}
+use Rattle.domain.specs.Facts.{Bound}
+use Rattle.abstract_state.specs.State.{State, Dead, Live, is_defined, joined_states, limits_of, range_of, with_defined}
+use Rattle.cert_checker.specs.Walk.{Breach, Context, Linked, Walked, Walking, use_of, tested, positive, within, width_test, assign, change, fitting, ◌>>=◌, give, ordinal, enter, variable_walk, operated, combined, in_turn, value_walk, link_walk, parameter_walk, statement_walk, all_of, assignment, branches, where_so, numbers_of}
 use Rattle.cert_checker.specs.View.{context_of, all_counted, counted, else_walk, IsMoved, Meets, Parts, Walks, Goes}
 use Rattle.cert_checker.specs.Promise.{first_breach, IsBreachOf}
 
@@ -55,7 +58,7 @@ pub statement-Empty : (number : ℕ) → statement_walk (stmt.Empty number) ≡ 
 statement-Empty number = search (rules, stmt_lemmas)
 
 pub statement-Assign : (number : ℕ) (becomes : SourcePlace) (target : Access) (fits : RangeTest) (value : Expr)
-    → statement_walk (stmt.Assign number becomes target fits value) ≡ (enter number >>= λ _. assignment target fits value)
+    → statement_walk (stmt.Assign number becomes target fits value) ≡ (enter number >>= λ _. assignment becomes target fits value)
 statement-Assign number becomes target fits value = search (rules, stmt_lemmas)
 
 pub statement-Write : (number : ℕ) (name : SourcePlace) (parameters : Vec WriteParameter Global) (ends_line : Bool)
@@ -68,7 +71,7 @@ statement-Compound number statements = search (rules, stmt_lemmas)
 
 pub statement-If : (number : ℕ) (condition : Expr) (consequence : Box Stmt Global) (alternative : Option (Box Stmt Global))
     → statement_walk (stmt.If number condition consequence alternative)
-    ≡ (enter number >>= λ _. (value_walk condition >>= branches (statement_walk consequence.value) (else_walk alternative)))
+    ≡ (enter number >>= λ _. (value_walk condition >>= branches condition (statement_walk consequence.value) (else_walk alternative)))
 statement-If number condition consequence None = search (rules, stmt_lemmas)
 statement-If number condition consequence (Some statement) = search (rules, stmt_lemmas)
 
@@ -253,22 +256,24 @@ use-walks root site closed range value old new state before after closed_is rang
     }
 
 -- an assignment changes nothing but the state
-pub assign-walks : (root : ℕ) (known : Known) (range : Interval) (old : Walk) (state : Kept) (visits : Visits) → known ≡ Ordinal range
-    → viewed state ≡ with_value root range (viewed old.state)
-    → Walks (assign root known) old visits (record old { state = state }) visits tt
-assign-walks root known range old state visits known_is is =
-    subst (λ k. Walks (assign root k) old visits (record old { state = state }) visits tt) (sym known_is)
+pub assign-walks : (root : ℕ) (form : Option Bound) (known : Known) (range : Interval) (old : Walk) (state : Kept) (visits : Visits) → known ≡ Ordinal range
+    → viewed state ≡ assigned root range form (viewed old.state)
+    → Walks (assign root form known) old visits (record old { state = state }) visits tt
+assign-walks root form known range old state visits known_is is =
+    subst (λ k. Walks (assign root form k) old visits (record old { state = state }) visits tt) (sym known_is)
     (record { context_is = refl; value_is = refl; state_is = is; open_is = sym (append-nil old.open_ids.items); visits_are = refl; unbroken = refl })
 
 -- an assignment from its target's entry on
-pub assignment-done : (target : Access) (fits : RangeTest) (value : Expr) (old entered valued : Walk) (before entries after : Visits)
+pub assignment-done : (becomes : SourcePlace) (target : Access) (fits : RangeTest) (value : Expr) (old entered valued : Walk) (before entries after : Visits)
     (known : Known) (result : Result (Unit {0}) CheckFault) (new : Walk)
     → Walks (enter target.number) old before entered entries tt → Walks (value_walk value) entered entries valued after known
-    → Goes (fitting fits known >>= assign target.root) valued after result new after → Goes (assignment target fits value) old before result new after
-assignment-done target fits value old entered valued before entries after known result new one two three =
-    goes-then (enter target.number) (λ _. value_walk value >>= λ known. (fitting fits known >>= assign target.root)) old entered new before entries after
-    tt result one
-    (goes-then (value_walk value) (λ known. fitting fits known >>= assign target.root) entered valued new entries after after known result two three)
+    → Goes (fitting fits known >>= λ passed. (change becomes target.root fits.range >>= λ _. assign target.root (bound_form value) passed)) valued after
+    result new after
+    → Goes (assignment becomes target fits value) old before result new after
+assignment-done becomes target fits value old entered valued before entries after known result new one two three =
+    let rest = λ (known : Known). fitting fits known >>= λ passed. (change becomes target.root fits.range >>= λ _. assign target.root (bound_form value) passed) in
+    goes-then (enter target.number) (λ _. value_walk value >>= rest) old entered new before entries after tt result one
+    (goes-then (value_walk value) rest entered valued new entries after after known result two three)
 
 pub use-stopped : (root site : ℕ) (old new : Walk) (before after : Visits) (closed : Bool) (range : Interval) (state : Kept) (fault : CheckFault)
     → IsBreachOf (tested closed site range (context_of old) (viewed state)) fault → Goes (use_of root site) old before (Err fault) new after
@@ -344,18 +349,18 @@ moved-same walking state old new moved =
     ap (λ context. walking context (viewed new.state)) (ap context_of moved.only_state) ∙ ap (walking (context_of old)) moved.says
 
 -- the ways of two branches, and where they meet
-pub branches-walk : (true_walk false_walk : Walking (Unit {0})) (known : Known) (old taken mid start done new : Walk) (before between after : Visits)
-    → IsMoved (where_so true known (viewed old.state)) old taken → Walks true_walk taken before mid between tt
-    → IsMoved (where_so false known (viewed old.state)) mid start → Walks false_walk start between done after tt
+pub branches-walk : (condition : Expr) (true_walk false_walk : Walking (Unit {0})) (known : Known) (old taken mid start done new : Walk) (before between after : Visits)
+    → IsMoved (where_so true condition known (viewed old.state)) old taken → Walks true_walk taken before mid between tt
+    → IsMoved (where_so false condition known (viewed old.state)) mid start → Walks false_walk start between done after tt
     → IsMoved (joined_states (viewed mid.state) (viewed done.state)) done new
-    → Walks (branches true_walk false_walk known) old before new after tt
-branches-walk true_walk false_walk known old taken mid start done new before between after to_yes one to_no two met =
-    let first : Walked (Unit {0}) = true_walk (context_of old) (where_so true known (viewed old.state)) in
-    let second : Walked (Unit {0}) = false_walk (context_of old) (where_so false known (viewed old.state)) in
-    let first_same = moved-same true_walk (where_so true known (viewed old.state)) old taken to_yes in
+    → Walks (branches condition true_walk false_walk known) old before new after tt
+branches-walk condition true_walk false_walk known old taken mid start done new before between after to_yes one to_no two met =
+    let first : Walked (Unit {0}) = true_walk (context_of old) (where_so true condition known (viewed old.state)) in
+    let second : Walked (Unit {0}) = false_walk (context_of old) (where_so false condition known (viewed old.state)) in
+    let first_same = moved-same true_walk (where_so true condition known (viewed old.state)) old taken to_yes in
     let context : context_of mid ≡ context_of old = one.context_is ∙ ap context_of to_yes.only_state in
     let second_same : false_walk (context_of start) (viewed start.state) ≡ second =
-    moved-same false_walk (where_so false known (viewed old.state)) mid start to_no ∙ ap (λ x. false_walk x (where_so false known (viewed old.state))) context in
+    moved-same false_walk (where_so false condition known (viewed old.state)) mid start to_no ∙ ap (λ x. false_walk x (where_so false condition known (viewed old.state))) context in
     let first_after = one.state_is ∙ ap (λ w. w.after) first_same in
     let second_after = two.state_is ∙ ap (λ w. w.after) second_same in
     let first_open = one.open_is ∙ ap (λ (w : Walk). w.open_ids.items ++ (true_walk (context_of taken) (viewed taken.state)).open_ids) to_yes.only_state
@@ -376,45 +381,45 @@ branches-walk true_walk false_walk known old taken mid start done new before bet
     }
 
 -- where the ways meet, or no memory is found there
-pub branches-done : (true_walk false_walk : Walking (Unit {0})) (known : Known) (old taken mid start done new : Walk) (before between after : Visits)
+pub branches-done : (condition : Expr) (true_walk false_walk : Walking (Unit {0})) (known : Known) (old taken mid start done new : Walk) (before between after : Visits)
     (behind otherwise : Kept) (result : Result (Unit {0}) CheckFault)
-    → Parts known old (Ok otherwise) taken → Walks true_walk taken before mid between tt
+    → Parts condition known old (Ok otherwise) taken → Walks true_walk taken before mid between tt
     → behind ≡ mid.state → start.state ≡ otherwise → start ≡ record mid { state = start.state } → Walks false_walk start between done after tt
     → Meets behind done result new
-    → Goes (branches true_walk false_walk known) old before result new after
-branches-done true_walk false_walk known old taken mid start done new before between after behind otherwise (Ok value) parts one behind_is replaced only two
+    → Goes (branches condition true_walk false_walk known) old before result new after
+branches-done condition true_walk false_walk known old taken mid start done new before between after behind otherwise (Ok value) parts one behind_is replaced only two
     met =
-    let to_no : IsMoved (where_so false known (viewed old.state)) mid start = record { only_state = only; says = ap viewed replaced ∙ parts.1 } in
-    branches-walk true_walk false_walk known old taken mid start done new before between after parts.0 one to_no two
+    let to_no : IsMoved (where_so false condition known (viewed old.state)) mid start = record { only_state = only; says = ap viewed replaced ∙ parts.1 } in
+    branches-walk condition true_walk false_walk known old taken mid start done new before between after parts.0 one to_no two
     (subst (λ (s : Kept). IsMoved (joined_states (viewed s) (viewed done.state)) done new) behind_is met)
-branches-done true_walk false_walk known old taken mid start done new before between after behind otherwise (Err fault) parts one behind_is replaced only two
+branches-done condition true_walk false_walk known old taken mid start done new before between after behind otherwise (Err fault) parts one behind_is replaced only two
     is =
-    subst (IsBreachOf (branches true_walk false_walk known (context_of old) (viewed old.state))) (sym is) tt
+    subst (IsBreachOf (branches condition true_walk false_walk known (context_of old) (viewed old.state))) (sym is) tt
 
 -- the checker gave up on the way where the condition is true
-pub branches-stopped : (true_walk false_walk : Walking (Unit {0})) (known : Known) (old taken new : Walk) (before after : Visits) (otherwise : Kept)
+pub branches-stopped : (condition : Expr) (true_walk false_walk : Walking (Unit {0})) (known : Known) (old taken new : Walk) (before after : Visits) (otherwise : Kept)
     (fault : CheckFault)
-    → Parts known old (Ok otherwise) taken → IsBreachOf (true_walk (context_of taken) (viewed taken.state)) fault
-    → Goes (branches true_walk false_walk known) old before (Err fault) new after
-branches-stopped true_walk false_walk known old taken new before after otherwise fault parts is =
-    let first : Walked (Unit {0}) = true_walk (context_of old) (where_so true known (viewed old.state)) in
-    let second : Walked (Unit {0}) = false_walk (context_of old) (where_so false known (viewed old.state)) in
-    breach-stays first second fault (branches true_walk false_walk known (context_of old) (viewed old.state)) refl
+    → Parts condition known old (Ok otherwise) taken → IsBreachOf (true_walk (context_of taken) (viewed taken.state)) fault
+    → Goes (branches condition true_walk false_walk known) old before (Err fault) new after
+branches-stopped condition true_walk false_walk known old taken new before after otherwise fault parts is =
+    let first : Walked (Unit {0}) = true_walk (context_of old) (where_so true condition known (viewed old.state)) in
+    let second : Walked (Unit {0}) = false_walk (context_of old) (where_so false condition known (viewed old.state)) in
+    breach-stays first second fault (branches condition true_walk false_walk known (context_of old) (viewed old.state)) refl
     (breach-same (true_walk (context_of taken) (viewed taken.state)) first fault
-    (ap (λ w. w.broken) (moved-same true_walk (where_so true known (viewed old.state)) old taken parts.0)) is)
+    (ap (λ w. w.broken) (moved-same true_walk (where_so true condition known (viewed old.state)) old taken parts.0)) is)
 
 -- a conditional statement from its entry on
 pub if-begun : (statement : Stmt) (number : ℕ) (condition : Expr) (consequence : Box Stmt Global) (alternative : Option (Box Stmt Global)) (inner : Stmt)
     (old entered valued new : Walk) (before between after end : Visits) (known : Known) (result : Result (Unit {0}) CheckFault)
     → statement ≡ stmt.If number condition consequence alternative → inner ≡ consequence.value
     → Walks (enter number) old before entered between tt → Walks (value_walk condition) entered between valued after known
-    → Goes (branches (statement_walk inner) (else_walk alternative) known) valued after result new end
+    → Goes (branches condition (statement_walk inner) (else_walk alternative) known) valued after result new end
     → Goes (statement_walk statement) old before result new end
 if-begun statement number condition consequence alternative inner old entered valued new before between after end known result is inner_is one two three =
-    let chosen = branches (statement_walk consequence.value) (else_walk alternative) in
+    let chosen = branches condition (statement_walk consequence.value) (else_walk alternative) in
     goes-as (statement_walk statement) (enter number >>= λ _. (value_walk condition >>= chosen)) old new before end result
     (ap statement_walk is ∙ statement-If number condition consequence alternative)
     (goes-then (enter number) (λ _. value_walk condition >>= chosen) old entered new before between end tt result one
     (goes-then (value_walk condition) chosen entered valued new between after end known result two
-    (goes-as (chosen known) (branches (statement_walk inner) (else_walk alternative) known) valued new after end result
-    (ap (λ s. branches (statement_walk s) (else_walk alternative) known) (sym inner_is)) three)))
+    (goes-as (chosen known) (branches condition (statement_walk inner) (else_walk alternative) known) valued new after end result
+    (ap (λ s. branches condition (statement_walk s) (else_walk alternative) known) (sym inner_is)) three)))

@@ -1,3 +1,4 @@
+pub mod Loops
 pub mod View
 pub mod Walk
 pub mod Promise

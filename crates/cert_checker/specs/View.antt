@@ -3,6 +3,7 @@
 use Rattle.std.specs.Prelude.{◌≡◌, ℕ, ◌+◌, ◌&&◌, true, false, List, [], ◌∷◌, ◌++◌, Option, Some, None, Result, Ok, Err, nat_eq}
 use Rattle.std.specs.declared.alloc.Global.{Global}
 use Rattle.std.specs.declared.boxed.Box.{Box}
+use Rattle.typed_tree.specs.declared.tree.Expr.{Expr}
 use Rattle.typed_tree.specs.declared.tree.Stmt.{Stmt}
 use Rattle.cert_checker.specs.declared.fault.CheckFault.{CheckFault}
 use Rattle.cert_checker.specs.declared.fault.CheckFault.TheVariants.{Memory}
@@ -27,7 +28,7 @@ all_counted (number ∷ numbers) visits = all_counted numbers (counted number vi
 
 -- what a walk of the checker goes by
 abbrev pub context_of : Walk → Context
-context_of walk = record { tree = walk.tree.now; certificate = walk.certificate.now }
+context_of walk = record { tree = walk.tree.now; certificate = walk.certificate.now; rounds = [] }
 
 -- the checker came from an old to a new point as the walk of a piece does, and has its value; it counted the entries of
 -- the piece; the piece breaks no rule
@@ -52,11 +53,11 @@ pub record IsMoved (state : State) (old new : Walk) : Type 0 where
   pub says : viewed new.state ≡ state
 
 -- the checker goes on where a condition is true, and has the state where it is false; or it found no memory
-abbrev pub Parts : Known → Walk → Result Kept CheckFault → Walk → Type 0
-Parts known old (Ok otherwise) new =
-    IsMoved (where_so true known (viewed old.state)) old new
-    × (viewed otherwise ≡ where_so false known (viewed old.state))
-Parts known old (Err fault) new = fault ≡ Memory
+abbrev pub Parts : Expr → Known → Walk → Result Kept CheckFault → Walk → Type 0
+Parts condition known old (Ok otherwise) new =
+    IsMoved (where_so true condition known (viewed old.state)) old new
+    × (viewed otherwise ≡ where_so false condition known (viewed old.state))
+Parts condition known old (Err fault) new = fault ≡ Memory
 
 -- the checker goes on where the way from an earlier state meets that to the present one; or it found no memory
 abbrev pub Meets : Kept → Walk → Result (Unit {0}) CheckFault → Walk → Type 0

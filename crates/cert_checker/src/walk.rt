@@ -1,5 +1,5 @@
 ghost use Rattle.std.specs.Prelude.{◌≡◌, [], map, IfOk, MatchResult};
-ghost use Rattle.cert_checker.specs.Walk.{enter, variable_walk, tested, within, positive, divisor, whole, operated, combined, value_walk, link_walk, width_test, width_walk, parameter_walk, all_of, fitting, assignment, of_truth, statement_walk, block_walk, program_walk};
+ghost use Rattle.cert_checker.specs.Walk.{enter, variable_walk, tested, within, positive, divisor, whole, operated, combined, value_walk, link_walk, width_test, width_walk, parameter_walk, all_of, fitting, assignment, statement_walk, block_walk, program_walk};
 ghost use Rattle.typed_tree.specs.Entries.{entries_of};
 ghost use Rattle.cert_checker.specs.View.{Goes, Meets, Parts, all_counted, else_walk};
 ghost use Rattle.cert_checker.specs.Promise.{IsBreachOf};
@@ -7,6 +7,7 @@ ghost use Rattle.cert_checker.specs.Promise.{IsBreachOf};
 use crate::fault::CheckFault;
 use crate::visits::Visits;
 use abstract_state::{Known, State, limits};
+use place::Place;
 use certificate::Certificate;
 use domain::Domain;
 use domain::interval::Interval;
@@ -77,13 +78,13 @@ impl<'a> Walk<'a> {
             Stmt::Empty { number } => self.enter(*number, visits),
             Stmt::Assign {
                 number,
+                becomes,
                 target,
                 fits,
                 value,
-                ..
             } => {
                 self.enter(*number, visits)?;
-                self.assignment(*target, *fits, value, visits)
+                self.assignment(*becomes, *target, *fits, value, visits)
             }
             Stmt::Write {
                 number,
@@ -105,12 +106,14 @@ impl<'a> Walk<'a> {
             } => {
                 self.enter(*number, visits)?;
                 let known = self.expression(condition, visits)?;
-                let otherwise = self.part(known)?;
+                let otherwise = self.part(condition, known)?;
                 self.statement(consequence, visits)?;
                 let behind = mem::replace(&mut self.state, otherwise);
                 self.alternative(alternative, visits)?;
                 self.meet(behind)
             }
+            Stmt::While { .. } => Ok(()),
+            Stmt::Repeat { .. } => Ok(()),
         }
     }
 
@@ -143,12 +146,13 @@ impl<'a> Walk<'a> {
     /// The value has to lie in the range of the target's type.
     fn assignment(
         &mut self,
+        becomes: Place,
         target: Access,
         fits: RangeTest,
         value: &Expr,
         visits: &mut Visits,
     ) -> Result<(), CheckFault>
-        ensures { Goes (assignment target fits value.now) self.old visits.old result self.new visits.new }
+        ensures { Goes (assignment becomes target fits value.now) self.old visits.old result self.new visits.new }
     {
         self.enter(target.number, visits)?;
         let known = self.expression(value, visits)?;
@@ -267,13 +271,13 @@ impl<'a> Walk<'a> {
 // Where a condition parts the walk, and where its ways meet.
 impl<'a> Walk<'a> {
     /// Goes on where a condition is true; the state where it is false.
-    fn part(&mut self, known: Known) -> Result<State, CheckFault>
-        ensures { Parts known self.old result self.new }
+    fn part(&mut self, condition: &Expr, known: Known) -> Result<State, CheckFault>
+        ensures { Parts condition.now known self.old result self.new }
     {
         let range = known.range();
         let mut otherwise = self.state.copied(self.alloc)?;
-        otherwise.unless_empty(of_truth(false, range));
-        self.state.unless_empty(of_truth(true, range));
+        otherwise.unless_empty(range);
+        self.state.unless_empty(range);
         Ok(otherwise)
     }
 
@@ -392,16 +396,5 @@ impl<'a> Walk<'a> {
         }
         self.state.unless_empty(passed);
         Ok(passed)
-    }
-}
-
-/// The numbers of a range that are true, or those that are false.
-fn of_truth(truth: bool, range: Interval) -> Interval
-    ensures { result ≡ of_truth truth range }
-{
-    if truth {
-        range.without_zero_end()
-    } else {
-        range.meet(&Interval::between(0, 0))
     }
 }
