@@ -1,1 +1,11 @@
-pub mod Lines
+pub mod Again
+pub mod Faults
+pub mod InOrder
+pub mod LastChanged
+pub mod Nested
+pub mod Numbers
+pub mod Numerals
+pub mod Reading
+pub mod Spelled
+pub mod TextLines
+pub mod Whole

@@ -1,1 +1,4 @@
+pub mod Lines
+pub mod Contents
 pub mod Text
+pub mod Building

@@ -1,20 +1,19 @@
--- Certificate texts: how a certificate is spelled, the lines of a text, and the first fault of a text that spells no
--- certificate. ISO 7185:1990 knows no certificates. It does not say what a certificate claims of a program.
-use Rattle.std.specs.Prelude.{ℕ, suc, Bool, true, false, if◌then◌else◌, ◌==◌, List, [], ◌∷◌, ◌++◌, Option, Some, None, codes}
+-- The lines of a text, and the first fault of one that is no certificate's. ISO 7185:1990 knows no certificates. It does
+-- not say what a certificate claims of a program.
+use Rattle.std.specs.Prelude.{ℕ, suc, Bool, true, false, not, ◌&&◌, if◌then◌else◌, ◌==◌, List, [], ◌∷◌, Option, Some, None, Result, Ok, Err, codes}
 use Rattle.std.specs.Str.{bytes_eq}
-use Rattle.certificate.specs.declared.Version.{Version}
+use Rattle.std.specs.Option.{is_some, is_none}
+use Rattle.std.specs.Ordering.{nat_cmp}
 use Rattle.certificate.specs.declared.Version.TheVariants.{One}
-use Rattle.certificate.specs.declared.Certificate.{Certificate}
+use Rattle.certificate.specs.declared.claim.Claim.{Claim}
+use Rattle.certificate.specs.declared.claim.Claim.TheVariants.{Block, Loop, Change, Fact}
+use Rattle.certificate.specs.declared.claim.LineFault.{LineFault}
+use Rattle.certificate.specs.declared.claim.LineFault.TheVariants as line
+use Rattle.certificate.specs.declared.order.Above.{Above}
 use Rattle.certificate.specs.declared.fault.ReadFault.{ReadFault}
-use Rattle.certificate.specs.declared.fault.ReadFault.TheVariants.{FirstLine, NotInGrammar, Unended}
-
--- the first line of a certificate of a version
-abbrev pub heading : Version → List ℕ
-heading One = codes "pcert 1"
-
--- the text of a certificate: its heading and a line end
-abbrev pub spelling : Certificate → List ℕ
-spelling c = heading c.version ++ 10 ∷ []
+use Rattle.certificate.specs.declared.fault.ReadFault.TheVariants.{FirstLine, NotInGrammar, OutOfOrder, OutOfRange, Unended}
+use Rattle.certificate.specs.Lines.{behind, is_number, reading}
+use Rattle.certificate.specs.Contents.{comes_behind, heading, subjects}
 
 -- a line of a text: its bytes, and whether byte 10 ends it
 pub record Line : Type 0 where
@@ -32,30 +31,86 @@ lines [] = []
 lines (byte ∷ more) =
     if byte == 10 then record { bytes = []; ended = true } ∷ lines more else with_front byte (lines more)
 
--- the fault of a line that has its end: only the heading may be the first, and no line may follow it
-abbrev pub ended_fault : ℕ → List ℕ → Option ReadFault
-ended_fault number bytes =
-    if number == 1 then (if bytes_eq bytes (heading One) then None else Some (FirstLine number))
-    else Some (NotInGrammar number)
+-- ---- where a line may stand
 
--- the fault of a line of the number: first that it has no end
-abbrev pub line_fault : ℕ → Line → Option ReadFault
-line_fault number line = if line.ended then ended_fault number line.bytes else Some (Unended number)
+-- below the heading of a text
+abbrev pub nothing : Above
+nothing = record { block = None; loop_number = None; change = None; fact = None }
+
+-- what the line stands below that follows a line
+abbrev pub below : Above → Claim → Above
+below above (Block number) = record { block = Some number; loop_number = None; change = None; fact = None }
+below above (Loop number) = record { block = above.block; loop_number = Some number; change = None; fact = None }
+below above (Change root) =
+    record { block = above.block; loop_number = above.loop_number; change = Some root; fact = above.fact }
+below above (Fact fact) =
+    record { block = above.block; loop_number = above.loop_number; change = above.change; fact = Some fact }
+
+-- blocks ascend, the loops of a block, and changes and facts of a loop, in which changes come first
+abbrev pub admits : Above → Claim → Bool
+admits above (Block number) = comes_behind nat_cmp above.block number
+admits above (Loop number) = is_some above.block && comes_behind nat_cmp above.loop_number number
+admits above (Change root) =
+    is_some above.loop_number && (is_none above.fact && comes_behind nat_cmp above.change root)
+admits above (Fact fact) = is_some above.loop_number && comes_behind subjects above.fact fact
+
+-- a line is in the grammar as a heading of the word, whatever its number
+abbrev pub is_heading_behind : Option (List ℕ) → Bool
+is_heading_behind None = false
+is_heading_behind (Some number) = is_number number
+
+abbrev pub is_heading : List ℕ → Line → Bool
+is_heading word line = line.ended && is_heading_behind (behind word line.bytes)
+
+-- a block's heading has a line below it, and so has a loop's
+abbrev pub has_below : Claim → List Line → Bool
+has_below (Block number) [] = false
+has_below (Block number) (next ∷ more) = not (is_heading (codes "proc ") next)
+has_below (Loop number) [] = false
+has_below (Loop number) (next ∷ more) = not (is_heading (codes "proc ") next) && not (is_heading (codes "loop ") next)
+has_below (Change root) more = true
+has_below (Fact fact) more = true
+
+-- ---- the first fault
+
+-- the fault of a line below the heading that says something, or says nothing
+abbrev pub claim_fault : ℕ → Above → Result Claim LineFault → List Line → Option ReadFault
+claim_fault number above (Err line.NotInGrammar) more = Some (NotInGrammar number)
+claim_fault number above (Err line.OutOfRange) more = Some (OutOfRange number)
+claim_fault number above (Ok claim) more =
+    if admits above claim && has_below claim more then None else Some (OutOfOrder number)
+
+-- the fault of a line below the heading: first that it has no end
+abbrev pub line_fault : ℕ → Above → Line → List Line → Option ReadFault
+line_fault number above line more =
+    if line.ended then claim_fault number above (reading line.bytes) more else Some (Unended number)
 
 -- one fault, or else another
 abbrev pub or_else : Option ReadFault → Option ReadFault → Option ReadFault
 or_else None other = other
 or_else (Some fault) other = Some fault
 
--- the fault of the first faulty line, the lines numbered from the number on
-abbrev pub fault_from : ℕ → List Line → Option ReadFault
-fault_from number [] = None
-fault_from number (line ∷ more) = or_else (line_fault number line) (fault_from (suc number) more)
+-- what the line stands below that follows a line, if that says something
+abbrev pub below_line : Above → Result Claim LineFault → Above
+below_line above (Ok claim) = below above claim
+below_line above (Err fault) = above
+
+-- the fault of the first faulty line below the heading, the lines numbered from the number on
+abbrev pub fault_from : ℕ → Above → List Line → Option ReadFault
+fault_from number above [] = None
+fault_from number above (line ∷ more) =
+    or_else (line_fault number above line more)
+    (fault_from (suc number) (below_line above (reading line.bytes)) more)
+
+-- the fault of a first line: first that it has no end
+abbrev pub heading_fault : Line → Option ReadFault
+heading_fault line =
+    if line.ended then (if bytes_eq line.bytes (heading One) then None else Some (FirstLine 1)) else Some (Unended 1)
 
 -- the fault of the first faulty line of a text; a text without lines lacks its first
 abbrev pub fault_of_lines : List Line → Option ReadFault
 fault_of_lines [] = Some (FirstLine 1)
-fault_of_lines (line ∷ more) = fault_from 1 (line ∷ more)
+fault_of_lines (line ∷ more) = or_else (heading_fault line) (fault_from 2 nothing more)
 
 abbrev pub first_fault : List ℕ → Option ReadFault
 first_fault text = fault_of_lines (lines text)

@@ -4,8 +4,8 @@ ghost use Rattle.certificate.specs.declared.fault.ReadFault.TheVariants.{Memory}
 use std::alloc::{AllocError, AllocFailed};
 use thiserror::Error;
 
-/// Why a text is no certificate. Lines are numbered from 1, in 64 bits since a text has no greatest length. F1, F2 and
-/// F5 are the codes that a user is told.
+/// Why a text is no certificate. Lines are numbered from 1, in 64 bits since a text has no greatest length. F1 to F5 are
+/// the codes that a user is told.
 #[derive(Clone, Copy, Debug, Error)]
 pub enum ReadFault {
     #[error("no memory")]
@@ -16,6 +16,12 @@ pub enum ReadFault {
     /// F2, a line that no certificate has.
     #[error("{line}: no line of a certificate")]
     NotInGrammar { line: u64 },
+    /// F3, a line that stands where it may not, or a heading with no line below it.
+    #[error("{line}: a line out of its place")]
+    OutOfOrder { line: u64 },
+    /// F4, a number out of its range.
+    #[error("{line}: a number out of its range")]
+    OutOfRange { line: u64 },
     /// F5, a last line without its line end.
     #[error("{line}: a line without its end")]
     Unended { line: u64 },

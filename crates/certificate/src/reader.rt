@@ -1,11 +1,16 @@
-ghost use Rattle.std.specs.Prelude.{◌≡◌, ◌≢◌, ◌↔◌, ◌==◌, List, [], ◌∷◌, MatchOption, position};
+ghost use Rattle.std.specs.Prelude.{◌≡◌, ◌≢◌, ◌==◌, ◌<◌, IsTrue, List, [], ◌∷◌, IfOk, length, MatchOption, position};
 ghost use Rattle.std.specs.Result.{result_err};
-ghost use Rattle.certificate.specs.Text.{Line as TextLine, lines, line_fault, spelling, first_fault};
-ghost use Rattle.certificate.specs.declared.Certificate.{Certificate};
+ghost use Rattle.certificate.specs.Building.{AreRead, IsClaimAt};
+ghost use Rattle.certificate.specs.Contents.{IsReadAs, Section as Said, Spells, are_in_order, spelling};
+ghost use Rattle.certificate.specs.Text.{Line as TextLine, first_fault, has_below, heading_fault, is_heading, lines};
+ghost use Rattle.certificate.specs.declared.Version.{Version as TextVersion};
 ghost use Rattle.certificate.specs.declared.fault.ReadFault.TheVariants.{Memory};
 
+use crate::building::add;
+use crate::claim::{Claim, LineFault, is_number, reading};
 use crate::fault::ReadFault;
-use crate::{Certificate, Version};
+use crate::order::Above;
+use crate::{Certificate, Section, Version};
 use std::alloc::Global;
 
 const HEADING: &[u8] = b"pcert 1";
@@ -20,28 +25,28 @@ struct Line<'a> {
 /// Reads a certificate text of any length.
 ///
 /// # Errors
-/// The first faulty line: F5 where it lacks its end, F1 where it is the first and no heading, F2 where it stands
-/// below the heading. A text without lines is F1 at line 1. Or `Memory`, once certificates have lines to keep: version
-/// 1 has none.
-pub fn read(_alloc: Global, text: &[u8]) -> Result<Certificate, ReadFault>
-    ensures exact { (c : Certificate) → (result ≡ Ok c) ↔ (text.now ≡ spelling c) }
+/// The first faulty line, and of its faults the first of these: F5 where it lacks its end, F1 where it is the first and no
+/// heading, F2 where no certificate has such a line, F4 where a number is out of its range, F3 where the line may not
+/// stand here or a heading has nothing below it. A text without lines is F1 at line 1. Or `Memory`.
+pub fn read(alloc: Global, text: &[u8]) -> Result<Certificate, ReadFault>
+    // The certificate is in order, and the text is its spelling.
+    ensures exact { IfOk result (Spells text.now) }
+    // A text that spells sections in order is read, unless memory runs out, and no other sections are answered.
+    ensures only { (version : TextVersion) (sections : List Said) → IsTrue (are_in_order sections)
+        → text.now ≡ spelling version sections → IsReadAs sections result }
     ensures fault { result_err result ≢ Some Memory → result_err result ≡ first_fault text.now }
-    // This holds as long as a certificate has no lines to keep.
-    ensures takes_no_memory { result_err result ≢ Some Memory }
 {
     let Some((first, below)) = next_line(text) else {
         return Err(ReadFault::FirstLine { line: 1 });
     };
     let version = heading(first)?;
-    match next_line(below) {
-        None => Ok(Certificate { version }),
-        Some((line, _)) => Err(fault_below(line)),
-    }
+    let sections = sections(alloc, below)?;
+    Ok(Certificate { version, sections })
 }
 
 /// The version that a first line names.
 fn heading(line: Line<'_>) -> Result<Version, ReadFault>
-    ensures { result_err result ≡ line_fault 1 (record { bytes = line.entry.bytes.now; ended = line.entry.ended }) }
+    ensures { result_err result ≡ heading_fault (record { bytes = line.entry.bytes.now; ended = line.entry.ended }) }
 {
     if !line.ended {
         return Err(ReadFault::Unended { line: 1 });
@@ -52,21 +57,85 @@ fn heading(line: Line<'_>) -> Result<Version, ReadFault>
     Ok(Version::One)
 }
 
-/// The fault of the second line: none may stand there.
-fn fault_below(line: Line<'_>) -> ReadFault
-    ensures { Some result ≡ line_fault 2 (record { bytes = line.entry.bytes.now; ended = line.entry.ended }) }
+/// What the lines below the heading say.
+fn sections(alloc: Global, below: &[u8]) -> Result<Vec<Section>, ReadFault>
+    ensures { AreRead result (lines below.now) }
 {
-    if line.ended {
-        ReadFault::NotInGrammar { line: 2 }
-    } else {
-        ReadFault::Unended { line: 2 }
+    let mut sections = Vec::new(alloc);
+    let mut above = Above {
+        block: None,
+        loop_number: None,
+        change: None,
+        fact: None,
+    };
+    let mut number = 2;
+    let mut rest = below;
+    while let Some((line, more)) = next_line(rest) {
+        let claim = claim_at(number, &above, line, more)?;
+        above = above.below(&claim);
+        add(alloc, &mut sections, claim)?;
+        number += 1;
+        rest = more;
+    }
+    Ok(sections)
+}
+
+/// What a line below the heading says, which has more lines below it.
+fn claim_at(number: u64, above: &Above, line: Line<'_>, more: &[u8]) -> Result<Claim, ReadFault>
+    ensures { IsClaimAt result number above.now (record { bytes = line.entry.bytes.now; ended = line.entry.ended })
+        (lines more.now) }
+{
+    if !line.ended {
+        return Err(ReadFault::Unended { line: number });
+    }
+    match reading(line.bytes) {
+        Err(LineFault::NotInGrammar) => Err(ReadFault::NotInGrammar { line: number }),
+        Err(LineFault::OutOfRange) => Err(ReadFault::OutOfRange { line: number }),
+        Ok(claim) => {
+            if above.admits(&claim) && has_below(&claim, more) {
+                Ok(claim)
+            } else {
+                Err(ReadFault::OutOfOrder { line: number })
+            }
+        }
+    }
+}
+
+/// Whether the text below a line has the line that this one needs there.
+fn has_below(claim: &Claim, text: &[u8]) -> bool
+    ensures { result ≡ has_below claim.now (lines text.now) }
+{
+    match claim {
+        Claim::Change(_) | Claim::Fact(_) => true,
+        Claim::Block(_) => match next_line(text) {
+            None => false,
+            Some((next, _)) => !is_heading(b"proc ", next),
+        },
+        Claim::Loop(_) => match next_line(text) {
+            None => false,
+            Some((next, _)) => !is_heading(b"proc ", next) && !is_heading(b"loop ", next),
+        },
+    }
+}
+
+/// Whether a line is a heading of the word, whatever its number.
+fn is_heading(word: &[u8], line: Line<'_>) -> bool
+    ensures { result ≡ is_heading word.now (record { bytes = line.entry.bytes.now; ended = line.entry.ended }) }
+{
+    if !line.ended {
+        return false;
+    }
+    match line.bytes.strip_prefix(word) {
+        None => false,
+        Some(number) => is_number(number),
     }
 }
 
 /// The first line of a text, and what follows it.
 fn next_line(text: &[u8]) -> Option<(Line<'_>, &[u8])>
     ensures { MatchOption result (lines text.now ≡ [])
-        (λ r. lines text.now ≡ record { bytes = r.0.bytes.now; ended = r.0.ended } ∷ lines r.1.now) }
+        (λ r. (lines text.now ≡ record { bytes = r.0.bytes.now; ended = r.0.ended } ∷ lines r.1.now)
+        × (length r.1.now < length text.now)) }
 {
     if text.is_empty() {
         return None;

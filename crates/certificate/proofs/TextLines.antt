@@ -3,17 +3,7 @@ use Rattle.std.proofs.lemmas.Grind.{common_steps}
 use Rattle.std.proofs.lemmas.Bool.Decides.{nat_tests}
 use Rattle.std.specs.Bool.{if◌then◌else◌}
 use Rattle.std.specs.List.{position, position_or_len}
-use Rattle.std.specs.Result.{result_err}
-use Rattle.std.proofs.Common.{Result, Ok, Err, codes}
-use Rattle.certificate.specs.Text.{Line, lines, with_front, fault_of_lines, first_fault, fault_from, spelling, or_else, line_fault}
-use Rattle.certificate.specs.declared.Certificate.{Certificate}
-use Rattle.certificate.specs.declared.Version.{Version}
-use Rattle.certificate.specs.declared.Version.TheVariants.{One}
-use Rattle.certificate.specs.declared.fault.ReadFault.{ReadFault}
-use Rattle.certificate.specs.declared.fault.ReadFault.TheVariants.{FirstLine}
-use Rattle.std.specs.Str.{bytes_eq}
-use Rattle.std.proofs.lemmas.Slice.Eq.{bytes_eq-Decides}
-use Rattle.std.specs.Prelude.{◌↔◌}
+use Rattle.certificate.specs.Text.{Line, lines, with_front}
 
 abbrev ends : ℕ → Bool
 ends byte = byte == 10
@@ -49,7 +39,7 @@ lines-unended (byte ∷ next ∷ more) some none =
     front-unended (byte == 10) byte (position_or_len ends (next ∷ more)) (next ∷ more) (lines-unended (next ∷ more) (omega arith)) none
 
 -- the text that has the lines
-abbrev unlines : List Line → List ℕ
+abbrev pub unlines : List Line → List ℕ
 unlines [] = []
 unlines (line ∷ more) = line.bytes ++ cond line.ended (10 ∷ unlines more) (unlines more)
 
@@ -62,61 +52,9 @@ unlines-step byte more true is more_is = grind (arith, common_steps)
 unlines-step byte more false is more_is = unlines-front byte (lines more) ∙ ap (λ rest. byte ∷ rest) more_is
 
 -- lines part a text and lose nothing
-unlines-lines : (text : List ℕ) → unlines (lines text) ≡ text
+pub unlines-lines : (text : List ℕ) → unlines (lines text) ≡ text
 unlines-lines [] = refl
 unlines-lines (byte ∷ more) = unlines-step byte more (byte == 10) refl (unlines-lines more)
-
-one_version : (v : Version) → v ≡ One
-one_version One = refl
-
--- there is one certificate
-one_certificate : (c : Certificate) → c ≡ record { version = One }
-one_certificate c = ap (λ (v : Version). let d : Certificate = record { version = v } in d) (one_version c.version)
-
-or_else-none : (first second : Option ReadFault) → or_else first second ≡ None → (first ≡ None) × (second ≡ None)
-or_else-none None second none = (refl, none)
-or_else-none (Some fault) second none = cc
-
--- a second line is at fault
-second-faulty : (bytes : List ℕ) (ended : Bool) → line_fault 2 (record { bytes = bytes; ended = ended }) ≡ None → ⊥
-second-faulty bytes true none = cc
-second-faulty bytes false none = cc
-
-heading_only : (bytes : List ℕ) (same : Bool) → bytes_eq bytes (codes "pcert 1") ≡ same → (if same then None else Some (FirstLine 1)) ≡ None → bytes ≡ codes "pcert 1"
-heading_only bytes true is none = (bytes_eq-Decides bytes (codes "pcert 1")).0 is
-heading_only bytes false is none = cc
-
-first-faultless : (bytes : List ℕ) (ended : Bool) → line_fault 1 (record { bytes = bytes; ended = ended }) ≡ None → ◌≡◌ {A = Line} (record { bytes = bytes; ended = ended }) (record { bytes = codes "pcert 1"; ended = true })
-first-faultless bytes true none =
-    ap (λ (b : List ℕ). let line : Line = record { bytes = b; ended = true } in line) (heading_only bytes (bytes_eq bytes (codes "pcert 1")) refl none)
-first-faultless bytes false none = cc
-
-faultless : (ls : List Line) → fault_of_lines ls ≡ None → ls ≡ record { bytes = codes "pcert 1"; ended = true } ∷ []
-faultless [] none = cc
-faultless (line ∷ []) none =
-    ap (λ (l : Line). l ∷ []) (first-faultless line.bytes line.ended (or_else-none _ _ none).0)
-faultless (line ∷ next ∷ more) none =
-    absurd (second-faulty next.bytes next.ended (or_else-none _ _ (or_else-none _ _ none).1).0)
-
--- a text without a fault is the spelling of the certificate, and that spelling has no fault
-faultless-spells : (text : List ℕ) → first_fault text ≡ None → text ≡ spelling (record { version = One })
-faultless-spells text none = sym (unlines-lines text) ∙ ap unlines (faultless (lines text) none)
-
-spelling-faultless : first_fault (spelling (record { version = One })) ≡ None
-spelling-faultless = refl
-
-ok-answered : (r : Result Certificate ReadFault) → result_err r ≡ None → r ≡ Ok (record { version = One })
-ok-answered (Ok c) none = ap (λ (d : Certificate). let r : Result Certificate ReadFault = Ok d in r) (one_certificate c)
-ok-answered (Err fault) none = cc
-
--- an answer whose fault is the text's first is right
-pub exact_answer : (r : Result Certificate ReadFault) (text : List ℕ) → result_err r ≡ first_fault text → (c : Certificate) → (r ≡ Ok c) ↔ (text ≡ spelling c)
-exact_answer r text fault_is c = (
-  λ answered. faultless-spells text (sym fault_is ∙ ap result_err answered) ∙ ap spelling (sym (one_certificate c)),
-  λ spelled.
-      ok-answered r (fault_is ∙ ap first_fault (spelled ∙ ap spelling (one_certificate c)) ∙ spelling-faultless)
-      ∙ ap (λ (d : Certificate). let r : Result Certificate ReadFault = Ok d in r) (sym (one_certificate c)),
-)
 
 position-at : (k n end : ℕ) (within : Bool) → nat_lt k n ≡ within → cond within (Some k) None ≡ Some end → (k ≡ end) × (k < n)
 position-at k n end true is found = (cc, grind (arith, nat_tests))
@@ -136,11 +74,3 @@ lines-found text rest end found rest_is =
 pub lines-not_found : (text rest : List ℕ) → 0 < length text → position ends text ≡ None → rest ≡ [] → lines text ≡ record { bytes = text; ended = false } ∷ lines rest
 lines-not_found text rest some none rest_is =
     lines-unended text some (position-none _ (length text) _ refl none) ∙ ap (λ more. record { bytes = text; ended = false } ∷ lines more) (sym rest_is)
-
--- the fault of a second line is the text's first, where the first line has none
-pub second-fault : (text below rest : List ℕ) (first second : Line) (fault : ReadFault) → lines text ≡ first ∷ lines below → lines below ≡ second ∷ lines rest → line_fault 1 first ≡ None → Some fault ≡ line_fault 2 second → Some fault ≡ first_fault text
-second-fault text below rest first second fault first_is second_is none is =
-    sym
-    (ap fault_of_lines (first_is ∙ ap (λ more. first ∷ more) second_is)
-    ∙ ap (λ one. or_else one (fault_from 2 (second ∷ lines rest))) none
-    ∙ ap (λ one. or_else one (fault_from 3 (lines rest))) (sym is))

@@ -1,0 +1,134 @@
+-- What a certificate says of each block and its loops, in which order it says it, and how it is spelled. ISO 7185:1990
+-- knows no certificates. It does not say what its claims mean for a program.
+use Rattle.std.specs.Prelude.{◌≡◌, ℕ, ℤ, pos, neg_ℤ, Bool, true, false, not, ◌&&◌, ◌||◌, nat_le, int_le, List, [], ◌∷◌, ◌++◌, map, Option, Some, None, Result, Ok, Err, codes}
+use Rattle.std.specs.List.{flat_map}
+use Rattle.std.specs.declared.cmp.Ordering.{Ordering}
+use Rattle.std.specs.Ordering.{is_lt, int_eq, nat_cmp}
+use Rattle.domain.specs.Facts.{said, subject_order}
+use Rattle.domain.specs.Interval.{Interval}
+use Rattle.domain.specs.declared.facts.Fact.{Fact as VariableFact}
+use Rattle.domain.specs.declared.facts.Fact.TheVariants.{Range, Defined, Order}
+use Rattle.certificate.specs.declared.Certificate.{Certificate}
+use Rattle.certificate.specs.declared.Section.{Section as KeptSection}
+use Rattle.certificate.specs.declared.LoopClaims.{LoopClaims as KeptLoop}
+use Rattle.certificate.specs.declared.Version.{Version}
+use Rattle.certificate.specs.declared.Version.TheVariants.{One}
+use Rattle.certificate.specs.declared.fault.ReadFault.{ReadFault}
+use Rattle.certificate.specs.declared.fault.ReadFault.TheVariants.{Memory}
+use Rattle.certificate.specs.declared.claim.Claim.{Claim}
+use Rattle.certificate.specs.declared.claim.Claim.TheVariants.{Block, Loop, Change, Fact}
+use Rattle.certificate.specs.Lines.{line_of, most, maxint}
+
+-- what is claimed of a loop: what it changes, and the facts that hold whenever a turn begins
+pub record LoopClaims : Type 0 where
+  pub number : ℕ
+  pub changes : List ℕ
+  pub facts : List VariableFact
+
+-- what is claimed of a block: of its loops
+pub record Section : Type 0 where
+  pub block : ℕ
+  pub loops : List LoopClaims
+
+-- what a certificate says, wherever it lies in memory
+abbrev pub loop_of : KeptLoop → LoopClaims
+loop_of claims = record { number = claims.number; changes = claims.changes.items; facts = claims.facts.items }
+
+abbrev pub section_of : KeptSection → Section
+section_of section = record { block = section.block; loops = map loop_of section.loops.items }
+
+abbrev pub contents : Certificate → List Section
+contents certificate = map section_of certificate.sections.items
+
+-- ---- what may be said
+
+-- the number of a block, a loop or a variable
+abbrev pub is_small : ℕ → Bool
+is_small number = nat_le number most
+
+-- another number
+abbrev pub is_constant : ℤ → Bool
+is_constant number = int_le (neg_ℤ (pos maxint)) number && int_le number (pos maxint)
+
+-- a range has a number, or is the one without, 1 to 0
+abbrev pub is_plain : Interval → Bool
+is_plain range = int_le range.first range.last || (int_eq range.first (pos 1) && int_eq range.last (pos 0))
+
+-- the numbers of a fact are in range
+abbrev pub is_fact : VariableFact → Bool
+is_fact (Range root range) = is_small root && (is_constant range.first && (is_constant range.last && is_plain range))
+is_fact (Defined root) = is_small root
+is_fact (Order root other number) = is_small root && (is_small other && is_constant number)
+
+-- ---- the order
+
+-- something comes behind the last one
+abbrev pub comes_behind : {K : Type 0} → (K → K → Ordering) → Option K → K → Bool
+comes_behind order None key = true
+comes_behind order (Some last) key = is_lt (order last key)
+
+-- each comes behind the one before it, and is right
+abbrev pub are_listed : {A K : Type 0} → (K → K → Ordering) → (A → K) → (A → Bool) → Option K → List A → Bool
+are_listed order key is_right last [] = true
+are_listed order key is_right last (one ∷ more) =
+    comes_behind order last (key one) && (is_right one && are_listed order key is_right (Some (key one)) more)
+
+-- facts are listed by what they say something of
+abbrev pub subjects : VariableFact → VariableFact → Ordering
+subjects f g = subject_order (said f) (said g)
+
+abbrev pub is_empty : {A : Type 0} → List A → Bool
+is_empty [] = true
+is_empty (one ∷ more) = false
+
+-- something is claimed of a loop: changes and facts, both in order
+abbrev pub is_loop : LoopClaims → Bool
+is_loop claims =
+    is_small claims.number
+    && (not (is_empty claims.changes && is_empty claims.facts)
+    && (are_listed nat_cmp (λ root. root) is_small None claims.changes
+    && are_listed subjects (λ fact. fact) is_fact None claims.facts))
+
+-- something is claimed of loops of a block, in their order
+abbrev pub is_section : Section → Bool
+is_section section =
+    is_small section.block
+    && (not (is_empty section.loops) && are_listed nat_cmp (λ claims. claims.number) is_loop None section.loops)
+
+-- sections are in order, and so is what each says
+abbrev pub are_in_order : List Section → Bool
+are_in_order sections = are_listed nat_cmp (λ section. section.block) is_section None sections
+
+-- ---- the spelling
+
+-- a line for each claim, a block's and a loop's heading first
+abbrev pub claims_of_loop : LoopClaims → List Claim
+claims_of_loop claims = Loop claims.number ∷ (map Change claims.changes ++ map Fact claims.facts)
+
+abbrev pub claims_of_section : Section → List Claim
+claims_of_section section = Block section.block ∷ flat_map claims_of_loop section.loops
+
+abbrev pub claims_of : List Section → List Claim
+claims_of sections = flat_map claims_of_section sections
+
+-- the first line of a certificate of a version
+abbrev pub heading : Version → List ℕ
+heading One = codes "pcert 1"
+
+-- a line with its end
+abbrev pub ended : List ℕ → List ℕ
+ended line = line ++ 10 ∷ []
+
+-- the text of a certificate
+abbrev pub spelling : Version → List Section → List ℕ
+spelling version sections = ended (heading version) ++ flat_map (λ claim. ended (line_of claim)) (claims_of sections)
+
+-- a certificate is in order, and a text is its spelling
+pub record Spells (text : List ℕ) (certificate : Certificate) : Type 0 where
+  pub in_order : are_in_order (contents certificate) ≡ true
+  pub text_is : text ≡ spelling certificate.version (contents certificate)
+
+-- sections are answered, or memory ran out
+abbrev pub IsReadAs : List Section → Result Certificate ReadFault → Type 0
+IsReadAs sections (Ok certificate) = contents certificate ≡ sections
+IsReadAs sections (Err fault) = fault ≡ Memory
