@@ -29,10 +29,10 @@ use Rattle.cert_checker.specs.declared.visits.Visits.{Visits}
 use Rattle.cert_checker.specs.Promise.{LinksEntries}
 use Rattle.abstract_state.specs.State.{State, Dead, start}
 use Rattle.cert_checker.specs.View.{all_counted, counted}
-use Rattle.cert_checker.specs.Loops.{Round, claims_on, head, limits_at, touched}
+use Rattle.cert_checker.specs.Loops.{claims_on, head, limits_at, round_of, touched}
 use Rattle.abstract_state.specs.Conditions.{bound_form}
 use Rattle.place.specs.declared.Place.{Place}
-use Rattle.cert_checker.specs.Walk.{Context, Linked, Walking, Combination, ◌>>=◌, numbers_of, operated, combined, width_test, fitting, assign, change, Ends, loop_walk, while_round, repeat_round, value_step, link_step, value_walk, link_walk, width_walk, parameter_walk, statement_step, statement_walk, in_turn, where_so, all_of, block_walk, program_walk}
+use Rattle.cert_checker.specs.Walk.{Context, Linked, Walking, Combination, ◌>>=◌, numbers_of, operated, combined, width_test, fitting, assign, change, loop_walk, while_round, repeat_round, value_step, link_step, value_walk, link_walk, width_walk, parameter_walk, statement_step, statement_walk, in_turn, where_so, all_of, block_walk, program_walk}
 
 -- a walk links states to these, in whatever context and from whatever state
 abbrev Enters : {A : Type 0} → Walking A → List ℕ → Type 0
@@ -172,10 +172,10 @@ statements-entered (statement ∷ statements) context state =
     and_then first.linked rest.linked _ _ (statement.1 context state) (statements-entered statements context first.after)
 
 -- a loop enters what a round of it does
-loop-entered : (number : ℕ) (place : Place) (round : Walking Ends) (numbers : List ℕ) → Enters round numbers → Enters (loop_walk number place round) numbers
+loop-entered : (number : ℕ) (place : Place) (round : Walking State) (numbers : List ℕ) → Enters round numbers → Enters (loop_walk number place round) numbers
 loop-entered number place round numbers each context state =
     let claims = claims_on context.certificate number in
-    let own : Round = record { changes = claims.changes; controls = [] } in
+    let own = round_of claims in
     let within : Context = record context { rounds = context.rounds ++ own ∷ [] } in
     let start = head (limits_at context.tree) (touched own) own.controls claims.facts state in
     and_no_more (round within start).linked [] numbers (each within start) refl

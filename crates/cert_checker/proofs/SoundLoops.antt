@@ -24,9 +24,9 @@ use Rattle.abstract_state.specs.declared.known.Known.TheVariants.{Ordinal}
 use Rattle.abstract_state.proofs.Ranged.{IsKnown}
 use Rattle.abstract_state.proofs.Knows.{Shows, Knows, moment, given-known, joined-known_one, joined-known_other}
 use Rattle.abstract_state.proofs.Refined.{branched-known}
-use Rattle.cert_checker.specs.Loops.{Round, claims_on, head, limits_at, gives_all, touched}
+use Rattle.cert_checker.specs.Loops.{Round, claims_on, head, limits_at, gives_all, round_of, touched}
 use Rattle.cert_checker.specs.Walk as walk
-use Rattle.cert_checker.specs.Walk.{Context, Ends, Walked, Walking, followed, value_walk, where_so}
+use Rattle.cert_checker.specs.Walk.{Context, Walked, Walking, followed, value_walk, where_so}
 use Rattle.cert_checker.proofs.Keeping.{all-pass, IsKept, Keeps, InTypes, keeps-itself, keeps-then, kept-then}
 use Rattle.cert_checker.proofs.Sound.{World, IsPartOf, Stands, Good, IsForetold, Sound, Any_value, unbroken-left, unbroken-right, part-left, part-right, nothing-new, good-give, good-weaker, good-then, stands-as}
 
@@ -140,16 +140,16 @@ module _ {A : Type 0} (world : World) (P : A → Store → Type 0) (Q : Store �
       (each a s so) (λ more t is then. another-good (effect.looping left round) (looping-good left) more t then)
 
 -- a round and the walk over it: the states at its ends hold there
-abbrev pub EndsHold : World → Environment → Context → Ends → Store → {A : Type 0} → Option A → Store → Type 0
-EndsHold world env context ends start =
-    Turns (λ a store. Stands world env context ends.again store × Keeps env context.rounds start store)
-    (λ store. Stands world env context ends.out store × Keeps env context.rounds start store)
+abbrev pub EndsHold : World → Environment → Context → (again out : State) → Store → {A : Type 0} → Option A → Store → Type 0
+EndsHold world env context again out start =
+    Turns (λ a store. Stands world env context again store × Keeps env context.rounds start store)
+    (λ store. Stands world env context out store × Keeps env context.rounds start store)
 
-abbrev pub SoundRound : {A : Type 0} → World → Environment → Action (Option A) → Walking Ends → Type 0
+abbrev pub SoundRound : {A : Type 0} → World → Environment → Action (Option A) → Walking State → Type 0
 SoundRound {A} world env round walking =
     (context : Context) (state : State) (s : effect.State) → (walking context state).broken ≡ [] → IsPartOf world (walking context state)
     → Stands world env context state s.store
-    → Good world (EndsHold world env context (walking context state).value s.store {A = A}) s.visited (round s)
+    → Good world (EndsHold world env context (walking context state).after (walking context state).value s.store {A = A}) s.visited (round s)
 
 -- ---- the head of a loop
 
@@ -189,7 +189,7 @@ rounds-outer : (env : Environment) (rounds : List Round) (own : Round) (before a
 rounds-outer env rounds own before after kept round inside = kept round (Contains-append_left rounds (own ∷ []) round inside)
 
 module _ (world : World) (env : Environment) (shows : Shows world.variables env) (context : Context) (state : State) (start : Store)
-    (own : Round) (facts : List Fact) (ends : Ends) (stands : Stands world env context state start) where
+    (own : Round) (facts : List Fact) (again out : State) (stands : Stands world env context state start) where
   -- inside the loop
   abbrev within : Context
   within = record context { rounds = context.rounds ++ own ∷ [] }
@@ -202,7 +202,7 @@ module _ (world : World) (env : Environment) (shows : Shows world.variables env)
   AtHead store = Stands world env within begun store × Keeps env within.rounds start store
 
   abbrev AtOut : Store → Type 0
-  AtOut store = Stands world env context ends.out store × Keeps env context.rounds start store
+  AtOut store = Stands world env context out store × Keeps env context.rounds start store
 
   -- the loop's facts hold there, and nothing changed but what the loop touches: so the head holds
   head-stands : (store : Store) → InTypes world.tree env store → Keeps env within.rounds start store → AllHold facts env store
@@ -216,49 +216,48 @@ module _ (world : World) (env : Environment) (shows : Shows world.variables env)
   }
 
   -- behind a round
-  round-turns : {A : Type 0} → gives_all ends.again facts ≡ true → (before after : Store) → Keeps env within.rounds start before → (more : Option A)
-      → EndsHold world env within ends before more after → Turns (λ a store. AtHead store) AtOut more after
+  round-turns : {A : Type 0} → gives_all again facts ≡ true → (before after : Store) → Keeps env within.rounds start before → (more : Option A)
+      → EndsHold world env within again out before more after → Turns (λ a store. AtHead store) AtOut more after
   round-turns given before after kept None (stood, own_kept) =
       (record { tree_is = stood.tree_is; known = stood.known; typed = stood.typed },
       rounds-outer env context.rounds own start after (keeps-then env within.rounds start before after kept own_kept))
   round-turns given before after kept (Some b) (stood, own_kept) =
       let all = keeps-then env within.rounds start before after kept own_kept in
-      (head-stands after stood.typed all (given-all world.variables env ends.again after facts stood.known given), all)
+      (head-stands after stood.typed all (given-all world.variables env again after facts stood.known given), all)
 
 -- a loop whose round is sound
 pub sound-loop : {A : Type 0} (world : World) (env : Environment) → Shows world.variables env → (number : ℕ) (place : SourcePlace) (round : effect.Round A) (a : A)
-    (walking : Walking Ends)
+    (walking : Walking State)
     → ((b : A) → SoundRound world env (round b) walking)
     → Sound {A = Unit {0}} {B = Unit {0}} world env Any_value (effect.looped round a) (walk.loop_walk number place walking)
 sound-loop {A} world env shows number place round a walking each context state s unbroken part stands =
     let claims = claims_on context.certificate number in
-    let own : Round = record { changes = claims.changes; controls = [] } in
+    let own = round_of claims in
     let facts = claims.facts in
     let begun = head (limits_at context.tree) (touched own) own.controls facts state in
     let within : Context = record context { rounds = context.rounds ++ own ∷ [] } in
     let turn = walking within begun in
-    let ends = turn.value in
     let entry = walk.facts_given LoopEntry place facts context state in
     let entering = walk.enter_head own facts context state in
-    let turned = walk.facts_given LoopTurn place facts context ends.again in
-    let after_turn = followed (walk.with_state ends.again context turn.after) (followed turned (walk.with_state ends.out context ends.again)) in
+    let turned = walk.facts_given LoopTurn place facts context turn.after in
+    let after_turn = followed turned (walk.with_state turn.value context turn.after) in
     let from_head = followed turn after_turn in
     let whole = walk.loop_walk number place walking context state in
     let from_entry = unbroken-right entry.broken (turn.broken ++ (turned.broken ++ [])) unbroken in
     let given = given-all world.variables env state s.store facts stands.known
     (kept-rule (gives_all state facts) LoopEntry place (unbroken-left entry.broken (turn.broken ++ (turned.broken ++ [])) unbroken)) in
-    let given_again = kept-rule (gives_all ends.again facts) LoopTurn place
+    let given_again = kept-rule (gives_all turn.after facts) LoopTurn place
     (unbroken-left turned.broken [] (unbroken-right turn.broken (turned.broken ++ []) from_entry)) in
     let turn_part : IsPartOf world turn = part-left world turn after_turn (part-right world entering from_head (part-right world entry (followed entering from_head) part)) in
-    let P = λ (b : A). AtHead world env shows context state s.store own facts ends stands in
-    let Q : Store → Type 0 = AtOut world env shows context state s.store own facts ends stands in
+    let P = λ (b : A). AtHead world env shows context state s.store own facts turn.after turn.value stands in
+    let Q : Store → Type 0 = AtOut world env shows context state s.store own facts turn.after turn.value stands in
     let begin_kept = keeps-itself env within.rounds s.store in
     let start : P a s.store =
-    (head-stands world env shows context state s.store own facts ends stands s.store stands.typed begin_kept given, begin_kept) in
+    (head-stands world env shows context state s.store own facts turn.after turn.value stands s.store stands.typed begin_kept given, begin_kept) in
     let rounds : (b : A) (t : effect.State) → P b t.store → Good world (Turns P Q) t.visited (round b t) =
     λ b t holds.
-    good-weaker world (EndsHold world env within ends t.store {A = A}) (Turns P Q) t.visited (round b t)
-    (λ more u is told. round-turns world env shows context state s.store own facts ends stands given_again t.store u.store holds.1 more told)
+    good-weaker world (EndsHold world env within turn.after turn.value t.store {A = A}) (Turns P Q) t.visited (round b t)
+    (λ more u is told. round-turns world env shows context state s.store own facts turn.after turn.value stands given_again t.store u.store holds.1 more told)
     (each b within begun t (unbroken-left turn.broken (turned.broken ++ []) from_entry) turn_part holds.0) in
     good-weaker world (λ (done : Unit {0}) store. Q store) (Foretold world env context whole s.store) s.visited (effect.looped round a s)
     (λ done t is so. record { tie = tt; stands = so.0; kept = so.1 })
@@ -283,15 +282,15 @@ module _ (world : World) (env : Environment) (condition : Expr) (execution : mea
   abbrev bodied : Walked (Unit {0})
   bodied = body context inside_state
 
-  abbrev while_ends : Ends
-  while_ends = record { again = bodied.after; out = where_so false condition known tested }
+  abbrev Behind : Option (Unit {0}) → Store → Type 0
+  Behind = EndsHold world env context bodied.after (where_so false condition known tested) start
 
   while-turned : (b : Bool) (t : effect.State) → Keeps env context.rounds start t.store → Stands world env context (where_so b condition known tested) t.store
       → bodied.broken ≡ [] → IsPartOf world bodied
-      → Good world (EndsHold world env context while_ends start {A = Unit {0}}) t.visited (meaning.turn_if b (execution env) t)
-  while-turned false t kept stands unbroken part = good-give world (EndsHold world env context while_ends start {A = Unit {0}}) None t (stands, kept)
+      → Good world Behind t.visited (meaning.turn_if b (execution env) t)
+  while-turned false t kept stands unbroken part = good-give world Behind None t (stands, kept)
   while-turned true t kept stands unbroken part =
-      let P = EndsHold world env context while_ends start {A = Unit {0}} in
+      let P = Behind in
       turn-then world P (λ done. effect.◌>>=◌ (execution env) (λ done. effect.give (Some tt))) t
       (λ u same visited.
       let here = subst (Stands world env context inside_state) (sym same) stands in
@@ -309,22 +308,22 @@ pub sound-while : (world : World) (env : Environment) (condition : Expr) (execut
 sound-while world env condition execution body valued one context state s unbroken part stands =
     let first = value_walk condition context state in
     let inner = body context (where_so true condition first.value first.after) in
-    let ends : Ends = record { again = inner.after; out = where_so false condition first.value first.after } in
-    let rest = followed inner (walk.give ends context inner.after) in
-    good-then world (IsForetold world env IsKnown context first s.store) (EndsHold world env context ends s.store {A = Unit {0}}) s.visited
+    let out = where_so false condition first.value first.after in
+    let rest = followed inner (walk.give out context inner.after) in
+    good-then world (IsForetold world env IsKnown context first s.store) (EndsHold world env context inner.after out s.store {A = Unit {0}}) s.visited
     (value_of condition env s) (λ v. meaning.turn_if (is_so v) (execution env))
     (valued context state s (unbroken-left first.broken rest.broken unbroken) (part-left world first rest part) stands)
     (λ v t is told.
     while-turned world env condition execution body valued one context s.store first.value first.after (is_so v) t told.kept
     (chosen-stands world env condition first.value v s t context first.after is told.tie told.stands)
     (unbroken-left inner.broken [] (unbroken-right first.broken (inner.broken ++ []) unbroken))
-    (part-left world inner (walk.give ends context inner.after) (part-right world first rest part)))
+    (part-left world inner (walk.give out context inner.after) (part-right world first rest part)))
 
 -- a round of a repeat: behind the condition
 repeat-ends : (world : World) (env : Environment) (condition : Expr) (known : Known) (context : Context) (start : Store) (tested : State) (b : Bool)
     (t : effect.State)
     → Keeps env context.rounds start t.store → Stands world env context (where_so b condition known tested) t.store
-    → EndsHold world env context (record { again = where_so false condition known tested; out = where_so true condition known tested }) start {A = Unit {0}}
+    → EndsHold world env context (where_so false condition known tested) (where_so true condition known tested) start {A = Unit {0}}
     (cond b None (Some tt)) t.store
 repeat-ends world env condition known context start tested true t kept stands = (stands, kept)
 repeat-ends world env condition known context start tested false t kept stands = (stands, kept)
@@ -336,9 +335,10 @@ pub sound-repeat : (world : World) (env : Environment) (condition : Expr) (execu
 sound-repeat world env condition execution body one valued context state s unbroken part stands =
     let first = body context state in
     let second = value_walk condition context first.after in
-    let ends : Ends = record { again = where_so false condition second.value second.after; out = where_so true condition second.value second.after } in
-    let rest = followed second (walk.give ends context second.after) in
-    let P = EndsHold world env context ends s.store {A = Unit {0}} in
+    let again = where_so false condition second.value second.after in
+    let out = where_so true condition second.value second.after in
+    let rest = followed second (walk.give out context again) in
+    let P = EndsHold world env context again out s.store {A = Unit {0}} in
     let answer = λ (v : Value). cond (is_so v) None (Some (tt {0})) in
     turn-then world P (λ done. effect.◌>>=◌ (execution env) (λ done. effect.◌>>=◌ (value_of condition env) (λ v. effect.give (answer v)))) s
     (λ u same visited.
@@ -349,7 +349,7 @@ sound-repeat world env condition execution body one valued context state s unbro
     (λ done w is told.
     good-then world (IsForetold world env IsKnown context second w.store) P w.visited (value_of condition env w) (λ v. effect.give (answer v))
     (valued context first.after w (unbroken-left second.broken [] (unbroken-right first.broken (second.broken ++ []) unbroken))
-    (part-left world second (walk.give ends context second.after) (part-right world first rest part)) told.stands)
+    (part-left world second (walk.give out context again) (part-right world first rest part)) told.stands)
     (λ v t gives then.
     good-give world P (answer v) t
     (repeat-ends world env condition second.value context s.store second.after (is_so v) t

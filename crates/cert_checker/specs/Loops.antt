@@ -1,6 +1,6 @@
 -- What a certificate claims of a loop, and what the checker goes by where a turn of it begins (ISO 7185:1990, 6.8.3.6).
 -- It does not say that a loop keeps to that.
-use Rattle.std.specs.Prelude.{ℕ, Bool, ◌&&◌, List, [], ◌∷◌, ◌++◌, Option, Some, None, nat_eq, slice_get}
+use Rattle.std.specs.Prelude.{ℕ, List, [], ◌∷◌, ◌++◌, Option, Some, None, Bool, if◌then◌else◌, flat_map, map, nat_eq, slice_get}
 use Rattle.std.specs.List.{list_all, list_any}
 use Rattle.types.specs.declared.form.OrdinalRange.{OrdinalRange}
 use Rattle.types.specs.declared.form.TypeForm.{TypeForm}
@@ -8,8 +8,9 @@ use Rattle.types.specs.Types.{range_of}
 use Rattle.typed_tree.specs.declared.tree.Tree.{Tree}
 use Rattle.typed_tree.specs.declared.tree.Variable.{Variable}
 use Rattle.certificate.specs.declared.Certificate.{Certificate}
+use Rattle.certificate.specs.Contents.{LoopClaims, contents}
 use Rattle.domain.specs.Interval.{Interval, is_included}
-use Rattle.domain.specs.Facts.{Fact}
+use Rattle.domain.specs.Facts.{Fact, said}
 use Rattle.abstract_state.specs.State.{State, Facts, gives_fact, integer, limits_of}
 
 -- what is claimed of a loop: the variables that it changes, and facts that hold whenever a turn begins
@@ -17,14 +18,29 @@ pub record Claims : Type 0 where
   pub changes : List ℕ
   pub facts : List Fact
 
+-- nothing is claimed
+abbrev pub no_claims : Claims
+no_claims = record { changes = []; facts = [] }
+
+-- the claims on the loop of a number among those on several
+abbrev pub claims_among : ℕ → List LoopClaims → Claims
+claims_among number [] = no_claims
+claims_among number (one ∷ more) =
+    if nat_eq one.number number then record { changes = one.changes; facts = map said one.facts }
+    else claims_among number more
+
 -- the claims of a certificate on the loop of a number: none, where it doesn't speak of it
 abbrev pub claims_on : Certificate → ℕ → Claims
-claims_on certificate number = record { changes = []; facts = [] }
+claims_on certificate number = claims_among number (flat_map (λ section. section.loops) (contents certificate))
 
 -- a loop round a point: the variables that its claims list, and the control variables of the for statements in it
 pub record Round : Type 0 where
   pub changes : List ℕ
   pub controls : List ℕ
+
+-- a loop, by its claims
+abbrev pub round_of : Claims → Round
+round_of claims = record { changes = claims.changes; controls = [] }
 
 -- a variable is among some
 abbrev pub is_among : ℕ → List ℕ → Bool

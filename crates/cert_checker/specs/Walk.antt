@@ -35,7 +35,7 @@ use Rattle.abstract_state.specs.declared.known.Known.TheVariants.{Ordinal}
 use Rattle.abstract_state.specs.State.{State, Dead, start, integer, is_dead, is_defined, joined_states, limits_of, range_of, with_defined, unless_empty}
 use Rattle.abstract_state.specs.Changes.{assigned}
 use Rattle.abstract_state.specs.Conditions.{bound_form, branched}
-use Rattle.cert_checker.specs.Loops.{Round, Claims, all_list, claims_on, gives_all, head, limits_at, touched}
+use Rattle.cert_checker.specs.Loops.{Round, Claims, all_list, claims_on, gives_all, head, limits_at, round_of, touched}
 
 -- what a walk goes by: the program and its certificate, and the loops round the point, the outermost first
 pub record Context : Type 0 where
@@ -298,28 +298,25 @@ alternative_walk (Some statement) = statement.value
 abbrev pub here : Walking State
 here context state = give state context state
 
--- the states where a round of a loop ends: where another follows, and where none does
-pub record Ends : Type 0 where
-  pub again : State
-  pub out : State
+-- a round of a loop: it ends where another round follows, and gives the state where none does
 
 -- a round of a while: the condition, and then perhaps the body
-abbrev pub while_round : Expr → Walking (Unit {0}) → Walking Ends
+abbrev pub while_round : Expr → Walking (Unit {0}) → Walking State
 while_round condition body = do
   known ← value_walk condition
   tested ← here
   _ ← with_state (where_so true condition known tested)
   _ ← body
-  again ← here
-  give (record { again = again; out = where_so false condition known tested })
+  give (where_so false condition known tested)
 
 -- a round of a repeat: the body, and then the condition, which ends it
-abbrev pub repeat_round : Walking (Unit {0}) → Expr → Walking Ends
+abbrev pub repeat_round : Walking (Unit {0}) → Expr → Walking State
 repeat_round body condition = do
   _ ← body
   known ← value_walk condition
   tested ← here
-  give (record { again = where_so false condition known tested; out = where_so true condition known tested })
+  _ ← with_state (where_so false condition known tested)
+  give (where_so true condition known tested)
 
 -- the facts of a loop are given at a point
 abbrev pub facts_given : Rule → Place → List Fact → Walking (Unit {0})
@@ -336,20 +333,18 @@ inside round walking context = walking (record context { rounds = context.rounds
 
 -- a loop with the place of its first word: its facts are given where it is entered and after each turn, and from its
 -- head one round is walked
-abbrev pub loop_by : Place → Round → List Fact → Walking Ends → Walking (Unit {0})
+abbrev pub loop_by : Place → Round → List Fact → Walking State → Walking (Unit {0})
 loop_by place round facts walking = do
   _ ← facts_given LoopEntry place facts
   _ ← enter_head round facts
-  ends ← inside round walking
-  _ ← with_state ends.again
+  behind ← inside round walking
   _ ← facts_given LoopTurn place facts
-  with_state ends.out
+  with_state behind
 
 -- the loop of a number
-abbrev pub loop_walk : ℕ → Place → Walking Ends → Walking (Unit {0})
+abbrev pub loop_walk : ℕ → Place → Walking State → Walking (Unit {0})
 loop_walk number place walking context =
-    let claims = claims_on context.certificate number in
-    loop_by place (record { changes = claims.changes; controls = [] }) claims.facts walking context
+    loop_by place (round_of (claims_on context.certificate number)) (claims_on context.certificate number).facts walking context
 
 -- one layer of a statement
 abbrev pub statement_step : Stmt-F (Walking (Unit {0})) → Walking (Unit {0})
