@@ -16,10 +16,13 @@ use Rattle.meaning.specs.Store.{Environment, Store}
 use Rattle.abstract_state.specs.State.{State, Dead, Live, bound_range, range_of, unless_empty, with_range}
 use Rattle.abstract_state.specs.Changes.{ordered, with_some}
 use Rattle.abstract_state.specs.Conditions.{bound_at_least, bound_at_most, bound_isnt, narrowed, opposite, related, unlike, with_different, with_le, with_order, without_first, without_last}
-use Rattle.abstract_state.specs.Holds.{HasNumber, IsBound}
+use Rattle.abstract_state.specs.Holds.{HasNumber, IsBound, IsIn}
 use Rattle.abstract_state.proofs.Changed.{ordered-known}
 use Rattle.abstract_state.proofs.Given.{bound-in}
 use Rattle.abstract_state.proofs.Knows.{Knows, moment, nonempty-known, ranged-known}
+
+value-is : (v w : Value) → Some v ≡ Some w → v ≡ w
+value-is v w is = cc
 
 le-cases : (x y : ℤ) → x ≤ℤ y → (x <ℤ y) ⊎ (x ≡ y)
 le-cases x y less = by_lt_z x y (λ below. inl below) (λ above. inr (omega (arith, ints)))
@@ -48,7 +51,7 @@ module _ (variables : ℕ) (env : Environment) (store : Store) where
       → Known (narrowed root range state)
   narrowed-known state root range n has inside known =
       nonempty-known variables env range (with_range root range state) store (Number n) inside
-      (ranged-known variables env state store root range n has inside known)
+      (ranged-known variables env state store root range (λ v is. let same = value-is (Number n) v (sym has ∙ is) in subst (IsIn range) same inside) known)
 
   at-most-known : (state : State) (bound : Bound) (x n : ℤ) → IsHere bound x → x ≤ℤ n → Known state → Known (bound_at_most bound n state)
   at-most-known state (fact.Number m) x n is less known =

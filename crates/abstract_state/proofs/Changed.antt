@@ -16,15 +16,11 @@ use Rattle.meaning.specs.Store.{Step, Element, Place, Environment, Store, place_
 use Rattle.abstract_state.specs.State.{State, Facts, Dead, Live, with_range, with_value}
 use Rattle.abstract_state.specs.Changes.{assigned, bound_rests_on, changed, ordered, raised, raised_number, rests_on, unless_resting, with_change, with_equal, with_some}
 use Rattle.abstract_state.specs.Holds.{Moment, FactsHold, Holds, HasNumber, HasValue, IsBound, IsIn, is_named, part_of, value_at}
+pub use Rattle.abstract_state.specs.Knows.{IsOfForm}
 use Rattle.abstract_state.proofs.Apart.{part, written-stored, other-kept}
 use Rattle.abstract_state.proofs.Given.{named-entire, same-number}
 use Rattle.abstract_state.proofs.Knows.{IsHeld, Knows, Shows, at-place, defined-known, entire-value, moment, place_of, set-at, with_some-known}
 use Rattle.abstract_state.proofs.Like.{changed-all, each-of}
-
--- the value of an expression, if its form is a bound: the number that this is
-abbrev pub IsOfForm : Moment → Option Bound → Value → Type 0
-IsOfForm moment None v = Unit {0}
-IsOfForm moment (Some bound) v = (n : ℤ) × (v ≡ Number n) × IsBound moment bound n
 
 -- ---- what is defined stays so
 
@@ -39,11 +35,11 @@ still-value store p v (Some q) steps has = still-some (place_eq p (part q steps)
 
 -- ---- order facts with numbers that facts have
 
-some-if : (test : Bool) (one other : Fact) → cond test (Some one) None ≡ Some other → one ≡ other
+pub some-if : (test : Bool) (one other : Fact) → cond test (Some one) None ≡ Some other → one ≡ other
 some-if true one other is = cc
 some-if false one other is = absurd (cc)
 
-unless-if : (test : Bool) (one other : Fact) → cond test None (Some one) ≡ Some other → (test ≡ false) × (one ≡ other)
+pub unless-if : (test : Bool) (one other : Fact) → cond test None (Some one) ≡ Some other → (test ≡ false) × (one ≡ other)
 unless-if true one other is = absurd (cc)
 unless-if false one other is = (refl, cc)
 
@@ -95,9 +91,15 @@ module _ (variables : ℕ) (env : Environment) (shows : Shows variables env) (st
       holds steps w named (sym (other-value path.root (apart-from path.root rests) steps) ∙ is)
   kept-fact (Defined path) rests holds = (holds.0, holds.1, still-has path.root holds.0 holds.2)
   kept-fact (Stretch path first last) rests (from, to, from_is, to_is, steps, named, each) =
-      let parts = or_parts (bound_rests_on root first) (bound_rests_on root last) rests in
-      (from, to, bound-kept first from parts.0 from_is, bound-kept last to parts.1 to_is, steps, named,
-      λ index low high. still-has path.root (steps ++ Element index ∷ []) (each index low high))
+      let parts = or_parts (bound_rests_on root first) (bound_rests_on root last) rests in (
+        from,
+        to,
+        bound-kept first from parts.0 from_is,
+        bound-kept last to parts.1 to_is,
+        steps,
+        named,
+        λ index low high. still-has path.root (steps ++ Element index ∷ []) (each index low high),
+      )
   kept-fact (Order a b number) rests (m, n, left, right, less) =
       let parts = or_parts (nat_eq root a) (nat_eq root b) rests in
       (m, n, other-number a m parts.0 left, other-number b n parts.1 right, less)

@@ -21,7 +21,7 @@ pub named-entire : (steps : List Step) → is_named [] steps ≡ true → steps 
 named-entire [] is = refl
 named-entire (s ∷ steps) is = absurd (cc)
 
-entire-steps : (steps : List fact.Step) → is_entire steps ≡ true → steps ≡ []
+pub entire-steps : (steps : List fact.Step) → is_entire steps ≡ true → steps ≡ []
 entire-steps [] is = refl
 entire-steps (s ∷ steps) is = absurd (cc)
 

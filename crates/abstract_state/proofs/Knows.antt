@@ -15,29 +15,12 @@ use Rattle.meaning.specs.Store.{Step, Place, Environment, Store, stored}
 use Rattle.abstract_state.specs.State.{State, Facts, Dead, Live, gives_fact, joined_states, start, range_of, is_defined, with_defined, with_range, unless_empty}
 use Rattle.abstract_state.specs.Changes.{ordered, with_some}
 use Rattle.abstract_state.specs.Holds.{Moment, FactsHold, Holds, HasNumber, HasValue, IsIn, StateHolds, Separate, is_named, part_of, value_at}
+pub use Rattle.abstract_state.specs.Knows.{IsHeld, Knows, Shows, moment}
 use Rattle.abstract_state.proofs.Apart.{entire-stored}
 use Rattle.abstract_state.proofs.Given.{defined-number, given-holds, named-entire}
 use Rattle.abstract_state.proofs.Joins.{joined-length_one, joined-length_other, joined-one, joined-other}
 use Rattle.abstract_state.proofs.Like.{each-of, with-all}
 use Rattle.abstract_state.proofs.Ranged.{in-present}
-
-abbrev pub moment : Environment → Store → Moment
-moment env store = record { environment = env; store = store }
-
--- an environment shows each variable, and no two share a place
-pub record Shows (variables : ℕ) (env : Environment) : Type 0 where
-  pub visible : (root : ℕ) → root < variables → (p : Place) × (env root ≡ Some p)
-  pub separate : Separate env []
-
--- what facts say is so, with a row for each variable
-pub record IsHeld (variables : ℕ) (env : Environment) (facts : Facts) (store : Store) : Type 0 where
-  pub rows_are : variables ≤ length facts.ranges
-  pub hold : FactsHold facts (moment env store)
-
--- the state holds, and it has a row for each variable
-abbrev pub Knows : ℕ → Environment → State → Store → Type 0
-Knows variables env Dead store = ⊥
-Knows variables env (Live facts) store = IsHeld variables env facts store
 
 pub known-holds : (variables : ℕ) (env : Environment) (state : State) (store : Store) → Knows variables env state store → StateHolds state (moment env store)
 known-holds variables env Dead store known = known
@@ -160,14 +143,12 @@ set-at (row ∷ rows) (suc root) (suc other) range =
     ⊎_elim (λ kept. inl kept) (λ (both : (root ≡ other) × (get_or (set rows root range) other vacant ≡ range)). inr (ap suc both.0, both.1))
     (set-at rows root other range)
 
-value_is : (v w : Value) → Some v ≡ Some w → v ≡ w
-value_is v w is = cc
-
--- the values of a variable that has a number of a range lie there
-pub ranged-known : (variables : ℕ) (env : Environment) (state : State) (store : Store) (root : ℕ) (range : Interval) (n : ℤ) → HasNumber (moment env store) root n
-    → HasMember range n → Knows variables env state store → Knows variables env (with_range root range state) store
-ranged-known variables env Dead store root range n has inside known = known
-ranged-known variables env (Live facts) store root range n has inside known = record {
+-- the value of a variable lies in a range
+pub ranged-known : (variables : ℕ) (env : Environment) (state : State) (store : Store) (root : ℕ) (range : Interval)
+    → ((v : Value) → value_at (moment env store) root [] ≡ Some v → IsIn range v) → Knows variables env state store
+    → Knows variables env (with_range root range state) store
+ranged-known variables env Dead store root range inside known = known
+ranged-known variables env (Live facts) store root range inside known = record {
   rows_are = omega (arith, length-set facts.ranges root range, known.rows_are);
   hold = record {
     ranges = λ other steps v named is.
@@ -177,7 +158,7 @@ ranged-known variables env (Live facts) store root range n has inside known = re
         let whole : value_at m root [] ≡ Some v =
         subst (λ (s : List Step). value_at m root s ≡ Some v) (named-entire steps named)
         (subst (λ (r : ℕ). value_at m r steps ≡ Some v) (sym both.0) is) in
-        subst (λ (r : Interval). IsIn r v) (sym both.1) (subst (λ (w : Value). IsIn range w) (value_is (Number n) v (sym has ∙ whole)) inside))
+        subst (λ (r : Interval). IsIn r v) (sym both.1) (inside v whole))
         (set-at facts.ranges root other range);
     facts = known.hold.facts;
   };

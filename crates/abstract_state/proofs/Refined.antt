@@ -30,7 +30,7 @@ use Rattle.meaning.specs.Meaning as meaning
 use Rattle.meaning.specs.Meaning.{Evaluation, is_so, link_of, relates, value_of}
 use Rattle.abstract_state.specs.State.{State, Dead}
 use Rattle.abstract_state.specs.Forms.{Form, Literal, Signed, Entire, Moved, Other, Operand, bound_of, chain_form, constant_of, moved_form, negative, offset_form, sign_form, signed}
-use Rattle.abstract_state.specs.Conditions.{Condition, Conjunct, all_refined, bound_form, branched, chain_refined, condition_of, condition_step, conjunct_of, link_condition, monadic_refined, operand_of, operation_refined, opposite, refined, related, related_forms, single_refined, takes_both, unless_excluded}
+use Rattle.abstract_state.specs.Conditions.{Condition, Conjunct, all_refined, bound_form, branched, chain_refined, condition_of, condition_step, conjunct_of, link_condition, monadic_refined, operand_of, operation_refined, opposite, refined, related, related_forms, single_refined, takes_both, told, unless_excluded}
 use Rattle.abstract_state.specs.Holds.{Moment, HasNumber, IsBound, IsIn, part_of, value_at}
 use Rattle.abstract_state.proofs.Apart.{entire-stored}
 use Rattle.abstract_state.proofs.Bounded.{opposite-relates, related-known}
@@ -185,29 +185,26 @@ CombinesAs combination conjunct = (env : Environment) (s t : effect.State) (left
 -- ---- operators from left to right
 
 -- a relation of two operands
-forms-known : (variables : ℕ) (env : Environment) (store : Store) (r : Relation) (truth : Bool) (left right : Option Bound) (a b : ℤ) (state : State)
-    → IsOfForm (moment env store) left (Number a) → IsOfForm (moment env store) right (Number b) → relates r a b ≡ truth → Knows variables env state store
-    → Knows variables env (related_forms r truth left right state) store
-forms-known variables env store r true (Some left) (Some right) a b state (m, m_is, left_is) (n, n_is, right_is) is known =
+forms-known : (variables : ℕ) (env : Environment) (store : Store) (r : Relation) (left right : Option Bound) (a b : ℤ) (state : State)
+    → IsOfForm (moment env store) left (Number a) → IsOfForm (moment env store) right (Number b) → relates r a b ≡ true → Knows variables env state store
+    → Knows variables env (related_forms r left right state) store
+forms-known variables env store r (Some left) (Some right) a b state (m, m_is, left_is) (n, n_is, right_is) is known =
     let one : m ≡ a = cc in
     let two : n ≡ b = cc in
     related-known variables env store r state left right m n left_is right_is (ap₂ (relates r) one two ∙ is) known
-forms-known variables env store r false (Some left) (Some right) a b state (m, m_is, left_is) (n, n_is, right_is) is known =
-    let one : m ≡ a = cc in
-    let two : n ≡ b = cc in
-    related-known variables env store (opposite r) state left right m n left_is right_is
-    (opposite-relates r m n (ap₂ (relates r) one two ∙ is)) known
-forms-known variables env store r true None right a b state left_is right_is is known = known
-forms-known variables env store r false None right a b state left_is right_is is known = known
-forms-known variables env store r true (Some left) None a b state left_is right_is is known = known
-forms-known variables env store r false (Some left) None a b state left_is right_is is known = known
+forms-known variables env store r None right a b state left_is right_is is known = known
+forms-known variables env store r (Some left) None a b state left_is right_is is known = known
+
+told-relates : (r : Relation) (a b : ℤ) (truth : Bool) → relates r a b ≡ truth → relates (told r truth) a b ≡ true
+told-relates r a b true is = is
+told-relates r a b false is = opposite-relates r a b is
 
 operation-known : (variables : ℕ) (env : Environment) (store : Store) (operation : Dyadic) (left right : Form) (a b : ℤ) (w : Value) (state : State)
     → IsForm left (moment env store) (Number a) → IsForm right (moment env store) (Number b) → IsResult operation a b w → Knows variables env state store
-    → Knows variables env (operation_refined operation (is_so w) left right state) store
+    → Knows variables env (operation_refined operation (is_so w) (bound_of left) (bound_of right) state) store
 operation-known variables env store (dyadic.Relation r) left right a b w state left_is right_is is known =
-    forms-known variables env store r (is_so w) (bound_of left) (bound_of right) a b state (form-bound left (moment env store) (Number a) left_is)
-    (form-bound right (moment env store) (Number b) right_is) (sym is) known
+    forms-known variables env store (told r (is_so w)) (bound_of left) (bound_of right) a b state (form-bound left (moment env store) (Number a) left_is)
+    (form-bound right (moment env store) (Number b) right_is) (told-relates r a b (is_so w) (sym is)) known
 operation-known variables env store (dyadic.Plus overflow) left right a b w state left_is right_is is known = known
 operation-known variables env store (dyadic.Minus overflow) left right a b w state left_is right_is is known = known
 operation-known variables env store (dyadic.Times overflow) left right a b w state left_is right_is is known = known
@@ -273,14 +270,15 @@ turns-refine (link ∷ links) env s t left result truth takes is so =
     let combines = link.1 env s step.1 left step.0 step.2 in
     let rest = turns-refine links env step.1 t step.0 result truth parts.1 step.3 so in
     let both = both-so conjunct.operation combines.a combines.b step.0 truth parts.0 combines.result_is rest.0 in
-    let right_so : is_so combines.right ≡ truth = ap is_so combines.b_is ∙ both.1 in
-    (ap is_so combines.left_is ∙ both.0,
-    λ variables state known.
-    let one : Knows variables env (conjunct.right.refined truth state) s.store =
-    subst (λ (b : Bool). Knows variables env (conjunct.right.refined b state) s.store) right_so (combines.right_is.refines variables state known) in
-    subst (λ (store : Store). Knows variables env (all_refined truth (conjuncts_of links) (conjunct.right.refined truth state)) store) combines.store_is
-    (rest.1 variables (conjunct.right.refined truth state)
-    (subst (λ (store : Store). Knows variables env (conjunct.right.refined truth state) store) (sym combines.store_is) one)))
+    let right_so : is_so combines.right ≡ truth = ap is_so combines.b_is ∙ both.1 in (
+      ap is_so combines.left_is ∙ both.0,
+      λ variables state known.
+          let one : Knows variables env (conjunct.right.refined truth state) s.store =
+          subst (λ (b : Bool). Knows variables env (conjunct.right.refined b state) s.store) right_so (combines.right_is.refines variables state known) in
+          subst (λ (store : Store). Knows variables env (all_refined truth (conjuncts_of links) (conjunct.right.refined truth state)) store) combines.store_is
+          (rest.1 variables (conjunct.right.refined truth state)
+          (subst (λ (store : Store). Knows variables env (conjunct.right.refined truth state) store) (sym combines.store_is) one)),
+    )
 
 -- a single operator
 single-known : (links : List ProvedLink) (env : Environment) (s t : effect.State) (left result : Value) (form : Form) → turns links env left s ≡ Gives result t

@@ -154,41 +154,6 @@ pub all-ranges : (n : ℕ) (row : Row) → ranges_of (replicate n row) ≡ repli
 all-ranges zero row = refl
 all-ranges (suc n) row = ap (λ ranges. row.range ∷ ranges) (all-ranges n row)
 
--- ---- states
-
-abbrev rows_state : List Interval → List Fact → State
-rows_state ranges facts = Live (record { ranges = ranges; facts = facts })
-
-listed : {A : Type 0} (one other : A) (i n : ℕ) → i < n → (if nat_lt i n then one else other) ≡ one
-listed one other i n less = let is : nat_lt i n ≡ true = grind (arith, nat_tests) in ap (λ b. cond b one other) is
-
--- a row whose bit becomes set
-pub defined-again : (rows : List Row) (root : ℕ) (row : Row) → root < length rows → (get_or rows root row).range ≡ row.range → row.is_defined ≡ true
-    → rows_state (ranges_of (set rows root row)) (defined_from 0 (set rows root row)) ≡ with_defined root (rows_state (ranges_of rows) (defined_from 0 rows))
-defined-again rows root row inside kept bit =
-    let facts = defined_from 0 rows in
-    ap₂ rows_state (range-kept rows root row kept) (sym (row-defined rows 0 root root row inside (omega arith) bit))
-    ∙ sym (listed (rows_state (ranges_of rows) (with_fact (Defined (entire root)) facts)) (rows_state (ranges_of rows) facts) root (length (ranges_of rows))
-    (rw length-map inside))
-
--- so many rows that say nothing
-pub started : (rows : List Row) (n : ℕ) (row : Row) → rows ≡ replicate n row → row.range ≡ vacant → row.is_defined ≡ false
-    → rows_state (ranges_of rows) (defined_from 0 rows) ≡ start n
-started rows n row are range bit =
-    ap (λ (some : List Row). rows_state (ranges_of some) (defined_from 0 some)) are
-    ∙ ap₂ rows_state (all-ranges n row ∙ ap (replicate n) range) (none-defined n 0 row bit)
-
--- a row is written
-pub assigned : (rows : List Row) (root : ℕ) (row : Row) → root < length rows → row.is_defined ≡ true
-    → rows_state (ranges_of (set rows root row)) (defined_from 0 (set rows root row)) ≡ with_value root row.range (rows_state (ranges_of rows)
-    (defined_from 0 rows))
-assigned rows root row inside bit =
-    let facts = defined_from 0 rows in
-    let ranges = set (ranges_of rows) root row.range in
-    ap₂ rows_state (range-set rows root row) (sym (row-defined rows 0 root root row inside (omega arith) bit))
-    ∙ sym (listed (rows_state ranges (with_fact (Defined (entire root)) facts)) (rows_state ranges facts) root (length ranges)
-    (rw length-set (rw length-map inside)))
-
 -- no row stands there
 pub past : (rows : List Row) (i : ℕ) (none : Row) → length rows ≤ i → get_or rows i none ≡ none
 past [] i none beyond = refl
@@ -222,12 +187,12 @@ same-defined (row ∷ rows) (other ∷ others) from same =
     (same-defined rows others (suc from) (λ i. same (suc i)))
 
 -- the rows with bits that pass a test
-abbrev tested_bits : (Fact → Bool) → ℕ → List Row → List Row
+abbrev pub tested_bits : (Fact → Bool) → ℕ → List Row → List Row
 tested_bits test from [] = []
 tested_bits test from (row ∷ rows) =
     record row { is_defined = row.is_defined && test (Defined (entire from)) } ∷ tested_bits test (suc from) rows
 
-tested-bit : (test : Fact → Bool) (rows : List Row) (from i root : ℕ) → root ≡ from + i
+pub tested-bit : (test : Fact → Bool) (rows : List Row) (from i root : ℕ) → root ≡ from + i
     → bit (tested_bits test from rows) i ≡ (bit rows i && test (Defined (entire root)))
 tested-bit test [] from i root is = refl
 tested-bit test (row ∷ rows) from zero root is =
@@ -255,53 +220,11 @@ with-had rows root is =
     (λ beyond. absurd (let none : bit rows root ≡ false = ap (λ (row : Row). row.is_defined) (past rows root no_row beyond) in cc))
     (cases_lt root (length rows))
 
-had-first : (rows : List Row) (b : Bool) (from : ℕ) (more : List Fact) → (b ≡ true → bit rows from ≡ true)
-    → with_facts more (defined_from 0 rows) ≡ defined_from 0 rows
-    → with_facts (cond b (Defined (entire from) ∷ more) more) (defined_from 0 rows) ≡ defined_from 0 rows
-had-first rows true from more had rest = ap (with_facts more) (with-had rows from (had refl)) ∙ rest
-had-first rows false from more had rest = rest
-
--- nor do facts that rows say
-pub with-had_facts : (rows : List Row) (more : List Row) (from : ℕ) → ((i : ℕ) → bit more i ≡ true → bit rows (from + i) ≡ true)
-    → with_facts (defined_from from more) (defined_from 0 rows) ≡ defined_from 0 rows
-with-had_facts rows [] from had = refl
-with-had_facts rows (row ∷ more) from had =
-    let rest = with-had_facts rows more (suc from) (λ i is. subst (λ (r : ℕ). bit rows r ≡ true) (omega arith) (had (suc i) is)) in
-    had-first rows row.is_defined from (defined_from (suc from) more)
-    (λ is. subst (λ (r : ℕ). bit rows r ≡ true) (let none : from + 0 ≡ from = omega arith in none) (had 0 is)) rest
-
-and-back : (a b : Bool) → (a && b) ≡ (b && a)
+pub and-back : (a b : Bool) → (a && b) ≡ (b && a)
 and-back true true = refl
 and-back true false = refl
 and-back false true = refl
 and-back false false = refl
-
-abbrev facts_of : List Row → Facts
-facts_of rows = record { ranges = ranges_of rows; facts = defined_from 0 rows }
-
-module _ (one other both : List Row) (joined_rows : AreJoined one other both) where
-  bit-of : (rows : List Row) (i : ℕ) → has_fact (Defined (entire i)) (defined_from 0 rows) ≡ bit rows i
-  bit-of rows i = sym (has-row rows no_row 0 i i refl (omega arith))
-
-  bit-both : (i : ℕ) → bit both i ≡ (bit one i && bit other i)
-  bit-both i = ap (λ (row : Row). row.is_defined) (joined_rows.each i)
-
-  kept-one : filter (gives (facts_of other)) (defined_from 0 one) ≡ defined_from 0 both
-  kept-one =
-      filter-defined (gives (facts_of other)) one 0
-      ∙ same-defined (tested_bits (gives (facts_of other)) 0 one) both 0
-      (λ i. tested-bit (gives (facts_of other)) one 0 i i (omega arith) ∙ ap (λ (b : Bool). bit one i && b) (bit-of other i) ∙ sym (bit-both i))
-
-  kept-other : filter (gives (facts_of one)) (defined_from 0 other) ≡ defined_from 0 both
-  kept-other =
-      filter-defined (gives (facts_of one)) other 0
-      ∙ same-defined (tested_bits (gives (facts_of one)) 0 other) both 0
-      (λ i. tested-bit (gives (facts_of one)) other 0 i i (omega arith) ∙ ap (λ (b : Bool). bit other i && b) (bit-of one i)
-      ∙ and-back (bit other i) (bit one i) ∙ sym (bit-both i))
-
-  pub facts-both : defined_from 0 both ≡ (joined_facts (facts_of one) (facts_of other)).facts
-  facts-both =
-      sym (ap₂ with_facts kept-other kept-one ∙ with-had_facts both both 0 (λ i is. subst (λ (r : ℕ). bit both r ≡ true) (omega arith) is))
 
 range-pair : (a b : Interval) (xs ys : List Interval) → a ≡ b → xs ≡ ys → ◌≡◌ {A = List Interval} (a ∷ xs) (b ∷ ys)
 range-pair a b xs ys first rest = ap₂ (λ (r : Interval) (rs : List Interval). r ∷ rs) first rest
@@ -325,12 +248,6 @@ ranges-both (row ∷ one) (o ∷ other) [] count each = absurd (omega (arith, co
 ranges-both (row ∷ one) (o ∷ other) (r ∷ both) count each =
     range-pair r.range (joined row.range o.range) (ranges_of both) (joined_ranges (ranges_of one) (ranges_of other)) (each 0)
     (ranges-both one other both (omega (arith, count)) (λ i. each (suc i)))
-
-pub joined-rows : (one other both : List Row) → AreJoined one other both → facts_of both ≡ joined_facts (facts_of one) (facts_of other)
-joined-rows one other both joined_rows =
-    ap₂ (λ (ranges : List Interval) (facts : List Fact). record { ranges = ranges; facts = facts })
-    (ranges-both one other both joined_rows.count (λ i. ap (λ (row : Row). row.range) (joined_rows.each i)))
-    (facts-both one other both joined_rows)
 
 -- ---- rows that are filled up
 

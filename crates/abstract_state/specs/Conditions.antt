@@ -86,10 +86,14 @@ opposite relation.Greater = relation.LessOrEqual
 opposite relation.LessOrEqual = relation.Greater
 opposite relation.GreaterOrEqual = relation.Less
 
--- a relation of two operands holds, or doesn't: where both have bound forms
-abbrev pub related_forms : Relation → Bool → Option Bound → Option Bound → State → State
-related_forms r truth (Some a) (Some b) state = related (if truth then r else opposite r) a b state
-related_forms r truth left right state = state
+-- the relation that holds where one had a truth value
+abbrev pub told : Relation → Bool → Relation
+told r truth = if truth then r else opposite r
+
+-- a relation of two operands holds: something is known where both have bound forms
+abbrev pub related_forms : Relation → Option Bound → Option Bound → State → State
+related_forms r (Some a) (Some b) state = related r a b state
+related_forms r left right state = state
 
 -- ---- conditions
 
@@ -118,15 +122,15 @@ abbrev pub all_refined : Bool → List Conjunct → State → State
 all_refined truth [] state = state
 all_refined truth (conjunct ∷ conjuncts) state = all_refined truth conjuncts (conjunct.right.refined truth state)
 
--- an operation on two operands had a truth value: only relations are refined
-abbrev pub operation_refined : Dyadic → Bool → Form → Form → State → State
-operation_refined (dyadic.Relation r) truth left right state =
-    related_forms r truth (bound_of left) (bound_of right) state
+-- an operation on two operands, perhaps of bound forms, had a truth value: only relations are refined
+abbrev pub operation_refined : Dyadic → Bool → Option Bound → Option Bound → State → State
+operation_refined (dyadic.Relation r) truth left right state = related_forms (told r truth) left right state
 operation_refined operation truth left right state = state
 
 -- a single operator
 abbrev pub single_refined : Bool → Form → List Conjunct → State → State
-single_refined truth left (conjunct ∷ []) state = operation_refined conjunct.operation truth left conjunct.right.form state
+single_refined truth left (conjunct ∷ []) state =
+    operation_refined conjunct.operation truth (bound_of left) (bound_of conjunct.right.form) state
 single_refined truth left conjuncts state = state
 
 -- a chain of operators

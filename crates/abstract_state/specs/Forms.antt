@@ -34,10 +34,24 @@ signed_literal monadic.Plus n = Signed n
 signed_literal monadic.Minus n = signed (integer_or_none (neg_ℤ n))
 signed_literal operation n = Other
 
+-- the number of a constant without a sign
+abbrev pub literal_of : Form → Option ℤ
+literal_of (Literal n) = Some n
+literal_of form = None
+
+-- the variable that a form is
+abbrev pub root_of : Form → Option ℕ
+root_of (Entire root) = Some root
+root_of form = None
+
+-- an operation on a constant that has no sign, if it is one
+abbrev pub signed_if : Option ℤ → Monadic → Form
+signed_if None operation = Other
+signed_if (Some n) operation = signed_literal operation n
+
 -- an operation on one operand
 abbrev pub sign_form : Form → Monadic → Form
-sign_form (Literal n) operation = signed_literal operation n
-sign_form form operation = Other
+sign_form form operation = signed_if (literal_of form) operation
 
 -- the number of a constant
 abbrev pub constant_of : Form → Option ℤ
@@ -61,10 +75,15 @@ offset_form root (dyadic.Plus overflow) constant = moved_form root constant
 offset_form root (dyadic.Minus overflow) constant = moved_form root (negative constant)
 offset_form root operation constant = Other
 
+-- a variable and operators behind it, if it is one
+abbrev pub chain_form_of : Option ℕ → List Operand → Form
+chain_form_of None links = Other
+chain_form_of (Some root) (link ∷ []) = offset_form root link.operation (constant_of link.form)
+chain_form_of (Some root) links = Other
+
 -- the first operand of a chain, and its operators
 abbrev pub chain_form : Form → List Operand → Form
-chain_form (Entire root) (link ∷ []) = offset_form root link.operation (constant_of link.form)
-chain_form first links = Other
+chain_form first links = chain_form_of (root_of first) links
 
 -- the bound of a form, if it is a bound form
 abbrev pub bound_of : Form → Option Bound

@@ -2,6 +2,8 @@ pub mod State
 pub mod Forms
 pub mod Changes
 pub mod Conditions
+pub mod Loops
 pub mod View
 pub mod Holds
+pub mod Knows
 pub mod Laws

@@ -1,7 +1,11 @@
 -- The states of the program as the definitions see them. It does not say what a state means.
-use Rattle.std.specs.Prelude.{◌≡◌, ℕ, suc, ◌&&◌, false, List, [], ◌∷◌, if◌then◌else◌, map, max, length, slice_index_or}
-use Rattle.domain.specs.Interval.{vacant, joined}
-use Rattle.domain.specs.Facts.{Fact, Defined, entire}
+use Rattle.std.specs.Prelude.{◌≡◌, ℕ, suc, ℤ, pos, neg_ℤ, ◌≤ℤ◌, ◌&&◌, false, List, [], ◌∷◌, ◌++◌, Option, Some, None, if◌then◌else◌, map, max, length, slice_index_or, slice_set, ◌≤◌}
+use Rattle.std.specs.List.{insert}
+use Rattle.domain.specs.declared.facts.Bound.{Bound as KeptBound}
+use Rattle.domain.specs.Interval.{Interval, vacant, joined}
+use Rattle.domain.specs.Facts.{Bound, Fact, Defined, Order, entire, said_bound, with_fact}
+use Rattle.abstract_state.specs.declared.orders.Order.{Order as KeptOrder}
+use Rattle.abstract_state.specs.declared.bounds.Ends.{Ends}
 use Rattle.abstract_state.specs.declared.state.Row.{Row}
 use Rattle.abstract_state.specs.declared.state.Facts.{Facts as KeptFacts}
 use Rattle.abstract_state.specs.declared.state.State.{State as Kept}
@@ -14,9 +18,25 @@ defined_from root [] = []
 defined_from root (row ∷ rows) =
     if row.is_defined then Defined (entire root) ∷ defined_from (suc root) rows else defined_from (suc root) rows
 
+-- what an order says
+abbrev pub said_order : KeptOrder → Fact
+said_order order = Order order.root order.other order.number
+
+-- what there may be of an order, and of a bound
+abbrev pub said_some : Option KeptOrder → Option Fact
+said_some None = None
+said_some (Some order) = Some (said_order order)
+
+abbrev pub said_form : Option KeptBound → Option Bound
+said_form None = None
+said_form (Some bound) = Some (said_bound bound)
+
 -- what facts of the program say
 abbrev pub viewed_facts : KeptFacts → Facts
-viewed_facts known = record { ranges = map (λ row. row.range) known.rows.items; facts = defined_from 0 known.rows.items }
+viewed_facts known = record {
+  ranges = map (λ row. row.range) known.rows.items;
+  facts = defined_from 0 known.rows.items ++ map said_order known.orders.items;
+}
 
 -- what a state of the program says
 abbrev pub viewed : Kept → State
@@ -37,3 +57,28 @@ pub record AreJoined (one other both : List Row) : Type 0 where
   pub count : length both ≡ max (length one) (length other)
   pub each : (root : ℕ)
       → slice_index_or both root no_row ≡ joined_row (slice_index_or one root no_row) (slice_index_or other root no_row)
+
+-- a number that is far from the greatest of 64 bits
+abbrev pub IsNear : ℤ → Type 0
+IsNear z = (neg_ℤ (pos 4611686035607257088) ≤ℤ z) × (z ≤ℤ pos 4611686035607257088)
+
+-- a number from which those of 32 bits lead to none beyond 64 bits
+abbrev pub IsFar : ℤ → Type 0
+IsFar z = (neg_ℤ (pos 9223372032559808511) ≤ℤ z) × (z ≤ℤ pos 9223372032559808511)
+
+-- the ends of a range
+pub record AreEnds (ends : Ends) (range : Interval) : Type 0 where
+  pub first_is : ends.first ≡ range.first
+  pub last_is : ends.last ≡ range.last
+  pub first_near : (neg_ℤ (pos 4611686020574871551) ≤ℤ ends.first) × (ends.first ≤ℤ pos 4611686020574871551)
+  pub last_near : (neg_ℤ (pos 4611686020574871551) ≤ℤ ends.last) × (ends.last ≤ℤ pos 4611686020574871551)
+
+-- where a fact comes among others: at a place, or nowhere, since they have it
+abbrev pub IsPlace : Fact → List Fact → Option ℕ → Type 0
+IsPlace fact facts None = with_fact fact facts ≡ facts
+IsPlace fact facts (Some place) = (place ≤ length facts) × (with_fact fact facts ≡ insert facts place fact)
+
+-- an order behind those that are kept, if there is one
+abbrev pub IsKept : Option KeptOrder → List KeptOrder → ℕ → List KeptOrder → ℕ → Type 0
+IsKept None old kept new count = (new ≡ old) × (count ≡ kept)
+IsKept (Some order) old kept new count = (new ≡ slice_set old kept order) × (count ≡ suc kept)

@@ -1,9 +1,14 @@
 //! What the checker knows at a point of a program, and what follows from it: an algebra of states, with its laws.
 #![tactic(auto)]
 
+mod bounds;
+mod conditions;
+mod forms;
 mod known;
 pub mod laws;
+mod orders;
 mod state;
 
+pub use forms::bound_form;
 pub use known::Known;
 pub use state::{State, limits};

@@ -1,8 +1,15 @@
-ghost use Rattle.std.specs.Prelude.{◌≡◌, ◌-◌, ◌++◌, IfOk, length, replicate};
-ghost use Rattle.abstract_state.specs.State.{Live, start, is_dead, range_of, is_defined, joined_facts, joined_states, limits_of, with_defined, with_value, unless_empty};
-ghost use Rattle.abstract_state.specs.View.{AreJoined, joined_row, no_row, viewed, viewed_facts};
+ghost use Rattle.std.specs.Prelude.{◌≡◌, ◌-◌, ◌++◌, IfOk, Some, filter, length, map, replicate};
+ghost use Rattle.std.specs.List.{list_any};
+ghost use Rattle.domain.specs.Facts.{said_bound};
+ghost use Rattle.abstract_state.specs.State.{Live, bound_range, gives, is_dead, is_defined, joined_facts, joined_states, le, limits_of, range_of, says_at_most, start, unless_empty, with_defined, with_range};
+ghost use Rattle.abstract_state.specs.Changes.{assigned, with_change, with_equal, with_some};
+ghost use Rattle.abstract_state.specs.View.{AreEnds, AreJoined, joined_row, no_row, said_form, said_order, said_some, viewed, viewed_facts};
 
+use crate::bounds::{Ends, is_at_most};
+use crate::orders;
+use crate::orders::Order;
 use domain::Domain;
+use domain::facts::Bound;
 use domain::interval::Interval;
 use std::alloc::{AllocError, Global};
 use types::OrdinalRange;
@@ -48,6 +55,8 @@ pub enum State {
 pub struct Facts {
     /// A row for each variable, by root number.
     rows: Vec<Row>,
+    /// In the order of facts, each once.
+    orders: Vec<Order>,
 }
 
 impl State {
@@ -57,6 +66,7 @@ impl State {
     {
         Ok(State::Live(Facts {
             rows: vec![in alloc; Row::NONE; variables]?,
+            orders: Vec::new(alloc),
         }))
     }
 
@@ -99,12 +109,76 @@ impl State {
         }
     }
 
-    /// The variable holds a value of the range from here on.
-    pub fn assign(&mut self, root: u32, range: Interval)
-        ensures { viewed self.new ≡ with_value root range (viewed self.old) }
+    /// The variable has a value of the range from here on, perhaps of a bound form.
+    pub fn assign(
+        &mut self,
+        root: u32,
+        range: Interval,
+        form: Option<Bound>,
+    ) -> Result<(), AllocError>
+        ensures { IfOk result
+            (λ _. viewed self.new ≡ assigned root range (said_form form) (viewed self.old)) }
+    {
+        self.change(root, form);
+        self.set_range(root, range);
+        self.define(root);
+        self.equate(root, form)
+    }
+
+    /// What is left of facts after a variable got a value.
+    fn change(&mut self, root: u32, form: Option<Bound>)
+        ensures { viewed self.new ≡ with_change root (said_form form) (viewed self.old) }
     {
         if let State::Live(facts) = self {
-            facts.assign(root, range);
+            facts.change(root, form);
+        }
+    }
+
+    /// A variable is another plus a number, if it got a value of such a form.
+    fn equate(&mut self, root: u32, form: Option<Bound>) -> Result<(), AllocError>
+        ensures { IfOk result (λ _. viewed self.new ≡ with_equal root (said_form form) (viewed self.old)) }
+    {
+        match form {
+            Some(
+                Bound::Plus {
+                    root: other,
+                    number,
+                },
+            ) if root != other => {
+                let number = i64::from(number);
+                self.insert(Order::new(root, other, number))?;
+                self.insert(Order::new(other, root, -number))
+            }
+            _ => Ok(()),
+        }
+    }
+
+    /// An order more, if there is one.
+    pub(crate) fn insert(&mut self, order: Option<Order>) -> Result<(), AllocError>
+        ensures { IfOk result (λ _. viewed self.new ≡ with_some (said_some order) (viewed self.old)) }
+    {
+        match (self, order) {
+            (State::Live(facts), Some(order)) => facts.insert(order),
+            _ => Ok(()),
+        }
+    }
+
+    /// The values of a variable lie in a range from here on.
+    pub(crate) fn set_range(&mut self, root: u32, range: Interval)
+        ensures { viewed self.new ≡ with_range root range (viewed self.old) }
+    {
+        if let State::Live(facts) = self {
+            facts.set_range(root, range);
+        }
+    }
+
+    /// The ends of the range in which the number of a bound lies.
+    pub(crate) fn ends(&self, bound: Bound) -> Ends
+        ensures { AreEnds result (bound_range (viewed self.now) (said_bound bound)) }
+    {
+        match bound {
+            Bound::Number(number) => Ends::of(number),
+            Bound::Plus { root, number } => Ends::moved(self.range(root), number),
         }
     }
 
@@ -125,21 +199,22 @@ impl State {
             State::Dead => Ok(State::Dead),
             State::Live(facts) => Ok(State::Live(Facts {
                 rows: Vec::from_slice(alloc, &facts.rows)?,
+                orders: Vec::from_slice(alloc, &facts.orders)?,
             })),
         }
     }
 
     /// What is known where the way to here meets another.
-    pub fn join(&mut self, other: State) -> Result<(), AllocError>
+    pub fn join(&mut self, alloc: Global, other: State) -> Result<(), AllocError>
         ensures { IfOk result (λ _. viewed self.new ≡ joined_states (viewed self.old) (viewed other)) }
     {
         match other {
             State::Dead => Ok(()),
-            State::Live(others) => self.join_facts(others),
+            State::Live(others) => self.join_facts(alloc, others),
         }
     }
 
-    fn join_facts(&mut self, others: Facts) -> Result<(), AllocError>
+    fn join_facts(&mut self, alloc: Global, others: Facts) -> Result<(), AllocError>
         ensures { IfOk result (λ _. viewed self.new ≡ joined_states (viewed self.old) (Live (viewed_facts others))) }
     {
         match self {
@@ -147,7 +222,7 @@ impl State {
                 *self = State::Live(others);
                 Ok(())
             }
-            State::Live(facts) => facts.join(others),
+            State::Live(facts) => facts.join(alloc, others),
         }
     }
 }
@@ -179,22 +254,99 @@ impl Facts {
         }
     }
 
-    fn assign(&mut self, root: u32, range: Interval)
-        ensures { Live (viewed_facts self.new) ≡ with_value root range (Live (viewed_facts self.old)) }
+    fn set_range(&mut self, root: u32, range: Interval)
+        ensures { Live (viewed_facts self.new) ≡ with_range root range (Live (viewed_facts self.old)) }
     {
         if (root as usize) < self.rows.len() {
-            self.rows[root as usize] = Row {
-                range,
-                is_defined: true,
-            };
+            self.rows[root as usize].range = range;
         }
     }
 
-    fn join(&mut self, others: Facts) -> Result<(), AllocError>
+    fn insert(&mut self, order: Order) -> Result<(), AllocError>
+        ensures { IfOk result (λ _. Live (viewed_facts self.new)
+            ≡ with_some (Some (said_order order)) (Live (viewed_facts self.old))) }
+    {
+        orders::insert(&mut self.orders, order)
+    }
+
+    fn change(&mut self, root: u32, form: Option<Bound>)
+        ensures { Live (viewed_facts self.new)
+            ≡ with_change root (said_form form) (Live (viewed_facts self.old)) }
+    {
+        orders::change(&mut self.orders, root, form);
+    }
+
+    /// Whether an order is given: both variables are defined, and the first is at most the second plus the number.
+    fn gives(&self, order: &Order) -> bool
+        ensures { result ≡ gives (viewed_facts self.now) (said_order order.now) }
+    {
+        self.is_defined(order.root)
+            && self.is_defined(order.other)
+            && self.le(
+                Bound::Plus {
+                    root: order.root,
+                    number: 0,
+                },
+                Bound::Plus {
+                    root: order.other,
+                    number: order.number,
+                },
+            )
+    }
+
+    /// Whether a bound is known to be at most another.
+    fn le(&self, left: Bound, right: Bound) -> bool
+        ensures { result ≡ le (viewed_facts self.now) (said_bound left) (said_bound right) }
+    {
+        is_at_most(left, right)
+            || self.ends(left).is_below(self.ends(right))
+            || self.says_at_most(left, right)
+    }
+
+    fn says_at_most(&self, left: Bound, right: Bound) -> bool
+        ensures { result ≡ list_any (says_at_most (said_bound left) (said_bound right)) (viewed_facts self.now).facts }
+    {
+        for i in 0..self.orders.len() {
+            if self.orders[i].says_at_most(left, right) {
+                return true;
+            }
+        }
+        false
+    }
+
+    fn ends(&self, bound: Bound) -> Ends
+        ensures { AreEnds result (bound_range (Live (viewed_facts self.now)) (said_bound bound)) }
+    {
+        match bound {
+            Bound::Number(number) => Ends::of(number),
+            Bound::Plus { root, number } => Ends::moved(self.range(root), number),
+        }
+    }
+
+    /// Those of some orders that are given.
+    fn given(&self, alloc: Global, orders: &[Order]) -> Result<Vec<Order>, AllocError>
+        ensures { IfOk result (λ given. map said_order given.items
+            ≡ filter (gives (viewed_facts self.now)) (map said_order orders.now)) }
+    {
+        let mut given = Vec::new(alloc);
+        for i in 0..orders.len() {
+            if self.gives(&orders[i]) {
+                given.push(orders[i])?;
+            }
+        }
+        Ok(given)
+    }
+
+    fn join(&mut self, alloc: Global, others: Facts) -> Result<(), AllocError>
         ensures { IfOk result
             (λ _. viewed_facts self.new ≡ joined_facts (viewed_facts self.old) (viewed_facts others)) }
     {
-        join_rows(&mut self.rows, others.rows)
+        let given = self.given(alloc, &others.orders)?;
+        let mut both = others.given(alloc, &self.orders)?;
+        orders::insert_all(&mut both, &given)?;
+        join_rows(&mut self.rows, others.rows)?;
+        self.orders = both;
+        Ok(())
     }
 }
 

@@ -1,15 +1,22 @@
-use Rattle.std.proofs.Common.{◌≡◌}
-use Rattle.std.proofs.lemmas.Result.{IfOk-weaker}
-use Rattle.abstract_state.specs.State.{joined_facts}
-use Rattle.abstract_state.specs.View.{AreJoined, viewed_facts}
-use Rattle.abstract_state.proofs.Rows.{joined-rows}
+use Rattle.std.proofs.Common.{rules, ◌≡◌, ◌∙◌, sym, ap, subst, List, filter}
+use Rattle.abstract_state.specs.declared.orders.Order.{Order as KeptOrder}
+use Rattle.abstract_state.specs.State.{gives, with_facts}
+use Rattle.abstract_state.proofs.Kept.{joined-kept, kept_facts, said_orders}
 use Rattle.abstract_state.proofs.state.Facts.join.Goals as goal
 
 pub returns : goal.returns
 returns c =
     let one = c.args.self.now.rows.items in
     let other = c.args.others.rows.items in
-    let both = c.join_rows.new.rows.items in
-    IfOk-weaker c.join_rows.result (λ _. AreJoined one other both)
-    (λ _. viewed_facts (record { rows = c.join_rows.new.rows }) ≡ joined_facts (viewed_facts c.args.self.now) (viewed_facts c.args.others))
-    (λ _ are. joined-rows one other both are) c.join_rows.ensures
+    let orders = c.args.self.now.orders.items in
+    let others = c.args.others.orders.items in
+    let given = c.in_ok-given.given.items in
+    let both = c.in_ok-both.both.items in
+    let after = c.insert_all.new.orders.items in
+    let given_are = subst (λ (some : List KeptOrder). said_orders given ≡ filter (gives (kept_facts one orders)) (said_orders some))
+    c.deref.ensures.value c.in_ok-given.ensures in
+    let both_are = subst (λ (some : List KeptOrder). said_orders both ≡ filter (gives (kept_facts other others)) (said_orders some))
+    c.deref-2.ensures.value c.in_ok-both.ensures in
+    let after_are = subst (λ (some : List KeptOrder). said_orders after ≡ with_facts (said_orders some) (said_orders both))
+    c.deref-3.ensures.value c.in_ok-insert_all.ensures in
+    joined-kept one other c.join_rows.new.rows.items orders others given both after c.in_ok-join_rows.ensures both_are given_are after_are

@@ -1,10 +1,10 @@
-use Rattle.std.proofs.Common.{refl, false}
-use Rattle.abstract_state.specs.declared.state.Row.{Row}
-use Rattle.domain.specs.Interval.{vacant}
-use Rattle.abstract_state.proofs.Rows.{started}
+use Rattle.std.proofs.Common.{◌∙◌, ap, List}
+use Rattle.abstract_state.specs.declared.orders.Order.{Order as KeptOrder}
+use Rattle.abstract_state.proofs.Kept.{kept_state, started}
 use Rattle.abstract_state.proofs.state.State.undefined.Goals as goal
 
 pub returns : goal.returns
 returns c =
-    let row : Row = record { range = vacant; is_defined = false } in
-    started c.in_ok-vec.field-0.items c.args.variables row (c.in_ok-vec.ensures.items_if_clones_equal (λ y is. is)) refl refl
+    let rows = c.in_ok-vec.field-0.items in
+    ap (λ (orders : List KeptOrder). kept_state rows orders) c.new.ensures.items
+    ∙ started rows c.args.variables (c.in_ok-vec.ensures.items_if_clones_equal (λ y is. is))

@@ -1,0 +1,85 @@
+ghost use Rattle.std.specs.Prelude.{◌≡◌, ◌+ℤ◌, ◌-ℤ◌, ◌&&◌, ◌||◌, not, int_le, int_lt};
+ghost use Rattle.domain.specs.Facts.{said_bound};
+ghost use Rattle.abstract_state.specs.State.{is_at_most, moved};
+ghost use Rattle.abstract_state.specs.View.{AreEnds, IsFar};
+
+use domain::facts::Bound;
+use domain::interval::Interval;
+
+/// The ends of a range of numbers; it is empty where the first is above the last.
+#[derive(Clone, Copy)]
+pub(crate) struct Ends {
+    pub(crate) first: i64,
+    pub(crate) last: i64,
+}
+
+impl Ends {
+    /// Those of a single number.
+    pub(crate) fn of(number: i32) -> Ends
+        ensures { AreEnds result (record { first = number; last = number }) }
+    {
+        let number = i64::from(number);
+        Ends {
+            first: number,
+            last: number,
+        }
+    }
+
+    /// Those of a range whose numbers are greater by a number.
+    pub(crate) fn moved(range: Interval, number: i32) -> Ends
+        ensures { AreEnds result (moved number range) }
+    {
+        let number = i64::from(number);
+        Ends {
+            first: range.first() + number,
+            last: range.last() + number,
+        }
+    }
+
+    fn is_empty(self) -> bool
+        ensures { result ≡ int_lt self.last self.first }
+    {
+        self.last < self.first
+    }
+
+    /// Whether neither range is empty, and each number of this is at most each of the other.
+    pub(crate) fn is_below(self, other: Ends) -> bool
+        ensures { result ≡ (not (int_lt self.last self.first || int_lt other.last other.first)
+            && int_le self.last other.first) }
+    {
+        !(self.is_empty() || other.is_empty()) && self.last <= other.first
+    }
+}
+
+/// The sum of two numbers, of which the first is far from the greatest and the least.
+pub(crate) fn sum(left: i64, right: i32) -> i64
+    requires { IsFar left }
+    ensures { result ≡ left +ℤ right }
+{
+    left + i64::from(right)
+}
+
+/// The difference of two numbers, of which the first is far from the greatest and the least.
+pub(crate) fn difference(left: i64, right: i32) -> i64
+    requires { IsFar left }
+    ensures { result ≡ left -ℤ right }
+{
+    left - i64::from(right)
+}
+
+/// Whether both are numbers, or the same variable plus numbers, of which the first is at most the second.
+pub(crate) fn is_at_most(left: Bound, right: Bound) -> bool
+    ensures { result ≡ is_at_most (said_bound left) (said_bound right) }
+{
+    match (left, right) {
+        (Bound::Number(m), Bound::Number(n)) => m <= n,
+        (
+            Bound::Plus { root, number: m },
+            Bound::Plus {
+                root: other,
+                number: n,
+            },
+        ) => { root == other && m <= n }
+        _ => false,
+    }
+}

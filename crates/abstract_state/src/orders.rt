@@ -1,0 +1,171 @@
+ghost use Rattle.std.specs.Prelude.{◌≡◌, ◌<◌, IfOk, length, map};
+ghost use Rattle.std.specs.List.{filter_map};
+ghost use Rattle.domain.specs.Facts.{fact_order, said_bound, with_fact};
+ghost use Rattle.abstract_state.specs.Changes.{changed, ordered, raised, raised_number, unless_resting};
+ghost use Rattle.abstract_state.specs.State.{says_at_most, with_facts};
+ghost use Rattle.abstract_state.specs.View.{IsKept, IsPlace, said_form, said_order, said_some};
+
+use crate::bounds::sum;
+use domain::facts::Bound;
+use std::alloc::AllocError;
+use std::cmp::Ordering;
+
+/// The value of a variable is at most that of another plus a number.
+#[derive(Clone, Copy)]
+pub(crate) struct Order {
+    pub(crate) root: u32,
+    pub(crate) other: u32,
+    pub(crate) number: i32,
+}
+
+impl Order {
+    /// An order, if its number is one that facts have.
+    pub(crate) fn new(root: u32, other: u32, number: i64) -> Option<Order>
+        ensures { said_some result ≡ ordered root other number }
+    {
+        if number < -2147483647 || 2147483647 < number {
+            return None;
+        }
+        Some(Order {
+            root,
+            other,
+            number: number as i32,
+        })
+    }
+
+    /// Whether the order says that a bound is at most another.
+    pub(crate) fn says_at_most(&self, left: Bound, right: Bound) -> bool
+        ensures { result ≡ says_at_most (said_bound left) (said_bound right) (said_order self.now) }
+    {
+        match (left, right) {
+            (
+                Bound::Plus { root, number: m },
+                Bound::Plus {
+                    root: other,
+                    number: n,
+                },
+            ) => {
+                let sum = sum(i64::from(self.number), m);
+                root == self.root && other == self.other && sum <= i64::from(n)
+            }
+            _ => false,
+        }
+    }
+
+    /// What is left of the order after a variable got a value, perhaps of a bound form.
+    fn changed(self, root: u32, form: Option<Bound>) -> Option<Order>
+        ensures { said_some result ≡ changed root (said_form form) (said_order self) }
+    {
+        match form {
+            Some(Bound::Plus { root: by, number }) if root == by => self.raised(root, number),
+            _ => self.unless_resting(root),
+        }
+    }
+
+    /// What is left of it after a variable rose by a number.
+    fn raised(self, root: u32, by: i32) -> Option<Order>
+        ensures { said_some result ≡ raised root by (said_order self) }
+    {
+        let number = raised_number(root == self.root, root == self.other, by, self.number);
+        Order::new(self.root, self.other, number)
+    }
+
+    /// The order, if it doesn't rest on a variable.
+    fn unless_resting(self, root: u32) -> Option<Order>
+        ensures { said_some result ≡ unless_resting root (said_order self) }
+    {
+        if root == self.root || root == self.other {
+            return None;
+        }
+        Some(self)
+    }
+
+    /// How the order stands to another in the order of facts.
+    fn compare(&self, other: &Order) -> Ordering
+        ensures { result ≡ fact_order (said_order self.now) (said_order other.now) }
+    {
+        self.root
+            .cmp(&other.root)
+            .then(self.other.cmp(&other.other))
+            .then(self.number.cmp(&other.number))
+    }
+}
+
+/// The number of an order after a variable rose by a number that stands to the left, or to the right.
+fn raised_number(left: bool, right: bool, by: i32, number: i32) -> i64
+    ensures { result ≡ raised_number left right by number }
+{
+    let by = i64::from(by);
+    let number = i64::from(number);
+    if left {
+        if right { number } else { number + by }
+    } else {
+        if right { number - by } else { number }
+    }
+}
+
+/// Puts an order into its place among others, unless they have it.
+pub(crate) fn insert(orders: &mut Vec<Order>, order: Order) -> Result<(), AllocError>
+    ensures { IfOk result (λ _. map said_order orders.new.items
+        ≡ with_fact (said_order order) (map said_order orders.old.items)) }
+{
+    match place(orders, order) {
+        None => Ok(()),
+        Some(place) => {
+            orders.insert(place, order)?;
+            Ok(())
+        }
+    }
+}
+
+/// Puts orders into their places among others, one after another.
+pub(crate) fn insert_all(orders: &mut Vec<Order>, more: &[Order]) -> Result<(), AllocError>
+    ensures { IfOk result (λ _. map said_order orders.new.items
+        ≡ with_facts (map said_order more.now) (map said_order orders.old.items)) }
+{
+    for order in more {
+        insert(orders, *order)?;
+    }
+    Ok(())
+}
+
+/// Where an order comes among others; `None`: they have it.
+fn place(orders: &[Order], order: Order) -> Option<usize>
+    ensures { IsPlace (said_order order) (map said_order orders.now) result }
+{
+    for i in 0..orders.len() {
+        match order.compare(&orders[i]) {
+            Ordering::Less => return Some(i),
+            Ordering::Equal => return None,
+            Ordering::Greater => {}
+        }
+    }
+    Some(orders.len())
+}
+
+/// What is left of orders after a variable got a value, perhaps of a bound form.
+pub(crate) fn change(orders: &mut Vec<Order>, root: u32, form: Option<Bound>)
+    ensures { map said_order orders.new.items
+        ≡ filter_map (changed root (said_form form)) (map said_order orders.old.items) }
+{
+    let mut kept = 0;
+    for i in 0..orders.len() {
+        let order = orders[i].changed(root, form);
+        kept = keep(orders, kept, order);
+    }
+    orders.truncate(kept);
+}
+
+/// Puts an order behind those that are kept, if there is one; how many are kept.
+fn keep(orders: &mut Vec<Order>, kept: usize, order: Option<Order>) -> usize
+    requires { kept < length orders.old.items }
+    ensures { IsKept order orders.old.items kept orders.new.items result }
+{
+    match order {
+        None => kept,
+        Some(order) => {
+            orders[kept] = order;
+            kept + 1
+        }
+    }
+}
