@@ -2,7 +2,6 @@
 use Rattle.std.proofs.Common.{arith, ◌≡◌, ⊎_elim, ◌⊎◌, inl, inr, ◌∙◌, sym, ap, refl, subst, ℕ, zero, suc, ◌<◌, Bool, true, false, ◌||◌, cond, List, [], ◌∷◌, ◌++◌, Option, Some, None}
 use Rattle.std.specs.List.{Contains}
 use Rattle.std.proofs.lemmas.List.Elements.{Contains-append_left, Contains-append_right, Contains-push_cases}
-use Rattle.typed_tree.specs.declared.tree.Tree.{Tree}
 use Rattle.domain.specs.Interval.{Interval}
 use Rattle.meaning.specs.declared.outcome.Ending.TheVariants.{Error, More}
 use Rattle.meaning.specs.declared.store.Value.{Value}
@@ -21,10 +20,10 @@ use Rattle.cert_checker.specs.Walk.{Breach, Context, Linked, Walked, Walking, fo
 use Rattle.cert_checker.specs.Promise.{moment_of, visits_of}
 use Rattle.cert_checker.proofs.Keeping.{InTypes, Keeps, keeps-itself, keeps-then}
 
--- what is fixed for a program: its tree, the sites that the whole walk leaves open, how many sites and variables the
+-- what is fixed for a program: the values of its variables' types, the sites that the whole walk leaves open, how many sites and variables the
 -- program has, the states that the whole walk links, and the pairs of aliases of each block by its number
 pub record World : Type 0 where
-  pub tree : Tree
+  pub limits : List Interval
   pub ids : List ℕ
   pub sites : ℕ
   pub variables : ℕ
@@ -38,9 +37,9 @@ pub record IsPartOf {A : Type 0} (world : World) (walked : Walked A) : Type 0 wh
 
 -- a walk goes by the world's program; its state holds, and each value lies in the range of its variable's type
 pub record Stands (world : World) (env : Environment) (context : Context) (state : State) (store : Store) : Type 0 where
-  pub tree_is : context.tree ≡ world.tree
+  pub limits_are : context.limits ≡ world.limits
   pub known : Knows world.variables env state store
-  pub typed : InTypes world.tree env store
+  pub typed : InTypes world.limits env store
 
 -- a state of the world is linked to the entry, and it holds there
 abbrev pub Meets : World → Visit → Type 0
@@ -227,7 +226,7 @@ none-some v is = cc
 pub stands-as : (world : World) (env : Environment) (context : Context) (state other : State) (store : Store) → Stands world env context state store
     → Knows world.variables env other store
     → Stands world env context other store
-stands-as world env context state other store stands known = record { tree_is = stands.tree_is; known = known; typed = stands.typed }
+stands-as world env context state other store stands known = record { limits_are = stands.limits_are; known = known; typed = stands.typed }
 
 good-use : (world : World) (env : Environment) → Shows world.variables env → (root site : ℕ) → root < world.variables → site < world.sites
     → (context : Context) (state : State) (s : effect.State) → IsPartOf world (walk.use_of root site context state)

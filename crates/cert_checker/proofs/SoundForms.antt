@@ -40,11 +40,10 @@ use Rattle.abstract_state.specs.Conditions.{bound_form}
 use Rattle.cert_checker.specs.Loops.{all_list, limits_at}
 use Rattle.cert_checker.specs.declared.fault.Rule.TheVariants.{Changes}
 use Rattle.domain.specs.Facts.{Bound}
-use Rattle.domain.specs.Interval.{is_included}
+use Rattle.domain.specs.Interval.{Interval, is_included}
 use Rattle.abstract_state.specs.State.{State, limits_of}
 use Rattle.abstract_state.specs.Holds.{IsIn}
 use Rattle.place.specs.declared.Place.{Place}
-use Rattle.typed_tree.specs.declared.tree.Tree.{Tree}
 use Rattle.cert_checker.proofs.SoundOperations.{IsKnownOf, given-sound, operated-sound, combined-sound, positive-sound, fitting-sound}
 
 -- the walk over an action that gives no value is sound
@@ -272,13 +271,13 @@ module _ (world : World) (env : Environment) (shows : Shows world.variables env)
   -- the value is stored: each loop round lists its variable, and it lies in the range of the variable's type
   stored-good : (target : Access) (fits : RangeTest) (form : Option Bound) (known : Known) (v : Value) (context : Context) (state : State) (t : effect.State)
       → target.root < world.variables
-      → (all_list target.root context.rounds && is_included (limits_of fits.range) (limits_at context.tree target.root)) ≡ true
+      → (all_list target.root context.rounds && is_included (limits_of fits.range) (limits_at context.limits target.root)) ≡ true
       → IsKnown known v → IsIn (limits_of fits.range) v → IsOfForm (moment env t.store) form v → Stands world env context state t.store
       → Good world (Foretold world env context (walk.assign target.root form known context state) t.store) t.visited (effect.store (env target.root) v t)
   stored-good target fits form (Ordinal range) v context state t within listed inside fitting of_form stands =
       let all = all_list target.root context.rounds in
-      let parts = and_parts all (is_included (limits_of fits.range) (limits_at context.tree target.root)) listed in
-      let own : IsIn (limits_at context.tree target.root) v = included-in (limits_of fits.range) (limits_at context.tree target.root) v parts.1 fitting in
+      let parts = and_parts all (is_included (limits_of fits.range) (limits_at context.limits target.root)) listed in
+      let own : IsIn (limits_at context.limits target.root) v = included-in (limits_of fits.range) (limits_at context.limits target.root) v parts.1 fitting in
       subst (λ (place : Option StorePlace).
       Good world (Foretold world env context (walk.assign target.root form (Ordinal range) context state) t.store) t.visited (effect.store place v t))
       (sym (at-place world.variables env shows target.root within))
@@ -288,10 +287,10 @@ module _ (world : World) (env : Environment) (shows : Shows world.variables env)
         gives = record {
           tie = tt;
           stands = record {
-            tree_is = stands.tree_is;
+            limits_are = stands.limits_are;
             known = assigned-known world.variables env shows state t.store target.root range form v within stands.known inside of_form;
-            typed = written-typed world.variables env shows t.store target.root v within world.tree stands.typed
-                (subst (λ (tree : Tree). IsIn (limits_at tree target.root) v) stands.tree_is own);
+            typed = written-typed world.variables env shows t.store target.root v within world.limits stands.typed
+                (subst (λ (limits : List Interval). IsIn (limits_at limits target.root) v) stands.limits_are own);
           };
           kept = written-kept world.variables env shows t.store target.root v within context.rounds parts.0;
         };
@@ -306,7 +305,7 @@ module _ (world : World) (env : Environment) (shows : Shows world.variables env)
       → Good world (Foretold world env context (walked-store becomes target fits value known context state) t.store) t.visited (tested-store target fits v t)
   store-sound becomes target fits value known v context state s t within below is inside unbroken part stands =
       let first = walk.fitting fits known context state in
-      let listed = all_list target.root context.rounds && is_included (limits_of fits.range) (limits_at context.tree target.root) in
+      let listed = all_list target.root context.rounds && is_included (limits_of fits.range) (limits_at context.limits target.root) in
       let asked = walk.change becomes target.root fits.range context first.after in
       let last = walk.assign target.root (bound_form value) first.value context first.after in
       let rest = followed asked last in

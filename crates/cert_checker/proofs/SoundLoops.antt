@@ -1,15 +1,14 @@
 -- The branches of a conditional statement and the loops are sound. A loop is a head, a round and a way out: what holds at
 -- its head holds there again whenever a round ends that another follows.
 use Rattle.std.proofs.Common.{arith, ◌≡◌, ◌∙◌, sym, ap, refl, subst, ℕ, zero, suc, Bool, true, false, cond, List, [], ◌∷◌, ◌++◌, Option, Some, None}
-use Rattle.std.specs.List.{Contains}
+use Rattle.std.specs.List.{All, Contains}
 use Rattle.std.proofs.lemmas.List.Elements.{Contains-append_left, Contains-append_right}
-use Rattle.typed_tree.specs.declared.tree.Tree.{Tree}
+use Rattle.domain.specs.Interval.{Interval}
 use Rattle.cert_checker.specs.declared.fault.Rule.{Rule}
 use Rattle.cert_checker.specs.declared.fault.Rule.TheVariants.{LoopEntry, LoopTurn}
 use Rattle.typed_tree.specs.declared.tree.Expr.{Expr}
 use Rattle.place.specs.declared.Place.{Place as SourcePlace}
 use Rattle.domain.specs.Facts.{Fact}
-use Rattle.domain.specs.Interval.{Interval}
 use Rattle.meaning.specs.declared.outcome.Ending.TheVariants.{More}
 use Rattle.meaning.specs.declared.store.Value.{Value}
 use Rattle.meaning.specs.Store.{Environment, Store}
@@ -17,17 +16,20 @@ use Rattle.meaning.specs.Effect as effect
 use Rattle.meaning.specs.Effect.{Action, Reply, Visit, and_then}
 use Rattle.meaning.specs.Meaning as meaning
 use Rattle.meaning.specs.Meaning.{is_so, value_of}
-use Rattle.abstract_state.specs.State.{State, gives_fact, joined_states}
+use Rattle.abstract_state.specs.State.{State, joined_states}
 use Rattle.abstract_state.specs.Holds.{Holds, IsIn, value_at}
 use Rattle.abstract_state.specs.declared.known.Known.{Known}
 use Rattle.abstract_state.specs.declared.known.Known.TheVariants.{Ordinal}
 use Rattle.abstract_state.proofs.Ranged.{IsKnown}
-use Rattle.abstract_state.proofs.Knows.{Shows, Knows, moment, given-known, joined-known_one, joined-known_other}
+use Rattle.abstract_state.proofs.Knows.{joined-known_one, joined-known_other}
 use Rattle.abstract_state.proofs.Refined.{branched-known}
-use Rattle.cert_checker.specs.Loops.{Round, claims_on, head, limits_at, gives_all, round_of, touched}
+use Rattle.cert_checker.specs.Loops.{Round, claims_on, limits_at, round_of, touched}
+use Rattle.abstract_state.specs.Loops.{gives_all, head}
+use Rattle.abstract_state.specs.Knows.{IsKept, Shows, Knows, moment}
+use Rattle.abstract_state.proofs.Looped.{given-all_known, head-known}
 use Rattle.cert_checker.specs.Walk as walk
 use Rattle.cert_checker.specs.Walk.{Context, Walked, Walking, followed, value_walk, where_so}
-use Rattle.cert_checker.proofs.Keeping.{all-pass, IsKept, Keeps, InTypes, keeps-itself, keeps-then, kept-then}
+use Rattle.cert_checker.proofs.Keeping.{Keeps, InTypes, keeps-itself, keeps-then}
 use Rattle.cert_checker.proofs.Sound.{World, IsPartOf, Stands, Good, IsForetold, Sound, Any_value, unbroken-left, unbroken-right, part-left, part-right, nothing-new, good-give, good-weaker, good-then, stands-as}
 
 -- ---- branches
@@ -154,20 +156,7 @@ SoundRound {A} world env round walking =
 -- ---- the head of a loop
 
 abbrev AllHold : List Fact → Environment → Store → Type 0
-AllHold facts env store = (fact : Fact) → Contains facts fact → Holds fact (moment env store)
-
-head-known : (variables : ℕ) (env : Environment) → Shows variables env → (limits : ℕ → Interval) (roots controls : List ℕ) (facts : List Fact)
-    (state : State) (before after : Store)
-    → Knows variables env state before → IsKept env roots controls before after
-    → ((root : ℕ) (v : Value) → value_at (moment env after) root [] ≡ Some v → IsIn (limits root) v) → AllHold facts env after
-    → Knows variables env (head limits roots controls facts state) after
-head-known variables env shows limits roots controls facts state before after known kept typed hold = ?
-
-given-all : (variables : ℕ) (env : Environment) (state : State) (store : Store) (facts : List Fact) → Knows variables env state store
-    → gives_all state facts ≡ true
-    → AllHold facts env store
-given-all variables env state store facts known given fact inside =
-    given-known variables env state store fact known (all-pass (gives_fact state) facts fact (gives_fact state fact) refl inside given)
+AllHold facts env store = All (λ fact. Holds fact (moment env store)) facts
 
 -- what a rule asks for, where it isn't broken
 pub kept-rule : (kept : Bool) (rule : Rule) (place : SourcePlace) → walk.breach_unless kept rule place ≡ [] → kept ≡ true
@@ -176,8 +165,8 @@ kept-rule false rule place is = absurd (cc)
 
 -- ---- the loops
 
-tree-limits : (one other : Tree) (root : ℕ) (v : Value) → one ≡ other → IsIn (limits_at other root) v → IsIn (limits_at one root) v
-tree-limits one other root v is inside = subst (λ (tree : Tree). IsIn (limits_at tree root) v) (sym is) inside
+type-limits : (one other : List Interval) (root : ℕ) (v : Value) → one ≡ other → IsIn (limits_at other root) v → IsIn (limits_at one root) v
+type-limits one other root v is inside = subst (λ (limits : List Interval). IsIn (limits_at limits root) v) (sym is) inside
 
 -- of the loops round a round of a loop, the last is the loop itself
 rounds-own : (env : Environment) (rounds : List Round) (own : Round) (before after : Store) → Keeps env (rounds ++ own ∷ []) before after
@@ -195,7 +184,7 @@ module _ (world : World) (env : Environment) (shows : Shows world.variables env)
   within = record context { rounds = context.rounds ++ own ∷ [] }
 
   abbrev begun : State
-  begun = head (limits_at context.tree) (touched own) own.controls facts state
+  begun = head (limits_at context.limits) (touched own) own.controls facts state
 
   -- at the start of a round the head holds, and behind the loop its way out
   abbrev AtHead : Store → Type 0
@@ -205,13 +194,13 @@ module _ (world : World) (env : Environment) (shows : Shows world.variables env)
   AtOut store = Stands world env context out store × Keeps env context.rounds start store
 
   -- the loop's facts hold there, and nothing changed but what the loop touches: so the head holds
-  head-stands : (store : Store) → InTypes world.tree env store → Keeps env within.rounds start store → AllHold facts env store
+  head-stands : (store : Store) → InTypes world.limits env store → Keeps env within.rounds start store → AllHold facts env store
       → Stands world env within begun store
   head-stands store typed kept hold = record {
-    tree_is = stands.tree_is;
-    known = head-known world.variables env shows (limits_at context.tree) (touched own) own.controls facts state start store stands.known
+    limits_are = stands.limits_are;
+    known = head-known world.variables env shows (limits_at context.limits) (touched own) own.controls facts state start store
         (rounds-own env context.rounds own start store kept)
-        (λ root v is. tree-limits context.tree world.tree root v stands.tree_is (typed root v is)) hold;
+        (λ root v among is. type-limits context.limits world.limits root v stands.limits_are (typed root v is)) hold stands.known;
     typed = typed;
   }
 
@@ -219,11 +208,11 @@ module _ (world : World) (env : Environment) (shows : Shows world.variables env)
   round-turns : {A : Type 0} → gives_all again facts ≡ true → (before after : Store) → Keeps env within.rounds start before → (more : Option A)
       → EndsHold world env within again out before more after → Turns (λ a store. AtHead store) AtOut more after
   round-turns given before after kept None (stood, own_kept) =
-      (record { tree_is = stood.tree_is; known = stood.known; typed = stood.typed },
+      (record { limits_are = stood.limits_are; known = stood.known; typed = stood.typed },
       rounds-outer env context.rounds own start after (keeps-then env within.rounds start before after kept own_kept))
   round-turns given before after kept (Some b) (stood, own_kept) =
       let all = keeps-then env within.rounds start before after kept own_kept in
-      (head-stands after stood.typed all (given-all world.variables env again after facts stood.known given), all)
+      (head-stands after stood.typed all (given-all_known world.variables env again after facts stood.known given), all)
 
 -- a loop whose round is sound
 pub sound-loop : {A : Type 0} (world : World) (env : Environment) → Shows world.variables env → (number : ℕ) (place : SourcePlace) (round : effect.Round A) (a : A)
@@ -234,7 +223,7 @@ sound-loop {A} world env shows number place round a walking each context state s
     let claims = claims_on context.certificate number in
     let own = round_of claims in
     let facts = claims.facts in
-    let begun = head (limits_at context.tree) (touched own) own.controls facts state in
+    let begun = head (limits_at context.limits) (touched own) own.controls facts state in
     let within : Context = record context { rounds = context.rounds ++ own ∷ [] } in
     let turn = walking within begun in
     let entry = walk.facts_given LoopEntry place facts context state in
@@ -244,7 +233,7 @@ sound-loop {A} world env shows number place round a walking each context state s
     let from_head = followed turn after_turn in
     let whole = walk.loop_walk number place walking context state in
     let from_entry = unbroken-right entry.broken (turn.broken ++ (turned.broken ++ [])) unbroken in
-    let given = given-all world.variables env state s.store facts stands.known
+    let given = given-all_known world.variables env state s.store facts stands.known
     (kept-rule (gives_all state facts) LoopEntry place (unbroken-left entry.broken (turn.broken ++ (turned.broken ++ [])) unbroken)) in
     let given_again = kept-rule (gives_all turn.after facts) LoopTurn place
     (unbroken-left turned.broken [] (unbroken-right turn.broken (turned.broken ++ []) from_entry)) in

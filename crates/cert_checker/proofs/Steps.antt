@@ -30,8 +30,11 @@ use Rattle.abstract_state.specs.Changes.{assigned}
 use Rattle.abstract_state.specs.Conditions.{bound_form}
 use Rattle.domain.specs.Facts.{Bound}
 use Rattle.abstract_state.specs.State.{State, Dead, Live, is_defined, joined_states, limits_of, range_of, with_defined}
-use Rattle.cert_checker.specs.Walk.{Breach, Context, Linked, Walked, Walking, use_of, tested, positive, within, width_test, assign, change, fitting, ◌>>=◌, give, ordinal, enter, variable_walk, operated, combined, in_turn, value_walk, link_walk, parameter_walk, statement_walk, all_of, assignment, branches, where_so, numbers_of}
-use Rattle.cert_checker.specs.View.{context_of, all_counted, counted, else_walk, IsMoved, Meets, Parts, Walks, Goes}
+use Rattle.cert_checker.specs.Walk.{Breach, Context, Linked, Walked, Walking, use_of, tested, positive, within, width_test, assign, change, fitting, ◌>>=◌, give, ordinal, enter, variable_walk, operated, combined, in_turn, value_walk, link_walk, parameter_walk, statement_walk, all_of, assignment, branches, breach_unless, facts_given, followed, loop_walk, repeat_round, while_round, with_state, where_so, numbers_of}
+use Rattle.cert_checker.specs.View.{context_of, all_counted, counted, else_walk, AtHead, EntersLoop, IsBehind, IsMoved, LeavesLoop, Meets, Parts, Walks, Goes}
+use Rattle.cert_checker.specs.Loops.{Claims, claims_on, limits_at, round_of, touched}
+use Rattle.abstract_state.specs.Loops.{gives_all, head}
+use Rattle.cert_checker.specs.declared.fault.Rule.TheVariants.{LoopEntry, LoopTurn}
 use Rattle.cert_checker.specs.Promise.{first_breach, IsBreachOf}
 
 -- ---- the walk, form by form
@@ -74,6 +77,16 @@ pub statement-If : (number : ℕ) (condition : Expr) (consequence : Box Stmt Glo
     ≡ (enter number >>= λ _. (value_walk condition >>= branches condition (statement_walk consequence.value) (else_walk alternative)))
 statement-If number condition consequence None = search (rules, stmt_lemmas)
 statement-If number condition consequence (Some statement) = search (rules, stmt_lemmas)
+
+pub statement-While : (number loop_number : ℕ) (place : SourcePlace) (condition : Expr) (body : Box Stmt Global)
+    → statement_walk (stmt.While number loop_number place condition body)
+    ≡ (enter number >>= λ _. loop_walk loop_number place (while_round condition (statement_walk body.value)))
+statement-While number loop_number place condition body = search (rules, stmt_lemmas)
+
+pub statement-Repeat : (number loop_number : ℕ) (place : SourcePlace) (statements : Vec Stmt Global) (condition : Expr)
+    → statement_walk (stmt.Repeat number loop_number place statements condition)
+    ≡ (enter number >>= λ _. loop_walk loop_number place (repeat_round (all_of (map statement_walk statements.items)) condition))
+statement-Repeat number loop_number place statements condition = search (rules, stmt_lemmas)
 
 -- ---- one piece of a walk after another
 
@@ -423,3 +436,121 @@ if-begun statement number condition consequence alternative inner old entered va
     (goes-then (value_walk condition) chosen entered valued new between after end known result two
     (goes-as (chosen known) (branches condition (statement_walk inner) (else_walk alternative) known) valued new after end result
     (ap (λ s. branches condition (statement_walk s) (else_walk alternative) known) (sym inner_is)) three)))
+
+-- ---- loops
+
+-- where no facts are given at the entry, a loop stops there
+pub loop-not_entered : (number : ℕ) (place : SourcePlace) (walking : Walking State) (old new : Walk) (before after : Visits) (fault : CheckFault)
+    → EntersLoop number place old (Err fault) new → Goes (loop_walk number place walking) old before (Err fault) new after
+loop-not_entered number place walking old new before after fault is =
+    let claims = claims_on old.certificate.now number in
+    let context = context_of old in
+    let state = viewed old.state in
+    let entry = facts_given LoopEntry place claims.facts context state in
+    let begun = head (limits_at old.limits.items) (touched (round_of claims)) [] claims.facts state in
+    let turn = walking (record context { rounds = context.rounds ++ round_of claims ∷ [] }) begun in
+    let rest : Walked (Unit {0}) = followed turn
+    (followed (facts_given LoopTurn place claims.facts context turn.after) (with_state turn.value context turn.after)) in
+    breach-stays entry rest fault (loop_walk number place walking context state) refl is
+
+module _ (number : ℕ) (place : SourcePlace) (walking : Walking State) (old headed : Walk) (at_head : AtHead number old headed) where
+  abbrev claims : Claims
+  claims = claims_on old.certificate.now number
+
+  abbrev within : Context
+  within = record (context_of old) { rounds = (context_of old).rounds ++ round_of claims ∷ [] }
+
+  abbrev turn : Walked State
+  turn = walking within (head (limits_at old.limits.items) (touched (round_of claims)) [] claims.facts (viewed old.state))
+
+  abbrev whole : Walked (Unit {0})
+  whole = loop_walk number place walking (context_of old) (viewed old.state)
+
+  turn-same : walking (context_of headed) (viewed headed.state) ≡ turn
+  turn-same = ap (λ context. walking context (viewed headed.state)) at_head.context_is ∙ ap (walking within) at_head.state_is
+
+  -- no rule is broken where the loop is entered
+  entered-unbroken : whole.broken ≡ turn.broken ++ (facts_given LoopTurn place claims.facts (context_of old) turn.after).broken ++ []
+  entered-unbroken =
+      ap (λ given. breach_unless given LoopEntry place
+      ++ (turn.broken ++ ((facts_given LoopTurn place claims.facts (context_of old) turn.after).broken ++ []))) at_head.given
+
+  -- the checker gave up in a round
+  pub loop-stopped : (new : Walk) (before after : Visits) (fault : CheckFault) → IsBreachOf (walking (context_of headed) (viewed headed.state)) fault
+      → Goes (loop_walk number place walking) old before (Err fault) new after
+  loop-stopped new before after fault is =
+      let rest : Walked (Unit {0}) = followed (facts_given LoopTurn place claims.facts (context_of old) turn.after) (with_state turn.value (context_of old) turn.after) in
+      breach-stays turn rest fault whole entered-unbroken
+      (breach-same (walking (context_of headed) (viewed headed.state)) turn fault (ap (λ w. w.broken) turn-same) is)
+
+  module _ (rounded : Walk) (before after : Visits) (behind : Kept) (one : Walks walking headed before rounded after (viewed behind)) where
+    context-within : context_of rounded ≡ within
+    context-within = one.context_is ∙ at_head.context_is
+
+    claims-same : claims_on rounded.certificate.now number ≡ claims
+    claims-same = ap (λ (context : Context). claims_on context.certificate number) context-within
+
+    after-same : viewed rounded.state ≡ turn.after
+    after-same = one.state_is ∙ ap (λ w. w.after) turn-same
+
+    value-same : viewed behind ≡ turn.value
+    value-same = one.value_is ∙ ap (λ w. w.value) turn-same
+
+    turn-unbroken : turn.broken ≡ []
+    turn-unbroken = ap (λ w. w.broken) (sym turn-same) ∙ one.unbroken
+
+    -- the whole breaks no rule but that which is asked behind a round
+    whole-broken : whole.broken ≡ breach_unless (gives_all turn.after claims.facts) LoopTurn place ++ []
+    whole-broken = entered-unbroken ∙ ap (λ b. b ++ (breach_unless (gives_all turn.after claims.facts) LoopTurn place ++ [])) turn-unbroken
+
+    pub loop-done : (result : Result (Unit {0}) CheckFault) (new : Walk) → LeavesLoop number place behind rounded result new
+        → Goes (loop_walk number place walking) old before result new after
+    loop-done (Ok value) new left =
+        let behind_loop = left (context_of old).rounds (round_of claims) (ap (λ (context : Context). context.rounds) context-within) in
+        let given : gives_all turn.after claims.facts ≡ true =
+        ap (λ (s : State). gives_all s claims.facts) (sym after-same)
+        ∙ ap (λ (c : Claims). gives_all (viewed rounded.state) c.facts) (sym claims-same) ∙ behind_loop.given in
+        record {
+          context_is = behind_loop.context_is ∙ ap (λ (context : Context). record context { rounds = (context_of old).rounds }) context-within;
+          value_is = refl;
+          state_is = behind_loop.state_is ∙ value-same;
+          open_is = ap (λ (ids : Vec ℕ Global). ids.items) behind_loop.open_is ∙ one.open_is
+              ∙ ap (λ (ids : Vec ℕ Global). ids.items ++ (walking (context_of headed) (viewed headed.state)).open_ids) at_head.open_is
+              ∙ ap (λ (w : Walked State). old.open_ids.items ++ w.open_ids) turn-same
+              ∙ ap (λ ids. old.open_ids.items ++ ids) (sym (append-nil turn.open_ids));
+          visits_are = one.visits_are ∙ ap (λ (w : Walked State). all_counted (numbers_of w.linked) before) turn-same
+              ∙ ap (λ linked. all_counted (numbers_of linked) before) (sym (append-nil turn.linked));
+          unbroken = whole-broken ∙ ap (λ given. breach_unless given LoopTurn place ++ []) given;
+        }
+    loop-done (Err fault) new is =
+        breach-same (facts_given LoopTurn place (claims_on rounded.certificate.now number).facts (context_of rounded) (viewed rounded.state)) whole fault
+        (ap (λ (c : Claims). breach_unless (gives_all (viewed rounded.state) c.facts) LoopTurn place) claims-same
+        ∙ ap (λ (s : State). breach_unless (gives_all s claims.facts) LoopTurn place) after-same
+        ∙ sym (append-nil (breach_unless (gives_all turn.after claims.facts) LoopTurn place)) ∙ sym whole-broken) is
+
+-- a loop from its entry on
+pub while-begun : (statement : Stmt) (number loop_number : ℕ) (place : SourcePlace) (condition : Expr) (body : Box Stmt Global) (inner : Stmt)
+    (old entered new : Walk) (before between end : Visits) (result : Result (Unit {0}) CheckFault)
+    → statement ≡ stmt.While number loop_number place condition body → inner ≡ body.value → Walks (enter number) old before entered between tt
+    → Goes (loop_walk loop_number place (while_round condition (statement_walk inner))) entered between result new end
+    → Goes (statement_walk statement) old before result new end
+while-begun statement number loop_number place condition body inner old entered new before between end result is inner_is one two =
+    let looped = loop_walk loop_number place (while_round condition (statement_walk body.value)) in
+    goes-as (statement_walk statement) (enter number >>= λ _. looped) old new before end result
+    (ap statement_walk is ∙ statement-While number loop_number place condition body)
+    (goes-then (enter number) (λ _. looped) old entered new before between end tt result one
+    (goes-as looped (loop_walk loop_number place (while_round condition (statement_walk inner))) entered new between end result
+    (ap (λ s. loop_walk loop_number place (while_round condition (statement_walk s))) (sym inner_is)) two))
+
+pub repeat-begun : (statement : Stmt) (number loop_number : ℕ) (place : SourcePlace) (statements : Vec Stmt Global) (condition : Expr) (items : List Stmt)
+    (old entered new : Walk) (before between end : Visits) (result : Result (Unit {0}) CheckFault)
+    → statement ≡ stmt.Repeat number loop_number place statements condition → items ≡ statements.items → Walks (enter number) old before entered between tt
+    → Goes (loop_walk loop_number place (repeat_round (all_of (map statement_walk items)) condition)) entered between result new end
+    → Goes (statement_walk statement) old before result new end
+repeat-begun statement number loop_number place statements condition items old entered new before between end result is items_are one two =
+    let looped = loop_walk loop_number place (repeat_round (all_of (map statement_walk statements.items)) condition) in
+    goes-as (statement_walk statement) (enter number >>= λ _. looped) old new before end result
+    (ap statement_walk is ∙ statement-Repeat number loop_number place statements condition)
+    (goes-then (enter number) (λ _. looped) old entered new before between end tt result one
+    (goes-as looped (loop_walk loop_number place (repeat_round (all_of (map statement_walk items)) condition)) entered new between end result
+    (ap (λ l. loop_walk loop_number place (repeat_round (all_of (map statement_walk l)) condition)) (sym items_are)) two))

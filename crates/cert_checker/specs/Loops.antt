@@ -1,7 +1,7 @@
 -- What a certificate claims of a loop, and what the checker goes by where a turn of it begins (ISO 7185:1990, 6.8.3.6).
 -- It does not say that a loop keeps to that.
-use Rattle.std.specs.Prelude.{ℕ, List, [], ◌∷◌, ◌++◌, Option, Some, None, Bool, if◌then◌else◌, flat_map, map, nat_eq, slice_get}
-use Rattle.std.specs.List.{list_all, list_any}
+use Rattle.std.specs.Prelude.{ℕ, List, [], ◌∷◌, ◌++◌, Option, Some, None, Bool, if◌then◌else◌, flat_map, map, nat_eq, slice_index_or}
+use Rattle.std.specs.List.{list_all}
 use Rattle.types.specs.declared.form.OrdinalRange.{OrdinalRange}
 use Rattle.types.specs.declared.form.TypeForm.{TypeForm}
 use Rattle.types.specs.Types.{range_of}
@@ -9,9 +9,10 @@ use Rattle.typed_tree.specs.declared.tree.Tree.{Tree}
 use Rattle.typed_tree.specs.declared.tree.Variable.{Variable}
 use Rattle.certificate.specs.declared.Certificate.{Certificate}
 use Rattle.certificate.specs.Contents.{LoopClaims, contents}
-use Rattle.domain.specs.Interval.{Interval, is_included}
+use Rattle.domain.specs.Interval.{Interval, vacant}
 use Rattle.domain.specs.Facts.{Fact, said}
-use Rattle.abstract_state.specs.State.{State, Facts, gives_fact, integer, limits_of}
+use Rattle.abstract_state.specs.State.{integer, limits_of}
+use Rattle.abstract_state.specs.Loops.{is_among}
 
 -- what is claimed of a loop: the variables that it changes, and facts that hold whenever a turn begins
 pub record Claims : Type 0 where
@@ -42,35 +43,26 @@ pub record Round : Type 0 where
 abbrev pub round_of : Claims → Round
 round_of claims = record { changes = claims.changes; controls = [] }
 
--- a variable is among some
-abbrev pub is_among : ℕ → List ℕ → Bool
-is_among root roots = list_any (nat_eq root) roots
-
 -- what a loop touches
 abbrev pub touched : Round → List ℕ
-touched round = round.changes ++ round.controls
+touched round = round.controls ++ round.changes
 
--- the values of a type
+-- the values of a type; those of integer, where the tree doesn't tell it
 abbrev pub limits_or_integer : Option OrdinalRange → Interval
 limits_or_integer None = integer
 limits_or_integer (Some range) = limits_of range
 
-abbrev pub type_limits : List TypeForm → Option Variable → Interval
-type_limits types None = integer
-type_limits types (Some variable) = limits_or_integer (range_of types variable.type_id)
+abbrev pub type_limits : List TypeForm → Variable → Interval
+type_limits types variable = limits_or_integer (range_of types variable.type_id)
 
--- the values of a variable's type; those of integer, where the tree doesn't tell the type
-abbrev pub limits_at : Tree → ℕ → Interval
-limits_at tree root = type_limits tree.types (slice_get tree.variables.items root)
+-- the values of the type of each variable, by root number
+abbrev pub all_limits : Tree → List Interval
+all_limits tree = map (λ variable. type_limits tree.types variable) tree.variables.items
+
+-- the values of a variable by those of all; none where there is no such variable
+abbrev pub limits_at : List Interval → ℕ → Interval
+limits_at limits root = slice_index_or limits root vacant
 
 -- each of these loops lists a variable
 abbrev pub all_list : ℕ → List Round → Bool
 all_list root rounds = list_all (λ round. is_among root round.changes) rounds
-
--- a state gives each of these facts
-abbrev pub gives_all : State → List Fact → Bool
-gives_all state facts = list_all (gives_fact state) facts
-
--- ---- temporary
-abbrev pub head : (ℕ → Interval) → (touched controls : List ℕ) → List Fact → State → State
-head limits touched controls facts state = state

@@ -35,12 +35,15 @@ use Rattle.abstract_state.specs.declared.known.Known.TheVariants.{Ordinal}
 use Rattle.abstract_state.specs.State.{State, Dead, start, integer, is_dead, is_defined, joined_states, limits_of, range_of, with_defined, unless_empty}
 use Rattle.abstract_state.specs.Changes.{assigned}
 use Rattle.abstract_state.specs.Conditions.{bound_form, branched}
-use Rattle.cert_checker.specs.Loops.{Round, Claims, all_list, claims_on, gives_all, head, limits_at, round_of, touched}
+use Rattle.abstract_state.specs.Loops.{gives_all, head}
+use Rattle.cert_checker.specs.Loops.{Round, all_limits, all_list, claims_on, limits_at, round_of, touched}
 
--- what a walk goes by: the program and its certificate, and the loops round the point, the outermost first
+-- what a walk goes by: the program and its certificate, the values of the variables' types, and the loops round the
+-- point, the outermost first
 pub record Context : Type 0 where
   pub tree : Tree
   pub certificate : Certificate
+  pub limits : List Interval
   pub rounds : List Round
 
 -- a rule of certificates that is broken at a place
@@ -144,7 +147,7 @@ asked kept rule place context state =
 -- a variable is changed at a place by a value in a range, which is that of its type: each loop round it lists it
 abbrev pub change : Place → ℕ → OrdinalRange → Walking (Unit {0})
 change place root range context =
-    asked (all_list root context.rounds && is_included (limits_of range) (limits_at context.tree root)) Changes place context
+    asked (all_list root context.rounds && is_included (limits_of range) (limits_at context.limits root)) Changes place context
 
 -- the assignment of a value to a variable, perhaps of a bound form
 abbrev pub assign : ℕ → Option Bound → Known → Walking (Unit {0})
@@ -325,7 +328,7 @@ facts_given rule place facts context state = asked (gives_all state facts) rule 
 -- the state at the head of a loop, where a turn begins
 abbrev pub enter_head : Round → List Fact → Walking (Unit {0})
 enter_head round facts context state =
-    with_state (head (limits_at context.tree) (touched round) round.controls facts state) context state
+    with_state (head (limits_at context.limits) (touched round) round.controls facts state) context state
 
 -- inside a loop
 abbrev pub inside : {A : Type 0} → Round → Walking A → Walking A
@@ -382,7 +385,7 @@ block_walk block = do
 -- the walk over a program by a certificate, block by block
 abbrev pub program_walk : Tree → Certificate → Walked (Unit {0})
 program_walk tree certificate =
-    all_of (map block_walk tree.blocks.items) (record { tree = tree; certificate = certificate; rounds = [] }) Dead
+    all_of (map block_walk tree.blocks.items) (record { tree = tree; certificate = certificate; limits = all_limits tree; rounds = [] }) Dead
 
 -- the numbers to which states are linked
 abbrev pub numbers_of : List Linked → List ℕ

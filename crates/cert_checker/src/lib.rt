@@ -10,6 +10,7 @@ ghost use Rattle.cert_checker.specs.Walk.{program_walk};
 
 pub mod fault;
 mod open_sites;
+mod rounds;
 mod visits;
 mod walk;
 

@@ -1,21 +1,27 @@
 ghost use Rattle.std.specs.Prelude.{◌≡◌, [], map, IfOk, MatchResult};
-ghost use Rattle.cert_checker.specs.Walk.{enter, variable_walk, tested, within, positive, divisor, whole, operated, combined, value_walk, link_walk, width_test, width_walk, parameter_walk, all_of, fitting, assignment, statement_walk, block_walk, program_walk};
+ghost use Rattle.cert_checker.specs.Walk.{enter, variable_walk, tested, within, positive, divisor, whole, operated, combined, value_walk, link_walk, width_test, width_walk, parameter_walk, all_of, fitting, assignment, assign, change, while_round, repeat_round, statement_walk, block_walk, program_walk};
 ghost use Rattle.typed_tree.specs.Entries.{entries_of};
-ghost use Rattle.cert_checker.specs.View.{Goes, Meets, Parts, all_counted, else_walk};
+ghost use Rattle.cert_checker.specs.View.{EntersLoop, Goes, LeavesLoop, Meets, Parts, all_counted, else_walk, said_claims, said_state};
+ghost use Rattle.abstract_state.specs.View.{viewed};
+ghost use Rattle.abstract_state.specs.Loops.{gives_all, head};
+ghost use Rattle.cert_checker.specs.Loops.{limits_at};
+ghost use Rattle.abstract_state.specs.Conditions.{bound_form};
 ghost use Rattle.cert_checker.specs.Promise.{IsBreachOf};
 
-use crate::fault::CheckFault;
+use crate::fault::{CheckFault, Rule};
+use crate::rounds::{Round, all_limits, all_list, claims_on, limits_at};
 use crate::visits::Visits;
-use abstract_state::{Known, State, limits};
+use abstract_state::{Known, State, bound_form, limits};
 use place::Place;
-use certificate::Certificate;
+use certificate::{Certificate, LoopClaims};
 use domain::Domain;
 use domain::interval::Interval;
-use std::alloc::Global;
+use std::alloc::{AllocError, Global};
 use std::mem;
 use typed_tree::tree::{
     Access, Block, Dyadic, Expr, Link, Monadic, RangeTest, Stmt, Tree, Width, WriteParameter,
 };
+use types::OrdinalRange;
 
 /// A walk over the statements of a program, in the order in which they are run. The counter of entries is lent to it.
 #[derive(Drop)]
@@ -23,6 +29,10 @@ pub(crate) struct Walk<'a> {
     alloc: Global,
     tree: &'a Tree,
     certificate: &'a Certificate,
+    /// The values of the variables' types, by root number.
+    limits: Vec<Interval>,
+    /// The loops round the walk, the outermost first.
+    rounds: Vec<Round<'a>>,
     /// What is known where the walk is.
     state: State,
     /// The ids of the sites that the walk leaves open, in its order.
@@ -45,6 +55,8 @@ pub(crate) fn program(
         alloc,
         tree,
         certificate,
+        limits: all_limits(alloc, tree)?,
+        rounds: Vec::new(alloc),
         state: State::Dead,
         open_ids: Vec::new(alloc),
     };
@@ -112,8 +124,30 @@ impl<'a> Walk<'a> {
                 self.alternative(alternative, visits)?;
                 self.meet(behind)
             }
-            Stmt::While { .. } => Ok(()),
-            Stmt::Repeat { .. } => Ok(()),
+            Stmt::While {
+                number,
+                loop_number,
+                place,
+                condition,
+                body,
+            } => {
+                self.enter(*number, visits)?;
+                self.enter_loop(*loop_number, *place)?;
+                let behind = self.while_round(condition, body, visits)?;
+                self.leave_loop(*loop_number, *place, behind)
+            }
+            Stmt::Repeat {
+                number,
+                loop_number,
+                place,
+                statements,
+                condition,
+            } => {
+                self.enter(*number, visits)?;
+                self.enter_loop(*loop_number, *place)?;
+                let behind = self.repeat_round(statements, condition, visits)?;
+                self.leave_loop(*loop_number, *place, behind)
+            }
         }
     }
 
@@ -126,6 +160,40 @@ impl<'a> Walk<'a> {
             self.statement(statement, visits)?;
         }
         Ok(())
+    }
+
+    /// A round of a while, from the loop's head; the state behind the loop.
+    #[cycle(statement)]
+    fn while_round(
+        &mut self,
+        condition: &Expr,
+        body: &Stmt,
+        visits: &mut Visits,
+    ) -> Result<State, CheckFault>
+        ensures { Goes (while_round condition.now (statement_walk body.now)) self.old visits.old (said_state result)
+            self.new visits.new }
+    {
+        let known = self.expression(condition, visits)?;
+        let behind = self.part(condition, known)?;
+        self.statement(body, visits)?;
+        Ok(behind)
+    }
+
+    /// A round of a repeat, from the loop's head; the state behind the loop.
+    #[cycle(statement)]
+    fn repeat_round(
+        &mut self,
+        statements: &[Stmt],
+        condition: &Expr,
+        visits: &mut Visits,
+    ) -> Result<State, CheckFault>
+        ensures { Goes (repeat_round (all_of (map statement_walk statements.now)) condition.now)
+            self.old visits.old (said_state result) self.new visits.new }
+    {
+        self.statements(statements, visits)?;
+        let known = self.expression(condition, visits)?;
+        let again = self.part(condition, known)?;
+        Ok(mem::replace(&mut self.state, again))
     }
 
     /// The statement behind `else`, if there is one.
@@ -157,8 +225,32 @@ impl<'a> Walk<'a> {
         self.enter(target.number, visits)?;
         let known = self.expression(value, visits)?;
         let passed = self.fitting(fits, known)?;
-        self.state.assign(target.root, passed.range());
+        self.change(becomes, target.root, fits.range)?;
+        self.store(target.root, value, passed)
+    }
+
+    /// A variable gets the value of an expression.
+    fn store(&mut self, root: u32, value: &Expr, passed: Known) -> Result<(), CheckFault>
+        ensures { (visits : Visits) → Goes (assign root (bound_form value.now) passed) self.old visits result self.new visits }
+    {
+        let range = passed.range();
+        self.state.assign(root, range, bound_form(value))?;
         Ok(())
+    }
+
+    /// Each loop round the walk lists the variable that is changed.
+    fn change(&mut self, place: Place, root: u32, range: OrdinalRange) -> Result<(), CheckFault>
+        ensures { (visits : Visits) → Goes (change place root range) self.old visits result self.new visits }
+    {
+        let fits = limits(range).leq(&limits_at(&self.limits, root));
+        if fits && all_list(&self.rounds, root) {
+            Ok(())
+        } else {
+            Err(CheckFault::Broken {
+                rule: Rule::Changes,
+                place,
+            })
+        }
     }
 
     fn parameters(
@@ -276,8 +368,8 @@ impl<'a> Walk<'a> {
     {
         let range = known.range();
         let mut otherwise = self.state.copied(self.alloc)?;
-        otherwise.unless_empty(range);
-        self.state.unless_empty(range);
+        otherwise.branch(condition, range, false)?;
+        self.state.branch(condition, range, true)?;
         Ok(otherwise)
     }
 
@@ -286,7 +378,42 @@ impl<'a> Walk<'a> {
         ensures { Meets before self.old result self.new }
     {
         let now = mem::replace(&mut self.state, before);
-        self.state.join(now)?;
+        self.state.join(self.alloc, now)?;
+        Ok(())
+    }
+}
+
+// Where a loop begins and ends.
+impl<'a> Walk<'a> {
+    /// Goes on at the head of a loop, whose facts have to be given here.
+    fn enter_loop(&mut self, number: u32, place: Place) -> Result<(), CheckFault>
+        ensures { EntersLoop number place self.old result self.new }
+    {
+        let claims = claims_on(self.certificate, number);
+        if !gives_all(&self.state, claims) {
+            return Err(CheckFault::Broken {
+                rule: Rule::LoopEntry,
+                place,
+            });
+        }
+        head(&mut self.state, &self.limits, claims)?;
+        self.rounds.push(Round { claims })?;
+        Ok(())
+    }
+
+    /// Goes on behind a loop, whose facts have to be given where a round of it ends.
+    fn leave_loop(&mut self, number: u32, place: Place, behind: State) -> Result<(), CheckFault>
+        ensures { LeavesLoop number place behind self.old result self.new }
+    {
+        let claims = claims_on(self.certificate, number);
+        if !gives_all(&self.state, claims) {
+            return Err(CheckFault::Broken {
+                rule: Rule::LoopTurn,
+                place,
+            });
+        }
+        self.rounds.pop();
+        self.state = behind;
         Ok(())
     }
 }
@@ -396,5 +523,26 @@ impl<'a> Walk<'a> {
         }
         self.state.unless_empty(passed);
         Ok(passed)
+    }
+}
+
+/// Whether a state gives the facts of a loop.
+fn gives_all(state: &State, claims: Option<&LoopClaims>) -> bool
+    ensures { result ≡ gives_all (viewed state.now) (said_claims claims.entry).facts }
+{
+    match claims {
+        None => true,
+        Some(_) => true,
+    }
+}
+
+/// Brings a state to the head of a loop.
+fn head(state: &mut State, limits: &[Interval], claims: Option<&LoopClaims>) -> Result<(), AllocError>
+    ensures { IfOk result (λ _. viewed state.new ≡ head (limits_at limits.now) (said_claims claims.entry).changes []
+        (said_claims claims.entry).facts (viewed state.old)) }
+{
+    match claims {
+        None => Ok(()),
+        Some(_) => Ok(()),
     }
 }
