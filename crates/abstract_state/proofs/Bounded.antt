@@ -1,11 +1,11 @@
 -- What is known of two bounds that stand in a relation holds where they do.
-use Rattle.std.proofs.Common.{arith, ◌≡◌, ⊎_elim, ◌⊎◌, inl, inr, ◌∙◌, sym, ap, refl, subst, ℕ, ℤ, pos, ◌+ℤ◌, ◌-ℤ◌, ◌≤ℤ◌, ◌<ℤ◌, int_le, int_lt, Bool, true, false, not, cond, List, [], Option, Some, None}
+use Rattle.std.proofs.Common.{arith, ◌≡◌, ⊎_elim, ◌⊎◌, inl, inr, ◌∙◌, sym, ap, refl, subst, ℕ, ℤ, pos, ◌+ℤ◌, ◌-ℤ◌, ◌≤ℤ◌, ◌<ℤ◌, int_le, Bool, true, false, not, cond, [], Some}
 use Rattle.std.specs.Ordering.{int_eq}
 use Rattle.std.proofs.lemmas.Int.{ints, by_lt_z}
 use Rattle.std.proofs.lemmas.Bool.{cond_both}
 use Rattle.typed_tree.specs.declared.tree.Relation.{Relation}
 use Rattle.typed_tree.specs.declared.tree.Relation.TheVariants as relation
-use Rattle.domain.specs.Interval.{Interval, HasMember, at_least, at_most, vacant}
+use Rattle.domain.specs.Interval.{Interval, HasMember, at_least, at_most}
 use Rattle.domain.specs.Ranges.{at_least-has, at_most-has}
 use Rattle.domain.specs.Facts.{Bound, Plus}
 use Rattle.domain.specs.Facts as fact
@@ -13,8 +13,7 @@ use Rattle.meaning.specs.declared.store.Value.{Value}
 use Rattle.meaning.specs.declared.store.Value.TheVariants.{Number}
 use Rattle.meaning.specs.Meaning.{relates}
 use Rattle.meaning.specs.Store.{Environment, Store}
-use Rattle.abstract_state.specs.State.{State, Dead, Live, bound_range, range_of, unless_empty, with_range}
-use Rattle.abstract_state.specs.Changes.{ordered, with_some}
+use Rattle.abstract_state.specs.State.{State, Dead, Live, bound_range, range_of, with_range}
 use Rattle.abstract_state.specs.Conditions.{bound_at_least, bound_at_most, bound_isnt, narrowed, opposite, related, unlike, with_different, with_le, with_order, without_first, without_last}
 use Rattle.abstract_state.specs.Holds.{HasNumber, IsBound, IsIn}
 use Rattle.abstract_state.proofs.Changed.{ordered-known}

@@ -1,21 +1,20 @@
 -- What is known of a variable's new value, and what is left of the facts, holds after the value was written.
-use Rattle.std.proofs.Common.{arith, ◌≡◌, ◌≢◌, ⊎_elim, ◌∙◌, sym, ap, refl, subst, ℕ, ℤ, ◌+ℤ◌, ◌-ℤ◌, neg_ℤ, ◌≤ℤ◌, ◌<◌, ◌≤◌, Bool, true, false, cond, ◌||◌, nat_eq, List, [], ◌∷◌, ◌++◌, get_or, length, set, Option, Some, None}
-use Rattle.std.specs.List.{Contains, All, filter_map}
-use Rattle.std.specs.Option.{unwrap_or}
+use Rattle.std.proofs.Common.{arith, ◌≡◌, ◌≢◌, ⊎_elim, ◌∙◌, sym, ap, refl, subst, ℕ, ℤ, ◌+ℤ◌, neg_ℤ, ◌≤ℤ◌, ◌<◌, Bool, true, false, cond, nat_eq, List, [], ◌∷◌, ◌++◌, get_or, set, Option, Some, None}
+use Rattle.std.specs.List.{filter_map}
 use Rattle.std.proofs.lemmas.Int.{ints}
 use Rattle.std.proofs.lemmas.Bool.{cases_eq, eqb-true, eq-eqb, or_parts, cond_both}
 use Rattle.std.proofs.lemmas.List.{get_or-set_same, length-set}
 use Rattle.std.proofs.lemmas.List.Elements.{All-contains}
-use Rattle.domain.specs.Interval.{Interval, HasMember, vacant}
+use Rattle.domain.specs.Interval.{Interval, vacant}
 use Rattle.domain.specs.Facts as fact
 use Rattle.domain.specs.Facts.{Path, Bound, Plus, Fact, Range, Defined, Stretch, Order, entire, with_fact}
 use Rattle.meaning.specs.declared.store.Value.{Value}
 use Rattle.meaning.specs.declared.store.Value.TheVariants.{Number}
 use Rattle.meaning.specs.Integers.{is_integer_number}
 use Rattle.meaning.specs.Store.{Step, Element, Place, Environment, Store, place_eq, stored, written}
-use Rattle.abstract_state.specs.State.{State, Facts, Dead, Live, with_range, with_value}
+use Rattle.abstract_state.specs.State.{State, Facts, Dead, Live, with_value}
 use Rattle.abstract_state.specs.Changes.{assigned, bound_rests_on, changed, ordered, raised, raised_number, rests_on, unless_resting, with_change, with_equal, with_some}
-use Rattle.abstract_state.specs.Holds.{Moment, FactsHold, Holds, HasNumber, HasValue, IsBound, IsIn, is_named, part_of, value_at}
+use Rattle.abstract_state.specs.Holds.{Moment, Holds, HasNumber, HasValue, IsBound, IsIn, part_of, value_at}
 pub use Rattle.abstract_state.specs.Knows.{IsOfForm}
 use Rattle.abstract_state.proofs.Apart.{part, written-stored, other-kept}
 use Rattle.abstract_state.proofs.Given.{named-entire, same-number}
@@ -170,7 +169,8 @@ module _ (variables : ℕ) (env : Environment) (shows : Shows variables env) (st
       let both : Some v ≡ Some w = sym own-value ∙ whole in
       let one : v ≡ w = cc in
       let two : range ≡ get_or (set facts.ranges root range) other vacant =
-      sym (get_or-set_same facts.ranges root range vacant (omega (arith, known.rows_are))) ∙ ap (λ (r : ℕ). get_or (set facts.ranges root range) r vacant) same in
+      sym (get_or-set_same facts.ranges root range vacant (omega (arith, known.rows_are)))
+      ∙ ap (λ (r : ℕ). get_or (set facts.ranges root range) r vacant) same in
       subst (λ (i : Interval). IsIn i w) two (subst (λ (u : Value). IsIn range u) one inside))
       (λ differ.
       let was = known.hold.ranges other steps w named (sym (other-value other differ steps) ∙ is) in
@@ -200,7 +200,8 @@ module _ (variables : ℕ) (env : Environment) (shows : Shows variables env) (st
       } in
       defined-known variables env (Live left) after_store root (v, own-value) held
 
-  equal-if : (same : Bool) (by : ℕ) (k : ℤ) → nat_eq root by ≡ same → IsOfForm before (Some (Plus by k)) v → (state : State) → Knows variables env state after_store
+  equal-if : (same : Bool) (by : ℕ) (k : ℤ) → nat_eq root by ≡ same → IsOfForm before (Some (Plus by k)) v → (state : State)
+      → Knows variables env state after_store
       → Knows variables env (cond same state (with_some (ordered by root (neg_ℤ k)) (with_some (ordered root by k) state))) after_store
   equal-if true by k same of_form state known = known
   equal-if false by k same (n, v_is, (old, old_is, n_is)) state known =

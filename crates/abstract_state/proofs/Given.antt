@@ -1,17 +1,16 @@
 -- Facts that a state gives hold where it holds.
-use Rattle.std.proofs.Common.{arith, ◌≡◌, ◌≢◌, ⊎_elim, ◌∙◌, sym, ap, refl, subst, ℕ, ℤ, pos, ◌+ℤ◌, ◌≤ℤ◌, int_le, Bool, true, false, not, ◌&&◌, ◌||◌, nat_eq, List, [], ◌∷◌, get_or, length, Option, Some, None}
-use Rattle.std.specs.List.{Contains, All, list_any}
+use Rattle.std.proofs.Common.{arith, ◌≡◌, ⊎_elim, ◌∙◌, sym, ap, refl, subst, ℕ, ℤ, pos, ◌+ℤ◌, ◌≤ℤ◌, int_le, true, not, ◌&&◌, ◌||◌, nat_eq, List, [], ◌∷◌, get_or, Some}
+use Rattle.std.specs.List.{list_any}
 use Rattle.std.proofs.lemmas.Int.{ints}
 use Rattle.std.proofs.lemmas.Bool.{and_parts, eqb-true, or_cases}
-use Rattle.std.proofs.lemmas.List.Elements.{All-contains, All-head, All-tail}
 use Rattle.domain.specs.Interval.{Interval, HasMember, is_included, is_vacant, vacant}
 use Rattle.domain.specs.Facts as fact
 use Rattle.domain.specs.Facts.{Path, Bound, Plus, Fact, Range, Defined, Stretch, Order, entire, has_fact}
 use Rattle.meaning.specs.declared.store.Value.{Value}
 use Rattle.meaning.specs.declared.store.Value.TheVariants.{Number}
 use Rattle.meaning.specs.Store.{Step}
-use Rattle.abstract_state.specs.State.{State, Facts, Dead, Live, bound_range, gives, is_at_most, is_below, is_entire, le, moved, range_of, says_at_most}
-use Rattle.abstract_state.specs.Holds.{Moment, FactsHold, Holds, HasNumber, HasValue, IsBound, IsIn, is_named, value_at}
+use Rattle.abstract_state.specs.State.{Facts, Live, bound_range, gives, is_at_most, is_below, is_entire, le, range_of, says_at_most}
+use Rattle.abstract_state.specs.Holds.{Moment, FactsHold, Holds, HasNumber, IsBound, is_named, value_at}
 use Rattle.abstract_state.proofs.Like.{any-of, defined-like, each-of, of-had}
 use Rattle.abstract_state.proofs.Ranged.{included-in}
 

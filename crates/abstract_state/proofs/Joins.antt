@@ -1,10 +1,10 @@
 -- What is known where two ways meet holds, whichever was taken.
-use Rattle.std.proofs.Common.{arith, ◌≡◌, sym, refl, subst, ℕ, zero, suc, ◌≤◌, true, List, [], ◌∷◌, get_or, length}
+use Rattle.std.proofs.Common.{arith, ◌≡◌, sym, refl, subst, ℕ, zero, suc, ◌≤◌, List, [], ◌∷◌, get_or, length}
 use Rattle.std.specs.List.{Contains, filter}
 use Rattle.std.proofs.lemmas.List.Elements.{All-contains}
 use Rattle.domain.specs.Interval.{Interval, vacant, joined}
 use Rattle.domain.specs.contracts.interval.IntervalDomain.TheImpl.Laws.{join_has_left-law, join_has_right-law}
-use Rattle.domain.specs.Facts.{Fact, Range, Defined, Stretch, Order}
+use Rattle.domain.specs.Facts.{Fact}
 use Rattle.meaning.specs.declared.store.Value.{Value}
 use Rattle.meaning.specs.declared.store.Value.TheVariants.{Number}
 use Rattle.abstract_state.specs.State.{State, Facts, Dead, Live, gives, joined_ranges, joined_facts, joined_states}

@@ -1,23 +1,24 @@
 -- The facts that the program keeps: those that its rows say, and its orders behind them.
-use Rattle.std.proofs.Common.{arith, ◌≡◌, ◌∙◌, sym, ap, ap₂, refl, subst, ℕ, zero, suc, ℤ, pos, ◌+◌, ◌<◌, ◌≤◌, Bool, true, false, ◌&&◌, ◌||◌, cond, ⊎_elim, List, [], ◌∷◌, ◌++◌, length, map, replicate, set, take, nat_lt, nat_eq, get_or, filter, Option, Some, None}
+use Rattle.std.proofs.Common.{arith, ◌≡◌, ◌∙◌, sym, ap, ap₂, refl, subst, ℕ, zero, suc, pos, ◌+◌, ◌<◌, ◌≤◌, Bool, true, false, not, ◌&&◌, ◌||◌, cond, ◌⊎◌, ⊎_elim, inl, inr, List, [], ◌∷◌, ◌++◌, length, map, replicate, set, take, nat_lt, nat_eq, get_or, filter, Option, Some, None}
 use Rattle.std.specs.List.{cons_option, filter_map, list_any}
 use Rattle.std.specs.Ordering.{is_eq}
 use Rattle.std.specs.declared.cmp.Ordering.{Ordering}
 use Rattle.std.specs.declared.cmp.Ordering.TheVariants.{Less, Equal, Greater}
-use Rattle.std.proofs.lemmas.Bool.{cases_eq, cases_lt}
+use Rattle.std.proofs.lemmas.Bool.{cases_eq, cases_lt, eq-eqb, eqb-true}
 use Rattle.std.proofs.lemmas.Bool.Decides.{nat_tests}
 use Rattle.std.proofs.lemmas.List.Folds.{list_any-append, list_any_at}
 use Rattle.std.proofs.Math.Seq.{take-suc}
-use Rattle.std.proofs.lemmas.List.{map-append, length-map, length-set, get_or-set_same, get_or-set_other}
+use Rattle.std.proofs.lemmas.List.{map-append, length-map, get_or-set_same, get_or-set_other}
 use Rattle.std.proofs.lemmas.List.Elements.{filter-append, filter_map-append}
-use Rattle.domain.specs.Interval.{Interval, vacant}
+use Rattle.domain.specs.Interval.{Interval}
 use Rattle.domain.specs.Facts.{Path, Bound, Number, Plus, Fact, Defined, entire, fact_order, has_fact, put, with_fact}
 use Rattle.abstract_state.specs.declared.state.Row.{Row}
 use Rattle.abstract_state.specs.declared.orders.Order.{Order as KeptOrder}
-use Rattle.abstract_state.specs.State.{State, Facts, Live, gives, joined_facts, joined_ranges, says_at_most, start, with_defined, with_facts, with_range}
+use Rattle.abstract_state.specs.State.{State, Facts, Live, gives, joined_facts, says_at_most, start, with_defined, with_facts, with_range}
 use Rattle.abstract_state.specs.Changes.{changed, with_change, with_some}
-use Rattle.abstract_state.specs.View.{AreJoined, defined_from, joined_row, no_row, said_order}
-use Rattle.abstract_state.proofs.Rows.{all-ranges, and-back, bit, filter-defined, has-row, none-defined, range-kept, range-set, ranges-both, ranges_of, row-defined, same-defined, tested-bit, tested_bits, with-had}
+use Rattle.abstract_state.specs.Loops.{defines, in_place, replaced, with_forgotten}
+use Rattle.abstract_state.specs.View.{AreJoined, defined_from, no_row, said_order, said_some}
+use Rattle.abstract_state.proofs.Rows.{all-ranges, and-back, bit, filter-defined, has-row, none-defined, past, range-kept, range-set, ranges-both, ranges_of, row-defined, same-defined, tested-bit, tested_bits, with-had}
 
 abbrev pub said_orders : List KeptOrder → List Fact
 said_orders = map said_order
@@ -32,6 +33,10 @@ kept_facts rows orders = record { ranges = ranges_of rows; facts = defined_from 
 
 abbrev pub kept_state : List Row → List KeptOrder → State
 kept_state rows orders = Live (kept_facts rows orders)
+
+either-so : (b : Bool) → (b ≡ true) ⊎ (b ≡ false)
+either-so true = inl refl
+either-so false = inr refl
 
 -- ---- orders come behind
 
@@ -100,7 +105,8 @@ defined-kept rows orders root row inside kept bit_is =
     let test : nat_lt root (length (ranges_of rows)) ≡ true = rw length-map (grind (arith, nat_tests)) in
     ap₂ state_of (range-kept rows root row kept)
     (ap (λ (d : List Fact). d ++ more) (sym (row-defined rows 0 root root row inside (omega arith) bit_is)) ∙ sym (with-defined_kept root facts orders))
-    ∙ sym (ap (λ (b : Bool). cond b (state_of (ranges_of rows) (with_fact (Defined (entire root)) (facts ++ more))) (state_of (ranges_of rows) (facts ++ more))) test)
+    ∙ sym (ap (λ (b : Bool). cond b (state_of (ranges_of rows) (with_fact (Defined (entire root)) (facts ++ more)))
+    (state_of (ranges_of rows) (facts ++ more))) test)
 
 -- no row stands there
 pub not-defined_kept : (rows : List Row) (orders : List KeptOrder) (root : ℕ) → length rows ≤ root
@@ -109,7 +115,8 @@ not-defined_kept rows orders root beyond =
     let more = said_orders orders in
     let facts = defined_from 0 rows in
     let test : nat_lt root (length (ranges_of rows)) ≡ false = rw length-map (grind (arith, nat_tests)) in
-    sym (ap (λ (b : Bool). cond b (state_of (ranges_of rows) (with_fact (Defined (entire root)) (facts ++ more))) (state_of (ranges_of rows) (facts ++ more))) test)
+    sym (ap (λ (b : Bool). cond b (state_of (ranges_of rows) (with_fact (Defined (entire root)) (facts ++ more)))
+    (state_of (ranges_of rows) (facts ++ more))) test)
 
 set-beyond : {A : Type 0} (xs : List A) (i : ℕ) (x : A) → length xs ≤ i → set xs i x ≡ xs
 set-beyond {A = A} [] i x beyond = refl
@@ -173,7 +180,8 @@ changed-kept rows before after root form are =
     ∙ sym (filter_map-append (changed root form) (defined_from 0 rows) (said_orders before)
     ∙ ap (λ (d : List Fact). d ++ filter_map (changed root form) (said_orders before)) (all-stay (changed root form) (defined-stays root form) rows 0)))
 
-pub inserted-kept : (rows : List Row) (before after : List KeptOrder) (order : KeptOrder) → said_orders after ≡ with_fact (said_order order) (said_orders before)
+pub inserted-kept : (rows : List Row) (before after : List KeptOrder) (order : KeptOrder)
+    → said_orders after ≡ with_fact (said_order order) (said_orders before)
     → kept_state rows after ≡ with_some (Some (said_order order)) (kept_state rows before)
 inserted-kept rows before after order are =
     ap (state_of (ranges_of rows))
@@ -302,3 +310,109 @@ pub any-at_kept : (test : Fact → Bool) (orders : List KeptOrder) (i : ℕ) (or
 any-at_kept test orders i order inside order_is so =
     sym (any-said test orders)
     ∙ list_any_at (λ o. test (said_order o)) orders i order inside (ap (λ (o : KeptOrder). test (said_order o)) order_is ∙ so)
+
+-- ---- a variable that may be undefined
+
+and-none : (b : Bool) → (b && false) ≡ false
+and-none true = refl
+and-none false = refl
+
+and-all : (b : Bool) → (b && true) ≡ b
+and-all true = refl
+and-all false = refl
+
+not-eq : (a b : ℕ) → (b ≡ a → ⊥) → nat_eq a b ≡ false
+not-eq a b differ =
+    ⊎_elim (λ (same : nat_eq a b ≡ true). absurd (differ (sym (eqb-true a b same)))) (λ (apart : nat_eq a b ≡ false). apart) (either-so (nat_eq a b))
+
+order-stays : (root : ℕ) (orders : List KeptOrder) → filter (λ fact. not (defines root fact)) (said_orders orders) ≡ said_orders orders
+order-stays root [] = refl
+order-stays root (order ∷ orders) = ap (λ (rest : List Fact). said_order order ∷ rest) (order-stays root orders)
+
+forgotten-bit : (rows : List Row) (root i : ℕ) (row : Row) (inside : root < length rows) → row.is_defined ≡ false
+    → (bit rows i && not (nat_eq root i)) ≡ bit (set rows root row) i
+forgotten-bit rows root i row inside none =
+    ⊎_elim (λ (here : i ≡ root).
+    let same : nat_eq root i ≡ true = eq-eqb root i (sym here) in
+    ap (λ (b : Bool). bit rows i && not b) same ∙ and-none (bit rows i)
+    ∙ sym (ap (bit (set rows root row)) here ∙ ap (λ (r : Row). r.is_defined) (get_or-set_same rows root row no_row inside) ∙ none))
+    (λ there.
+    let apart : nat_eq root i ≡ false = not-eq root i there in
+    ap (λ (b : Bool). bit rows i && not b) apart ∙ and-all (bit rows i)
+    ∙ sym (ap (λ (r : Row). r.is_defined) (get_or-set_other rows root i row no_row there)))
+    (cases_eq i root)
+
+pub forgotten-kept : (rows : List Row) (orders : List KeptOrder) (root : ℕ) (row : Row) → root < length rows → (get_or rows root row).range ≡ row.range
+    → row.is_defined ≡ false → kept_state (set rows root row) orders ≡ with_forgotten root (kept_state rows orders)
+forgotten-kept rows orders root row inside kept none =
+    let test = λ (fact : Fact). not (defines root fact) in
+    ap₂ state_of (range-kept rows root row kept)
+    (sym (filter-append test (defined_from 0 rows) (said_orders orders)
+    ∙ ap₂ (λ (d o : List Fact). d ++ o)
+    (filter-defined test rows 0
+    ∙ same-defined (tested_bits test 0 rows) (set rows root row) 0
+    (λ i. tested-bit test rows 0 i i (omega arith) ∙ forgotten-bit rows root i row inside none))
+    (order-stays root orders)))
+
+-- no row stands there
+pub not-forgotten_kept : (rows : List Row) (orders : List KeptOrder) (root : ℕ) → length rows ≤ root
+    → kept_state rows orders ≡ with_forgotten root (kept_state rows orders)
+not-forgotten_kept rows orders root beyond =
+    let test = λ (fact : Fact). not (defines root fact) in
+    ap (state_of (ranges_of rows))
+    (sym (filter-append test (defined_from 0 rows) (said_orders orders)
+    ∙ ap₂ (λ (d o : List Fact). d ++ o)
+    (filter-defined test rows 0
+    ∙ same-defined (tested_bits test 0 rows) rows 0
+    (λ i. tested-bit test rows 0 i i (omega arith)
+    ∙ ⊎_elim (λ (there : i < length rows).
+    let apart : nat_eq root i ≡ false = not-eq root i (λ same. absurd (omega (arith, there, beyond, same))) in
+    ap (λ (b : Bool). bit rows i && not b) apart ∙ and-all (bit rows i))
+    (λ (past_it : length rows ≤ i).
+    let none : bit rows i ≡ false = ap (λ (row : Row). row.is_defined) (past rows i no_row past_it) in
+    ap (λ (b : Bool). b && not (nat_eq root i)) none ∙ sym none)
+    (cases_lt i (length rows))))
+    (order-stays root orders)))
+
+-- ---- orders of a bound in the place of a variable
+
+none-replaced : (root : ℕ) (bound : Option Bound) (from : ℕ) → in_place root bound (Defined (entire from)) ≡ None
+none-replaced root None from = refl
+none-replaced root (Some (Number n)) from = refl
+none-replaced root (Some (Plus by k)) from = refl
+
+replaced-bit : (change : Fact → Option Fact) (b : Bool) (from : ℕ) (facts : List Fact) → change (Defined (entire from)) ≡ None → filter_map change facts ≡ []
+    → filter_map change (cond b (Defined (entire from) ∷ facts) facts) ≡ []
+replaced-bit change true from facts none is = ap (λ (found : Option Fact). cons_option found (filter_map change facts)) none ∙ is
+replaced-bit change false from facts none is = is
+
+no-row-replaced : (root : ℕ) (bound : Option Bound) (rows : List Row) (from : ℕ) → filter_map (in_place root bound) (defined_from from rows) ≡ []
+no-row-replaced root bound [] from = refl
+no-row-replaced root bound (row ∷ rows) from =
+    replaced-bit (in_place root bound) row.is_defined from (defined_from (suc from) rows) (none-replaced root bound from)
+    (no-row-replaced root bound rows (suc from))
+
+pub replaced-kept : (rows : List Row) (orders more after : List KeptOrder) (root : ℕ) (bound : Option Bound)
+    → said_orders more ≡ filter_map (in_place root bound) (said_orders orders) → said_orders after ≡ with_facts (said_orders more) (said_orders orders)
+    → kept_state rows after ≡ replaced root bound (kept_state rows orders)
+replaced-kept rows orders more after root bound more_are after_are =
+    let change = in_place root bound in
+    let all : filter_map change (kept_facts rows orders).facts ≡ said_orders more =
+    filter_map-append change (defined_from 0 rows) (said_orders orders)
+    ∙ ap (λ (d : List Fact). d ++ filter_map change (said_orders orders)) (no-row-replaced root bound rows 0) ∙ sym more_are in
+    ap (state_of (ranges_of rows))
+    (ap (λ (o : List Fact). defined_from 0 rows ++ o) after_are
+    ∙ sym (ap (λ (some : List Fact). with_facts some (kept_facts rows orders).facts) all ∙ with-orders_kept more rows (said_orders orders)))
+
+-- orders that some become, one after another
+pub replaced-more : (change : Fact → Option Fact) (orders : List KeptOrder) (i : ℕ) (order : KeptOrder) (found : Option KeptOrder) (now new : List KeptOrder)
+    → i < length orders → get_or orders i order ≡ order → said_some found ≡ change (said_order order)
+    → said_orders now ≡ filter_map change (said_orders (take i orders)) → said_orders new ≡ said_orders now ++ cons_option (said_some found) []
+    → said_orders new ≡ filter_map change (said_orders (take (i + 1) orders))
+replaced-more change orders i order found now new inside order_is found_is so_far new_is =
+    new_is ∙ ap₂ (λ (front : List Fact) (some : Option Fact). front ++ cons_option some []) so_far found_is
+    ∙ sym (ap (λ (k : ℕ). filter_map change (said_orders (take k orders))) (let one : i + 1 ≡ suc i = omega arith in one)
+    ∙ ap (λ (some : List KeptOrder). filter_map change (said_orders some)) (take-suc orders i order inside)
+    ∙ ap (filter_map change) (map-append said_order (take i orders) (get_or orders i order ∷ []))
+    ∙ filter_map-append change (said_orders (take i orders)) (said_order (get_or orders i order) ∷ [])
+    ∙ ap (λ (o : KeptOrder). filter_map change (said_orders (take i orders)) ++ cons_option (change (said_order o)) []) order_is)

@@ -1,20 +1,19 @@
 -- What a state says of a run, with what the walk keeps of its states: a row for each variable. The steps of a run keep
 -- it.
-use Rattle.std.proofs.Common.{arith, ◌≡◌, ◌≢◌, ⊎_elim, ◌⊎◌, inl, inr, ◌∙◌, sym, ap, refl, subst, ℕ, zero, suc, ℤ, ◌<◌, ◌≤◌, Bool, true, false, cond, List, [], ◌∷◌, get_or, length, set, Option, Some, None}
+use Rattle.std.proofs.Common.{arith, ◌≡◌, ⊎_elim, ◌⊎◌, inl, inr, ◌∙◌, sym, ap, refl, subst, ℕ, zero, suc, ◌<◌, Bool, true, cond, List, [], ◌∷◌, get_or, length, set, Option, Some, None}
 use Rattle.std.specs.Prelude.{nat_lt}
-use Rattle.std.specs.List.{Contains, All, filter}
 use Rattle.std.specs.Option.{unwrap_or}
-use Rattle.std.proofs.lemmas.Bool.{cases_eq, cond_both}
-use Rattle.std.proofs.lemmas.List.{length-replicate, get_or-replicate, length-set}
+use Rattle.std.proofs.lemmas.Bool.{cond_both}
+use Rattle.std.proofs.lemmas.List.{length-replicate, length-set}
 use Rattle.std.proofs.lemmas.List.Elements.{All-contains}
-use Rattle.domain.specs.Interval.{Interval, HasMember, vacant}
-use Rattle.domain.specs.Facts.{Fact, Range, Defined, entire, has_fact, with_fact}
+use Rattle.domain.specs.Interval.{Interval, vacant}
+use Rattle.domain.specs.Facts.{Fact, Defined, entire, with_fact}
 use Rattle.meaning.specs.declared.store.Value.{Value}
 use Rattle.meaning.specs.declared.store.Value.TheVariants.{Number}
 use Rattle.meaning.specs.Store.{Step, Place, Environment, Store, stored}
 use Rattle.abstract_state.specs.State.{State, Facts, Dead, Live, gives_fact, joined_states, start, range_of, is_defined, with_defined, with_range, unless_empty}
-use Rattle.abstract_state.specs.Changes.{ordered, with_some}
-use Rattle.abstract_state.specs.Holds.{Moment, FactsHold, Holds, HasNumber, HasValue, IsIn, StateHolds, Separate, is_named, part_of, value_at}
+use Rattle.abstract_state.specs.Changes.{with_some}
+use Rattle.abstract_state.specs.Holds.{Moment, FactsHold, Holds, HasValue, IsIn, StateHolds, part_of, value_at}
 pub use Rattle.abstract_state.specs.Knows.{IsHeld, Knows, Shows, moment}
 use Rattle.abstract_state.proofs.Apart.{entire-stored}
 use Rattle.abstract_state.proofs.Given.{defined-number, given-holds, named-entire}

@@ -1,11 +1,10 @@
 -- Lists of orders: an order put into its place, and what is left of orders after a change.
-use Rattle.std.proofs.Common.{arith, ◌≡◌, ◌∙◌, sym, ap, ap₂, refl, subst, ℕ, zero, suc, ◌+◌, ◌<◌, ◌≤◌, add-one, Bool, true, false, cond, List, [], ◌∷◌, ◌++◌, append_assoc, append-nil, length, map, set, take, drop, drop-cons, get_or, Option, Some, None}
+use Rattle.std.proofs.Common.{arith, ◌≡◌, ◌∙◌, sym, ap, ap₂, refl, subst, ℕ, suc, ◌+◌, ◌<◌, ◌≤◌, List, [], ◌∷◌, ◌++◌, append_assoc, append-nil, length, set, take, drop, drop-cons, get_or, Option, Some, None}
 use Rattle.std.specs.List.{cons_option, filter_map, insert}
 use Rattle.std.specs.declared.cmp.Ordering.{Ordering}
 use Rattle.std.specs.declared.cmp.Ordering.TheVariants.{Less, Equal, Greater}
 use Rattle.std.proofs.Math.Seq.{take-suc, take-suc-set}
-use Rattle.std.proofs.Math.ListN.{get_or-map}
-use Rattle.std.proofs.lemmas.List.{take-append-drop, take-map, drop-map, drop-set-lt, drop_all, take_all, map-append, length-map, length-set}
+use Rattle.std.proofs.lemmas.List.{take-append-drop, take-map, drop-map, drop-set-lt, drop_all, take_all, map-append, length-set}
 use Rattle.std.proofs.lemmas.List.Elements.{filter_map-append}
 use Rattle.domain.specs.Facts.{Fact, fact_order, put, with_fact}
 use Rattle.abstract_state.specs.declared.orders.Order.{Order as KeptOrder}
@@ -51,7 +50,8 @@ comes-last fact facts i n so_far all n_is =
     ∙ ap₂ (λ (first rest : List Fact). first ++ with_fact fact rest) (take_all i facts all) (drop_all i facts all)
     ∙ ap₂ (λ (first rest : List Fact). first ++ fact ∷ rest) (sym (take_all n facts (omega (arith, n_is)))) (sym (drop_all n facts (omega (arith, n_is))))
 
-pub inserted : (orders : List KeptOrder) (place : ℕ) (order : KeptOrder) → said_orders (insert orders place order) ≡ insert (said_orders orders) place (said_order order)
+pub inserted : (orders : List KeptOrder) (place : ℕ) (order : KeptOrder)
+    → said_orders (insert orders place order) ≡ insert (said_orders orders) place (said_order order)
 inserted orders place order =
     map-append said_order (take place orders) (order ∷ drop place orders)
     ∙ ap₂ (λ (first rest : List Fact). first ++ said_order order ∷ rest) (sym (take-map said_order place orders)) (sym (drop-map said_order place orders))

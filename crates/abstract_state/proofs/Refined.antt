@@ -1,6 +1,6 @@
 -- Where a condition had a truth value, what is known of its branch holds: an induction over expressions, which change
 -- no variable.
-use Rattle.std.proofs.Common.{arith, ◌≡◌, ⊎_elim, ◌∙◌, sym, ap, ap₂, refl, subst, ℕ, ℤ, pos, ◌+ℤ◌, ◌-ℤ◌, ◌*ℤ◌, neg_ℤ, int_div, int_le, Bool, true, false, not, ◌&&◌, ◌||◌, cond, List, [], ◌∷◌, ◌++◌, map, Option, Some, None}
+use Rattle.std.proofs.Common.{arith, ◌≡◌, ◌∙◌, sym, ap, ap₂, refl, subst, ℕ, ℤ, pos, ◌+ℤ◌, ◌-ℤ◌, ◌*ℤ◌, neg_ℤ, int_div, int_le, Bool, true, false, not, ◌&&◌, ◌||◌, cond, List, [], ◌∷◌, ◌++◌, map, Option, Some, None}
 use Rattle.std.specs.List.{list_all}
 use Rattle.std.specs.Int.{int_rem_euclid}
 use Rattle.std.specs.Ordering.{int_eq}
@@ -18,8 +18,7 @@ use Rattle.typed_tree.specs.declared.tree.Expr.TheViews.{roll-Expr, roll-Link}
 use Rattle.typed_tree.specs.declared.tree.Expr.TheOpen.Expr-F.{Constant, Variable, Monadic as MonadicOf, Chain}
 use Rattle.typed_tree.specs.declared.tree.Expr.TheFolds.{map-Expr, map-Link, fold-roll-Expr, fold-roll-Link, ind-Expr}
 use Rattle.domain.specs.Interval.{Interval, HasMember, always_true, never_true, has_number}
-use Rattle.domain.specs.Facts.{Bound, Plus}
-use Rattle.domain.specs.Facts as fact
+use Rattle.domain.specs.Facts.{Bound}
 use Rattle.meaning.specs.declared.store.Value.{Value}
 use Rattle.meaning.specs.declared.store.Value.TheVariants.{Number}
 use Rattle.meaning.specs.Integers.{integer_or_none, is_integer_number, is_odd, is_true, magnitude, truth}
@@ -29,9 +28,9 @@ use Rattle.meaning.specs.Effect.{Reply, Gives, Stops, and_then}
 use Rattle.meaning.specs.Meaning as meaning
 use Rattle.meaning.specs.Meaning.{Evaluation, is_so, link_of, relates, value_of}
 use Rattle.abstract_state.specs.State.{State, Dead}
-use Rattle.abstract_state.specs.Forms.{Form, Literal, Signed, Entire, Moved, Other, Operand, bound_of, chain_form, constant_of, moved_form, negative, offset_form, sign_form, signed}
-use Rattle.abstract_state.specs.Conditions.{Condition, Conjunct, all_refined, bound_form, branched, chain_refined, condition_of, condition_step, conjunct_of, link_condition, monadic_refined, operand_of, operation_refined, opposite, refined, related, related_forms, single_refined, takes_both, told, unless_excluded}
-use Rattle.abstract_state.specs.Holds.{Moment, HasNumber, IsBound, IsIn, part_of, value_at}
+use Rattle.abstract_state.specs.Forms.{Form, Literal, Signed, Entire, Moved, Other, bound_of, chain_form, constant_of, moved_form, negative, offset_form, sign_form, signed}
+use Rattle.abstract_state.specs.Conditions.{Condition, Conjunct, all_refined, bound_form, branched, chain_refined, condition_of, condition_step, conjunct_of, link_condition, monadic_refined, operand_of, operation_refined, refined, related_forms, single_refined, takes_both, told, unless_excluded}
+use Rattle.abstract_state.specs.Holds.{Moment, HasNumber, IsIn, part_of, value_at}
 use Rattle.abstract_state.proofs.Apart.{entire-stored}
 use Rattle.abstract_state.proofs.Bounded.{opposite-relates, related-known}
 use Rattle.abstract_state.proofs.Changed.{IsOfForm}
@@ -485,7 +484,8 @@ link-layer y env s t left result is =
 
 rolled-expr : (x : Expr-F Expr Link) → ExprLayer x → EvaluatesAs (value_of (roll-Expr x)) (condition_of (roll-Expr x))
 rolled-expr x layer =
-    subst (λ (e : Evaluation). EvaluatesAs e (condition_of (roll-Expr x))) (sym (fold-roll-Expr Evaluation meaning.Combination meaning.value_step meaning.link_step x))
+    subst (λ (e : Evaluation). EvaluatesAs e (condition_of (roll-Expr x)))
+    (sym (fold-roll-Expr Evaluation meaning.Combination meaning.value_step meaning.link_step x))
     (subst (λ (c : Condition). EvaluatesAs (meaning.value_step (map-Expr Expr Link Evaluation meaning.Combination value_of link_of x)) c)
     (sym (fold-roll-Expr Condition Conjunct condition_step link_condition x)) layer)
 

@@ -1,5 +1,5 @@
 -- The rows of the checker's state, as facts.
-use Rattle.std.proofs.Common.{arith, ◌≡◌, ◌∙◌, sym, ap, refl, ℕ, zero, suc, ◌+◌, ◌-◌, ◌++◌, append-nil, append_assoc, length-append, ◌<◌, ◌≤◌, Bool, true, false, ◌&&◌, ◌||◌, cond, subst, ⊎_elim, max, filter, List, [], ◌∷◌, length, map, replicate, set, nat_lt, get_or, ap₂, if◌then◌else◌}
+use Rattle.std.proofs.Common.{arith, ◌≡◌, ◌∙◌, sym, ap, refl, ℕ, zero, suc, ◌+◌, ◌-◌, ◌++◌, append-nil, append_assoc, length-append, ◌<◌, ◌≤◌, Bool, true, false, ◌&&◌, ◌||◌, cond, ⊎_elim, max, filter, List, [], ◌∷◌, length, map, replicate, set, get_or, ap₂}
 use Rattle.std.proofs.lemmas.Bool.Decides.{nat_tests}
 use Rattle.std.specs.declared.cmp.Ordering.{Ordering}
 use Rattle.std.specs.declared.cmp.Ordering.TheVariants.{Less, Equal, Greater}
@@ -8,9 +8,9 @@ use Rattle.domain.specs.Interval.{Interval, vacant, joined}
 use Rattle.domain.specs.Facts.{Fact, Defined, entire, fact_order, has_fact, put, with_fact}
 use Rattle.abstract_state.specs.declared.state.Row.{Row}
 use Rattle.std.proofs.lemmas.Bool.{cases_lt}
-use Rattle.std.proofs.lemmas.List.{length-map, length-set, set-get_or, length-replicate, get_or-set_other, replicate_more}
+use Rattle.std.proofs.lemmas.List.{length-set, set-get_or, length-replicate, get_or-set_other, replicate_more}
 use Rattle.std.proofs.lemmas.Grind.{get_or-set_at}
-use Rattle.abstract_state.specs.State.{State, Facts, Live, gives, joined_facts, joined_ranges, start, with_defined, with_facts, with_value}
+use Rattle.abstract_state.specs.State.{joined_ranges, start}
 use Rattle.abstract_state.specs.View.{AreJoined, defined_from, joined_row, no_row}
 
 -- ---- facts that variables are defined stand in the order of the variables
@@ -256,7 +256,8 @@ filled-none rows n none = sym (append-nil rows) ∙ ap (λ (m : ℕ). rows ++ re
 
 pub filled-more : (rows old : List Row) (n m : ℕ) → rows ≡ old ++ replicate n no_row → m ≡ n + 1 → rows ++ no_row ∷ [] ≡ old ++ replicate m no_row
 filled-more rows old n m are more =
-    ap (λ (some : List Row). some ++ no_row ∷ []) are ∙ append_assoc old (replicate n no_row) (no_row ∷ []) ∙ ap (λ (rest : List Row). old ++ rest) (replicate_more n no_row)
+    ap (λ (some : List Row). some ++ no_row ∷ []) are ∙ append_assoc old (replicate n no_row) (no_row ∷ [])
+    ∙ ap (λ (rest : List Row). old ++ rest) (replicate_more n no_row)
     ∙ ap (λ (k : ℕ). old ++ replicate k no_row) (sym more)
 
 pub filled-all : (rows old : List Row) (n m : ℕ) → rows ≡ old ++ replicate n no_row → n ≡ m → rows ≡ old ++ replicate m no_row

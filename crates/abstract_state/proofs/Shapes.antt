@@ -1,5 +1,5 @@
 -- Conditions, form by form, and the operators of a chain.
-use Rattle.std.proofs.Common.{rules, arith, ◌≡◌, ◌∙◌, sym, ap, ap₂, refl, ℕ, suc, ◌+◌, ◌<◌, ◌≤◌, ℤ, Bool, true, false, ◌&&◌, cond, List, [], ◌∷◌, ◌++◌, map, length, get_or, drop, drop-cons}
+use Rattle.std.proofs.Common.{rules, arith, ◌≡◌, ◌∙◌, sym, ap, ap₂, refl, ℕ, suc, ◌+◌, ◌<◌, ◌≤◌, ℤ, Bool, true, false, ◌&&◌, cond, List, [], ◌∷◌, map, length, get_or, drop, drop-cons}
 use Rattle.std.specs.List.{list_all}
 use Rattle.std.proofs.lemmas.List.{drop_all}
 use Rattle.std.specs.declared.boxed.Box.{Box}
@@ -45,7 +45,8 @@ pub all-take : (truth : Bool) (links : List Link)
     → list_all (λ link. takes_both truth link.operation) links ≡ list_all (λ conjunct. takes_both truth conjunct.operation) (map conjunct_of links)
 all-take truth [] = refl
 all-take truth (link ∷ links) =
-    ap₂ (λ (first rest : Bool). first && rest) (sym (ap (λ (conjunct : Conjunct). takes_both truth conjunct.operation) (conjunct-is link))) (all-take truth links)
+    ap₂ (λ (first rest : Bool). first && rest) (sym (ap (λ (conjunct : Conjunct). takes_both truth conjunct.operation) (conjunct-is link)))
+    (all-take truth links)
 
 -- ---- a chain had a truth value
 

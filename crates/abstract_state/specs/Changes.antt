@@ -1,10 +1,10 @@
 -- What is known after the value of a variable changed (ISO 7185:1990, 6.8.2.2). It says nothing of the value's range.
-use Rattle.std.specs.Prelude.{ℕ, ℤ, ◌+ℤ◌, ◌-ℤ◌, neg_ℤ, Bool, false, ◌||◌, List, [], ◌∷◌, Option, Some, None, if◌then◌else◌, nat_eq}
+use Rattle.std.specs.Prelude.{ℕ, ℤ, ◌+ℤ◌, ◌-ℤ◌, neg_ℤ, Bool, false, ◌||◌, Option, Some, None, if◌then◌else◌, nat_eq}
 use Rattle.std.specs.List.{filter_map}
 use Rattle.domain.specs.Interval.{Interval}
 use Rattle.domain.specs.Facts.{Bound, Number, Plus, Fact, Range, Defined, Stretch, Order, with_fact}
 use Rattle.meaning.specs.Integers.{is_integer_number}
-use Rattle.abstract_state.specs.State.{State, Facts, Dead, Live, with_value}
+use Rattle.abstract_state.specs.State.{State, Dead, Live, with_value}
 
 -- ---- facts and the values that they rest on
 

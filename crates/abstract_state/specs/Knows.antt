@@ -1,5 +1,5 @@
--- What a checker knows of a run at a point of it: that a state holds there, with a row for each variable; and what turns
--- of a loop keep (ISO 7185:1990, 6.5.1, 6.8.3.7 to 6.8.3.9). It does not say that a run keeps it.
+-- What a checker knows of a run at a point of it: that a state holds there, with a row for each variable; and what
+-- turns of a loop keep (ISO 7185:1990, 6.5.1, 6.8.3.7 to 6.8.3.9). It does not say that a run keeps it.
 use Rattle.std.specs.Prelude.{◌≡◌, ℕ, ◌<◌, ◌≤◌, true, false, List, [], length, Option, Some, None, ℤ}
 use Rattle.domain.specs.Interval.{Interval}
 use Rattle.domain.specs.Facts.{Bound}

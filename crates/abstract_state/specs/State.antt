@@ -5,7 +5,7 @@ use Rattle.std.specs.Prelude.{ℕ, ℤ, pos, ◌+ℤ◌, neg_ℤ, int_le, Bool, 
 use Rattle.std.specs.List.{list_any}
 use Rattle.types.specs.declared.form.OrdinalRange.{OrdinalRange}
 use Rattle.domain.specs.Interval.{Interval, common, is_included, is_vacant, joined, vacant}
-use Rattle.domain.specs.Facts.{Step, Path, Bound, Number, Plus, Fact, Range, Defined, Stretch, Order, entire, has_fact, with_fact}
+use Rattle.domain.specs.Facts.{Step, Bound, Number, Plus, Fact, Range, Defined, Stretch, Order, entire, has_fact, with_fact}
 use Rattle.meaning.specs.Integers.{maxint}
 
 -- a row for each variable by its root number, with the range of its values, and the facts in their order, each once

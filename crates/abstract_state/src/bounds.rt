@@ -36,18 +36,12 @@ impl Ends {
         }
     }
 
-    fn is_empty(self) -> bool
-        ensures { result ≡ int_lt self.last self.first }
-    {
-        self.last < self.first
-    }
-
     /// Whether neither range is empty, and each number of this is at most each of the other.
     pub(crate) fn is_below(self, other: Ends) -> bool
         ensures { result ≡ (not (int_lt self.last self.first || int_lt other.last other.first)
             && int_le self.last other.first) }
     {
-        !(self.is_empty() || other.is_empty()) && self.last <= other.first
+        !(self.last < self.first || other.last < other.first) && self.last <= other.first
     }
 }
 

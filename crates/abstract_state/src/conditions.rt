@@ -117,7 +117,12 @@ impl State {
     }
 
     /// A relation of two bounds holds from here on.
-    fn relate(&mut self, relation: Relation, left: Bound, right: Bound) -> Result<(), AllocError>
+    pub fn relate(
+        &mut self,
+        relation: Relation,
+        left: Bound,
+        right: Bound,
+    ) -> Result<(), AllocError>
         ensures { IfOk result
             (λ _. viewed self.new ≡ related relation (said_bound left) (said_bound right) (viewed self.old)) }
     {
@@ -139,7 +144,8 @@ impl State {
 
     /// A bound plus a number is at most another.
     fn order(&mut self, left: Bound, gap: i32, right: Bound) -> Result<(), AllocError>
-        ensures { IfOk result (λ _. viewed self.new ≡ with_le (said_bound left) gap (said_bound right) (viewed self.old)) }
+        ensures { IfOk result
+            (λ _. viewed self.new ≡ with_le (said_bound left) gap (said_bound right) (viewed self.old)) }
     {
         let first = self.ends(left).first;
         let last = self.ends(right).last;
@@ -150,8 +156,9 @@ impl State {
     }
 
     /// The order of two variables, where both bounds have one.
-    fn insert_order(&mut self, left: Bound, gap: i32, right: Bound) -> Result<(), AllocError>
-        ensures { IfOk result (λ _. viewed self.new ≡ with_order (said_bound left) gap (said_bound right) (viewed self.old)) }
+    pub fn insert_order(&mut self, left: Bound, gap: i32, right: Bound) -> Result<(), AllocError>
+        ensures { IfOk result
+            (λ _. viewed self.new ≡ with_order (said_bound left) gap (said_bound right) (viewed self.old)) }
     {
         match (left, right) {
             (
@@ -180,7 +187,8 @@ impl State {
     /// A bound isn't the one number of a range.
     fn unlike(&mut self, bound: Bound, ends: Ends)
         requires { AreEnds ends (record { first = ends.first; last = ends.last }) }
-        ensures { viewed self.new ≡ unlike (said_bound bound) (record { first = ends.first; last = ends.last }) (viewed self.old) }
+        ensures { viewed self.new
+            ≡ unlike (said_bound bound) (record { first = ends.first; last = ends.last }) (viewed self.old) }
     {
         if ends.first == ends.last {
             self.isnt(bound, ends.first);
@@ -240,7 +248,7 @@ impl State {
     }
 
     /// The values of a variable lie in a range; no run goes on from an empty one.
-    fn narrow(&mut self, root: u32, range: Interval)
+    pub fn narrow(&mut self, root: u32, range: Interval)
         ensures { viewed self.new ≡ narrowed root range (viewed self.old) }
     {
         self.set_range(root, range);

@@ -6,6 +6,7 @@ mod conditions;
 mod forms;
 mod known;
 pub mod laws;
+mod loops;
 mod orders;
 mod state;
 

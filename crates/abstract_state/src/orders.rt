@@ -1,13 +1,14 @@
-ghost use Rattle.std.specs.Prelude.{◌≡◌, ◌<◌, IfOk, length, map};
-ghost use Rattle.std.specs.List.{filter_map};
-ghost use Rattle.domain.specs.Facts.{fact_order, said_bound, with_fact};
+ghost use Rattle.std.specs.Prelude.{◌≡◌, neg_ℤ, ◌<◌, ◌++◌, [], IfOk, length, map};
+ghost use Rattle.std.specs.List.{cons_option, filter_map};
+ghost use Rattle.domain.specs.Facts.{Plus, fact_order, said_bound, with_fact};
 ghost use Rattle.abstract_state.specs.Changes.{changed, ordered, raised, raised_number, unless_resting};
+ghost use Rattle.abstract_state.specs.Loops.{in_place};
 ghost use Rattle.abstract_state.specs.State.{says_at_most, with_facts};
 ghost use Rattle.abstract_state.specs.View.{IsKept, IsPlace, said_form, said_order, said_some};
 
 use crate::bounds::sum;
 use domain::facts::Bound;
-use std::alloc::AllocError;
+use std::alloc::{AllocError, Global};
 use std::cmp::Ordering;
 
 /// The value of a variable is at most that of another plus a number.
@@ -62,6 +63,39 @@ impl Order {
         }
     }
 
+    /// The order with a bound in the place of a variable, if both are in it.
+    fn in_place(self, root: u32, bound: Option<Bound>) -> Option<Order>
+        ensures { said_some result ≡ in_place root (said_form bound) (said_order self) }
+    {
+        match bound {
+            Some(
+                Bound::Plus {
+                    root: by,
+                    number: own,
+                },
+            ) => self.with_bound(root, by, own),
+            Some(Bound::Number(_)) => None,
+            None => None,
+        }
+    }
+
+    /// The order with a variable plus a number in the place of a variable that is in it.
+    fn with_bound(self, root: u32, by: u32, own: i32) -> Option<Order>
+        ensures { said_some result ≡ in_place root (Some (Plus by own)) (said_order self) }
+    {
+        let left = root == self.root;
+        let right = root == self.other;
+        if !(left || right) {
+            return None;
+        }
+        let number = lowered_number(left, right, own, self.number);
+        Order::new(
+            if left { by } else { self.root },
+            if right { by } else { self.other },
+            number,
+        )
+    }
+
     /// What is left of it after a variable rose by a number.
     fn raised(self, root: u32, by: i32) -> Option<Order>
         ensures { said_some result ≡ raised root by (said_order self) }
@@ -104,6 +138,19 @@ fn raised_number(left: bool, right: bool, by: i32, number: i32) -> i64
     }
 }
 
+/// The number of an order with a variable plus a number in the place of one that stands to the left, or to the right.
+fn lowered_number(left: bool, right: bool, own: i32, number: i32) -> i64
+    ensures { result ≡ raised_number left right (neg_ℤ own) number }
+{
+    let own = i64::from(own);
+    let number = i64::from(number);
+    if left {
+        if right { number } else { number - own }
+    } else {
+        if right { number + own } else { number }
+    }
+}
+
 /// Puts an order into its place among others, unless they have it.
 pub(crate) fn insert(orders: &mut Vec<Order>, order: Order) -> Result<(), AllocError>
     ensures { IfOk result (λ _. map said_order orders.new.items
@@ -125,6 +172,35 @@ pub(crate) fn insert_all(orders: &mut Vec<Order>, more: &[Order]) -> Result<(), 
 {
     for order in more {
         insert(orders, *order)?;
+    }
+    Ok(())
+}
+
+/// What orders of a variable are with a bound in its place.
+pub(crate) fn in_place(
+    alloc: Global,
+    orders: &[Order],
+    root: u32,
+    bound: Option<Bound>,
+) -> Result<Vec<Order>, AllocError>
+    ensures { IfOk result (λ more. map said_order more.items
+        ≡ filter_map (in_place root (said_form bound)) (map said_order orders.now)) }
+{
+    let mut more = Vec::new(alloc);
+    for i in 0..orders.len() {
+        let order = orders[i].in_place(root, bound);
+        push(&mut more, order)?;
+    }
+    Ok(more)
+}
+
+/// Puts an order behind others, if there is one.
+fn push(orders: &mut Vec<Order>, order: Option<Order>) -> Result<(), AllocError>
+    ensures { IfOk result (λ _. map said_order orders.new.items
+        ≡ map said_order orders.old.items ++ cons_option (said_some order) []) }
+{
+    if let Some(order) = order {
+        orders.push(order)?;
     }
     Ok(())
 }

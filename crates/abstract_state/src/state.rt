@@ -1,15 +1,16 @@
 ghost use Rattle.std.specs.Prelude.{◌≡◌, ◌-◌, ◌++◌, IfOk, Some, filter, length, map, replicate};
 ghost use Rattle.std.specs.List.{list_any};
-ghost use Rattle.domain.specs.Facts.{said_bound};
+ghost use Rattle.domain.specs.Facts.{said, said_bound};
 ghost use Rattle.abstract_state.specs.State.{Live, bound_range, gives, is_dead, is_defined, joined_facts, joined_states, le, limits_of, range_of, says_at_most, start, unless_empty, with_defined, with_range};
 ghost use Rattle.abstract_state.specs.Changes.{assigned, with_change, with_equal, with_some};
+ghost use Rattle.abstract_state.specs.Loops.{replaced, with_forgotten};
 ghost use Rattle.abstract_state.specs.View.{AreEnds, AreJoined, joined_row, no_row, said_form, said_order, said_some, viewed, viewed_facts};
 
 use crate::bounds::{Ends, is_at_most};
 use crate::orders;
 use crate::orders::Order;
 use domain::Domain;
-use domain::facts::Bound;
+use domain::facts::{Bound, Fact};
 use domain::interval::Interval;
 use std::alloc::{AllocError, Global};
 use types::OrdinalRange;
@@ -126,7 +127,7 @@ impl State {
     }
 
     /// What is left of facts after a variable got a value.
-    fn change(&mut self, root: u32, form: Option<Bound>)
+    pub(crate) fn change(&mut self, root: u32, form: Option<Bound>)
         ensures { viewed self.new ≡ with_change root (said_form form) (viewed self.old) }
     {
         if let State::Live(facts) = self {
@@ -164,7 +165,7 @@ impl State {
     }
 
     /// The values of a variable lie in a range from here on.
-    pub(crate) fn set_range(&mut self, root: u32, range: Interval)
+    pub fn set_range(&mut self, root: u32, range: Interval)
         ensures { viewed self.new ≡ with_range root range (viewed self.old) }
     {
         if let State::Live(facts) = self {
@@ -274,6 +275,48 @@ impl Facts {
             ≡ with_change root (said_form form) (Live (viewed_facts self.old)) }
     {
         orders::change(&mut self.orders, root, form);
+    }
+
+    /// A variable may be undefined.
+    pub(crate) fn forget(&mut self, root: u32)
+        ensures { Live (viewed_facts self.new) ≡ with_forgotten root (Live (viewed_facts self.old)) }
+    {
+        if (root as usize) < self.rows.len() {
+            self.rows[root as usize].is_defined = false;
+        }
+    }
+
+    /// The orders of a variable hold of its bound too, if it has one.
+    pub(crate) fn replace(
+        &mut self,
+        alloc: Global,
+        root: u32,
+        bound: Option<Bound>,
+    ) -> Result<(), AllocError>
+        ensures { IfOk result (λ _. Live (viewed_facts self.new)
+            ≡ replaced root (said_form bound) (Live (viewed_facts self.old))) }
+    {
+        let more = orders::in_place(alloc, &self.orders, root, bound)?;
+        orders::insert_all(&mut self.orders, &more)
+    }
+
+    /// Whether a fact is given.
+    pub(crate) fn gives_fact(&self, fact: &Fact) -> bool
+        ensures { result ≡ gives (viewed_facts self.now) (said fact.now) }
+    {
+        match fact {
+            Fact::Range { root, range } => self.range(*root).leq(range),
+            Fact::Defined { root } => self.is_defined(*root),
+            Fact::Order {
+                root,
+                other,
+                number,
+            } => self.gives(&Order {
+                root: *root,
+                other: *other,
+                number: *number,
+            }),
+        }
     }
 
     /// Whether an order is given: both variables are defined, and the first is at most the second plus the number.

@@ -1,7 +1,3 @@
-use Rattle.std.proofs.Common.{◌∙◌, sym, ap, refl}
-use Rattle.typed_tree.specs.declared.tree.Expr.{Expr}
-use Rattle.abstract_state.specs.Forms.{chain_form, constant_of}
-use Rattle.abstract_state.specs.Conditions.{Condition, condition_of}
 use Rattle.abstract_state.proofs.Chained.{chain-constant}
 use Rattle.abstract_state.proofs.forms.constant.Goals as goal
 

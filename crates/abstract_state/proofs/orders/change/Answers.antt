@@ -1,4 +1,4 @@
-use Rattle.std.proofs.Common.{rules, arith, ◌≡◌, ◌∙◌, sym, ap, subst, ◌<◌, length}
+use Rattle.std.proofs.Common.{arith, ◌∙◌, sym, ap, ◌<◌, length}
 use Rattle.abstract_state.specs.Changes.{changed}
 use Rattle.abstract_state.specs.View.{said_form}
 use Rattle.abstract_state.proofs.Kept.{said_orders}

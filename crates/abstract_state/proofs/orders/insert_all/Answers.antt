@@ -1,4 +1,4 @@
-use Rattle.std.proofs.Common.{rules, arith, ◌≡◌, ◌∙◌, sym, ap, get_or}
+use Rattle.std.proofs.Common.{◌∙◌, get_or}
 use Rattle.std.proofs.lemmas.List.{get_or_default}
 use Rattle.abstract_state.proofs.Kept.{no_order, said_orders, with-more}
 use Rattle.abstract_state.proofs.orders.insert_all.Goals as goal

@@ -1,7 +1,6 @@
-use Rattle.std.proofs.Common.{rules, arith, ◌≡◌, ◌∙◌, sym, ap, subst, refl, ℕ, pos, ◌<◌, List, length, map, get_or}
+use Rattle.std.proofs.Common.{arith, ◌≡◌, ◌∙◌, sym, ap, refl, ℕ, ◌<◌, List, length, get_or}
 use Rattle.std.proofs.Math.ListN.{get_or-map}
 use Rattle.std.proofs.lemmas.List.{length-map, get_or_default}
-use Rattle.domain.specs.Facts.{Fact, fact_order}
 use Rattle.abstract_state.specs.declared.orders.Order.{Order as KeptOrder}
 use Rattle.abstract_state.specs.View.{said_order}
 use Rattle.abstract_state.proofs.Kept.{no_order, said_orders}

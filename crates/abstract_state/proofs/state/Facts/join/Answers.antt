@@ -1,4 +1,4 @@
-use Rattle.std.proofs.Common.{rules, ◌≡◌, ◌∙◌, sym, ap, subst, List, filter}
+use Rattle.std.proofs.Common.{◌≡◌, subst, List, filter}
 use Rattle.abstract_state.specs.declared.orders.Order.{Order as KeptOrder}
 use Rattle.abstract_state.specs.State.{gives, with_facts}
 use Rattle.abstract_state.proofs.Kept.{joined-kept, kept_facts, said_orders}

@@ -1,10 +1,9 @@
-use Rattle.std.proofs.Common.{rules, arith, ◌≡◌, ◌∙◌, sym, ap, ◌<◌, length, take, true, List}
+use Rattle.std.proofs.Common.{arith, ◌∙◌, sym, ap, ◌<◌, length, List}
 use Rattle.std.specs.List.{list_any}
 use Rattle.std.proofs.lemmas.List.{take_all}
 use Rattle.domain.specs.Facts.{said_bound}
 use Rattle.abstract_state.specs.declared.orders.Order.{Order as KeptOrder}
 use Rattle.abstract_state.specs.State.{says_at_most}
-use Rattle.abstract_state.specs.View.{said_order}
 use Rattle.abstract_state.proofs.Kept.{any-at_kept, said_orders, says-kept}
 use Rattle.abstract_state.proofs.state.Facts.says_at_most.Goals as goal
 

@@ -1,4 +1,4 @@
-use Rattle.std.proofs.Common.{arith, ◌≡◌, ◌∙◌, sym, ap, refl, true, length, ◌<◌}
+use Rattle.std.proofs.Common.{arith, ◌∙◌, ap, length, ◌<◌}
 use Rattle.std.proofs.lemmas.List.{get_or_default}
 use Rattle.abstract_state.specs.declared.state.Row.{Row}
 use Rattle.abstract_state.specs.View.{no_row}

@@ -1,7 +1,7 @@
-use Rattle.std.proofs.Common.{rules, arith, ◌≡◌, ◌∙◌, sym, ap₂, map, Option}
+use Rattle.std.proofs.Common.{◌∙◌, sym, ap₂, map, Option}
 use Rattle.std.proofs.lemmas.Result.{IfOk-equal}
 use Rattle.domain.specs.Facts.{Bound}
-use Rattle.abstract_state.specs.Conditions.{bound_form, condition_of, conjunct_of, operation_refined, single_refined}
+use Rattle.abstract_state.specs.Conditions.{condition_of, conjunct_of, operation_refined, single_refined}
 use Rattle.abstract_state.specs.View.{said_form, viewed}
 use Rattle.abstract_state.proofs.Shapes.{single-none, single-one}
 use Rattle.abstract_state.proofs.state.State.refine_single.Goals as goal

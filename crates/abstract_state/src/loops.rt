@@ -1,0 +1,159 @@
+ghost use Rattle.std.specs.Prelude.{◌≡◌, IfOk, map, slice_index_or};
+ghost use Rattle.domain.specs.Facts.{said};
+ghost use Rattle.domain.specs.Interval.{vacant};
+ghost use Rattle.abstract_state.specs.State.{gives_fact};
+ghost use Rattle.abstract_state.specs.Loops.{after_turns, all_forgotten, all_touched, gives_all, head, replaced, with_claim, with_claims, with_forgotten, with_touched, with_undefined};
+ghost use Rattle.abstract_state.specs.View.{said_form, viewed};
+
+use crate::orders::Order;
+use crate::state::State;
+use domain::Domain;
+use domain::facts::{Bound, Fact};
+use domain::interval::Interval;
+use std::alloc::{AllocError, Global};
+
+impl State {
+    /// What is known at the head of a loop: what any number of turns leaves, and the claims of a certificate. Turns
+    /// give touched variables other values within the limits, which stand by root number, and leave controls undefined.
+    pub fn head(
+        &mut self,
+        limits: &[Interval],
+        touched: &[u32],
+        controls: &[u32],
+        claims: &[Fact],
+    ) -> Result<(), AllocError>
+        ensures { IfOk result (λ _. viewed self.new ≡ head (λ root. slice_index_or limits.now root vacant)
+            touched.now controls.now (map said claims.now) (viewed self.old)) }
+    {
+        self.touch_all(limits, touched);
+        self.forget_all(controls);
+        self.claim_all(claims)
+    }
+
+    /// Each of several variables may have another value within its limits.
+    fn touch_all(&mut self, limits: &[Interval], touched: &[u32])
+        ensures { viewed self.new
+            ≡ all_touched (λ root. slice_index_or limits.now root vacant) touched.now (viewed self.old) }
+    {
+        for root in touched {
+            self.touch(*root, limit(limits, *root));
+        }
+    }
+
+    /// A variable may have another value of the range.
+    fn touch(&mut self, root: u32, range: Interval)
+        ensures { viewed self.new ≡ with_touched (λ _. range) root (viewed self.old) }
+    {
+        self.change(root, None);
+        self.set_range(root, range);
+    }
+
+    /// Each of several variables may be undefined.
+    fn forget_all(&mut self, controls: &[u32])
+        ensures { viewed self.new ≡ all_forgotten controls.now (viewed self.old) }
+    {
+        for root in controls {
+            self.forget(*root);
+        }
+    }
+
+    /// Adds claims to what is known.
+    pub fn claim_all(&mut self, claims: &[Fact]) -> Result<(), AllocError>
+        ensures { IfOk result (λ _. viewed self.new ≡ with_claims (map said claims.now) (viewed self.old)) }
+    {
+        for claim in claims {
+            self.claim(claim)?;
+        }
+        Ok(())
+    }
+
+    /// A range is met with what is known.
+    fn claim(&mut self, claim: &Fact) -> Result<(), AllocError>
+        ensures { IfOk result (λ _. viewed self.new ≡ with_claim (said claim.now) (viewed self.old)) }
+    {
+        match claim {
+            Fact::Range { root, range } => {
+                let both = self.range(*root).meet(range);
+                self.set_range(*root, both);
+                Ok(())
+            }
+            Fact::Defined { root } => {
+                self.define(*root);
+                Ok(())
+            }
+            Fact::Order {
+                root,
+                other,
+                number,
+            } => self.insert(Some(Order {
+                root: *root,
+                other: *other,
+                number: *number,
+            })),
+        }
+    }
+
+    /// Whether each claim is given.
+    pub fn gives_all(&self, claims: &[Fact]) -> bool
+        ensures { result ≡ gives_all (viewed self.now) (map said claims.now) }
+    {
+        for claim in claims {
+            if !self.gives(claim) {
+                return false;
+            }
+        }
+        true
+    }
+
+    /// Whether a fact is given; a dead state gives each.
+    pub fn gives(&self, fact: &Fact) -> bool
+        ensures { result ≡ gives_fact (viewed self.now) (said fact.now) }
+    {
+        match self {
+            State::Dead => true,
+            State::Live(known) => known.gives_fact(fact),
+        }
+    }
+
+    /// A variable may be undefined.
+    fn forget(&mut self, root: u32)
+        ensures { viewed self.new ≡ with_forgotten root (viewed self.old) }
+    {
+        if let State::Live(known) = self {
+            known.forget(root);
+        }
+    }
+
+    /// What is known of a variable is known of its bound too, if it has one.
+    pub fn replace(
+        &mut self,
+        alloc: Global,
+        root: u32,
+        bound: Option<Bound>,
+    ) -> Result<(), AllocError>
+        ensures { IfOk result (λ _. viewed self.new ≡ replaced root (said_form bound) (viewed self.old)) }
+    {
+        match self {
+            State::Dead => Ok(()),
+            State::Live(known) => known.replace(alloc, root, bound),
+        }
+    }
+
+    /// A variable is undefined from here on.
+    pub fn undefine(&mut self, root: u32)
+        ensures { viewed self.new ≡ with_undefined root (viewed self.old) }
+    {
+        self.touch(root, Interval::EMPTY);
+        self.forget(root);
+    }
+}
+
+/// The limits of a variable.
+fn limit(limits: &[Interval], root: u32) -> Interval
+    ensures { result ≡ slice_index_or limits.now root vacant }
+{
+    match limits.get(root as usize) {
+        Some(range) => *range,
+        None => Interval::EMPTY,
+    }
+}
