@@ -532,7 +532,7 @@ fn gives_all(state: &State, claims: Option<&LoopClaims>) -> bool
 {
     match claims {
         None => true,
-        Some(_) => true,
+        Some(claims) => state.gives_all(&claims.facts),
     }
 }
 
@@ -543,6 +543,6 @@ fn head(state: &mut State, limits: &[Interval], claims: Option<&LoopClaims>) -> 
 {
     match claims {
         None => Ok(()),
-        Some(_) => Ok(()),
+        Some(claims) => state.head(limits, &claims.changes, &[], &claims.facts),
     }
 }
