@@ -17,12 +17,13 @@ r"""Reads the cases of tests/cases, for `tests/run` and `tests/refuse_memory`. A
 
     words W1 W2    the words of the command line, none where none are given: so a source is compiled and not run
     source         the text of source.pas, whose path is the last word; a case without it has a line of words
+    certificate    the text of source.cert, whose path stands behind the word --cert in front of the others
     input          what standard input holds
     writes         what is written to standard output
     tells          what is written to standard error
     status N       the status, 0 where none is given
 
-Behind `source`, `input`, `writes` and `tells` stand the lines of the text. `|TEXT` is a line with its end, and without
+Behind `source`, `certificate`, `input`, `writes` and `tells` stand the lines of the text. `|TEXT` is a line with its end, and without
 its end where the last character is `\`. `N|TEXT` is TEXT N times, without a line end, and `\#` in it is the number of
 the copy: `3|x\#+` is `x1+x2+x3+`. `\xHH` is a byte, `\\` is a backslash, and a blank at the end of a line is `\x20`. An
 empty line or a comment ends a text. Comments begin with `#` and may stand between all lines."""
@@ -33,8 +34,9 @@ from dataclasses import dataclass
 
 FOLDER = os.path.join(os.path.dirname(os.path.abspath(__file__)), "cases")
 SOURCE = "source.pas"
+CERTIFICATE = "source.cert"
 ENDING = ".cases"
-TEXTS = ("source", "input", "writes", "tells")
+TEXTS = ("source", "certificate", "input", "writes", "tells")
 NAME = re.compile(r"[A-Za-z0-9_]+")
 TEXT_LINE = re.compile(r"(|[1-9][0-9]*)\|(.*)")
 ESCAPE = re.compile(r"\\(x[0-9A-Fa-f]{2}|.|$)")
@@ -57,6 +59,7 @@ class Case:
     place: str
     words: tuple = ()
     source: bytes = None
+    certificate: bytes = None
     input: bytes = b""
     writes: bytes = b""
     tells: bytes = b""
@@ -201,19 +204,27 @@ def unescaped(place, text):
 def checked(place, case, parts):
     if "source" not in parts and "words" not in parts:
         raise Fault(place, f"{case.name} has neither words nor a source")
-    for part in TEXTS[1:]:
+    for part in ("input", "writes", "tells"):
         if parts.get(part) == b"":
             raise Fault(place, f"{case.name} has `{part}` without a text")
     return case
 
 
 def placed(case, folder):
-    """Puts a case's source into a folder, where the program is to run, and gives the words of the command line."""
-    if case.source is None:
-        return list(case.words)
-    with open(os.path.join(folder, SOURCE), "wb") as it:
-        it.write(case.source)
-    return [*case.words, SOURCE]
+    """Puts a case's texts into a folder, where the program is to run, and gives the words of the command line."""
+    words = list(case.words)
+    if case.certificate is not None:
+        words = ["--cert", put(case.certificate, folder, CERTIFICATE), *words]
+    if case.source is not None:
+        words.append(put(case.source, folder, SOURCE))
+    return words
+
+
+def put(text, folder, name):
+    """Puts a text into a file of a folder, and gives the file's name."""
+    with open(os.path.join(folder, name), "wb") as it:
+        it.write(text)
+    return name
 
 
 def lines_of(text):

@@ -9,7 +9,9 @@ use Rattle.certificate.specs.declared.order.Above.{Above}
 use Rattle.certificate.specs.declared.fault.ReadFault.{ReadFault}
 use Rattle.certificate.specs.declared.fault.ReadFault.TheVariants.{OutOfOrder}
 use Rattle.certificate.specs.Building.{is_claim, said_line}
-use Rattle.certificate.specs.Contents.{ended, is_small}
+use Rattle.certificate.specs.declared.Version.TheVariants.{One}
+use Rattle.std.specs.Str.{bytes_eq}
+use Rattle.certificate.specs.Contents.{ended, heading, is_small}
 use Rattle.certificate.specs.Lines.{is_number, line_of, reading}
 use Rattle.certificate.specs.Text.{Line, admits, below, fault_from, has_below, lines, or_else}
 use Rattle.certificate.proofs.Again.{line_again, line_at}
@@ -42,13 +44,20 @@ stands : (number : ℕ) (right : Bool) → (if right then None else Some (OutOfO
 stands number true none = refl
 stands number false none = absurd cc
 
+-- no claim's line is the heading of a text
+no_heading : (claim : Claim) → bytes_eq (line_of claim) (heading One) ≡ false
+no_heading (Block number) = refl
+no_heading (Loop number) = refl
+no_heading (Change root) = refl
+no_heading (Fact fact) = refl
+
 -- the fault of claims' lines goes on behind the first
 fault_step : (number : ℕ) (above : Above) (claim : Claim) (more : List Claim) → list_all is_claim (claim ∷ more) ≡ true
     → fault_from number above (map said_line (claim ∷ more))
     ≡ or_else (if admits above claim && has_line claim more then None else Some (OutOfOrder number)) (fault_from (suc number) (below above claim) (map said_line more))
 fault_step number above claim more fits =
     let parts = and_parts (is_claim claim) (list_all is_claim more) fits in
-    rw (line_again claim parts.0, same_below claim more parts.1) refl
+    rw (no_heading claim, line_again claim parts.0, same_below claim more parts.1) refl
 
 -- lines of claims without a fault stand where they may
 pub faultless-orderly : (number : ℕ) (above : Above) (claims : List Claim) → list_all is_claim claims ≡ true

@@ -80,10 +80,15 @@ claim_fault number above (Err line.OutOfRange) more = Some (OutOfRange number)
 claim_fault number above (Ok claim) more =
     if admits above claim && has_below claim more then None else Some (OutOfOrder number)
 
+-- the fault of a line below the heading that has its end: it may be no heading of a text once more
+abbrev pub ended_fault : ℕ → Above → List ℕ → List Line → Option ReadFault
+ended_fault number above bytes more =
+    if bytes_eq bytes (heading One) then Some (OutOfOrder number) else claim_fault number above (reading bytes) more
+
 -- the fault of a line below the heading: first that it has no end
 abbrev pub line_fault : ℕ → Above → Line → List Line → Option ReadFault
 line_fault number above line more =
-    if line.ended then claim_fault number above (reading line.bytes) more else Some (Unended number)
+    if line.ended then ended_fault number above line.bytes more else Some (Unended number)
 
 -- one fault, or else another
 abbrev pub or_else : Option ReadFault → Option ReadFault → Option ReadFault

@@ -88,6 +88,9 @@ fn claim_at(number: u64, above: &Above, line: Line<'_>, more: &[u8]) -> Result<C
     if !line.ended {
         return Err(ReadFault::Unended { line: number });
     }
+    if *line.bytes == *HEADING {
+        return Err(ReadFault::OutOfOrder { line: number });
+    }
     match reading(line.bytes) {
         Err(LineFault::NotInGrammar) => Err(ReadFault::NotInGrammar { line: number }),
         Err(LineFault::OutOfRange) => Err(ReadFault::OutOfRange { line: number }),

@@ -9,6 +9,7 @@ use Rattle.std.proofs.lemmas.Option.{slice_get-get_or}
 use Rattle.stack_machine.specs.declared.cell.Cell.{Cell}
 use Rattle.stack_machine.specs.declared.cell.Cell.TheVariants.{Undefined, Number}
 use Rattle.stack_machine.specs.declared.stop.MachineFault.TheVariants.{Underflow, OutOfBounds, WrongDivisor}
+use Rattle.stack_machine.specs.Deeds.{jumped_if_false}
 use Rattle.stack_machine.specs.Frames.{Frames, Attempt, ◌>>=◌, unless_fault, has, has_room_after, number, number_at, base, popped, pushed, in_use, variable, cell_at, load_constant, load, store, two_numbers, on_one, operands, on_two, divide, modulo, top_two, is_integer, is_true, is_defined, top_is_in_range, top_is_not_zero, top_is_defined, sum_is_integer, difference_is_integer, product_is_integer, square_is_integer}
 
 -- the element behind the first ones
@@ -97,6 +98,14 @@ module _ (frame limit size : ℕ) where
 
     pub is_not_zero : (n : ℤ) → top_is_not_zero (framed (below ++ Number n ∷ [])) ≡ Ok (is_true n)
     is_not_zero n = top_tests is_true n
+
+    -- what a conditional jump makes of it
+    pub branches : (target : ℕ) (n : ℤ) → jumped_if_false target (framed (below ++ Number n ∷ [])) ≡ Ok
+        (framed below, if is_true n then None else Some target)
+    branches target n =
+        let s = framed (below ++ Number n ∷ []) in
+        ap (λ r. r >>= λ holds. Ok (popped 1 s, if holds then None else Some target)) (is_not_zero n)
+        ∙ ap (λ cs. Ok (framed cs, if is_true n then None else Some target)) (one_popped (Number n))
 
     pub squares : (n : ℤ) → square_is_integer (framed (below ++ Number n ∷ [])) ≡ Ok (is_integer (n *ℤ n))
     squares n = top_tests (λ v. is_integer (v *ℤ v)) n

@@ -28,7 +28,7 @@ use Rattle.typed_tree.specs.declared.tree.Expr.TheViews.{roll-Expr, roll-Link}
 use Rattle.typed_tree.specs.declared.tree.Expr.TheFolds.{map-Expr, map-Link, fold-roll-Expr, fold-roll-Link, ind-Expr}
 use Rattle.typed_tree.specs.declared.tree.Stmt.{Stmt}
 use Rattle.typed_tree.specs.declared.tree.Stmt.TheOpen.{Stmt-F}
-use Rattle.typed_tree.specs.declared.tree.Stmt.TheOpen.Stmt-F.{Empty, Assign, Write, Compound}
+use Rattle.typed_tree.specs.declared.tree.Stmt.TheOpen.Stmt-F.{Empty, Assign, Write, Compound, If}
 use Rattle.typed_tree.specs.declared.tree.Stmt.TheViews.{roll-Stmt}
 use Rattle.typed_tree.specs.declared.tree.Stmt.TheFolds.{map-Stmt, fold-roll-Stmt, ind-Stmt}
 use Rattle.code_generator.specs.declared.scope.Scope.{Scope}
@@ -180,6 +180,16 @@ stmt_layer (Write number name parameters ends_line) =
     (parameters_in_bounds scope parameters.items) (line_end_in_bounds ends_line))
 stmt_layer (Compound number statements) =
     rolled_stmt (bare_stmt (Compound number statements)) (λ scope place. stmts_in_bounds scope statements.items place)
+stmt_layer (If number condition consequence None) =
+    rolled_stmt (bare_stmt (If number condition consequence None)) (λ scope place.
+    let yes = place + length (expr_code scope condition) + 1 in
+    append_in_bounds (expr_code scope condition) _ (expr_in_bounds scope condition) (consequence.value.1 scope yes))
+stmt_layer (If number condition consequence (Some alternative)) =
+    rolled_stmt (bare_stmt (If number condition consequence (Some alternative))) (λ scope place.
+    let yes = place + length (expr_code scope condition) + 1 in
+    let no = yes + length (stmt_code consequence.value.0 scope yes) + 1 in
+    append_in_bounds (expr_code scope condition) _ (expr_in_bounds scope condition)
+    (append_in_bounds (stmt_code consequence.value.0 scope yes) _ (consequence.value.1 scope yes) (alternative.value.1 scope no)))
 
 stmt_in_bounds : (s : Stmt) → StmtInBounds s
 stmt_in_bounds = ind-Stmt StmtInBounds (λ x y is. subst (λ z. StmtInBounds (roll-Stmt z)) is (stmt_layer y))

@@ -5,6 +5,7 @@ use Rattle.std.specs.Prelude.{fold, sum, sum_by}
 use Rattle.std.specs.List.{flat_map}
 use Rattle.std.proofs.lemmas.List.Sums.{sum_by-cons}
 use Rattle.pcode_assembler.specs.declared.instr.Instr.{Instr}
+use Rattle.pcode_assembler.specs.declared.instr.Instr.TheVariants as instr
 use Rattle.typed_tree.specs.declared.tree.Dyadic.{Dyadic}
 use Rattle.typed_tree.specs.declared.tree.Dyadic.TheVariants as dyadic
 use Rattle.typed_tree.specs.declared.tree.Representation.{Representation}
@@ -18,7 +19,7 @@ use Rattle.typed_tree.specs.declared.tree.Expr.TheViews.{roll-Expr, roll-Link}
 use Rattle.typed_tree.specs.declared.tree.Expr.TheFolds.{fold-Link, map-Expr, map-Link, fold-roll-Expr, fold-roll-Link, ind-Expr}
 use Rattle.typed_tree.specs.declared.tree.Stmt.{Stmt}
 use Rattle.typed_tree.specs.declared.tree.Stmt.TheOpen.{Stmt-F}
-use Rattle.typed_tree.specs.declared.tree.Stmt.TheOpen.Stmt-F.{Empty, Assign, Write, Compound}
+use Rattle.typed_tree.specs.declared.tree.Stmt.TheOpen.Stmt-F.{Empty, Assign, Write, Compound, If}
 use Rattle.typed_tree.specs.declared.tree.Stmt.TheViews.{roll-Stmt}
 use Rattle.typed_tree.specs.declared.tree.Stmt.TheFolds.{map-Stmt, fold-roll-Stmt, ind-Stmt}
 use Rattle.code_generator.specs.declared.scope.Scope.{Scope}
@@ -244,6 +245,34 @@ stmt_layer (Compound number statements) =
     rolled_stmt (map-Stmt ((s : Stmt) × StmtWithin s) Stmt (λ s. s.0) (Compound number statements)) (λ scope place.
     let none : Within 0 [] 8 = record { code_is = omega arith; need_is = omega arith } in
     stmts_within scope statements.items place 0 [] 8 none)
+stmt_layer (If number condition consequence None) =
+    rolled_stmt (map-Stmt ((s : Stmt) × StmtWithin s) Stmt (λ s. s.0) (If number condition consequence None)) (λ scope place.
+    let test = expr_code scope condition in
+    let yes = place + length test + 1 in
+    let code = stmt_code consequence.value.0 scope yes in
+    let v = expr_within scope condition in
+    let a = v.code_is in let b = v.need_is in
+    let w = consequence.value.1 scope yes in
+    let c = w.code_is in let d = w.need_is in
+    record { code_is = omega (arith, length-append test (instr.JumpIfFalse (yes + length code) ∷ code)); need_is = omega arith })
+stmt_layer (If number condition consequence (Some alternative)) =
+    rolled_stmt (map-Stmt ((s : Stmt) × StmtWithin s) Stmt (λ s. s.0) (If number condition consequence (Some alternative))) (λ scope place.
+    let test = expr_code scope condition in
+    let yes = place + length test + 1 in
+    let code = stmt_code consequence.value.0 scope yes in
+    let no = yes + length code + 1 in
+    let other = stmt_code alternative.value.0 scope no in
+    let behind = instr.Jump (no + length other) ∷ other in
+    let v = expr_within scope condition in
+    let a = v.code_is in let b = v.need_is in
+    let w = consequence.value.1 scope yes in
+    let c = w.code_is in let d = w.need_is in
+    let u = alternative.value.1 scope no in
+    let e = u.code_is in let f = u.need_is in
+    record {
+      code_is = omega (arith, length-append test (instr.JumpIfFalse no ∷ (code ++ behind)), length-append code behind);
+      need_is = omega arith;
+    })
 
 -- the same of a statement
 pub stmt_within : (s : Stmt) → StmtWithin s

@@ -1,5 +1,5 @@
 -- Pieces of code, one after another.
-use Rattle.std.proofs.Common.{◌≡◌, ℕ, Bool, ◌+◌, ◌<◌, ◌≤◌, max, length, length-append, take, get_or, List, [], ◌∷◌, ◌++◌, map, refl, ap, sym, ◌∙◌, append-nil, append_assoc}
+use Rattle.std.proofs.Common.{◌≡◌, ℕ, Bool, ◌+◌, ◌<◌, ◌≤◌, max, length, length-append, take, get_or, List, [], ◌∷◌, ◌++◌, map, refl, ap, sym, ◌∙◌, append-nil, append_assoc, arith, Some, None}
 use Rattle.std.specs.List.{flat_map}
 use Rattle.std.specs.Prelude.{fold}
 use Rattle.std.proofs.lemmas.List.Sums.{fold_push}
@@ -20,11 +20,11 @@ use Rattle.typed_tree.specs.declared.tree.Monadic.{Monadic}
 use Rattle.typed_tree.specs.declared.tree.Expr.TheOpen.Expr-F.{Variable as Variable-layer, Chain as Chain-layer, Monadic as Monadic-layer}
 use Rattle.typed_tree.specs.declared.tree.Expr.TheFolds.{fold-roll-Expr, fold_out-Link}
 use Rattle.typed_tree.specs.declared.tree.Stmt.{Stmt}
-use Rattle.typed_tree.specs.declared.tree.Stmt.TheVariants.{Empty, rolls-Empty, Assign, rolls-Assign, Write, rolls-Write, Compound, rolls-Compound}
-use Rattle.typed_tree.specs.declared.tree.Stmt.TheOpen.Stmt-F.{Empty as Empty-layer, Assign as Assign-layer, Write as Write-layer, Compound as Compound-layer}
+use Rattle.typed_tree.specs.declared.tree.Stmt.TheVariants.{Empty, rolls-Empty, Assign, rolls-Assign, Write, rolls-Write, Compound, rolls-Compound, If, rolls-If}
+use Rattle.typed_tree.specs.declared.tree.Stmt.TheOpen.Stmt-F.{Empty as Empty-layer, Assign as Assign-layer, Write as Write-layer, Compound as Compound-layer, If as If-layer}
 use Rattle.typed_tree.specs.declared.tree.Stmt.TheFolds.{fold-roll-Stmt}
 use Rattle.code_generator.specs.declared.scope.Scope.{Scope}
-use Rattle.code_generator.specs.Code.{joined, placed, Placed, dyadic_code, monadic_code, expr_step, link_step, expr_code, link_code, variable_code, variable_offset, assign_code, write_code, parameter_code, line_end_code, stmt_step, stmt_code, greatest, expr_depth, parameter_depth, stmt_depth, stmt_depth_step}
+use Rattle.code_generator.specs.Code.{joined, placed, Placed, if_code, if_else_code, dyadic_code, monadic_code, expr_step, link_step, expr_code, link_code, variable_code, variable_offset, assign_code, write_code, parameter_code, line_end_code, stmt_step, stmt_code, greatest, expr_depth, parameter_depth, stmt_depth, stmt_depth_step}
 
 -- the pieces of a list, one for each element
 pub joined-map : {X : Type 0} (piece_of : X → List Instr) (xs : List X) → joined (map piece_of xs) ≡ flat_map piece_of xs
@@ -71,6 +71,37 @@ stmt_code-Write scope place number name parameters ends_line =
     ap (λ s. stmt_code s scope place) (sym (rolls-Write number name parameters ends_line))
     ∙ ap (λ code. code scope place) (fold-roll-Stmt Placed stmt_step (Write-layer number name parameters ends_line))
 
+-- an if statement without `else`, and one with it
+pub stmt_code-If : (scope : Scope) (place number : ℕ) (condition : Expr) (consequence : Box Stmt)
+    → stmt_code (If number condition consequence None) scope place ≡ if_code (expr_code scope condition) (stmt_code consequence.value) scope place
+stmt_code-If scope place number condition consequence =
+    ap (λ s. stmt_code s scope place) (sym (rolls-If number condition consequence None))
+    ∙ ap (λ code. code scope place) (fold-roll-Stmt Placed stmt_step (If-layer number condition consequence None))
+
+pub stmt_code-If-else : (scope : Scope) (place number : ℕ) (condition : Expr) (consequence alternative : Box Stmt)
+    → stmt_code (If number condition consequence (Some alternative)) scope place ≡ if_else_code (expr_code scope condition) (stmt_code consequence.value)
+    (stmt_code alternative.value) scope place
+stmt_code-If-else scope place number condition consequence alternative =
+    ap (λ s. stmt_code s scope place) (sym (rolls-If number condition consequence (Some alternative)))
+    ∙ ap (λ code. code scope place) (fold-roll-Stmt Placed stmt_step (If-layer number condition consequence (Some alternative)))
+
+-- how many instructions they have
+pub length-If : (test : List Instr) (consequence : Placed) (scope : Scope) (place : ℕ)
+    → length (if_code test consequence scope place) ≡ length test + 1 + length (consequence scope (place + length test + 1))
+length-If test consequence scope place =
+    let yes = place + length test + 1 in
+    omega (arith, length-append test (instr.JumpIfFalse (yes + length (consequence scope yes)) ∷ consequence scope yes))
+
+pub length-If-else : (test : List Instr) (consequence alternative : Placed) (scope : Scope) (place : ℕ)
+    → length (if_else_code test consequence alternative scope place) ≡ length test + 1 + length (consequence scope (place + length test + 1)) + 1 + length
+    (alternative scope (place + length test + 1 + length (consequence scope (place + length test + 1)) + 1))
+length-If-else test consequence alternative scope place =
+    let yes = place + length test + 1 in
+    let code = consequence scope yes in
+    let no = yes + length code + 1 in
+    let behind = instr.Jump (no + length (alternative scope no)) ∷ alternative scope no in
+    omega (arith, length-append test (instr.JumpIfFalse no ∷ (code ++ behind)), length-append code behind)
+
 -- how many instructions an assignment has, and a write
 pub length-Assign : (scope : Scope) (place number : ℕ) (becomes : SourcePlace) (target : Access) (fits : RangeTest) (value : Expr)
     → length (stmt_code (Assign number becomes target fits value) scope place) ≡ length (expr_code scope value) + 2
@@ -100,6 +131,18 @@ stmt_depth-Write number name parameters ends_line =
 pub stmt_depth-Compound : (number : ℕ) (statements : Vec Stmt) → stmt_depth (Compound number statements) ≡ greatest (map stmt_depth statements.items)
 stmt_depth-Compound number statements =
     ap stmt_depth (sym (rolls-Compound number statements)) ∙ fold-roll-Stmt ℕ stmt_depth_step (Compound-layer number statements)
+
+pub stmt_depth-If : (number : ℕ) (condition : Expr) (consequence : Box Stmt)
+    → stmt_depth (If number condition consequence None) ≡ max (expr_depth condition) (max (stmt_depth consequence.value) 0)
+stmt_depth-If number condition consequence =
+    ap stmt_depth (sym (rolls-If number condition consequence None)) ∙ fold-roll-Stmt ℕ stmt_depth_step (If-layer number condition consequence None)
+
+pub stmt_depth-If-else : (number : ℕ) (condition : Expr) (consequence alternative : Box Stmt)
+    → stmt_depth (If number condition consequence (Some alternative)) ≡ max (expr_depth condition) (max (stmt_depth consequence.value)
+    (stmt_depth alternative.value))
+stmt_depth-If-else number condition consequence alternative =
+    ap stmt_depth (sym (rolls-If number condition consequence (Some alternative)))
+    ∙ fold-roll-Stmt ℕ stmt_depth_step (If-layer number condition consequence (Some alternative))
 
 -- a loop over pieces, at its end
 pub joined_at_end : {X : Type 0} (piece_of : X → List Instr) (code start : List Instr) (xs ys : List X) (i : ℕ)

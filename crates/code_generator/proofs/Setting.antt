@@ -1,8 +1,9 @@
 -- One activation of a block, whose code runs: what stays as it is meanwhile, and what the machine does of what the
 -- program does.
-use Rattle.std.proofs.Common.{◌≡◌, ℕ, zero, suc, ◌+◌, ◌-◌, ◌<◌, ◌≤◌, ◌⊎◌, inl, inr, List, [], ◌∷◌, ◌++◌, length, map, Some, Ok, Err, refl, sym, ap, ◌∙◌, subst, arith, length-append, Bool, true, false, Contains}
-use Rattle.std.specs.Prelude.{slice_get, ℤ}
+use Rattle.std.proofs.Common.{◌≡◌, ℕ, zero, suc, ◌+◌, ◌-◌, ◌<◌, ◌≤◌, ◌⊎◌, inl, inr, List, [], ◌∷◌, ◌++◌, length, map, Some, None, Ok, Err, refl, sym, ap, ◌∙◌, subst, arith, length-append, Bool, true, false, Contains}
+use Rattle.std.specs.Prelude.{slice_get, ℤ, if◌then◌else◌}
 use Rattle.pcode_assembler.specs.declared.instr.Instr.{Instr}
+use Rattle.pcode_assembler.specs.declared.instr.Instr.TheVariants as instr
 use Rattle.typed_tree.specs.declared.tree.Tree.{Tree}
 use Rattle.meaning.specs.declared.outcome.Ending.{Ending}
 use Rattle.meaning.specs.declared.outcome.Ending.TheVariants as ending
@@ -16,15 +17,16 @@ use Rattle.stack_machine.specs.declared.stop.Stop.{Stop}
 use Rattle.stack_machine.specs.declared.stop.Stop.TheVariants as stop
 use Rattle.stack_machine.specs.declared.cell.Cell.{Cell}
 use Rattle.stack_machine.specs.declared.cell.Cell.TheVariants.{Number}
-use Rattle.stack_machine.specs.Frames.{Frames, Attempt}
-use Rattle.stack_machine.specs.Machine.{State, obeyed, and_then, checked, with_frames, error_of}
+use Rattle.stack_machine.specs.Deeds.{jumped_if_false}
+use Rattle.stack_machine.specs.Frames.{Frames, Attempt, is_true}
+use Rattle.stack_machine.specs.Machine.{State, obeyed, and_then, checked, with_frames, with_place, error_of}
 use Rattle.check_remover.specs.Strip.{moved}
 use Rattle.code_generator.specs.declared.scope.Scope.{Scope}
 use Rattle.code_generator.specs.Code.{variable_offset}
 use Rattle.code_generator.specs.Follows.{StopsAs}
 use Rattle.code_generator.specs.Tables.{site_table, in_plain_numbers}
 use Rattle.code_generator.proofs.Reach.{Target, StandsAt, Comes, Stops, comes_on, comes_less, stays_here, comes_by, stops_on, stops_by}
-use Rattle.code_generator.proofs.Acts.{framed}
+use Rattle.code_generator.proofs.Acts.{framed, branches}
 use Rattle.code_generator.proofs.Alike.{Activation, World, IsApart, Alike, Shown, Direct}
 use Rattle.code_generator.proofs.Numbers.{Fits}
 
@@ -124,6 +126,31 @@ module _ (g : Setting) where
       → Comes g.target 1 (on cells place output) (on after (place + 1) output)
   acts i cells after place output attempt here rule e =
       goes_on i cells after place output output here (rule ∙ ap (λ a. and_then a (with_frames (running_at cells (g.target.to place + 1) output))) e)
+
+  -- a jump goes where its target goes
+  pub jumps : (target : ℕ) (cells : List Cell) (place : ℕ) (output : List ℕ) → StandsAt g.target place (instr.Jump target) true
+      → Comes g.target 1 (on cells place output) (on cells target output)
+  jumps target cells place output stands = comes_by g.target (instr.Jump (g.target.to target)) (on cells place output) (on cells target output) stands.0 refl
+
+  -- a conditional jump pops a number, and goes where its target goes if that is 0
+  branches_by : (target : ℕ) (cells below : List Cell) (place : ℕ) (output : List ℕ) (holds : Bool) → Here place (instr.JumpIfFalse (g.target.to target))
+      → jumped_if_false (g.target.to target) (framed g.running.frame g.limit g.size cells) ≡ Ok
+      (framed g.running.frame g.limit g.size below, if holds then None else Some (g.target.to target))
+      → Comes g.target 1 (on cells place output) (on below (if holds then place + 1 else target) output)
+  branches_by target cells below place output true here e =
+      subst (λ index. Comes g.target 1 (on cells place output) (running_at below index output)) (sym here.1)
+      (comes_by g.target (instr.JumpIfFalse (g.target.to target)) (on cells place output) (running_at below (g.target.to place + 1) output) here.0
+      (ap (λ r. and_then r (with_place (running_at cells (g.target.to place + 1) output))) e))
+  branches_by target cells below place output false here e =
+      comes_by g.target (instr.JumpIfFalse (g.target.to target)) (on cells place output) (on below target output) here.0
+      (ap (λ r. and_then r (with_place (running_at cells (g.target.to place + 1) output))) e)
+
+  pub branches_on : (target : ℕ) (below : List Cell) (n : ℤ) (place : ℕ) (output : List ℕ) → StandsAt g.target place (instr.JumpIfFalse target) true
+      → g.running.frame + 4 ≤ length below
+      → Comes g.target 1 (on (below ++ Number n ∷ []) place output) (on below (if is_true n then place + 1 else target) output)
+  branches_on target below n place output stands in_frame =
+      branches_by target (below ++ Number n ∷ []) below place output (is_true n) stands
+      (branches g.running.frame g.limit g.size below in_frame (g.target.to target) n)
 
   -- a check, which stays or is left out, and what it tests
   module _ (check : Instr) (cells : List Cell) (place site : ℕ) (output : List ℕ) (holds : Attempt Bool) (same : moved g.target.to check ≡ check)
@@ -242,6 +269,18 @@ module _ (g : Setting) where
   then_executes turns m held place place' (Gives done s) next e h =
       executes_on turns s.turns m _ held place' (next tt s) e.2 (h e.0 s e.1)
   then_executes turns m held place place' (effect.Stops end s) next e h = e
+
+  -- what the machine does behind a statement that gives
+  pub behind_executes : (turns : ℕ) (m : State) (held held' : List Cell) (place place' : ℕ) (r : Reply (Unit {0})) → Executes turns m held place r
+      → ((base : List Cell) (s : effect.State) → Based s.store base → Comes g.target 0 (on (base ++ held) place s.output)
+      (on (base ++ held') place' s.output)) → Executes turns m held' place' r
+  behind_executes turns m held held' place place' (Gives done s) e h = (
+    e.0,
+    e.1,
+    comes_less g.target (turns - s.turns) (turns - s.turns + 0) m _ (omega arith)
+        (comes_on g.target (turns - s.turns) 0 m _ _ e.2 (h e.0 s e.1)),
+  )
+  behind_executes turns m held held' place place' (effect.Stops end s) e h = e
 
   -- what comes after a value
   pub after_value : (turns : ℕ) (m : State) (held held' : List Cell) (place place' : ℕ) (r : Reply Value) (next : Value → Action (Unit {0}))

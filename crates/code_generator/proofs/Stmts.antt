@@ -1,5 +1,5 @@
 -- The code of a statement keeps the program's store and the cells of its frame alike, or stops as the statement does.
-use Rattle.std.proofs.Common.{◌≡◌, ℕ, zero, suc, ◌+◌, ◌<◌, ◌≤◌, max, List, [], ◌∷◌, ◌++◌, length, map, Ok, refl, sym, ap, ◌∙◌, subst, arith, length-append, Bool, true, false}
+use Rattle.std.proofs.Common.{◌≡◌, ℕ, zero, suc, ◌+◌, ◌<◌, ◌≤◌, max, List, [], ◌∷◌, ◌++◌, length, map, Some, None, Ok, refl, sym, ap, ◌∙◌, subst, arith, length-append, append_assoc, Bool, true, false}
 use Rattle.std.specs.Prelude.{slice_set, ℤ, pos, negsuc, int_le, ◌-◌, ◌&&◌, replicate, take, codes, if◌then◌else◌, fold}
 use Rattle.std.specs.List.{flat_map}
 use Rattle.std.specs.Fmt.{signed_decimal}
@@ -16,7 +16,7 @@ use Rattle.typed_tree.specs.declared.tree.WriteParameter.{WriteParameter}
 use Rattle.typed_tree.specs.declared.tree.Expr.{Expr}
 use Rattle.typed_tree.specs.declared.tree.Stmt.{Stmt}
 use Rattle.typed_tree.specs.declared.tree.Stmt.TheOpen.{Stmt-F}
-use Rattle.typed_tree.specs.declared.tree.Stmt.TheOpen.Stmt-F.{Empty, Assign, Write, Compound}
+use Rattle.typed_tree.specs.declared.tree.Stmt.TheOpen.Stmt-F.{Empty, Assign, Write, Compound, If}
 use Rattle.typed_tree.specs.declared.tree.Stmt.TheViews.{roll-Stmt}
 use Rattle.typed_tree.specs.declared.tree.Stmt.TheFolds.{fold-Stmt, map-Stmt, fold-roll-Stmt, ind-Stmt}
 use Rattle.meaning.specs.declared.store.Value.{Value}
@@ -24,7 +24,7 @@ use Rattle.meaning.specs.declared.store.Value.TheVariants as value
 use Rattle.meaning.specs.Store.{kept}
 use Rattle.meaning.specs.Effect as effect
 use Rattle.meaning.specs.Effect.{Reply, Gives, Action, ◌>>=◌, require, give}
-use Rattle.meaning.specs.Meaning.{Execution, value_of, width_of, effect_of, effect_step, parameter_of, all_of, line_ended}
+use Rattle.meaning.specs.Meaning.{Execution, is_so, alternative_of, value_of, width_of, effect_of, effect_step, parameter_of, all_of, line_ended}
 use Rattle.stack_machine.specs.declared.cell.Cell.{Cell}
 use Rattle.stack_machine.specs.declared.cell.Cell.TheVariants.{Number}
 use Rattle.stack_machine.specs.Frames as frames
@@ -33,10 +33,10 @@ use Rattle.stack_machine.specs.Machine as machine
 use Rattle.stack_machine.specs.Machine.{State, with_text}
 use Rattle.stack_machine.specs.Texts as texts
 use Rattle.code_generator.specs.declared.scope.Scope.{Scope}
-use Rattle.code_generator.specs.Code.{Placed, placed, greatest, variable_offset, expr_code, width_code, write_instr, parameter_code, line_end_code, write_code, stmt_code, stmt_step, stmt_depth, stmt_depth_step, expr_depth, parameter_depth}
+use Rattle.code_generator.specs.Code.{Placed, placed, if_code, if_else_code, greatest, variable_offset, expr_code, width_code, write_instr, parameter_code, line_end_code, write_code, stmt_code, stmt_step, stmt_depth, stmt_depth_step, expr_depth, parameter_depth}
 use Rattle.typed_tree.specs.WellFormed.{all_hold, is_well_formed_expr, is_well_formed_width, is_well_formed_parameter, is_well_formed_stmt, stmt_is_well_formed}
-use Rattle.code_generator.proofs.Reach.{Stands, stands_front, stands_back, Comes, stays_here}
-use Rattle.code_generator.proofs.Setting.{Setting, on, Based, linked, Here, goes_on, acts, passes, fails, Executes, done, executes_from, then_executes, after_value}
+use Rattle.code_generator.proofs.Reach.{Stands, stands_front, stands_back, Comes, comes_less, stays_here}
+use Rattle.code_generator.proofs.Setting.{Setting, on, Based, linked, Here, goes_on, acts, jumps, branches_on, behind_executes, passes, fails, Executes, done, executes_from, then_executes, after_value}
 use Rattle.code_generator.proofs.Acts.{framed, length_one, stores, is_in_range, writes}
 use Rattle.code_generator.proofs.Numbers.{Fits, same_range}
 use Rattle.code_generator.proofs.Exprs.{start_within, expr_runs, width_runs, one_held}
@@ -297,6 +297,27 @@ module _ (g : Setting) where
       ps) g.environment s1)) same values)
       (λ base2 t based2. line_end_runs ends_line (place + length c) base2 held t (stands_back g.target place c ending stands) based2))
 
+  -- a condition, and a jump where it is false
+  abbrev branch_code : Expr → ℕ → List Instr
+  branch_code condition target = expr_code g.scope condition ++ instr.JumpIfFalse target ∷ []
+
+  branch_runs : (condition : Expr) (target place end : ℕ) (base held : List Cell) (s : effect.State) (next : Bool → Action (Unit {0}))
+      → Stands g.target place (branch_code condition target) → is_well_formed_expr variables sites condition ≡ true → Based g s.store base
+      → g.below + length held + expr_depth condition ≤ g.limit
+      → ((holds : Bool) (base2 : List Cell) (t : effect.State) → Based g t.store base2
+      → Executes g t.turns (on g (base2 ++ held) (if holds then place + length (expr_code g.scope condition) + 1 else target) t.output) held end (next holds t))
+      → Executes g s.turns (on g (base ++ held) place s.output) held end
+      (effect.and_then (value_of condition g.environment s) (λ v. next (is_so v)))
+  branch_runs condition target place end base held s next stands good based room goes_on =
+      let test = expr_code g.scope condition in
+      let here = stands_back g.target place test (instr.JumpIfFalse target ∷ []) stands in
+      after_value g s.turns _ held held (place + length test) end (value_of condition g.environment s) (λ v. next (is_so v))
+      (expr_runs g condition place base held s (stands_front g.target place test (instr.JumpIfFalse target ∷ []) stands) good based room)
+      (λ base2 n t based2 fit.
+      executes_from g 1 t.turns _ _ held end (next (frames.is_true n) t)
+      (branches_on g target (base2 ++ held) n (place + length test) t.output here.0 (linked g t.store base2 held based2))
+      (goes_on (frames.is_true n) base2 t based2))
+
 -- what is shown of a statement, in each setting
 abbrev pub StmtRuns : Stmt → Type 0
 StmtRuns s = (g : Setting) → ExecutesAs g (stmt_code s) (stmt_depth s) (is_well_formed_stmt (length g.tree.variables.items) (length g.tree.sites.items) s)
@@ -323,6 +344,73 @@ empty_runs g number place base held s stands good based high deep =
     nothing_runs g place base held (record s { visited = s.visited ++ record { number = number; environment = g.environment; store = s.store } ∷ [] })
     (record { full = based.full; alike = based.alike })
 
+-- an if statement without `else`
+if_runs : (g : Setting) (number : ℕ) (condition : Expr) (consequence : (s : Stmt) × StmtRuns s)
+    → ExecutesAs g (λ scope. if_code (expr_code scope condition) (stmt_code consequence.0) scope)
+    (max (expr_depth condition) (max (stmt_depth consequence.0) 0))
+    (is_well_formed_expr (variables g) (sites g) condition && (is_well_formed_stmt (variables g) (sites g) consequence.0 && true))
+    (λ e. effect.enter number e >>= λ _. value_of condition e >>= λ v. if is_so v then effect_of consequence.0 e else alternative_of None e)
+if_runs g number condition consequence place base held s stands good based high deep =
+    let s1 : effect.State = record s { visited = s.visited ++ record { number = number; environment = g.environment; store = s.store } ∷ [] } in
+    let test = expr_code g.scope condition in
+    let yes = place + length test + 1 in
+    let code = stmt_code consequence.0 g.scope yes in
+    let target = yes + length code in
+    let whole = subst (Stands g.target place) (sym (append_assoc test (instr.JumpIfFalse target ∷ []) code)) stands in
+    let front = stands_front g.target place (test ++ instr.JumpIfFalse target ∷ []) code whole in
+    let back = stands_back g.target place (test ++ instr.JumpIfFalse target ∷ []) code whole in
+    let at : place + length (test ++ instr.JumpIfFalse target ∷ []) ≡ yes = omega (arith, length-append test (instr.JumpIfFalse target ∷ [])) in
+    let inside = subst (λ p. Stands g.target p code) at back in
+    let e : target ≡ place + length (test ++ (instr.JumpIfFalse target ∷ code)) = omega (arith, length-append test (instr.JumpIfFalse target ∷ code)) in
+    let parts = and_parts _ _ good in
+    let next : Bool → Action (Unit {0}) = λ holds. if holds then effect_of consequence.0 g.environment else alternative_of None g.environment in
+    subst (λ p. Executes g s.turns (on g (base ++ held) place s.output) held p
+    (effect.and_then (value_of condition g.environment s1) (λ v. next (is_so v)))) e
+    (branch_runs g condition target place target base held s1 next front parts.0 (record { full = based.full; alike = based.alike }) (omega arith)
+    (λ holds. elim holds as (λ h. (base2 : List Cell) (t : effect.State) → Based g t.store base2 → Executes g t.turns
+    (on g (base2 ++ held) (if h then yes else target) t.output) held target (next h t)) [
+      | true ↦ λ base2 t based2. consequence.1 g yes base2 held t inside (and_parts _ _ parts.1).0 based2 high (omega arith)
+      | false ↦ λ base2 t based2. done g 0 _ base2 held target t based2 (stays_here g.target _)
+    ]))
+
+-- and one with it
+if_else_runs : (g : Setting) (number : ℕ) (condition : Expr) (consequence alternative : (s : Stmt) × StmtRuns s)
+    → ExecutesAs g (λ scope. if_else_code (expr_code scope condition) (stmt_code consequence.0) (stmt_code alternative.0) scope)
+    (max (expr_depth condition) (max (stmt_depth consequence.0) (stmt_depth alternative.0)))
+    (is_well_formed_expr (variables g) (sites g) condition && (is_well_formed_stmt (variables g) (sites g) consequence.0 && is_well_formed_stmt (variables g)
+    (sites g) alternative.0))
+    (λ e. effect.enter number e >>= λ _. value_of condition e >>= λ v. if is_so v then effect_of consequence.0 e else effect_of alternative.0 e)
+if_else_runs g number condition consequence alternative place base held s stands good based high deep =
+    let s1 : effect.State = record s { visited = s.visited ++ record { number = number; environment = g.environment; store = s.store } ∷ [] } in
+    let test = expr_code g.scope condition in
+    let yes = place + length test + 1 in
+    let code = stmt_code consequence.0 g.scope yes in
+    let no = yes + length code + 1 in
+    let other = stmt_code alternative.0 g.scope no in
+    let end = no + length other in
+    let behind = instr.Jump end ∷ other in
+    let whole = subst (Stands g.target place) (sym (append_assoc test (instr.JumpIfFalse no ∷ []) (code ++ behind))) stands in
+    let front = stands_front g.target place (test ++ instr.JumpIfFalse no ∷ []) (code ++ behind) whole in
+    let back = stands_back g.target place (test ++ instr.JumpIfFalse no ∷ []) (code ++ behind) whole in
+    let at : place + length (test ++ instr.JumpIfFalse no ∷ []) ≡ yes = omega (arith, length-append test (instr.JumpIfFalse no ∷ [])) in
+    let inside = subst (λ p. Stands g.target p (code ++ behind)) at back in
+    let jump = stands_back g.target yes code behind inside in
+    let e : end ≡ place + length (test ++ (instr.JumpIfFalse no ∷ (code ++ behind))) =
+    omega (arith, length-append test (instr.JumpIfFalse no ∷ (code ++ behind)), length-append code behind) in
+    let parts = and_parts _ _ good in
+    let next : Bool → Action (Unit {0}) = λ holds. if holds then effect_of consequence.0 g.environment else effect_of alternative.0 g.environment in
+    subst (λ p. Executes g s.turns (on g (base ++ held) place s.output) held p
+    (effect.and_then (value_of condition g.environment s1) (λ v. next (is_so v)))) e
+    (branch_runs g condition no place end base held s1 next front parts.0 (record { full = based.full; alike = based.alike }) (omega arith)
+    (λ holds. elim holds as (λ h. (base2 : List Cell) (t : effect.State) → Based g t.store base2 → Executes g t.turns
+    (on g (base2 ++ held) (if h then yes else no) t.output) held end (next h t)) [
+      | true ↦ λ base2 t based2.
+          behind_executes g t.turns _ held held (yes + length code) end (effect_of consequence.0 g.environment t)
+          (consequence.1 g yes base2 held t (stands_front g.target yes code behind inside) (and_parts _ _ parts.1).0 based2 high (omega arith))
+          (λ base3 u based3. comes_less g.target 0 1 _ _ (omega arith) (jumps g end (base3 ++ held) (yes + length code) u.output jump.0))
+      | false ↦ λ base2 t based2. alternative.1 g no base2 held t jump.1 (and_parts _ _ parts.1).1 based2 high (omega arith)
+    ]))
+
 same_executes : (g : Setting) (c c' : Placed) (d d' : ℕ) (w w' : Bool) (v v' : Execution) → c ≡ c' → d ≡ d' → w ≡ w' → v ≡ v' → ExecutesAs g c' d' w' v'
     → ExecutesAs g c d w v
 same_executes g c c' d d' w w' v v' p q r t runs =
@@ -346,6 +434,12 @@ stmt_layer (Write number name parameters ends_line) =
     rolled_stmt (Write number name parameters ends_line) (λ g. write_runs g number parameters.items ends_line)
 stmt_layer (Compound number statements) =
     rolled_stmt (map-Stmt ((s : Stmt) × StmtRuns s) Stmt (λ s. s.0) (Compound number statements)) (λ g. compound_runs g number statements.items)
+stmt_layer (If number condition consequence None) =
+    rolled_stmt (map-Stmt ((s : Stmt) × StmtRuns s) Stmt (λ s. s.0) (If number condition consequence None))
+    (λ g. if_runs g number condition consequence.value)
+stmt_layer (If number condition consequence (Some alternative)) =
+    rolled_stmt (map-Stmt ((s : Stmt) × StmtRuns s) Stmt (λ s. s.0) (If number condition consequence (Some alternative)))
+    (λ g. if_else_runs g number condition consequence.value alternative.value)
 
 -- the code of a statement keeps store and cells alike, or stops as the statement does
 pub stmt_runs : (s : Stmt) → StmtRuns s

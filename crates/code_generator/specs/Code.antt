@@ -3,6 +3,8 @@
 -- not say what the code does: that is for the machine to say.
 use Rattle.std.specs.Prelude.{ℕ, pos, ◌+◌, max, min, Bool, true, false, List, [], ◌∷◌, ◌++◌, Option, Some, None, length, map, slice_get, fold}
 use Rattle.std.specs.List.{flat_map}
+use Rattle.std.specs.declared.alloc.Global.{Global}
+use Rattle.std.specs.declared.boxed.Box.{Box}
 use Rattle.code_generator.specs.declared.scope.Scope.{Scope}
 use Rattle.pcode_assembler.specs.declared.instr.Instr.{Instr}
 use Rattle.pcode_assembler.specs.declared.instr.Instr.TheVariants as instr
@@ -26,7 +28,7 @@ use Rattle.typed_tree.specs.declared.tree.Expr.TheOpen.Expr-F.{Constant, Variabl
 use Rattle.typed_tree.specs.declared.tree.Expr.TheFolds.{fold-Expr, fold-Link}
 use Rattle.typed_tree.specs.declared.tree.Stmt.{Stmt}
 use Rattle.typed_tree.specs.declared.tree.Stmt.TheOpen.{Stmt-F}
-use Rattle.typed_tree.specs.declared.tree.Stmt.TheOpen.Stmt-F.{Empty, Assign, Write, Compound}
+use Rattle.typed_tree.specs.declared.tree.Stmt.TheOpen.Stmt-F.{Empty, Assign, Write, Compound, If}
 use Rattle.typed_tree.specs.declared.tree.Stmt.TheFolds.{fold-Stmt}
 
 -- the pieces one after another
@@ -149,11 +151,29 @@ write_code scope parameters ends_line = flat_map (parameter_code scope) paramete
 abbrev pub Placed : Type 0
 Placed = Scope → ℕ → List Instr
 
+-- the code of an if statement without `else` (6.8.3.4): where the condition is false, a jump behind the consequence
+abbrev pub if_code : List Instr → Placed → Placed
+if_code test consequence scope place =
+    let yes = place + length test + 1 in
+    test ++ (instr.JumpIfFalse (yes + length (consequence scope yes)) ∷ consequence scope yes)
+
+-- the same with `else`: where the condition is false, a jump to the alternative, and behind the consequence one over it
+abbrev pub if_else_code : List Instr → Placed → Placed → Placed
+if_else_code test consequence alternative scope place =
+    let yes = place + length test + 1 in
+    let no = yes + length (consequence scope yes) + 1 in
+    test ++ (instr.JumpIfFalse no ∷ (consequence scope yes
+    ++ (instr.Jump (no + length (alternative scope no)) ∷ alternative scope no)))
+
 abbrev pub stmt_step : Stmt-F Placed → Placed
 stmt_step (Empty number) scope place = []
 stmt_step (Assign number becomes target fits value) scope place = assign_code scope target.root fits value
 stmt_step (Write number name parameters ends_line) scope place = write_code scope parameters.items ends_line
 stmt_step (Compound number statements) scope place = placed (map (λ code. code scope) statements.items) place
+stmt_step (If number condition consequence None) scope place =
+    if_code (expr_code scope condition) consequence.value scope place
+stmt_step (If number condition consequence (Some alternative)) scope place =
+    if_else_code (expr_code scope condition) consequence.value alternative.value scope place
 
 -- the code of a statement at a place
 abbrev pub stmt_code : Stmt → Placed
@@ -185,11 +205,18 @@ width_depth (Some width) = expr_depth width.value
 abbrev pub parameter_depth : WriteParameter → ℕ
 parameter_depth parameter = max (expr_depth parameter.value) (width_depth parameter.width + 1)
 
+-- the same of what may be there
+abbrev pub alternative_depth : Option (Box ℕ Global) → ℕ
+alternative_depth None = 0
+alternative_depth (Some depth) = depth.value
+
 abbrev pub stmt_depth_step : Stmt-F ℕ → ℕ
 stmt_depth_step (Empty number) = 0
 stmt_depth_step (Assign number becomes target fits value) = expr_depth value
 stmt_depth_step (Write number name parameters ends_line) = greatest (map parameter_depth parameters.items)
 stmt_depth_step (Compound number statements) = greatest statements.items
+stmt_depth_step (If number condition consequence alternative) =
+    max (expr_depth condition) (max consequence.value (alternative_depth alternative))
 
 -- how many cells the evaluation of a statement needs at once
 abbrev pub stmt_depth : Stmt → ℕ

@@ -1,4 +1,5 @@
 pub mod Code
+pub mod Emitted
 pub mod Follows
 pub mod Laws
 pub mod Need

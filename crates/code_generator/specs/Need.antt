@@ -2,6 +2,8 @@
 -- variables, and 8 and the cells of its value for each statement and each expression of the block. It does not say how
 -- many a frame takes, which is no more.
 use Rattle.std.specs.Prelude.{ℕ, ◌+◌, Option, Some, None, length, sum, sum_by, slice_get}
+use Rattle.std.specs.declared.alloc.Global.{Global}
+use Rattle.std.specs.declared.boxed.Box.{Box}
 use Rattle.typed_tree.specs.declared.tree.Tree.{Tree}
 use Rattle.typed_tree.specs.declared.tree.Block.{Block}
 use Rattle.typed_tree.specs.declared.tree.Width.{Width}
@@ -12,7 +14,7 @@ use Rattle.typed_tree.specs.declared.tree.Expr.TheOpen.Expr-F.{Constant, Variabl
 use Rattle.typed_tree.specs.declared.tree.Expr.TheFolds.{fold-Expr}
 use Rattle.typed_tree.specs.declared.tree.Stmt.{Stmt}
 use Rattle.typed_tree.specs.declared.tree.Stmt.TheOpen.{Stmt-F}
-use Rattle.typed_tree.specs.declared.tree.Stmt.TheOpen.Stmt-F.{Empty, Assign, Write, Compound}
+use Rattle.typed_tree.specs.declared.tree.Stmt.TheOpen.Stmt-F.{Empty, Assign, Write, Compound, If}
 use Rattle.typed_tree.specs.declared.tree.Stmt.TheFolds.{fold-Stmt}
 
 -- an expression whose value is an ordinal, which has one cell
@@ -40,12 +42,19 @@ width_need (Some width) = expr_need width.value
 abbrev pub parameter_need : WriteParameter → ℕ
 parameter_need parameter = expr_need parameter.value + width_need parameter.width
 
+-- what may be there
+abbrev pub alternative_need : Option (Box ℕ Global) → ℕ
+alternative_need None = 0
+alternative_need (Some need) = need.value
+
 -- a statement, which has no value, and what is in it; the target of an assignment is an expression
 abbrev pub stmt_need_step : Stmt-F ℕ → ℕ
 stmt_need_step (Empty number) = 8
 stmt_need_step (Assign number becomes target fits value) = 8 + one_value + expr_need value
 stmt_need_step (Write number name parameters ends_line) = 8 + sum_by parameter_need parameters.items
 stmt_need_step (Compound number statements) = 8 + sum statements.items
+stmt_need_step (If number condition consequence alternative) =
+    8 + expr_need condition + consequence.value + alternative_need alternative
 
 abbrev pub stmt_need : Stmt → ℕ
 stmt_need = fold-Stmt ℕ stmt_need_step

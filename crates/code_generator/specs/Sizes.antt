@@ -1,6 +1,70 @@
--- Numbers as the compiler counts them, in 32 bits.
-use Rattle.std.specs.Prelude.{ℕ, min}
+-- Numbers as the compiler counts them, in 32 bits; and how many instructions each statement has, in the order in which
+-- the statements of a program begin. It does not say what they are.
+use Rattle.std.specs.Prelude.{◌≡◌, ℕ, ◌+◌, Result, IfOk, List, [], ◌∷◌, ◌++◌, Some, None, length, map, min, sum_by}
+use Rattle.std.specs.List.{flat_map}
+use Rattle.std.specs.declared.alloc.AllocError.{AllocError}
+use Rattle.typed_tree.specs.declared.tree.Stmt.{Stmt}
+use Rattle.typed_tree.specs.declared.tree.Stmt.TheOpen.{Stmt-F}
+use Rattle.typed_tree.specs.declared.tree.Stmt.TheOpen.Stmt-F.{Empty, Assign, Write, Compound, If}
+use Rattle.typed_tree.specs.declared.tree.Stmt.TheFolds.{fold-Stmt}
+use Rattle.code_generator.specs.declared.scope.Scope.{Scope}
+use Rattle.code_generator.specs.Code.{assign_code, expr_code, write_code}
 
 -- a number, or the greatest number of 32 bits
 abbrev pub capped : ℕ → ℕ
 capped n = min n 4294967295
+
+-- the first of some sizes, or 0
+abbrev pub first_of : List ℕ → ℕ
+first_of [] = 0
+first_of (size ∷ sizes) = size
+
+-- those behind it
+abbrev pub rest_of : List ℕ → List ℕ
+rest_of [] = []
+rest_of (size ∷ sizes) = sizes
+
+-- how many instructions a statement has, and what is told of the statements in it
+pub record Measured : Type 0 where
+  pub size : ℕ
+  pub inner : List ℕ
+
+-- what is told of a statement and of those in it
+abbrev pub table_of : Measured → List ℕ
+table_of m = capped m.size ∷ m.inner
+
+-- how many instructions some statements have together
+abbrev pub all_sizes : List Measured → ℕ
+all_sizes ms = sum_by (λ (m : Measured). m.size) ms
+
+-- what is told of some statements
+abbrev pub all_tables : List Measured → List ℕ
+all_tables ms = flat_map table_of ms
+
+abbrev pub measured_step : Stmt-F (Scope → Measured) → Scope → Measured
+measured_step (Empty number) scope = record { size = 0; inner = [] }
+measured_step (Assign number becomes target fits value) scope =
+    record { size = length (assign_code scope target.root fits value); inner = [] }
+measured_step (Write number name parameters ends_line) scope =
+    record { size = length (write_code scope parameters.items ends_line); inner = [] }
+measured_step (Compound number statements) scope =
+    let parts = map (λ (measure : Scope → Measured). measure scope) statements.items in
+    record { size = all_sizes parts; inner = all_tables parts }
+measured_step (If number condition consequence None) scope =
+    let yes = consequence.value scope in
+    record { size = length (expr_code scope condition) + 1 + yes.size; inner = table_of yes }
+measured_step (If number condition consequence (Some alternative)) scope =
+    let yes = consequence.value scope in
+    let no = alternative.value scope in
+    record {
+      size = length (expr_code scope condition) + 1 + yes.size + 1 + no.size;
+      inner = table_of yes ++ table_of no;
+    }
+
+-- how many instructions a statement has, and those in it
+abbrev pub measured : Stmt → Scope → Measured
+measured = fold-Stmt (Scope → Measured) measured_step
+
+-- the answer is the size, and what is told came behind what was there; nothing is said where memory runs out
+abbrev pub IsTold : Result ℕ AllocError → List ℕ → List ℕ → Measured → List ℕ → Type 0
+IsTold answer before after m told = IfOk answer (λ size. (size ≡ capped m.size) × (after ≡ before ++ told))

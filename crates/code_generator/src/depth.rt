@@ -19,6 +19,18 @@ pub fn needed_by(stmt: &Stmt) -> u32
             }
             depth
         }
+        Stmt::If {
+            condition,
+            consequence,
+            alternative,
+            ..
+        } => {
+            let depth = needed_by_expr(condition).max(needed_by(consequence));
+            match alternative {
+                None => depth,
+                Some(alternative) => depth.max(needed_by(alternative)),
+            }
+        }
     }
 }
 

@@ -1,7 +1,11 @@
-ghost use Rattle.std.specs.Prelude.{◌≡◌, [], ◌∷◌, ◌++◌, OnOk, length};
+ghost use Rattle.std.specs.Prelude.{◌≡◌, ◌≤◌, ◌+◌, ℕ, List, [], ◌∷◌, ◌++◌, OnOk, length, vec_len};
 ghost use Rattle.code_generator.specs.Code.{assign_code, check_positive, default_width, dyadic_code, expr_code, line_end_code, link_code, monadic_code, parameter_code, relation_instr, stmt_code, variable_code, variable_offset, width_code, write_code, write_instr};
+ghost use Rattle.code_generator.specs.Emitted.{Emits};
+ghost use Rattle.pcode_assembler.specs.declared.instr.Instr.TheVariants.{Jump, JumpIfFalse};
+ghost use Rattle.code_generator.specs.Sizes.{capped, measured, table_of};
 
 use crate::scope::Scope;
+use crate::sizes::Sizes;
 use pcode_assembler::instr::Instr;
 use std::alloc::AllocError;
 use typed_tree::tree::{
@@ -20,11 +24,17 @@ const BOOLEAN_WIDTH: i32 = 5;
 /// The greatest offset that an instruction may have.
 const GREATEST_OFFSET: u32 = 16777215;
 
-/// The instructions of a statement.
-pub fn emit_stmt(code: &mut Vec<Instr>, scope: Scope, stmt: &Stmt) -> Result<(), AllocError>
-    ensures { OnOk result (
-        code.new.items ≡ code.old.items ++ stmt_code stmt.now scope (length code.old.items)) }
+/// The instructions of a statement, where the sizes are those of it, of the statements in it and of what comes after.
+pub fn emit_stmt(
+    code: &mut Vec<Instr>,
+    scope: Scope,
+    sizes: &mut Sizes,
+    stmt: &Stmt,
+) -> Result<(), AllocError>
+    ensures { Emits result code.old.items code.new.items sizes.old sizes.new
+        (stmt_code stmt.now scope (length code.old.items)) (table_of (measured stmt.now scope)) }
 {
+    sizes.pass();
     match stmt {
         Stmt::Empty { .. } => Ok(()),
         Stmt::Assign {
@@ -40,11 +50,60 @@ pub fn emit_stmt(code: &mut Vec<Instr>, scope: Scope, stmt: &Stmt) -> Result<(),
         } => emit_write(code, scope, parameters.as_slice(), *ends_line),
         Stmt::Compound { statements, .. } => {
             for statement in statements {
-                emit_stmt(code, scope, statement)?;
+                emit_stmt(code, scope, sizes, statement)?;
             }
             Ok(())
         }
+        Stmt::If {
+            condition,
+            consequence,
+            alternative,
+            ..
+        } => match alternative {
+            None => {
+                emit_test(code, scope, condition, sizes.next())?;
+                emit_stmt(code, scope, sizes, consequence)
+            }
+            Some(alternative) => {
+                emit_test(code, scope, condition, sizes.next().saturating_add(1))?;
+                emit_stmt(code, scope, sizes, consequence)?;
+                emit_jump(code, sizes.next())?;
+                emit_stmt(code, scope, sizes, alternative)
+            }
+        },
     }
+}
+
+/// The condition, and where it is false a jump over so many instructions.
+fn emit_test(
+    code: &mut Vec<Instr>,
+    scope: Scope,
+    condition: &Expr,
+    past: u32,
+) -> Result<(), AllocError>
+    ensures { OnOk result (code.new.items ≡ (code.old.items ++ expr_code scope condition.now)
+        ++ JumpIfFalse (capped (length (code.old.items ++ expr_code scope condition.now) + 1 + past)) ∷ []) }
+{
+    emit_expr(code, scope, condition)?;
+    let target = place_behind(code, past);
+    put(code, Instr::JumpIfFalse { target })
+}
+
+/// A jump over so many instructions.
+fn emit_jump(code: &mut Vec<Instr>, past: u32) -> Result<(), AllocError>
+    ensures { OnOk result (
+        code.new.items ≡ code.old.items ++ Jump (capped (length code.old.items + 1 + past)) ∷ []) }
+{
+    let target = place_behind(code, past);
+    put(code, Instr::Jump { target })
+}
+
+/// The place behind the next instruction and so many more.
+fn place_behind(code: &Vec<Instr>, more: u32) -> u32
+    ensures { result ≡ capped (vec_len code.now + 1 + more) }
+{
+    let place = u32::try_from(code.len()).unwrap_or(u32::MAX);
+    place.saturating_add(1).saturating_add(more)
 }
 
 /// The value, its check, and the assignment.

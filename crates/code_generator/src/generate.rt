@@ -1,8 +1,10 @@
-ghost use Rattle.std.specs.Prelude.{◌≡◌, ◌<◌, ◌↔◌, true, length, ◌++◌, IfOk, OnOk, vec_len};
+ghost use Rattle.std.specs.Prelude.{◌≡◌, ◌+◌, ◌≤◌, ◌<◌, ◌↔◌, true, length, ◌++◌, IfOk, OnOk, vec_len};
 ghost use Rattle.std.specs.List.{list_all};
 ghost use Rattle.pcode_assembler.specs.Bounds.{in_bounds};
-ghost use Rattle.code_generator.specs.Code.{block_code, count, program_code};
+ghost use Rattle.code_generator.specs.Code.{block_code, count, program_code, program_scope};
+ghost use Rattle.code_generator.specs.Emitted.{Emits};
 ghost use Rattle.code_generator.specs.Follows.{Follows};
+ghost use Rattle.code_generator.specs.Sizes.{measured, table_of};
 ghost use Rattle.code_generator.specs.Tables.{point_table, site_table};
 ghost use Rattle.typed_tree.specs.WellFormed.{IsWellFormed};
 
@@ -10,7 +12,8 @@ use crate::depth::needed_by;
 use crate::emit::{emit_stmt, put};
 use crate::fault::GenFault;
 use crate::scope::Scope;
-use crate::size::program_size;
+use crate::size::{measure, program_size};
+use crate::sizes::Sizes;
 use crate::tables::{points_of, sites_of};
 use pcode_assembler::code::Code;
 use pcode_assembler::instr::Instr;
@@ -53,12 +56,13 @@ pub fn generate(alloc: Global, tree: &Tree) -> Result<Code, GenFault>
 
 /// The instructions of the program, for which there is room at once.
 fn instructions_of(alloc: Global, tree: &Tree, size: u32) -> Result<Vec<Instr>, AllocError>
+    requires { length (program_code tree.now) ≤ 1000000 }
     ensures { IfOk result (λ code. code.items ≡ program_code tree.now) }
 {
     let mut code = Vec::with_capacity(alloc, size as usize)?;
     let variables = variable_count(tree);
     match tree.blocks.first() {
-        Some(program) => emit_block(&mut code, variables, PROGRAM, &program.body)?,
+        Some(program) => emit_program(alloc, &mut code, variables, &program.body)?,
         None => put(
             &mut code,
             Instr::Enter {
@@ -71,15 +75,38 @@ fn instructions_of(alloc: Global, tree: &Tree, size: u32) -> Result<Vec<Instr>, 
     Ok(code)
 }
 
-/// The instructions of a block with so many variables.
+/// The instructions of the program's block with so many variables, by the sizes of its statements.
+fn emit_program(
+    alloc: Global,
+    code: &mut Vec<Instr>,
+    variables: u32,
+    body: &Stmt,
+) -> Result<(), AllocError>
+    ensures { length code.old.items + length (block_code variables body.now program_scope (length code.old.items))
+        ≤ 4294967295 → OnOk result (code.new.items
+        ≡ code.old.items ++ block_code variables body.now program_scope (length code.old.items)) }
+{
+    let mut sizes = Vec::new(alloc);
+    measure(&mut sizes, body)?;
+    emit_block(
+        code,
+        variables,
+        PROGRAM,
+        &mut Sizes::new(sizes.as_slice()),
+        body,
+    )
+}
+
+/// The instructions of a block with so many variables, where the sizes are those of its statements.
 fn emit_block(
     code: &mut Vec<Instr>,
     variables: u32,
     scope: Scope,
+    sizes: &mut Sizes,
     body: &Stmt,
 ) -> Result<(), AllocError>
-    ensures { OnOk result (
-        code.new.items ≡ code.old.items ++ block_code variables body.now scope (length code.old.items)) }
+    ensures { Emits result code.old.items code.new.items sizes.old sizes.new
+        (block_code variables body.now scope (length code.old.items)) (table_of (measured body.now scope)) }
 {
     let evaluation = needed_by(body).min(MOST_CELLS);
     put(
@@ -89,7 +116,7 @@ fn emit_block(
             evaluation,
         },
     )?;
-    emit_stmt(code, scope, body)
+    emit_stmt(code, scope, sizes, body)
 }
 
 /// How many variables the program has, or the most cells of a frame.

@@ -8,4 +8,5 @@ pub mod generate;
 pub mod laws;
 mod scope;
 mod size;
+mod sizes;
 mod tables;

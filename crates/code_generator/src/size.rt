@@ -1,9 +1,10 @@
-ghost use Rattle.std.specs.Prelude.{◌≡◌, ℕ, length};
+ghost use Rattle.std.specs.Prelude.{◌≡◌, ◌+◌, ℕ, length};
 ghost use Rattle.std.specs.List.{flat_map};
 ghost use Rattle.code_generator.specs.declared.scope.Scope.{Scope};
-ghost use Rattle.code_generator.specs.Code.{dyadic_code, expr_code, line_end_code, monadic_code, parameter_code, program_code, stmt_code, width_code};
-ghost use Rattle.code_generator.specs.Sizes.{capped};
+ghost use Rattle.code_generator.specs.Code.{dyadic_code, expr_code, line_end_code, monadic_code, parameter_code, program_code, stmt_code, width_code, write_code};
+ghost use Rattle.code_generator.specs.Sizes.{capped, measured, table_of, IsTold};
 
+use std::alloc::AllocError;
 use typed_tree::tree::{Dyadic, Expr, Monadic, Stmt, Tree, WriteParameter};
 
 /// How many instructions the program has, or the greatest number of 32 bits.
@@ -22,12 +23,12 @@ fn stmt_size(stmt: &Stmt) -> u32
 {
     match stmt {
         Stmt::Empty { .. } => 0,
-        Stmt::Assign { value, .. } => expr_size(value).saturating_add(2),
+        Stmt::Assign { value, .. } => assign_size(value),
         Stmt::Write {
             parameters,
             ends_line,
             ..
-        } => parameters_size(parameters.as_slice()).saturating_add(line_end_size(*ends_line)),
+        } => write_size(parameters.as_slice(), *ends_line),
         Stmt::Compound { statements, .. } => {
             let mut size = 0u32;
             for statement in statements {
@@ -35,7 +36,98 @@ fn stmt_size(stmt: &Stmt) -> u32
             }
             size
         }
+        Stmt::If {
+            condition,
+            consequence,
+            alternative,
+            ..
+        } => {
+            let size = if_size(condition, stmt_size(consequence));
+            match alternative {
+                None => size,
+                Some(alternative) => with_else(size, stmt_size(alternative)),
+            }
+        }
     }
+}
+
+/// Puts the sizes of the statement and of those in it behind the sizes of what begins before it, and answers its own.
+#[cycle(measure)]
+pub fn measure(sizes: &mut Vec<u32>, stmt: &Stmt) -> Result<u32, AllocError>
+    ensures { (scope : Scope) →
+        IsTold result sizes.old.items sizes.new.items (measured stmt.now scope) (table_of (measured stmt.now scope)) }
+{
+    let place = sizes.len();
+    sizes.push(0)?;
+    let size = measure_parts(sizes, stmt)?;
+    sizes[place] = size;
+    Ok(size)
+}
+
+/// The same of the statements in it alone.
+#[cycle(measure)]
+fn measure_parts(sizes: &mut Vec<u32>, stmt: &Stmt) -> Result<u32, AllocError>
+    ensures { (scope : Scope) →
+        IsTold result sizes.old.items sizes.new.items (measured stmt.now scope) (measured stmt.now scope).inner }
+{
+    match stmt {
+        Stmt::Empty { .. } => Ok(0),
+        Stmt::Assign { value, .. } => Ok(assign_size(value)),
+        Stmt::Write {
+            parameters,
+            ends_line,
+            ..
+        } => Ok(write_size(parameters.as_slice(), *ends_line)),
+        Stmt::Compound { statements, .. } => {
+            let mut size = 0u32;
+            for statement in statements {
+                size = size.saturating_add(measure(sizes, statement)?);
+            }
+            Ok(size)
+        }
+        Stmt::If {
+            condition,
+            consequence,
+            alternative,
+            ..
+        } => {
+            let size = if_size(condition, measure(sizes, consequence)?);
+            match alternative {
+                None => Ok(size),
+                Some(alternative) => Ok(with_else(size, measure(sizes, alternative)?)),
+            }
+        }
+    }
+}
+
+/// How many instructions an assignment has, or the greatest number of 32 bits.
+fn assign_size(value: &Expr) -> u32
+    ensures { (scope : Scope) → result ≡ capped (length (expr_code scope value.now) + 2) }
+{
+    expr_size(value).saturating_add(2)
+}
+
+/// The same of a write or writeln.
+fn write_size(parameters: &[WriteParameter], ends_line: bool) -> u32
+    ensures { (scope : Scope) → result ≡ capped (length (write_code scope parameters.now ends_line)) }
+{
+    parameters_size(parameters).saturating_add(line_end_size(ends_line))
+}
+
+/// The same of an if statement without `else`, whose consequence has so many.
+fn if_size(condition: &Expr, consequence: u32) -> u32
+    ensures { (scope : Scope) → result ≡ capped (length (expr_code scope condition.now) + 1 + consequence) }
+{
+    expr_size(condition)
+        .saturating_add(1)
+        .saturating_add(consequence)
+}
+
+/// The same of one with it, which has so many without, and whose alternative has so many.
+fn with_else(size: u32, alternative: u32) -> u32
+    ensures { result ≡ capped (size + 1 + alternative) }
+{
+    size.saturating_add(1).saturating_add(alternative)
 }
 
 /// The same of the values of a write or writeln.

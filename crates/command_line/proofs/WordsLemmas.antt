@@ -1,5 +1,5 @@
 -- What clap answers, as the words of `pcom` have it.
-use Rattle.std.proofs.Common.{◌≡◌, ◌∙◌, true, false, List, [], ◌∷◌, Option, Some, None, zero, suc, arith, slice_index, sym, ℕ, option_map, is_some, codes, inl, inr, refl, ap}
+use Rattle.std.proofs.Common.{◌≡◌, ◌∙◌, Bool, true, false, List, [], ◌∷◌, Option, Some, None, zero, suc, arith, slice_index, sym, ℕ, option_map, is_some, codes, inl, inr, refl, ap}
 use Rattle.std.specs.Prelude.{unwrap_or}
 use Rattle.std.specs.Borrow.{Bor}
 use Rattle.std.specs.List.{All}
@@ -16,11 +16,11 @@ use Rattle.clap.specs.declared.error.Error.{Error}
 use Rattle.clap.specs.declared.error.kind.ErrorKind.{ErrorKind}
 use Rattle.clap.specs.declared.error.kind.ErrorKind.TheVariants as kind
 use Rattle.clap.proofs.OnLiterals.{clap_on_literals}
-use Rattle.command_line.specs.Words.{IsWordsFault, go, go_in, pcom, source, source_in, words_fault}
+use Rattle.command_line.specs.Words.{IsWordsFault, cert, certificate_in, go, go_in, pcom, source, source_in, words_fault}
 
 -- worked rows
 abbrev run : List Text
-run = codes "pcom" ∷ codes "--go" ∷ codes "hello.pas" ∷ []
+run = codes "pcom" ∷ codes "--go" ∷ codes "hello.pas" ∷ codes "--cert" ∷ codes "hello.cert" ∷ []
 
 abbrev listed : List Text
 listed = codes "pcom" ∷ codes "hello.pas" ∷ []
@@ -32,6 +32,14 @@ source_run = refl
 go_run : go_in run ≡ Some (codes "true")
 unfolding clap_on_literals
 go_run = refl
+
+certificate_run : certificate_in run ≡ Some (codes "hello.cert")
+unfolding clap_on_literals
+certificate_run = refl
+
+certificate_listed : certificate_in listed ≡ None
+unfolding clap_on_literals
+certificate_listed = refl
 
 source_listed : source_in listed ≡ Some (codes "hello.pas")
 unfolding clap_on_literals
@@ -62,11 +70,11 @@ unfolding clap_on_literals
 pcom_is_free = refl
 
 -- the command that the builder's calls make
-pub is_pcom : (empty named one whole : App) (flag value : Rule) → empty ≡ new_app (codes "pcom")
-    → named ≡ on_top (λ s. record s { has_version = true }) empty → one ≡ with_rule named flag → whole ≡ with_rule one value
-    → flag ≡ go → value ≡ source → whole ≡ pcom
-is_pcom empty named one whole flag value is_empty is_named is_one is_whole is_go is_source =
-    rw (is_whole, is_one, is_named, is_empty, is_go, is_source) refl
+pub is_pcom : (empty named one two whole : App) (option flag value : Rule) → empty ≡ new_app (codes "pcom")
+    → named ≡ on_top (λ s. record s { has_version = true }) empty → one ≡ with_rule named option → two ≡ with_rule one flag
+    → whole ≡ with_rule two value → option ≡ cert → flag ≡ go → value ≡ source → whole ≡ pcom
+is_pcom empty named one two whole option flag value is_empty is_named is_one is_two is_whole is_cert is_go is_source =
+    rw (is_whole, is_two, is_one, is_named, is_empty, is_cert, is_go, is_source) refl
 
 pub told : (words : List Text) (e : Error) → HasKind (fault_of pcom words) e → IsWordsFault words (words_fault (kind_of e) e)
 told words e (inl no_memory) = rw no_memory tt
@@ -98,20 +106,34 @@ pub one_of_matches : (built app : App) (words : List Text) (m : ArgMatches) → 
 one_of_matches built app words m same simple has id =
     one_text-rows (found_of m) id ∙ ap (one_of id) (rows_of_matches built app words m same simple has)
 
--- of two arguments
-pub both : (P : Arg → Type 0) (x y : Arg) → P x → P y → All P (x ∷ y ∷ [])
-both P x y p q zero d lt = p
-both P x y p q (suc zero) d lt = q
-both P x y p q (suc (suc k)) d lt = absurd (omega arith)
+-- of three arguments
+pub all_three : (P : Arg → Type 0) (x y z : Arg) → P x → P y → P z → All P (x ∷ y ∷ z ∷ [])
+all_three P x y z p q r zero d lt = p
+all_three P x y z p q r (suc zero) d lt = q
+all_three P x y z p q r (suc (suc zero)) d lt = r
+all_three P x y z p q r (suc (suc (suc k))) d lt = absurd (omega arith)
 
-pub two_ids : (x y : Arg) → bytes_eq x.id.now y.id.now ≡ false → bytes_eq y.id.now x.id.now ≡ false → HasDistinctIds (x ∷ y ∷ [])
-two_ids x y p q zero zero d e j k same = refl
-two_ids x y p q zero (suc zero) d e j k same = cc
-two_ids x y p q (suc zero) zero d e j k same = cc
-two_ids x y p q (suc zero) (suc zero) d e j k same = refl
-two_ids x y p q (suc (suc n)) k d e below other same = absurd (omega arith)
-two_ids x y p q zero (suc (suc n)) d e below other same = absurd (omega arith)
-two_ids x y p q (suc zero) (suc (suc n)) d e below other same = absurd (omega arith)
+-- two arguments have different names
+abbrev pub AreApart : Arg → Arg → Type 0
+AreApart x y = (bytes_eq x.id.now y.id.now ≡ false) × (bytes_eq y.id.now x.id.now ≡ false)
+
+never : {t : Bool} → t ≡ false → t ≡ true → ⊥
+never f t = absurd cc
+
+pub three_ids : (x y z : Arg) → AreApart x y → AreApart x z → AreApart y z → HasDistinctIds (x ∷ y ∷ z ∷ [])
+three_ids x y z p q r zero zero d e j k same = refl
+three_ids x y z p q r zero (suc zero) d e j k same = absurd (never (p.0) same)
+three_ids x y z p q r zero (suc (suc zero)) d e j k same = absurd (never (q.0) same)
+three_ids x y z p q r (suc zero) zero d e j k same = absurd (never (p.1) same)
+three_ids x y z p q r (suc zero) (suc zero) d e j k same = refl
+three_ids x y z p q r (suc zero) (suc (suc zero)) d e j k same = absurd (never (r.0) same)
+three_ids x y z p q r (suc (suc zero)) zero d e j k same = absurd (never (q.1) same)
+three_ids x y z p q r (suc (suc zero)) (suc zero) d e j k same = absurd (never (r.1) same)
+three_ids x y z p q r (suc (suc zero)) (suc (suc zero)) d e j k same = refl
+three_ids x y z p q r (suc (suc (suc n))) k d e below other same = absurd (omega arith)
+three_ids x y z p q r zero (suc (suc (suc n))) d e below other same = absurd (omega arith)
+three_ids x y z p q r (suc zero) (suc (suc (suc n))) d e below other same = absurd (omega arith)
+three_ids x y z p q r (suc (suc zero)) (suc (suc (suc n))) d e below other same = absurd (omega arith)
 
 -- an argument whose name begins with another letter than those of `help` (104) and `version` (118)
 pub fits : (a : Arg) (letter : ℕ) (rest : Text) → a.id.now ≡ letter ∷ rest → (letter ≡ 104 → ⊥) → (letter ≡ 118 → ⊥)

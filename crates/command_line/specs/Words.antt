@@ -1,6 +1,6 @@
--- What the words `pcom [--go] SOURCE` say: the matches that a command of these two arguments has on them, by clap's own
--- definitions.
-use Rattle.std.specs.Prelude.{◌≡◌, ⊤, Bool, true, false, codes, List, [], Option, Some, None}
+-- What the words `pcom [--cert FILE] [--go] SOURCE` say: the matches that a command of these three arguments has on
+-- them, by clap's own definitions.
+use Rattle.std.specs.Prelude.{◌≡◌, ⊤, Bool, true, false, codes, List, [], Option, Some, None, option_map}
 use Rattle.clap.specs.Words.{App, IsAmong, Rule, Text, first_of, kind_of, matches_of, new_app, new_rule, one_of, rule_of, with_rule}
 use Rattle.clap.specs.Built.{IsPlainArg}
 use Rattle.clap.specs.declared.builder.arg.Arg.{Arg}
@@ -19,6 +19,10 @@ abbrev pub words_fault : ErrorKind → Error → WordsFault
 words_fault kind.OutOfMemory error = Memory
 words_fault _ error = Words error
 
+-- the option `--cert FILE`
+abbrev pub cert : Rule
+cert = record (new_rule (codes "cert")) { long = Some (codes "cert"); value_names = 1; action = Some Set }
+
 -- the flag `--go`
 abbrev pub go : Rule
 go = record (new_rule (codes "go")) { long = Some (codes "go"); action = Some SetTrue }
@@ -35,11 +39,17 @@ pub record IsArgument (wanted : Rule) (arg : Arg) : Type 0 where
 
 -- the command, which also knows `--help` and `--version`
 abbrev pub pcom : App
-pcom = with_rule (with_rule (on_top (λ s. record s { has_version = true }) (new_app (codes "pcom"))) go) source
+pcom =
+    with_rule (with_rule (with_rule (on_top (λ s. record s { has_version = true }) (new_app (codes "pcom"))) cert) go)
+    source
 
 -- the path of the source that the words give
 abbrev pub source_in : List Text → Option Text
 source_in words = first_of (codes "source") (matches_of pcom words)
+
+-- the path of the certificate, if the words give one
+abbrev pub certificate_in : List Text → Option Text
+certificate_in words = first_of (codes "cert") (matches_of pcom words)
 
 -- "true" where the words have `--go`, and else "false"
 abbrev pub go_in : List Text → Option Text
@@ -51,10 +61,11 @@ pub record IsFlag (text : Option Text) (flag : Bool) : Type 0 where
   pub left_out : text ≡ Some (codes "false") → flag ≡ false
   pub unknown : text ≡ None → flag ≡ false
 
--- words that are taken have no fault, and give the source and the flag
+-- words that are taken have no fault, and give the paths and the flag
 pub record AreSaid (words : List Text) (said : PcomWords) : Type 0 where
   pub faultless : fault_of pcom words ≡ []
   pub source : source_in words ≡ Some said.source.now
+  pub certificate : certificate_in words ≡ option_map (λ path. path.now) said.certificate
   pub go : IsFlag (go_in words) said.go
 
 -- words that are not: there is no memory, or they have a fault, of a kind that is told

@@ -5,7 +5,7 @@ ghost use Rattle.std.specs.Prelude.{◌≡◌, MatchResult, map};
 ghost use Rattle.clap.specs.Words.{kind_of};
 ghost use Rattle.clap.specs.Built.{TakesValue};
 ghost use Rattle.clap.specs.declared.error.kind.ErrorKind.TheVariants as ErrorKind;
-ghost use Rattle.command_line.specs.Words.{AreSaid, IsArgument, IsWordsFault, words_fault, go, source};
+ghost use Rattle.command_line.specs.Words.{AreSaid, IsArgument, IsWordsFault, cert, go, source, words_fault};
 ghost use Rattle.command_line.specs.declared.WordsFault.TheVariants.{Memory};
 
 use clap::{Arg, ArgAction, Command};
@@ -16,6 +16,8 @@ use std::alloc::{AllocError, Global};
 pub struct PcomWords<'a> {
     /// The path of the source.
     pub source: &'a str,
+    /// The path of the certificate, if one is given.
+    pub certificate: Option<&'a str>,
     /// Whether the code is to be run.
     pub go: bool,
 }
@@ -47,20 +49,62 @@ impl From<clap::Error> for WordsFault {
     }
 }
 
-/// Reads the words of `pcom [--go] SOURCE`, the program's name first.
+/// What the help begins with.
+const ABOUT: &str = "Compiles a Pascal program, names each place at which it can fail, and runs it";
+
+/// What the help ends with.
+const AFTER_HELP: &str = "\
+Standard error has a line for each place at which the program can fail, in order:
+  LINE:COLUMN: possible error: NAME
+No line means that it cannot fail. With --go it then runs, with the checks of
+these places alone. Standard output has its output and nothing else.
+
+A certificate says what a loop changes and what holds whenever a turn begins;
+the compiler uses what it can check. Without one, loops may change nothing.
+
+Status, and what else is written to standard error:
+  0  nothing, and with --go the program finished
+  1  possible errors, and with --go the program finished
+  2  the source or the certificate is refused, and nothing is run:
+     LINE:COLUMN: refused CODE; refused G1; certificate:LINE: refused CODE;
+     certificate refused C1; LINE:COLUMN: certificate refused CODE
+  3  wrong words; cannot read PATH; no memory; write failed; budget used up
+  4  LINE:COLUMN: error: NAME, where the program failed
+  6  store full
+  7  machine fault CODE
+
+Example:
+  pcom --cert sum.cert --go sum.pas";
+
+/// Reads the words of `pcom [--cert FILE] [--go] SOURCE`, the program's name first.
 pub fn pcom_words<'a>(alloc: Global, words: &'a [&'a str]) -> Result<PcomWords<'a>, WordsFault>
     ensures { MatchResult result
         (AreSaid (map (λ w. w.now) words.entry.now)) (IsWordsFault (map (λ w. w.now) words.entry.now)) }
 {
     let command = Command::new(alloc, "pcom")
         .version("0.1.0")
+        .about(ABOUT)
+        .after_help(AFTER_HELP)
+        .arg(cert_argument(alloc))?
         .arg(go_argument(alloc))?
         .arg(source_argument(alloc))?;
     let matches = command.try_get_matches_from(words)?;
     Ok(PcomWords {
         source: matches.get_str("source").unwrap_or(""),
+        certificate: matches.get_str("cert"),
         go: matches.get_flag("go"),
     })
+}
+
+// The option `--cert FILE`.
+fn cert_argument(alloc: Global) -> Arg<'static>
+    ensures { IsArgument cert result }
+{
+    Arg::new(alloc, "cert")
+        .long("cert")
+        .value_name("FILE")
+        .help("The certificate of the source")
+        .action(ArgAction::Set)
 }
 
 // The flag `--go`.

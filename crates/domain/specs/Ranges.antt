@@ -70,7 +70,11 @@ negated-present a first last present first_is last_is = grind (arith, ints)
 pub joined-hull : (a b c : Interval) (p q r s : ℤ) → a ≡ span p q → b ≡ span r s → c ≡ joined a b → c ≡ hull p q r s
 joined-hull a b c p q r s left right whole =
     whole ∙ ap (λ x. joined x b) left ∙ ap (λ x. joined (span p q) x) right
-    ∙ rw (not-vacant (int_min p q) (int_max p q) (omega (arith, ints, clamps)), not-vacant (int_min r s) (int_max r s) (omega (arith, ints, clamps))) refl
+    ∙ rw (
+      not-vacant (int_min p q) (int_max p q) (omega (arith, ints, clamps)),
+      not-vacant (int_min r s) (int_max r s) (omega (arith, ints, clamps)),
+    )
+    refl
 
 neither : (u v : Bool) (x y : Interval) → false ≡ u → false ≡ v → y ≡ cond (u || v) x y
 neither true v x y left right = cc
@@ -159,7 +163,10 @@ absolute-has a x has =
     (cond_both (has_number a (pos 0)) (record { first = pos 0; last = size a })
     (record { first = int_min (magnitude a.first) (magnitude a.last); last = size a }) (λ r. HasMember r (magnitude x))
     (λ holds. (omega (arith, ints, clamps), size-has a x has))
-    (λ outside. (⊎_elim (λ above. omega (arith, ints, clamps)) (λ below. omega (arith, ints, clamps)) (zero-outside a outside), size-has a x has)))
+    (λ outside. (
+      ⊎_elim (λ above. omega (arith, ints, clamps)) (λ below. omega (arith, ints, clamps)) (zero-outside a outside),
+      size-has a x has,
+    )))
 
 -- an own magnitude is that of the size
 size-magnitude : (a : Interval) → magnitude (size a) ≡ size a
@@ -369,7 +376,8 @@ pub at_most-none : (n : ℤ) (a : Interval) → n <ℤ a.first → at_most n a �
 at_most-none n a below = vacant-between a.first (int_min n a.last) (omega (arith, ints, clamps))
 
 -- what a range has in common with the numbers from a first to a last one
-pub common-between : (a : Interval) (first last : ℤ) → common a (between first last) ≡ common a (record { first = first; last = last })
+pub common-between : (a : Interval) (first last : ℤ)
+    → common a (between first last) ≡ common a (record { first = first; last = last })
 common-between a first last =
     by_lt_z last first
     (λ below. ap (common a) (vacant-between first last below)
@@ -477,7 +485,15 @@ held-span x y = rw (nearest-min x y, nearest-max x y) refl
 
 held-hull : (x y z u : ℤ) → hull (nearest_end x) (nearest_end y) (nearest_end z) (nearest_end u) ≡ held (hull x y z u)
 held-hull x y z u =
-    rw (nearest-min (int_min x y) (int_min z u), nearest-min x y, nearest-min z u, nearest-max (int_max x y) (int_max z u), nearest-max x y, nearest-max z u) refl
+    rw (
+      nearest-min (int_min x y) (int_min z u),
+      nearest-min x y,
+      nearest-min z u,
+      nearest-max (int_max x y) (int_max z u),
+      nearest-max x y,
+      nearest-max z u,
+    )
+    refl
 
 same_hull : (p q r s p' q' r' s' : ℤ) → p ≡ p' → q ≡ q' → r ≡ r' → s ≡ s' → hull p q r s ≡ hull p' q' r' s'
 same_hull p q r s p' q' r' s' p-is q-is r-is s-is = λ i. hull (p-is i) (q-is i) (r-is i) (s-is i)

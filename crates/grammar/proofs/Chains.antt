@@ -23,7 +23,7 @@ use Rattle.grammar.specs.WellFormed.{Form, LinkForm, expr_form, is_actual, link_
 use Rattle.grammar.specs.WellFormed as form
 use Rattle.grammar.specs.Nesting.{expr_levels, actual_levels, link_levels, deepest}
 use Rattle.grammar.specs.Nesting as nest
-use Rattle.grammar.specs.Following.{next_kind, NoOperator, Ends}
+use Rattle.grammar.specs.Following.{next_kind, NoOperator, Ends, EndsEach}
 use Rattle.grammar.specs.Begins.{BeginsExpr, BeginsLinks}
 use Rattle.grammar.proofs.Lists.{and_left, and_right, and_true, length_map}
 use Rattle.grammar.proofs.Equations.{spelling_of, form_of, levels_of, spelling-Link, form-Link, levels-Link}
@@ -138,6 +138,14 @@ semicolon_ends level a h m = ends_before (kind.Symbol symbol.Semicolon) level a 
 pub end_ends : (level : ℕ) (a : List Token) → next_kind a ≡ Some (kind.Word word.End) → level ≤ 4 → Ends level a
 unfolding binds
 end_ends level a h m = ends_before (kind.Word word.End) level a h (omega arith) m
+
+pub then_ends : EndsEach word.Then
+unfolding binds
+then_ends a h = ends_before (kind.Word word.Then) relation_level a h (omega arith) (omega arith)
+
+pub else_ends : EndsEach word.Else
+unfolding binds
+else_ends a h = ends_before (kind.Word word.Else) relation_level a h (omega arith) (omega arith)
 
 -- ---- forms
 

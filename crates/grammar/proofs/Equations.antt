@@ -1,5 +1,5 @@
 -- The spelling, the form and the levels of a tree, one equation a form: the folds computed.
-use Rattle.std.proofs.Common.{◌≡◌, ℕ, ◌+◌, max, Bool, true, ◌&&◌, [], ◌∷◌, ◌++◌, map, Some, None, sym, ap, ◌∙◌}
+use Rattle.std.proofs.Common.{◌≡◌, ℕ, ◌+◌, max, Bool, true, false, not, ◌&&◌, [], ◌∷◌, ◌++◌, map, Some, None, sym, ap, ◌∙◌}
 use Rattle.std.specs.List.{list_all}
 use Rattle.std.specs.declared.alloc.Global.{Global}
 use Rattle.std.specs.declared.boxed.Box.{Box}
@@ -166,6 +166,10 @@ stmt_form_of d = fold-roll-Stmt form.StmtForm form.stmt_step d
 pub stmt_well_of : (d : stmt.Stmt-F Stmt) → form.is_statement (roll-Stmt d) ≡ (form.stmt_step (map-Stmt Stmt form.StmtForm form.stmt_form d)).well
 stmt_well_of d = ap (λ (f : form.StmtForm). f.well) (stmt_form_of d)
 
+-- and whether it ends in an if without else
+pub stmt_open_of : (d : stmt.Stmt-F Stmt) → form.ends_open (roll-Stmt d) ≡ (form.stmt_step (map-Stmt Stmt form.StmtForm form.stmt_form d)).ends_open
+stmt_open_of d = ap (λ (f : form.StmtForm). f.ends_open) (stmt_form_of d)
+
 pub form-Compound : (v : Vec Stmt Global)
     → form.is_statement (statement.Compound v) ≡ form.has_items (map form.stmt_form v.items) && list_all form.is_statement v.items
 form-Compound v =
@@ -203,3 +207,49 @@ form-Call n v = ap form.is_statement (sym (statement.rolls-Call n v)) ∙ stmt_w
 
 pub levels-Call : (n : Name) (v : Vec Actual Global) → nest.stmt_levels (statement.Call n v) ≡ 1 + nest.deepest (map nest.actual_levels v.items)
 levels-Call n v = ap nest.stmt_levels (sym (statement.rolls-Call n v)) ∙ fold-roll-Stmt ℕ nest.stmt_step (stmt.Call n v)
+
+-- the statements that don't end in an if without else
+pub closed-Empty : form.ends_open statement.Empty ≡ false
+closed-Empty = ap form.ends_open (sym statement.rolls-Empty) ∙ stmt_open_of stmt.Empty
+
+pub closed-Assign : (n : Name) (p : Place) (e : Expr) → form.ends_open (statement.Assign n p e) ≡ false
+closed-Assign n p e = ap form.ends_open (sym (statement.rolls-Assign n p e)) ∙ stmt_open_of (stmt.Assign n p e)
+
+pub closed-Call : (n : Name) (v : Vec Actual Global) → form.ends_open (statement.Call n v) ≡ false
+closed-Call n v = ap form.ends_open (sym (statement.rolls-Call n v)) ∙ stmt_open_of (stmt.Call n v)
+
+pub closed-Compound : (v : Vec Stmt Global) → form.ends_open (statement.Compound v) ≡ false
+closed-Compound v = ap form.ends_open (sym (statement.rolls-Compound v)) ∙ stmt_open_of (stmt.Compound v)
+
+-- an if statement without else, and one with it
+pub spelling-If : (p : Place) (e : Expr) (b : Box Stmt Global)
+    → spell.stmt_spelling (statement.If p e b None)
+    ≡ spell.of_kind_at (kind.Word word.If) p ∷ spell.expr_spelling e ++ (spell.word_symbol word.Then ∷ spell.stmt_spelling b.value ++ [])
+spelling-If p e b = ap spell.stmt_spelling (sym (statement.rolls-If p e b None)) ∙ fold-roll-Stmt spell.Spelling spell.stmt_step (stmt.If p e b None)
+
+pub spelling-Else : (p : Place) (e : Expr) (b c : Box Stmt Global)
+    → spell.stmt_spelling (statement.If p e b (Some c))
+    ≡ spell.of_kind_at (kind.Word word.If) p ∷ spell.expr_spelling e
+    ++ (spell.word_symbol word.Then ∷ spell.stmt_spelling b.value ++ (spell.word_symbol word.Else ∷ spell.stmt_spelling c.value))
+spelling-Else p e b c = ap spell.stmt_spelling (sym (statement.rolls-If p e b (Some c)))
+    ∙ fold-roll-Stmt spell.Spelling spell.stmt_step (stmt.If p e b (Some c))
+
+pub form-If : (p : Place) (e : Expr) (b : Box Stmt Global)
+    → form.is_statement (statement.If p e b None) ≡ form.is_expression e && form.is_statement b.value
+form-If p e b = ap form.is_statement (sym (statement.rolls-If p e b None)) ∙ stmt_well_of (stmt.If p e b None)
+
+pub form-Else : (p : Place) (e : Expr) (b c : Box Stmt Global)
+    → form.is_statement (statement.If p e b (Some c))
+    ≡ form.is_expression e && (form.is_statement b.value && (not (form.ends_open b.value) && form.is_statement c.value))
+form-Else p e b c = ap form.is_statement (sym (statement.rolls-If p e b (Some c))) ∙ stmt_well_of (stmt.If p e b (Some c))
+
+pub open-Else : (p : Place) (e : Expr) (b c : Box Stmt Global) → form.ends_open (statement.If p e b (Some c)) ≡ form.ends_open c.value
+open-Else p e b c = ap form.ends_open (sym (statement.rolls-If p e b (Some c))) ∙ stmt_open_of (stmt.If p e b (Some c))
+
+pub levels-If : (p : Place) (e : Expr) (b : Box Stmt Global)
+    → nest.stmt_levels (statement.If p e b None) ≡ 1 + max (nest.expr_levels e) (max (nest.stmt_levels b.value) 0)
+levels-If p e b = ap nest.stmt_levels (sym (statement.rolls-If p e b None)) ∙ fold-roll-Stmt ℕ nest.stmt_step (stmt.If p e b None)
+
+pub levels-Else : (p : Place) (e : Expr) (b c : Box Stmt Global)
+    → nest.stmt_levels (statement.If p e b (Some c)) ≡ 1 + max (nest.expr_levels e) (max (nest.stmt_levels b.value) (nest.stmt_levels c.value))
+levels-Else p e b c = ap nest.stmt_levels (sym (statement.rolls-If p e b (Some c))) ∙ fold-roll-Stmt ℕ nest.stmt_step (stmt.If p e b (Some c))

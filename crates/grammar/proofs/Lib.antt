@@ -1,5 +1,6 @@
 pub mod Actuals
 pub mod Chains
+pub mod Conditionals
 pub mod Equations
 pub mod Expressions
 pub mod Forms
@@ -15,5 +16,6 @@ pub mod ProgramPlaces
 pub mod Programs
 pub mod Reading
 pub mod Rows
+pub mod Starts
 pub mod Statements
 pub mod TreePlaces

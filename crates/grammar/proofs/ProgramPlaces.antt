@@ -51,6 +51,20 @@ stmt_layer (stmt.Compound v) =
     flat_map-map (λ row. row) stmt_places (map (λ s. s.0) v.items)
     ∙ separated_kept Stmt symbol.Semicolon stmt_spelling stmt_places (map (λ s. s.0) v.items) (all_kept Stmt stmt_spelling stmt_places v.items)
     ∙ sym (append-nil _) ∙ sym (kept_both inner (word_symbol word.End ∷ []))
+stmt_layer (stmt.If p e b None) =
+    let condition = expr_kept e in
+    let consequence = b.value.1 in
+    ap (λ ps. p ∷ ps)
+    ((λ i. condition i ++ (consequence i ++ [])) ∙ ap (λ ps. kept_places (expr_spelling e) ++ ps) (sym (kept_both (stmt_spelling b.value.0) []))
+    ∙ sym (kept_both (expr_spelling e) (word_symbol word.Then ∷ stmt_spelling b.value.0 ++ [])))
+stmt_layer (stmt.If p e b (Some c)) =
+    let condition = expr_kept e in
+    let consequence = b.value.1 in
+    let alternative = c.value.1 in
+    let behind : Spelling = word_symbol word.Else ∷ stmt_spelling c.value.0 in
+    ap (λ ps. p ∷ ps)
+    ((λ i. condition i ++ (consequence i ++ alternative i)) ∙ ap (λ ps. kept_places (expr_spelling e) ++ ps) (sym (kept_both (stmt_spelling b.value.0) behind))
+    ∙ sym (kept_both (expr_spelling e) (word_symbol word.Then ∷ stmt_spelling b.value.0 ++ behind)))
 
 stmt_rolled : (y : stmt.Stmt-F KeptStmt) → StmtKept (roll-Stmt (stmt_parts y))
 stmt_rolled y =

@@ -1,5 +1,5 @@
 -- The rules of statements read each spelling of their form: by the first token, form by form.
-use Rattle.std.proofs.Common.{◌≡◌, ℕ, ◌+◌, ◌<◌, ◌≤◌, true, List, [], ◌∷◌, ◌++◌, map, length, Some, refl, subst, sym, ap, ◌∙◌, arith}
+use Rattle.std.proofs.Common.{◌≡◌, ℕ, ◌+◌, ◌<◌, ◌≤◌, true, List, [], ◌∷◌, ◌++◌, map, length, Some, refl, sym, ap, ◌∙◌, arith}
 use Rattle.std.specs.List.{list_all}
 use Rattle.place.specs.declared.Place.{Place}
 use Rattle.lexer.specs.declared.token.Kind.{Kind}
@@ -12,36 +12,25 @@ use Rattle.syntax_tree.specs.declared.Expr.{Expr}
 use Rattle.syntax_tree.specs.declared.Name.{Name}
 use Rattle.syntax_tree.specs.declared.Stmt.{Stmt}
 use Rattle.syntax_tree.specs.declared.Stmt.TheOpen as stmt
-use Rattle.syntax_tree.specs.declared.Stmt.TheViews.{out-Stmt, roll-out-Stmt}
-use Rattle.syntax_tree.specs.declared.Stmt.TheFolds.{map-Stmt, fold-roll-Stmt}
+use Rattle.syntax_tree.specs.declared.Stmt.TheViews.{out-Stmt}
 use Rattle.grammar.specs.Spelling.{Spelling, Reads, expr_spelling, actual_spelling, stmt_spelling, of_kind, of_kind_at, mark, word_symbol, identifier, separated, in_parentheses}
-use Rattle.grammar.specs.Spelling as spell
 use Rattle.grammar.specs.WellFormed.{relation_level, is_expression, is_actual, StmtForm, stmt_form, is_statement, has_items}
-use Rattle.grammar.specs.WellFormed as form
 use Rattle.grammar.specs.Nesting.{expr_levels, actual_levels, stmt_levels, deepest}
-use Rattle.grammar.specs.Nesting as nest
-use Rattle.grammar.specs.Following.{next_kind, NoNext, Ends, EndsStmt, EndsStatements, semicolon, end}
+use Rattle.grammar.specs.Following.{next_kind, NoNext, Ends, EndsStmt, EndsStatements, semicolon, end, alternative}
 use Rattle.grammar.specs.Begins.{BeginsExpr, BeginsActuals, BeginsStmt, BeginsStatements, BeginsCompound}
 use Rattle.grammar.proofs.Lists.{and_left, and_right, all_computed}
-use Rattle.grammar.proofs.Equations.{stmt_well_of}
 use Rattle.grammar.proofs.Rows.{parted, begins, same_first}
-use Rattle.grammar.proofs.Chains.{semicolon_ends, end_ends}
+use Rattle.grammar.proofs.Chains.{semicolon_ends, end_ends, else_ends}
+use Rattle.grammar.proofs.Starts.{not_behind, first_of, Layer, layer, form_at}
 use Rattle.grammar.proofs.Parts.{Parts, PartsLeft, PartThenOthers, ComesBehind, one_more, no_more, parts_begin, parts_go_on}
 
 -- what ends a statement ends its expression
 pub ends_value : (c : List Token) → EndsStmt c → Ends relation_level c
 ends_value c (semicolon h) = semicolon_ends relation_level c h (omega arith)
 ends_value c (end h) = end_ends relation_level c h (omega arith)
+ends_value c (alternative h) = else_ends c h
 
 -- ---- assignments and calls
-
-no_name : (c : List Token) → EndsStmt c → ¬ (next_kind c ≡ Some kind.Identifier)
-no_name c (semicolon h) e = let no : Some (kind.Symbol symbol.Semicolon) ≡ Some kind.Identifier = sym h ∙ e in cc
-no_name c (end h) e = let no : Some (kind.Word word.End) ≡ Some kind.Identifier = sym h ∙ e in cc
-
-no_becomes : (c : List Token) → EndsStmt c → ¬ (next_kind c ≡ Some (kind.Symbol symbol.Becomes))
-no_becomes c (semicolon h) e = let no : Some (kind.Symbol symbol.Semicolon) ≡ Some (kind.Symbol symbol.Becomes) = sym h ∙ e in cc
-no_becomes c (end h) e = let no : Some (kind.Word word.End) ≡ Some (kind.Symbol symbol.Becomes) = sym h ∙ e in cc
 
 -- what stands behind the name of a statement
 pub data IsSimple (levels : ℕ) (tokens others : List Token) : Type 0 where
@@ -50,27 +39,20 @@ pub data IsSimple (levels : ℕ) (tokens others : List Token) : Type 0 where
   called : (actuals : List Actual) → Reads tokens (in_parentheses (map actual_spelling actuals)) others → list_all is_actual actuals ≡ true
       → 1 + deepest (map actual_levels actuals) ≤ levels → IsSimple levels tokens others
 
-simple_of : (levels : ℕ) (m : Name) (a b c : List Token) (d : stmt.Stmt-F Stmt) → Reads a (identifier m ∷ []) b → EndsStmt c
-    → Reads a (spell.stmt_step (map-Stmt Stmt Spelling stmt_spelling d)) c
-    → (form.stmt_step (map-Stmt Stmt StmtForm stmt_form d)).well ≡ true → nest.stmt_step (map-Stmt Stmt ℕ stmt_levels d) ≤ levels → IsSimple levels b c
-simple_of levels m a b c stmt.Empty k ends s f n = absurd (no_name c ends (ap next_kind (sym s) ∙ begins (identifier m) [] a b k))
-simple_of levels m a b c (stmt.Assign x p v) k ends s f n = assigned p v (same_first (identifier m) (identifier x)
-    (of_kind_at (kind.Symbol symbol.Becomes) p ∷ expr_spelling v) a b c k s).1 f n
-simple_of levels m a b c (stmt.Call x v) k ends s f n = called v.items (same_first (identifier m) (identifier x)
-    (in_parentheses (map actual_spelling v.items)) a b c k s).1 f n
-simple_of levels m a b c (stmt.Compound v) k ends s f n =
-    let no : Some (kind.Word word.Begin) ≡ Some kind.Identifier =
-    sym (begins (word_symbol word.Begin) (separated symbol.Semicolon (map stmt_spelling v.items) ++ word_symbol word.End ∷ []) a c s) ∙ begins
-    (identifier m) [] a b k in cc
+simple_of : (levels : ℕ) (m : Name) (a b c : List Token) (d : stmt.Stmt-F Stmt) → Reads a (identifier m ∷ []) b → first_of d ≡ Some kind.Identifier
+    → Layer levels a c d → IsSimple levels b c
+simple_of levels m a b c (stmt.Assign x p v) k is h = assigned p v (same_first (identifier m) (identifier x)
+    (of_kind_at (kind.Symbol symbol.Becomes) p ∷ expr_spelling v) a b c k h.spelled).1 h.formed h.nests
+simple_of levels m a b c (stmt.Call x v) k is h = called v.items (same_first (identifier m) (identifier x)
+    (in_parentheses (map actual_spelling v.items)) a b c k h.spelled).1 h.formed h.nests
+simple_of levels m a b c d k is h = absurd (let no : first_of d ≡ Some kind.Identifier = is in cc)
 
 -- at a name stands an assignment or a call
 pub simple_parts : (levels : ℕ) (m : Name) (a b c : List Token) (s : Stmt) → Reads a (identifier m ∷ []) b → EndsStmt c → BeginsStmt levels a c s
     → IsSimple levels b c
 simple_parts levels m a b c s k ends h =
-    let d = out-Stmt s in
-    let o = sym (roll-out-Stmt s) in
-    simple_of levels m a b c d k ends (subst (λ x. Reads a x c) (ap stmt_spelling o ∙ fold-roll-Stmt Spelling spell.stmt_step d) h.spelled)
-    (sym (ap is_statement o ∙ stmt_well_of d) ∙ h.formed) (subst (λ n. n ≤ levels) (ap stmt_levels o ∙ fold-roll-Stmt ℕ nest.stmt_step d) h.nests)
+    let l = layer levels a c s h ends in
+    simple_of levels m a b c (out-Stmt s) k (form_at kind.Identifier levels a c (out-Stmt s) (begins (identifier m) [] a b k) refl l) l
 
 -- the value of an assignment
 pub record IsAssigned (levels : ℕ) (a c : List Token) : Type 0 where
@@ -93,7 +75,7 @@ becomes_taken levels p a b c k ends (assigned q e h f n) = record {
     nests = omega arith;
   };
 }
-becomes_taken levels p a b c k ends (called [] h f n) = absurd (no_becomes c ends
+becomes_taken levels p a b c k ends (called [] h f n) = absurd (not_behind (kind.Symbol symbol.Becomes) c refl ends
     (ap next_kind (sym h) ∙ begins (of_kind_at (kind.Symbol symbol.Becomes) p) [] a b k))
 becomes_taken levels p a b c k ends (called (x ∷ xs) h f n) =
     let no : Some (kind.Symbol symbol.OpenParenthesis) ≡ Some (kind.Symbol symbol.Becomes) = (same_first (of_kind_at (kind.Symbol symbol.Becomes) p)
@@ -137,23 +119,12 @@ some_of : (statements : List Stmt) → has_items (map stmt_form statements) ≡ 
 some_of [] h = cc
 some_of (s ∷ ss) h = omega arith
 
-no_begin : (c : List Token) → EndsStmt c → ¬ (next_kind c ≡ Some (kind.Word word.Begin))
-no_begin c (semicolon h) e = let no : Some (kind.Symbol symbol.Semicolon) ≡ Some (kind.Word word.Begin) = sym h ∙ e in cc
-no_begin c (end h) e = let no : Some (kind.Word word.End) ≡ Some (kind.Word word.Begin) = sym h ∙ e in cc
-
-compounded_of : (levels : ℕ) (a c : List Token) (d : stmt.Stmt-F Stmt) → next_kind a ≡ Some (kind.Word word.Begin) → EndsStmt c
-    → Reads a (spell.stmt_step (map-Stmt Stmt Spelling stmt_spelling d)) c → (form.stmt_step (map-Stmt Stmt StmtForm stmt_form d)).well ≡ true
-    → nest.stmt_step (map-Stmt Stmt ℕ stmt_levels d) ≤ levels → Compounded levels a c
-compounded_of levels a c stmt.Empty e ends s f n = absurd (no_begin c ends (ap next_kind (sym s) ∙ e))
-compounded_of levels a c (stmt.Assign m p v) e ends s f n =
-    let no : Some kind.Identifier ≡ Some (kind.Word word.Begin) = sym (begins (identifier m)
-    (of_kind_at (kind.Symbol symbol.Becomes) p ∷ expr_spelling v) a c s) ∙ e in cc
-compounded_of levels a c (stmt.Call m v) e ends s f n =
-    let no : Some kind.Identifier ≡ Some (kind.Word word.Begin) = sym (begins (identifier m) (in_parentheses (map actual_spelling v.items)) a c s) ∙ e in cc
-compounded_of levels a c (stmt.Compound v) e ends s f n =
-    let r = with_last_place (kind.Word word.End) (word_symbol word.Begin ∷ separated symbol.Semicolon (map stmt_spelling v.items)) a c s in
-    let some = and_left (has_items (map stmt_form v.items)) (list_all (λ (f : StmtForm). f.well) (map stmt_form v.items)) f in
-    let all = and_right (has_items (map stmt_form v.items)) (list_all (λ (f : StmtForm). f.well) (map stmt_form v.items)) f in
+compounded_of : (levels : ℕ) (a c : List Token) (d : stmt.Stmt-F Stmt) → first_of d ≡ Some (kind.Word word.Begin) → Layer levels a c d → Compounded levels a c
+compounded_of levels a c (stmt.Compound v) is h =
+    let r = with_last_place (kind.Word word.End) (word_symbol word.Begin ∷ separated symbol.Semicolon (map stmt_spelling v.items)) a c h.spelled in
+    let some = and_left (has_items (map stmt_form v.items)) (list_all (λ (f : StmtForm). f.well) (map stmt_form v.items)) h.formed in
+    let all = and_right (has_items (map stmt_form v.items)) (list_all (λ (f : StmtForm). f.well) (map stmt_form v.items)) h.formed in
+    let n = h.nests in
     record {
       found = (v.items, r.0);
       below = deepest (map stmt_levels v.items);
@@ -166,15 +137,14 @@ compounded_of levels a c (stmt.Compound v) e ends s f n =
         nests = omega arith;
       };
     }
+compounded_of levels a c d is h = absurd (let no : first_of d ≡ Some (kind.Word word.Begin) = is in cc)
 
 -- at `begin` stands a compound statement
 pub compounded : (levels : ℕ) (a c : List Token) (s : Stmt) → next_kind a ≡ Some (kind.Word word.Begin) → EndsStmt c → BeginsStmt levels a c s
     → Compounded levels a c
 compounded levels a c s e ends h =
-    let d = out-Stmt s in
-    let o = sym (roll-out-Stmt s) in
-    compounded_of levels a c d e ends (subst (λ x. Reads a x c) (ap stmt_spelling o ∙ fold-roll-Stmt Spelling spell.stmt_step d) h.spelled)
-    (sym (ap is_statement o ∙ stmt_well_of d) ∙ h.formed) (subst (λ n. n ≤ levels) (ap stmt_levels o ∙ fold-roll-Stmt ℕ nest.stmt_step d) h.nests)
+    let l = layer levels a c s h ends in
+    compounded_of levels a c (out-Stmt s) (form_at (kind.Word word.Begin) levels a c (out-Stmt s) e refl l) l
 
 -- what stands behind the `begin` of a compound statement
 pub record OpenedCompound (levels : ℕ) (a c : List Token) (statements : List Stmt) : Type 0 where

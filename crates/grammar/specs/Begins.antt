@@ -1,13 +1,16 @@
 -- What tokens begin with: a spelling of a form, well formed and nested within so many levels. Each of these says: the
 -- tokens begin with such a thing, and then the others are left.
 -- This doesn't say what a parser answers to them.
-use Rattle.std.specs.Prelude.{◌≡◌, ℕ, ◌+◌, ◌<◌, ◌≤◌, true, List, [], ◌∷◌, ◌++◌, map, length}
+use Rattle.std.specs.Prelude.{◌≡◌, ℕ, ◌+◌, ◌<◌, ◌≤◌, true, List, [], ◌∷◌, ◌++◌, map, length, Option, Some, None}
 use Rattle.std.specs.List.{list_all}
+use Rattle.std.specs.declared.alloc.Global.{Global}
+use Rattle.std.specs.declared.boxed.Box.{Box}
 use Rattle.place.specs.declared.Place.{Place}
 use Rattle.lexer.specs.declared.token.Kind.TheVariants as kind
 use Rattle.lexer.specs.declared.token.Symbol.{Symbol}
 use Rattle.lexer.specs.declared.token.Symbol.TheVariants as symbol
 use Rattle.lexer.specs.declared.token.Token.{Token}
+use Rattle.lexer.specs.declared.token.Word.{Word}
 use Rattle.lexer.specs.declared.token.Word.TheVariants as word
 use Rattle.syntax_tree.specs.declared.Expr.{Expr}
 use Rattle.syntax_tree.specs.declared.Link.{Link}
@@ -19,6 +22,7 @@ use Rattle.syntax_tree.specs.declared.Block.{Block}
 use Rattle.syntax_tree.specs.declared.Program.{Program}
 use Rattle.grammar.specs.Spelling.{Spelling, Reads, expr_spelling, link_spelling, actual_spelling, stmt_spelling, joined, identifiers, group_spelling, variables_spelling, block_spelling, program_spelling, separated, in_parentheses, word_symbol, of_kind_at, mark}
 use Rattle.grammar.specs.WellFormed.{expr_form, link_form, fits, relation_level, is_link, is_actual, is_statement, is_group, is_block, is_program}
+use Rattle.grammar.specs.Following.{NoNext, LeavesNoElse}
 use Rattle.grammar.specs.Nesting.{expr_levels, link_levels, actual_levels, stmt_levels, deepest, nesting}
 
 -- an expression of at least this level
@@ -57,11 +61,24 @@ pub record BeginsActuals (levels : ℕ) (tokens others : List Token) (actuals : 
   pub formed : list_all is_actual actuals ≡ true
   pub nests : deepest (map actual_levels actuals) ≤ levels
 
+-- an expression with this word symbol behind it
+pub record BeginsGuard (w : Word) (levels : ℕ) (tokens others : List Token) (e : Expr) : Type 0 where
+  pub middle : List Token
+  pub expression : BeginsExpr relation_level levels tokens middle e
+  pub closed : Reads middle (word_symbol w ∷ []) others
+
 -- a statement, which is a level of its own
 pub record BeginsStmt (levels : ℕ) (tokens others : List Token) (s : Stmt) : Type 0 where
   pub spelled : Reads tokens (stmt_spelling s) others
   pub formed : is_statement s ≡ true
   pub nests : stmt_levels s ≤ levels
+  pub whole : LeavesNoElse s others
+
+-- the alternative of an if behind its `else`, or none where no `else` comes
+abbrev pub BeginsAlternative : ℕ → List Token → List Token → Option (Box Stmt Global) → Type 0
+BeginsAlternative levels tokens others None = (tokens ≡ others) × NoNext (kind.Word word.Else) others
+BeginsAlternative levels tokens others (Some s) =
+    (middle : List Token) × Reads tokens (word_symbol word.Else ∷ []) middle × BeginsStmt levels middle others s.value
 
 -- one or more statements
 pub record BeginsStatements (levels : ℕ) (tokens others : List Token) (statements : List Stmt) : Type 0 where

@@ -1,16 +1,18 @@
 -- What comes next in a list of tokens, and what may stand behind a form: nothing with which the form would go on.
 -- This doesn't say what the forms are: see Spelling.
-use Rattle.std.specs.Prelude.{◌≡◌, ℕ, ◌≤◌, List, [], ◌∷◌, Option, Some, None}
+use Rattle.std.specs.Prelude.{◌≡◌, ℕ, ◌≤◌, IsTrue, List, [], ◌∷◌, Option, Some, None}
 use Rattle.place.specs.declared.Place.{Place}
 use Rattle.lexer.specs.declared.token.Kind.{Kind}
 use Rattle.lexer.specs.declared.token.Kind.TheVariants as kind
 use Rattle.lexer.specs.declared.token.Symbol.TheVariants as symbol
 use Rattle.lexer.specs.declared.token.Token.{Token}
 use Rattle.lexer.specs.declared.token.Word.TheVariants as word
+use Rattle.lexer.specs.declared.token.Word.{Word}
 use Rattle.syntax_tree.specs.declared.Sign.{Sign}
 use Rattle.syntax_tree.specs.declared.Operator.{Operator}
+use Rattle.syntax_tree.specs.declared.Stmt.{Stmt}
 use Rattle.grammar.specs.Spelling.{sign, operator_kind}
-use Rattle.grammar.specs.WellFormed.{operator_level}
+use Rattle.grammar.specs.WellFormed.{operator_level, relation_level, ends_open}
 
 -- the kind of the first token
 abbrev pub next_kind : List Token → Option Kind
@@ -59,7 +61,16 @@ EndsStatements = Next (kind.Word word.End)
 abbrev pub BeginsStatementPart : List Token → Type 0
 BeginsStatementPart = Next (kind.Word word.Begin)
 
--- what comes next behind a statement: a semicolon or the `end` of the compound statement
+-- where this word symbol comes each expression ends
+abbrev pub EndsEach : Word → Type 0
+EndsEach w = (others : List Token) → Next (kind.Word w) others → Ends relation_level others
+
+-- what comes next behind a statement: a semicolon, the `end` of the compound statement, or the `else` of an if
 pub data EndsStmt (others : List Token) : Type 0 where
   semicolon : Next (kind.Symbol symbol.Semicolon) others → EndsStmt others
   end : Next (kind.Word word.End) others → EndsStmt others
+  alternative : Next (kind.Word word.Else) others → EndsStmt others
+
+-- behind a statement that ends in an if without else no `else` comes, for it would be this if's
+abbrev pub LeavesNoElse : Stmt → List Token → Type 0
+LeavesNoElse s others = IsTrue (ends_open s) → NoNext (kind.Word word.Else) others

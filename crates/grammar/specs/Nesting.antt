@@ -1,8 +1,10 @@
--- How deep a tree nests. The program's own compound statement is the first level. Each statement in a compound
--- statement, each actual with its width, each expression in parentheses and each operand of `not` is one level below
--- what it stands in.
+-- How deep a tree nests. The program's own compound statement is the first level. Each statement in another statement,
+-- each actual with its width, each expression in parentheses and each operand of `not` is one level below what it stands
+-- in.
 -- A chain of operators is a list and no nesting. The standard sets no bound.
 use Rattle.std.specs.Prelude.{ℕ, ◌+◌, List, Option, Some, None, map, max, fold}
+use Rattle.std.specs.declared.alloc.Global.{Global}
+use Rattle.std.specs.declared.boxed.Box.{Box}
 use Rattle.syntax_tree.specs.declared.Program.{Program}
 use Rattle.syntax_tree.specs.declared.Expr.{Expr}
 use Rattle.syntax_tree.specs.declared.Link.{Link}
@@ -50,12 +52,19 @@ link_levels = fold-Link ℕ ℕ ℕ expr_step actual_step (λ link. link.operand
 abbrev pub actual_levels : Actual → ℕ
 actual_levels = fold-Actual ℕ ℕ ℕ expr_step actual_step (λ link. link.operand)
 
+-- the levels in an alternative, where there is one
+abbrev pub alternative_levels : Option (Box ℕ Global) → ℕ
+alternative_levels None = 0
+alternative_levels (Some alternative) = alternative.value
+
 -- one layer of a statement: the levels in it and its own
 abbrev pub stmt_step : Stmt-F ℕ → ℕ
 stmt_step stmt.Empty = 1
 stmt_step (stmt.Assign name becomes value) = 1 + expr_levels value
 stmt_step (stmt.Call name actuals) = 1 + deepest (map actual_levels actuals.items)
 stmt_step (stmt.Compound statements) = 1 + deepest statements.items
+stmt_step (stmt.If place condition consequence alternative) =
+    1 + max (expr_levels condition) (max consequence.value (alternative_levels alternative))
 
 -- the levels of a statement, its own among them
 abbrev pub stmt_levels : Stmt → ℕ

@@ -2,6 +2,8 @@
 -- memory: trees that are written alike are built alike, and of the same tokens.
 -- This doesn't say which trees there may be: see WellFormed.
 use Rattle.std.specs.Prelude.{List, [], ◌∷◌, ◌++◌, map, Option, Some, None}
+use Rattle.std.specs.declared.alloc.Global.{Global}
+use Rattle.std.specs.declared.boxed.Box.{Box}
 use Rattle.lexer.specs.declared.token.Kind.TheVariants as kind
 use Rattle.lexer.specs.declared.token.Symbol.TheVariants as symbol
 use Rattle.lexer.specs.declared.token.Word.TheVariants as word
@@ -37,6 +39,7 @@ pub data Shape : Type 0 where
   assignment : Shape
   procedure_call : Shape
   compound : Shape
+  conditional : Shape
   group : Shape
   parameters : Shape
   block : Shape
@@ -100,6 +103,11 @@ link_notation = fold-Link Notation Notation Notation expr_step actual_step link_
 abbrev pub actual_notation : Actual → Notation
 actual_notation = fold-Actual Notation Notation Notation expr_step actual_step link_step
 
+-- an alternative, where there is one
+abbrev pub alternative_notation : Option (Box Notation Global) → Notation
+alternative_notation None = []
+alternative_notation (Some alternative) = alternative.value
+
 -- one layer of a statement, its parts written out
 abbrev pub stmt_step : Stmt-F Notation → Notation
 stmt_step stmt.Empty = bracketed empty []
@@ -109,6 +117,10 @@ stmt_step (stmt.Assign n becomes value) =
 stmt_step (stmt.Call n actuals) =
     bracketed procedure_call (token (identifier n) ∷ row (map actual_notation actuals.items))
 stmt_step (stmt.Compound statements) = bracketed compound (row statements.items)
+stmt_step (stmt.If place condition consequence alternative) =
+    bracketed conditional
+    (token (of_kind_at (kind.Word word.If) place) ∷ expr_notation condition
+    ++ (consequence.value ++ alternative_notation alternative))
 
 -- a statement
 abbrev pub stmt_notation : Stmt → Notation

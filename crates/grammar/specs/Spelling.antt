@@ -2,6 +2,8 @@
 -- (variables), 6.10 (programs). A tree keeps its parentheses, so each tree has one spelling.
 -- This doesn't say which trees there may be: see WellFormed and Nesting.
 use Rattle.std.specs.Prelude.{◌≡◌, ℕ, List, [], ◌∷◌, ◌++◌, map, Option, Some, None, IfSome}
+use Rattle.std.specs.declared.alloc.Global.{Global}
+use Rattle.std.specs.declared.boxed.Box.{Box}
 use Rattle.place.specs.declared.Place.{Place}
 use Rattle.lexer.specs.declared.token.Kind.{Kind}
 use Rattle.lexer.specs.declared.token.Kind.TheVariants as kind
@@ -155,6 +157,11 @@ link_spelling = fold-Link Spelling Spelling Spelling expr_step actual_step link_
 abbrev pub actual_spelling : Actual → Spelling
 actual_spelling = fold-Actual Spelling Spelling Spelling expr_step actual_step link_step
 
+-- an alternative behind its `else`, where there is one
+abbrev pub alternative_spelling : Option (Box Spelling Global) → Spelling
+alternative_spelling None = []
+alternative_spelling (Some alternative) = word_symbol word.Else ∷ alternative.value
+
 -- one layer of a statement, its parts spelled
 abbrev pub stmt_step : Stmt-F Spelling → Spelling
 stmt_step stmt.Empty = []
@@ -163,6 +170,9 @@ stmt_step (stmt.Assign name becomes value) =
 stmt_step (stmt.Call name actuals) = identifier name ∷ in_parentheses (map actual_spelling actuals.items)
 stmt_step (stmt.Compound statements) =
     word_symbol word.Begin ∷ separated symbol.Semicolon statements.items ++ word_symbol word.End ∷ []
+stmt_step (stmt.If place condition consequence alternative) =
+    of_kind_at (kind.Word word.If) place ∷ expr_spelling condition
+    ++ (word_symbol word.Then ∷ consequence.value ++ alternative_spelling alternative)
 
 -- a statement (6.8)
 abbrev pub stmt_spelling : Stmt → Spelling

@@ -1,8 +1,11 @@
 -- Which trees there may be: operators nest by precedence (ISO 7185:1990, 6.7.1, 6.7.2.1), a sign stands at the first
--- term of a sum or alone, a relation has one operator, and lists that the grammar wants nonempty are nonempty.
+-- term of a sum or alone, a relation has one operator, an `else` belongs to the nearest `if` that has none (6.8.3.4), and
+-- lists that the grammar wants nonempty are nonempty.
 -- This says nothing of names and types.
-use Rattle.std.specs.Prelude.{ℕ, ◌+◌, if◌then◌else◌, List, [], ◌∷◌, length, Bool, true, false, ◌&&◌, ◌||◌, Option, Some, None, nat_eq, nat_lt, nat_le}
+use Rattle.std.specs.Prelude.{ℕ, ◌+◌, if◌then◌else◌, List, [], ◌∷◌, length, Bool, true, false, not, ◌&&◌, ◌||◌, Option, Some, None, nat_eq, nat_lt, nat_le}
 use Rattle.std.specs.List.{list_all}
+use Rattle.std.specs.declared.alloc.Global.{Global}
+use Rattle.std.specs.declared.boxed.Box.{Box}
 use Rattle.syntax_tree.specs.declared.VariableGroup.{VariableGroup}
 use Rattle.syntax_tree.specs.declared.Block.{Block}
 use Rattle.syntax_tree.specs.declared.Program.{Program}
@@ -136,6 +139,14 @@ pub record StmtForm : Type 0 where
 abbrev pub closed : Bool → StmtForm
 closed well = record { well = well; ends_open = false }
 
+-- an if without else ends open; before an `else` no statement stands that ends in one, for the `else` would be its own
+abbrev pub if_form : Bool → StmtForm → Option (Box StmtForm Global) → StmtForm
+if_form condition consequence None = record { well = condition && consequence.well; ends_open = true }
+if_form condition consequence (Some alternative) = record {
+  well = condition && (consequence.well && (not consequence.ends_open && alternative.value.well));
+  ends_open = alternative.value.ends_open;
+}
+
 -- one layer of a statement
 abbrev pub stmt_step : Stmt-F StmtForm → StmtForm
 stmt_step stmt.Empty = closed true
@@ -143,6 +154,8 @@ stmt_step (stmt.Assign name becomes value) = closed (is_expression value)
 stmt_step (stmt.Call name actuals) = closed (list_all is_actual actuals.items)
 stmt_step (stmt.Compound statements) =
     closed (has_items statements.items && list_all (λ statement. statement.well) statements.items)
+stmt_step (stmt.If place condition consequence alternative) =
+    if_form (is_expression condition) consequence.value alternative
 
 -- the form of a statement
 abbrev pub stmt_form : Stmt → StmtForm
@@ -150,6 +163,9 @@ stmt_form = fold-Stmt StmtForm stmt_step
 
 abbrev pub is_statement : Stmt → Bool
 is_statement s = (stmt_form s).well
+
+abbrev pub ends_open : Stmt → Bool
+ends_open s = (stmt_form s).ends_open
 
 abbrev pub is_group : VariableGroup → Bool
 is_group g = has_items g.names.items

@@ -1,15 +1,23 @@
 -- The rules of statements read each spelling of their form: by the first token, form by form.
-use Rattle.std.proofs.Common.{◌≡◌, ℕ, List, Result, Ok, subst, sym}
+use Rattle.std.proofs.Common.{◌≡◌, ℕ, ◌<◌, List, [], ◌∷◌, Option, Some, None, Result, Ok, subst, sym, ap, ◌∙◌}
+use Rattle.std.specs.declared.alloc.Global.{Global}
+use Rattle.std.specs.declared.boxed.Box.{Box}
+use Rattle.place.specs.declared.Place.{Place}
 use Rattle.lexer.specs.declared.token.Kind.TheVariants as kind
 use Rattle.lexer.specs.declared.token.Symbol.TheVariants as symbol
+use Rattle.lexer.specs.declared.token.Word.TheVariants as word
 use Rattle.lexer.specs.declared.token.Token.{Token}
 use Rattle.token_cursor.specs.declared.fault.ParseFault.{ParseFault}
 use Rattle.token_cursor.specs.declared.cursor.Cursor.{Cursor}
+use Rattle.syntax_tree.specs.declared.Expr.{Expr}
 use Rattle.syntax_tree.specs.declared.Stmt.{Stmt}
-use Rattle.grammar.specs.Following.{NoNext, EndsStmt, EndsStatements}
+use Rattle.grammar.specs.Spelling.{Reads, of_kind_at, word_symbol}
+use Rattle.grammar.specs.Following.{next_kind, NoNext, Anything, EndsStmt, EndsStatements}
 use Rattle.parser.specs.Reading.{ReadWithin, ReadsDeep}
-use Rattle.grammar.specs.Begins.{BeginsStmt}
-use Rattle.grammar.proofs.Parts.{PartsLeft, PartThenOthers, comes_behind}
+use Rattle.grammar.specs.Begins.{BeginsGuard, BeginsStmt, BeginsAlternative}
+use Rattle.grammar.proofs.Parts.{PartsLeft, PartThenOthers, ComesBehind, one_more, no_more, comes_behind}
+use Rattle.grammar.proofs.Rows.{begins, same_first}
+use Rattle.grammar.proofs.Conditionals.{Branches, IsConditional}
 use Rattle.grammar.proofs.Statements.{IsSimple, IsCalled, becomes_missed, statement_list_parts, StatementsLeft, stmt_ends, StatementNext}
 
 -- where no `:=` comes stand the actuals of a call
@@ -18,13 +26,18 @@ pub becomes_missed_at : (levels : ℕ) (a b : Cursor) (others : List Token) → 
 becomes_missed_at levels a b others same none h = subst (λ (k : Cursor). IsCalled levels k.rest.now others) (sym same)
     (becomes_missed levels a.rest.now others none h)
 
+no_else : (a c : List Token) → ComesBehind symbol.Semicolon a c → EndsStatements c → NoNext (kind.Word word.Else) a
+no_else a c (one_more e) ends k = let no : Some (kind.Symbol symbol.Semicolon) ≡ Some (kind.Word word.Else) = sym e ∙ k in cc
+no_else a c (no_more e) ends k = let no : Some (kind.Word word.End) ≡ Some (kind.Word word.Else) = sym (e ∙ ends) ∙ k in cc
+
 -- what the rule of statements answers there
 pub statement_answer : (levels depth : ℕ) (a b : Cursor) (others : List Token) (answer : Result Stmt ParseFault)
     → (p : PartThenOthers Stmt statement_list_parts depth a.rest.now others) → EndsStatements others
     → ReadsDeep levels BeginsStmt EndsStmt a b answer → ReadWithin levels depth p.middle b answer
 statement_answer levels depth a b others answer p ends reads =
-    reads depth p.first p.middle (record { spelled = p.spelled; formed = p.formed; nests = p.nests })
-    (stmt_ends p.middle others (comes_behind Stmt statement_list_parts depth p.middle others p.left) ends)
+    let behind = comes_behind Stmt statement_list_parts depth p.middle others p.left in
+    reads depth p.first p.middle
+    (record { spelled = p.spelled; formed = p.formed; nests = p.nests; whole = λ _. no_else p.middle others behind ends }) (stmt_ends p.middle others behind ends)
 
 -- behind a statement
 pub statement_list_left : (levels : ℕ) (start : List Token) (a b : Cursor) (s : Stmt) → ReadsDeep levels BeginsStmt EndsStmt a b (Ok s)
@@ -32,3 +45,55 @@ pub statement_list_left : (levels : ℕ) (start : List Token) (a b : Cursor) (s 
 statement_list_left levels start a b s reads next depth statements others h ends =
     let p = next depth statements others h ends in
     subst (λ x. PartsLeft Stmt statement_list_parts depth x others) (sym (statement_answer levels depth a b others (Ok s) p ends reads)) p.left
+
+-- ---- if statements
+
+-- the branches that stand behind a condition
+pub record IsBranches (levels : ℕ) (a c : List Token) : Type 0 where
+  pub below : ℕ
+  pub less : below < levels
+  pub consequence : Stmt
+  pub other : Option (Box Stmt Global)
+  pub branches : Branches below a c consequence other
+
+-- behind the condition read
+pub branches_left : (levels depth : ℕ) (a b : Cursor) (condition : Expr) (others : List Token)
+    → ReadsDeep levels (BeginsGuard word.Then) Anything a b (Ok condition) → IsConditional depth a.rest.now others → IsBranches depth b.rest.now others
+branches_left levels depth a b condition others reads h =
+    let p = h.parts in
+    let same : b.rest.now ≡ p.middle = reads p.below h.condition p.middle p.guarded tt in
+    record {
+      below = p.below;
+      less = p.less;
+      consequence = h.consequence;
+      other = h.other;
+      branches = subst (λ x. Branches p.below x others h.consequence h.other) (sym same) p.branches;
+    }
+
+-- the alternative that stands behind a consequence
+pub record IsAlternative (levels : ℕ) (a c : List Token) : Type 0 where
+  pub below : ℕ
+  pub less : below < levels
+  pub other : Option (Box Stmt Global)
+  pub behind : BeginsAlternative below a c other
+
+-- behind the consequence read
+pub alternative_left : (levels depth : ℕ) (a b : Cursor) (body : Box Stmt Global) (others : List Token) → ReadsDeep levels BeginsStmt EndsStmt a b (Ok body)
+    → IsBranches depth a.rest.now others → IsAlternative depth b.rest.now others
+alternative_left levels depth a b body others reads h =
+    let p = h.branches in
+    let same : b.rest.now ≡ p.middle = reads h.below h.consequence p.middle p.begun p.ends in
+    record { below = h.below; less = h.less; other = h.other; behind = subst (λ x. BeginsAlternative h.below x others h.other) (sym same) p.behind }
+
+-- the statement behind an `else`
+pub record IsOther (levels : ℕ) (a c : List Token) : Type 0 where
+  pub statement : Stmt
+  pub begun : BeginsStmt levels a c statement
+
+-- behind an `else` that was taken
+pub alternative_taken : (levels : ℕ) (p : Place) (a b c : List Token) (other : Option (Box Stmt Global)) → Reads a (of_kind_at (kind.Word word.Else) p ∷ []) b
+    → BeginsAlternative levels a c other → IsOther levels b c
+alternative_taken levels p a b c None k h = absurd (h.1 (ap next_kind (sym h.0) ∙ begins (of_kind_at (kind.Word word.Else) p) [] a b k))
+alternative_taken levels p a b c (Some s) k h =
+    let same : b ≡ h.0 = (same_first (of_kind_at (kind.Word word.Else) p) (word_symbol word.Else) [] a b h.0 k h.1).1 in
+    record { statement = s.value; begun = subst (λ x. BeginsStmt levels x c s.value) (sym same) h.2 }

@@ -1,14 +1,17 @@
 -- What the rules of lists and statements give.
-use Rattle.std.proofs.Common.{◌≡◌, ℕ, ◌+◌, ◌<◌, ◌≤◌, true, List, [], ◌∷◌, ◌++◌, length, map, subst, sym, ap, ◌∙◌, refl, arith}
+use Rattle.std.proofs.Common.{◌≡◌, ℕ, ◌+◌, ◌<◌, ◌≤◌, Bool, true, false, not, ◌&&◌, IsTrue, List, [], ◌∷◌, ◌++◌, length, map, Option, Some, None, subst, sym, ap, ◌∙◌, refl, arith}
 use Rattle.std.specs.List.{list_all}
 use Rattle.std.specs.declared.alloc.Global.{Global}
+use Rattle.std.specs.declared.boxed.Box.{Box}
 use Rattle.std.specs.declared.vec.Vec.{Vec}
 use Rattle.place.specs.declared.Place.{Place}
 use Rattle.std.proofs.lemmas.Bool.{lt-ltb}
 use Rattle.lexer.specs.declared.token.Kind.TheVariants as kind
 use Rattle.lexer.specs.declared.token.Symbol.{Symbol}
 use Rattle.lexer.specs.declared.token.Symbol.TheVariants as symbol
+use Rattle.lexer.specs.declared.token.Word.{Word}
 use Rattle.lexer.specs.declared.token.Word.TheVariants as word
+use Rattle.lexer.specs.declared.token.Token.{Token}
 use Rattle.token_cursor.specs.declared.cursor.Cursor.{Cursor}
 use Rattle.syntax_tree.specs.declared.Actual.{Actual}
 use Rattle.syntax_tree.specs.declared.Expr.{Expr}
@@ -16,13 +19,15 @@ use Rattle.syntax_tree.specs.declared.Name.{Name}
 use Rattle.syntax_tree.specs.declared.Stmt.{Stmt}
 use Rattle.syntax_tree.specs.declared.Stmt.TheVariants as statement
 use Rattle.token_cursor.specs.Cursor.{Took}
-use Rattle.grammar.specs.Spelling.{Spelling, expr_spelling, identifier, actual_spelling, stmt_spelling, of_kind_at, mark, word_symbol, separated, in_parentheses}
-use Rattle.grammar.specs.WellFormed.{relation_level, is_actual, stmt_form, is_statement, has_items}
+use Rattle.grammar.specs.Spelling.{Spelling, Reads, expr_spelling, identifier, actual_spelling, stmt_spelling, of_kind_at, mark, word_symbol, separated, in_parentheses}
+use Rattle.grammar.specs.WellFormed.{relation_level, is_expression, is_actual, stmt_form, is_statement, ends_open, has_items}
 use Rattle.grammar.specs.Nesting.{actual_levels, stmt_levels, deepest}
+use Rattle.grammar.specs.Following.{NoNext, LeavesNoElse}
 use Rattle.parser.specs.Rules.{Read}
-use Rattle.grammar.specs.Begins.{BeginsExpr, BeginsList, BeginsActual, BeginsActualList, BeginsActuals, BeginsStmt, BeginsStatements, BeginsCompound}
-use Rattle.grammar.proofs.Equations.{spelling-Empty, form-Empty, levels-Empty, spelling-Assign, form-Assign, levels-Assign, spelling-Call, form-Call, levels-Call, spelling-Compound, form-Compound, levels-Compound}
+use Rattle.grammar.specs.Begins.{BeginsExpr, BeginsList, BeginsActual, BeginsActualList, BeginsActuals, BeginsGuard, BeginsStmt, BeginsAlternative, BeginsStatements, BeginsCompound}
+use Rattle.grammar.proofs.Equations.{spelling-Empty, form-Empty, levels-Empty, spelling-Assign, form-Assign, levels-Assign, spelling-Call, form-Call, levels-Call, spelling-Compound, form-Compound, levels-Compound, closed-Empty, closed-Assign, closed-Call, closed-Compound, spelling-If, form-If, levels-If, spelling-Else, form-Else, open-Else, levels-Else}
 use Rattle.grammar.proofs.Lists.{map_push, all_push, deepest_push, and_true, length_map}
+use Rattle.grammar.proofs.Rows.{begins}
 use Rattle.grammar.proofs.Reading.{both, without_place, without_last_place, separated_more, in_parentheses_some}
 
 pub some_grown : {A : Type 0} (xs : List A) (x : A) → 0 < length (xs ++ x ∷ [])
@@ -139,6 +144,10 @@ compound_closed levels a b c d p end statements opened list closed = record {
   nests = list.nests;
 }
 
+-- a statement that doesn't end in an if without else
+closed_whole : (s : Stmt) (others : List Token) → ends_open s ≡ false → LeavesNoElse s others
+closed_whole s others closed e = let no : false ≡ true = sym closed ∙ e in cc
+
 -- a compound statement as a statement
 pub compound_stands : (levels inner : ℕ) (a b : Cursor) (end : Place) (v : Vec Stmt Global) → inner + 1 ≡ levels
     → Read (BeginsCompound inner) a b (v.items, end) → Read (BeginsStmt levels) a b (statement.Compound v)
@@ -146,6 +155,7 @@ compound_stands levels inner a b end v less given = record {
   spelled = subst (λ s. Took a b s) (sym (spelling-Compound v)) (without_last_place (kind.Word word.End) end
       (word_symbol word.Begin ∷ separated symbol.Semicolon (map stmt_spelling v.items)) a.rest.now b.rest.now given.spelled);
   formed = form-Compound v ∙ and_true (has_items (map stmt_form v.items)) (list_all is_statement v.items) (has v.items given.some) given.formed;
+  whole = closed_whole (statement.Compound v) b.rest.now (closed-Compound v);
   nests = let e = levels-Compound v in let n = given.nests in omega arith;
 }
 
@@ -154,6 +164,7 @@ pub gives-Empty : (levels inner : ℕ) (a : Cursor) → inner + 1 ≡ levels →
 gives-Empty levels inner a less = record {
   spelled = subst (λ s. Took a a s) (sym spelling-Empty) refl;
   formed = form-Empty;
+  whole = closed_whole statement.Empty a.rest.now closed-Empty;
   nests = let e = levels-Empty in omega arith;
 }
 
@@ -166,6 +177,7 @@ gives-Assign levels a b c d n p value named becomes given = record {
       (of_kind_at (kind.Symbol symbol.Becomes) p ∷ expr_spelling value) a.rest.now b.rest.now d.rest.now named
       (both (of_kind_at (kind.Symbol symbol.Becomes) p ∷ []) (expr_spelling value) b.rest.now c.rest.now d.rest.now becomes given.spelled));
   formed = form-Assign n p value ∙ given.formed;
+  whole = closed_whole (statement.Assign n p value) d.rest.now (closed-Assign n p value);
   nests = let e = levels-Assign n p value in let m = given.nests in omega arith;
 }
 
@@ -177,5 +189,61 @@ gives-Called levels a b c d n v named same given = record {
       (in_parentheses (map actual_spelling v.items)) a.rest.now b.rest.now d.rest.now named
       (subst (λ k. Took k d (in_parentheses (map actual_spelling v.items))) same given.spelled));
   formed = form-Call n v ∙ given.formed;
+  whole = closed_whole (statement.Call n v) d.rest.now (closed-Call n v);
   nests = let e = levels-Call n v in let m = given.nests in omega arith;
 }
+
+-- ---- if statements
+
+-- before an `else` no statement ends in an if without one
+closed_before : (o : Bool) (a b : List Token) → (IsTrue o → NoNext (kind.Word word.Else) a) → Reads a (word_symbol word.Else ∷ []) b → not o ≡ true
+closed_before true a b whole h = absurd (whole refl (begins (word_symbol word.Else) [] a b h))
+closed_before false a b whole h = refl
+
+-- an expression with its word symbol is spelled so
+pub guard_spelled : (w : Word) (levels : ℕ) (a b : Cursor) (e : Expr) → Read (BeginsGuard w levels) a b e → Took a b (expr_spelling e ++ word_symbol w ∷ [])
+guard_spelled w levels a b e h = both (expr_spelling e) (word_symbol w ∷ []) a.rest.now h.middle b.rest.now h.expression.spelled h.closed
+
+gives-Alone : (levels : ℕ) (a b c d e : Cursor) (p : Place) (condition : Expr) (box : Box Stmt Global)
+    → Took a b (of_kind_at (kind.Word word.If) p ∷ []) → Read (BeginsGuard word.Then levels) b c condition → Read (BeginsStmt levels) c d box.value
+    → Read (BeginsAlternative levels) d e None → Read (BeginsStmt (levels + 1)) a e (statement.If p condition box None)
+gives-Alone levels a b c d e p condition box taken guarded given none = record {
+  spelled = subst (λ s. Took a e s) (sym (spelling-If p condition box)) (both (of_kind_at (kind.Word word.If) p ∷ [])
+      (expr_spelling condition ++ (word_symbol word.Then ∷ stmt_spelling box.value ++ [])) a.rest.now b.rest.now e.rest.now taken
+      (both (expr_spelling condition) (word_symbol word.Then ∷ stmt_spelling box.value ++ []) b.rest.now guarded.middle e.rest.now guarded.expression.spelled
+      (both (word_symbol word.Then ∷ []) (stmt_spelling box.value ++ []) guarded.middle c.rest.now e.rest.now guarded.closed
+      (both (stmt_spelling box.value) [] c.rest.now d.rest.now e.rest.now given.spelled none.0))));
+  formed = form-If p condition box ∙ and_true (is_expression condition) (is_statement box.value) guarded.expression.formed given.formed;
+  nests = let n = levels-If p condition box in let m = guarded.expression.nests in let k = given.nests in omega arith;
+  whole = λ _. none.1;
+}
+
+gives-Else : (levels : ℕ) (a b c d e : Cursor) (p : Place) (condition : Expr) (box other : Box Stmt Global)
+    → Took a b (of_kind_at (kind.Word word.If) p ∷ []) → Read (BeginsGuard word.Then levels) b c condition → Read (BeginsStmt levels) c d box.value
+    → Read (BeginsAlternative levels) d e (Some other) → Read (BeginsStmt (levels + 1)) a e (statement.If p condition box (Some other))
+gives-Else levels a b c d e p condition box other taken guarded given behind =
+    let alternative : Spelling = word_symbol word.Else ∷ stmt_spelling other.value in
+    record {
+      spelled = subst (λ s. Took a e s) (sym (spelling-Else p condition box other)) (both (of_kind_at (kind.Word word.If) p ∷ [])
+          (expr_spelling condition ++ (word_symbol word.Then ∷ stmt_spelling box.value ++ alternative)) a.rest.now b.rest.now e.rest.now taken
+          (both (expr_spelling condition) (word_symbol word.Then ∷ stmt_spelling box.value ++ alternative) b.rest.now guarded.middle e.rest.now
+          guarded.expression.spelled
+          (both (word_symbol word.Then ∷ []) (stmt_spelling box.value ++ alternative) guarded.middle c.rest.now e.rest.now guarded.closed
+          (both (stmt_spelling box.value) alternative c.rest.now d.rest.now e.rest.now given.spelled
+          (both (word_symbol word.Else ∷ []) (stmt_spelling other.value) d.rest.now behind.0 e.rest.now behind.1 behind.2.spelled)))));
+      formed = form-Else p condition box other
+          ∙ and_true (is_expression condition) (is_statement box.value && (not (ends_open box.value) && is_statement other.value)) guarded.expression.formed
+          (and_true (is_statement box.value) (not (ends_open box.value) && is_statement other.value) given.formed
+          (and_true (not (ends_open box.value)) (is_statement other.value) (closed_before (ends_open box.value) d.rest.now behind.0 given.whole behind.1)
+          behind.2.formed));
+      nests = let n = levels-Else p condition box other in let m = guarded.expression.nests in let k = given.nests in let j = behind.2.nests in omega arith;
+      whole = λ o. behind.2.whole (sym (open-Else p condition box other) ∙ o);
+    }
+
+-- an if statement
+pub gives-If : (levels : ℕ) (a b c d e : Cursor) (p : Place) (condition : Expr) (box : Box Stmt Global) (other : Option (Box Stmt Global))
+    → Took a b (of_kind_at (kind.Word word.If) p ∷ []) → Read (BeginsGuard word.Then levels) b c condition → Read (BeginsStmt levels) c d box.value
+    → Read (BeginsAlternative levels) d e other → Read (BeginsStmt (levels + 1)) a e (statement.If p condition box other)
+gives-If levels a b c d e p condition box None taken guarded given behind = gives-Alone levels a b c d e p condition box taken guarded given behind
+gives-If levels a b c d e p condition box (Some other) taken guarded given behind =
+    gives-Else levels a b c d e p condition box other taken guarded given behind

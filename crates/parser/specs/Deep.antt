@@ -10,9 +10,10 @@ use Rattle.lexer.specs.declared.token.Token.{Token}
 use Rattle.token_cursor.specs.declared.fault.ParseFault.{ParseFault}
 use Rattle.token_cursor.specs.declared.fault.ParseFault.TheVariants.{TooDeep}
 
--- how many levels a token of this kind opens: `begin`, `not` and the opening parenthesis open one
+-- how many levels a token of this kind opens: `begin`, `if`, `not` and the opening parenthesis open one
 abbrev pub opens : Kind → ℕ
 opens (kind.Word word.Begin) = 1
+opens (kind.Word word.If) = 1
 opens (kind.Word word.Not) = 1
 opens (kind.Symbol symbol.OpenParenthesis) = 1
 opens _ = 0

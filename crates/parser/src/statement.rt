@@ -1,16 +1,16 @@
 ghost use Rattle.std.specs.Prelude.{◌≡◌, ◌+◌, MatchResult, Some};
 ghost use Rattle.parser.specs.Refusing.{Refused};
-ghost use Rattle.grammar.specs.Following.{next_kind, EndsStmt, EndsStatements, Anything};
+ghost use Rattle.grammar.specs.Following.{next_kind, EndsEach, EndsStmt, EndsStatements, Anything};
 ghost use Rattle.parser.specs.Reading.{ReadsDeep};
 ghost use Rattle.parser.specs.Rules.{Read};
-ghost use Rattle.grammar.specs.Begins.{BeginsStmt, BeginsStatements, BeginsCompound};
+ghost use Rattle.grammar.specs.Begins.{BeginsGuard, BeginsStmt, BeginsAlternative, BeginsStatements, BeginsCompound};
 
 use crate::expression::{actuals, expression};
-use crate::memory::put;
+use crate::memory::{boxed, put};
 use lexer::token::{Kind, Symbol, Word};
 use place::Place;
 use std::alloc::Global;
-use syntax_tree::Stmt;
+use syntax_tree::{Expr, Stmt};
 use token_cursor::cursor::Cursor;
 use token_cursor::fault::ParseFault;
 use token_cursor::nesting::inside;
@@ -56,7 +56,7 @@ fn statements<'a>(
     }
 }
 
-// statement = [simple | compound]
+// statement = [simple | compound | conditional]
 /// A statement in something below which `levels` levels are left (6.8).
 #[cycle(statement)]
 fn statement<'a>(
@@ -74,6 +74,7 @@ fn statement<'a>(
             let (statements, _) = compound(alloc, cursor, levels)?;
             Ok(Stmt::Compound { statements })
         }
+        Some(Kind::Word(Word::If)) => conditional(alloc, cursor, levels),
         _ => Ok(Stmt::Empty),
     }
 }
@@ -103,4 +104,78 @@ fn simple<'a>(
             actuals: actuals(alloc, cursor, levels)?,
         }),
     }
+}
+
+// conditional = "if" expression "then" statement alternative
+/// An if statement (6.8.3.4), below which `levels` levels are left.
+#[cycle(statement)]
+fn conditional<'a>(
+    alloc: Global,
+    cursor: &mut Cursor<'_, 'a>,
+    levels: u32,
+) -> Result<Stmt<'a>, ParseFault>
+    ensures given { MatchResult result (Read (BeginsStmt (levels + 1)) cursor.old cursor.new)
+        (Refused (levels + 1) cursor.old) }
+    ensures exact { next_kind cursor.old.rest.now ≡ Some (Kind.Word Word.If) →
+        ReadsDeep (levels + 1) BeginsStmt EndsStmt cursor.old cursor.new result }
+{
+    let place = cursor.expect_word(Word::If)?;
+    let condition = guard(alloc, cursor, levels, Word::Then)?;
+    let consequence = body(alloc, cursor, levels)?;
+    let alternative = alternative(alloc, cursor, levels)?;
+    Ok(Stmt::If {
+        place,
+        condition,
+        consequence,
+        alternative,
+    })
+}
+
+// alternative = ["else" statement]
+/// The `else` that comes next and its statement: it belongs to the nearest `if`.
+#[cycle(statement)]
+fn alternative<'a>(
+    alloc: Global,
+    cursor: &mut Cursor<'_, 'a>,
+    levels: u32,
+) -> Result<Option<Box<Stmt<'a>>>, ParseFault>
+    ensures given { MatchResult result (Read (BeginsAlternative levels) cursor.old cursor.new)
+        (Refused levels cursor.old) }
+    ensures exact { ReadsDeep levels BeginsAlternative EndsStmt cursor.old cursor.new result }
+{
+    let Some(_) = cursor.take_word(Word::Else) else {
+        return Ok(None);
+    };
+    Ok(Some(body(alloc, cursor, levels)?))
+}
+
+/// A statement that is part of another one, below which `levels` levels are left.
+#[cycle(statement)]
+fn body<'a>(
+    alloc: Global,
+    cursor: &mut Cursor<'_, 'a>,
+    levels: u32,
+) -> Result<Box<Stmt<'a>>, ParseFault>
+    ensures given { MatchResult result
+        (λ found. Read (BeginsStmt levels) cursor.old cursor.new found.value) (Refused levels cursor.old) }
+    ensures exact { ReadsDeep levels BeginsStmt EndsStmt cursor.old cursor.new result }
+{
+    boxed(alloc, statement(alloc, cursor, levels))
+}
+
+// guard = expression word
+/// An expression and the word symbol behind it.
+fn guard<'a>(
+    alloc: Global,
+    cursor: &mut Cursor<'_, 'a>,
+    levels: u32,
+    word: Word,
+) -> Result<Expr<'a>, ParseFault>
+    ensures given { MatchResult result (Read (BeginsGuard word levels) cursor.old cursor.new)
+        (Refused (levels + 1) cursor.old) }
+    ensures exact { EndsEach word → ReadsDeep levels (BeginsGuard word) Anything cursor.old cursor.new result }
+{
+    let expression = expression(alloc, cursor, levels, Level::Relation)?;
+    cursor.expect_word(word)?;
+    Ok(expression)
 }

@@ -1,4 +1,4 @@
-//! `pcom [--go] SOURCE` compiles a Pascal program, names each place at which it can fail, and runs it.
+//! `pcom [--cert FILE] [--go] SOURCE` compiles a Pascal program, names each place at which it can fail, and runs it.
 #![tactic(auto)]
 
 use report::fault::Fault;
@@ -49,10 +49,17 @@ fn compiled(rt: &HostRuntime, words: PcomWords<'_>) -> ExitCode {
     let Ok(source) = fs::read(rt, words.source) else {
         return unreadable(rt, words.source);
     };
+    let certificate = match words.certificate {
+        None => None,
+        Some(path) => match fs::read(rt, path) {
+            Ok(text) => Some(text),
+            Err(_) => return unreadable(rt, path),
+        },
+    };
     ExitCode::from(run_program(
         rt.alloc(),
         &source,
-        None,
+        certificate.as_deref(),
         words.go,
         &mut Counted::new(rt.stdin()),
         &mut Counted::new(rt.stdout()),

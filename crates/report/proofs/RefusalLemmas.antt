@@ -81,4 +81,6 @@ pub certificate-refusal : (source text : List ℕ) (tree : Tree) (fault : ReadFa
 certificate-refusal source text tree read.Memory typed h = tt
 certificate-refusal source text tree (read.FirstLine line) typed h = (tree, typed, h (λ same. cc))
 certificate-refusal source text tree (read.NotInGrammar line) typed h = (tree, typed, h (λ same. cc))
+certificate-refusal source text tree (read.OutOfOrder line) typed h = (tree, typed, h (λ same. cc))
+certificate-refusal source text tree (read.OutOfRange line) typed h = (tree, typed, h (λ same. cc))
 certificate-refusal source text tree (read.Unended line) typed h = (tree, typed, h (λ same. cc))

@@ -12,7 +12,8 @@ use Rattle.typed_tree.specs.declared.tree.Tree.{Tree}
 use Rattle.typed_tree.specs.declared.fault.TypeFault.TheVariants as untyped
 use Rattle.typing.specs.Typing.{typing}
 use Rattle.certificate.specs.declared.Certificate.{Certificate as CertificateRead}
-use Rattle.certificate.specs.Text.{spelling, first_fault}
+use Rattle.certificate.specs.Contents.{Spells}
+use Rattle.certificate.specs.Text.{first_fault}
 use Rattle.cert_checker.specs.declared.fault.CheckFault.TheVariants as check
 use Rattle.cert_checker.specs.Promise.{IsBreachOf}
 use Rattle.cert_checker.specs.Walk.{program_walk}
@@ -30,7 +31,7 @@ text_of (Some text) = text.now
 -- a source has this typed tree, and a text spells this certificate
 pub record AreOf (source text : List ℕ) (tree : Tree) (certificate : CertificateRead) : Type 0 where
   pub typed : IsTypedTreeOf tree source
-  pub spelled : text ≡ spelling certificate
+  pub spelled : Spells text certificate
 
 -- why a source with a certificate is refused: each layer is told only where those before it had no fault, and the want
 -- of memory of each is told alike

@@ -29,7 +29,7 @@ use Rattle.report.specs.declared.fault.Fault.{Fault}
 use Rattle.report.specs.declared.fault.Fault.TheVariants as fault
 use Rattle.report.specs.declared.text.RuleCode.{RuleCode}
 use Rattle.report.specs.declared.text.Refusal.{Refusal}
-use Rattle.report.specs.declared.text.Refusal.TheVariants.{Memory, At, Certificate, Whole}
+use Rattle.report.specs.declared.text.Refusal.TheVariants.{Memory, At, Certificate, Claim, Whole}
 
 -- how many digits a number of 64 bits has at most, and how long the name of an error or a fault is
 abbrev pub number_size : ℕ
@@ -114,6 +114,8 @@ abbrev pub certificate_refusal : ReadFault → Refusal
 certificate_refusal read.Memory = Memory
 certificate_refusal (read.FirstLine line) = Certificate line (record { letter = letter_f; number = 1 })
 certificate_refusal (read.NotInGrammar line) = Certificate line (record { letter = letter_f; number = 2 })
+certificate_refusal (read.OutOfOrder line) = Certificate line (record { letter = letter_f; number = 3 })
+certificate_refusal (read.OutOfRange line) = Certificate line (record { letter = letter_f; number = 4 })
 certificate_refusal (read.Unended line) = Certificate line (record { letter = letter_f; number = 5 })
 
 -- the number of a rule of certificates
@@ -127,7 +129,8 @@ rule_number rule.Changes = 7
 
 abbrev pub checker_refusal : CheckFault → Refusal
 checker_refusal check.Memory = Memory
-checker_refusal (check.Broken broken place) = at place letter_c (rule_number broken)
+checker_refusal (check.Broken broken place) =
+    Claim place (record { letter = letter_c; number = rule_number broken })
 
 abbrev pub generator_refusal : GenFault → Refusal
 generator_refusal generate.Memory = Memory
@@ -149,6 +152,8 @@ refusal_line Memory = codes "no memory\n"
 refusal_line (At place code) = place_text place.line place.column ++ codes ": refused " ++ code_text code ++ 10 ∷ []
 refusal_line (Certificate line code) =
     codes "certificate:" ++ decimal line ++ codes ": refused " ++ code_text code ++ 10 ∷ []
+refusal_line (Claim place code) =
+    place_text place.line place.column ++ codes ": certificate refused " ++ code_text code ++ 10 ∷ []
 refusal_line (Whole code) = codes "refused " ++ code_text code ++ 10 ∷ []
 
 -- the status of a refusal: 3 for want of memory, 2 for all else
@@ -156,6 +161,7 @@ abbrev pub refusal_status : Refusal → ℕ
 refusal_status Memory = 3
 refusal_status (At place code) = 2
 refusal_status (Certificate line code) = 2
+refusal_status (Claim place code) = 2
 refusal_status (Whole code) = 2
 
 -- the name of an error by its number

@@ -4,7 +4,7 @@ use Rattle.std.specs.Prelude.{◌≡◌, ℕ, List, Option, length}
 use Rattle.typed_tree.specs.declared.tree.Tree.{Tree}
 use Rattle.typed_tree.specs.declared.site.Site.{Site}
 use Rattle.typed_tree.specs.Entries.{entries_of}
-use Rattle.certificate.specs.Text.{spelling}
+use Rattle.certificate.specs.Contents.{Spells}
 use Rattle.cert_checker.specs.Promise.{Valid}
 use Rattle.pcode_assembler.specs.declared.code.Code.{Code}
 use Rattle.check_remover.specs.Strip.{strip}
@@ -26,7 +26,7 @@ pub record IsStripped (tree : Tree) (open_sites : List Site) (code : Code) : Typ
 -- whose open sites the headline holds of the code without the other checks
 pub record IsCompiled (source text : List ℕ) (compiled : Compiled) : Type 0 where
   pub typed : IsTypedTreeOf compiled.tree source
-  pub spelled : text ≡ spelling compiled.certificate
+  pub spelled : Spells text compiled.certificate
   pub valid : Valid compiled.tree compiled.certificate compiled.verdict.open_sites.items
   pub entered : compiled.verdict.visits ≡ length (entries_of compiled.tree)
   pub stripped : IsStripped compiled.tree compiled.verdict.open_sites.items compiled.stripped

@@ -1,5 +1,5 @@
 ghost use Rattle.std.specs.Prelude.{◌≡◌, ℕ, List, length, map, IfOk, IfErr, MatchResult};
-ghost use Rattle.certificate.specs.Text.{spelling};
+ghost use Rattle.certificate.specs.Contents.{Spells};
 ghost use Rattle.cert_checker.specs.Promise.{Valid, StatesHold};
 ghost use Rattle.code_generator.specs.Code.{program_code};
 ghost use Rattle.code_generator.specs.Follows.{Follows};
@@ -47,7 +47,7 @@ pub struct Compiled {
 pub fn compile(alloc: Global, source: &[u8], certificate: Option<&[u8]>) -> Result<Compiled, Fault>
     // The tree is the typed tree of the source, and the certificate is the one that the text spells.
     ensures typed { IfOk result (λ c. IsTypedTreeOf c.tree source.now) }
-    ensures certificate { IfOk result (λ c. text_of certificate.entry ≡ spelling c.certificate) }
+    ensures certificate { IfOk result (λ c. Spells (text_of certificate.entry) c.certificate) }
 
     // Its sites stand in the table by place and then by kind.
     ensures by_place { IfOk result (λ c. AreByPlace (map stands c.tree.sites.items)) }

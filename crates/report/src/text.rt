@@ -58,6 +58,13 @@ pub fn fault_text(alloc: Global, fault: &Fault) -> (Line, u8)
                 2,
             )
         }
+        Refusal::Claim { place, code } => {
+            let start = placed(alloc, place.line, place.column);
+            (
+                refused(sentence_start(start, ": certificate refused "), code),
+                2,
+            )
+        }
     }
 }
 
@@ -100,6 +107,8 @@ pub enum Refusal {
     At { place: Place, code: RuleCode },
     /// At a line of the certificate.
     Certificate { line: u64, code: RuleCode },
+    /// Of what the certificate claims, at a place of the source.
+    Claim { place: Place, code: RuleCode },
     /// Of the program as a whole.
     Whole(RuleCode),
 }
@@ -179,6 +188,8 @@ fn certificate_refusal(fault: ReadFault) -> Refusal
         ReadFault::Memory => return Refusal::Memory,
         ReadFault::FirstLine { line } => (line, 1),
         ReadFault::NotInGrammar { line } => (line, 2),
+        ReadFault::OutOfOrder { line } => (line, 3),
+        ReadFault::OutOfRange { line } => (line, 4),
         ReadFault::Unended { line } => (line, 5),
     };
     Refusal::Certificate {
@@ -195,7 +206,13 @@ fn checker_refusal(fault: CheckFault) -> Refusal
 {
     match fault {
         CheckFault::Memory => Refusal::Memory,
-        CheckFault::Broken { rule, place } => at(place, b'C', rule_number(rule)),
+        CheckFault::Broken { rule, place } => Refusal::Claim {
+            place,
+            code: RuleCode {
+                letter: b'C',
+                number: rule_number(rule),
+            },
+        },
     }
 }
 

@@ -171,6 +171,18 @@ impl Store {
         Ok(numbers)
     }
 
+    /// Pops a number and answers whether it is true.
+    pub fn pop_truth(&mut self) -> Result<bool, MachineFault>
+        ensures value { result ≡ frames.top_is_not_zero (view self.old) }
+        ensures popped { OnOk result (view self.new ≡ frames.popped 1 (view self.old)) }
+        ensures size { self.new.size ≡ self.old.size }
+    {
+        self.has(1)?;
+        let value = self.number_at(1)?;
+        self.used -= 1;
+        Ok(is_true(value))
+    }
+
     /// `chk`: whether the number on top lies in the range.
     pub fn is_in_range(&self, low: i32, high: i32) -> Result<bool, MachineFault>
         ensures { result ≡ frames.top_is_in_range low high (view self.now) }

@@ -4,8 +4,8 @@ ghost use Rattle.token_cursor.specs.Cursor.{IsOfRules};
 use crate::fault::ParseFault;
 use place::Place;
 
-/// How deep a program may nest. Its own compound statement is the first level; each statement in a
-/// compound statement, each actual with its width, each expression in parentheses and each operand
+/// How deep a program may nest. Its own compound statement is the first level; each statement in
+/// another statement, each actual with its width, each expression in parentheses and each operand
 /// of `not` is one level below what it stands in.
 pub const MAX_NESTING: u32 = 128;
 

@@ -1,8 +1,8 @@
 use Rattle.std.proofs.Common.{ap, sym, ◌∙◌, ◌+◌, length, length-append, take, arith}
-use Rattle.std.specs.List.{flat_map}
-use Rattle.code_generator.specs.Code.{stmt_code, parameter_code}
+use Rattle.typed_tree.specs.declared.tree.Stmt.TheVariants.{If}
+use Rattle.code_generator.specs.Code.{expr_code, stmt_code, write_code}
 use Rattle.code_generator.specs.Sizes.{capped}
-use Rattle.code_generator.proofs.Pieces.{stmts_code, stmt_code-Empty, stmt_code-Compound, length-Assign, length-Write, stmts_one_more, all_stmts}
+use Rattle.code_generator.proofs.Pieces.{stmts_code, stmt_code-Empty, stmt_code-Compound, stmt_code-Write, stmt_code-If, stmt_code-If-else, length-Assign, length-If, length-If-else, stmts_one_more, all_stmts}
 use Rattle.code_generator.proofs.size.+stmt_size.Goals as goal
 
 pub returns-in-Empty : goal.returns-in-Empty
@@ -32,12 +32,37 @@ pub returns-in-Assign : goal.returns-in-Assign
 returns-in-Assign t c = λ scope place.
     let whole = ap (λ s. length (stmt_code s scope place)) c.in-Assign.is
     ∙ length-Assign scope place c.in-Assign.number c.in-Assign.becomes c.in-Assign.target c.in-Assign.fits c.in-Assign.value in
-    let one = c.expr_size.ensures scope in
-    grind (arith, whole, one, c.saturating_add.ensures)
+    c.assign_size.ensures scope ∙ ap capped (sym whole)
 
 pub returns-in-Write : goal.returns-in-Write
 returns-in-Write t c = λ scope place.
-    let whole = ap (λ s. length (stmt_code s scope place)) c.in-Write.is
-    ∙ length-Write scope place c.in-Write.number c.in-Write.name c.in-Write.parameters c.in-Write.ends_line in
-    let values = c.parameters_size.ensures scope ∙ ap (λ ps. capped (length (flat_map (parameter_code scope) ps))) c.as_slice.ensures.value in
-    grind (arith, whole, values, c.line_end_size.ensures, c.saturating_add-in-Write.ensures)
+    let ends_line = c.in-Write.ends_line in
+    let whole = ap (λ s. stmt_code s scope place) c.in-Write.is
+    ∙ stmt_code-Write scope place c.in-Write.number c.in-Write.name c.in-Write.parameters ends_line in
+    c.write_size.ensures scope ∙ ap (λ ps. capped (length (write_code scope ps ends_line))) c.as_slice.ensures.value
+    ∙ ap (λ xs. capped (length xs)) (sym whole)
+
+pub returns-in-None : goal.returns-in-None
+returns-in-None t c = λ scope place.
+    let consequence = c.in-If.consequence in
+    let condition = c.in-If.condition in
+    let whole = ap (λ s. stmt_code s scope place) (c.in-If.is ∙ ap (λ o. If c.in-If.number condition consequence o) c.in-None.is)
+    ∙ stmt_code-If scope place c.in-If.number condition consequence in
+    let long = ap length whole ∙ length-If (expr_code scope condition) (stmt_code consequence.value) scope place in
+    let yes = c.stmt_size-in-If.ensures scope (place + length (expr_code scope condition) + 1) in
+    let size = c.if_size-size.ensures scope in
+    grind (arith, long, yes, size)
+
+pub returns-in-Some : goal.returns-in-Some
+returns-in-Some t c = λ scope place.
+    let consequence = c.in-If.consequence in
+    let alternative = c.in-Some.alternative in
+    let condition = c.in-If.condition in
+    let whole = ap (λ s. stmt_code s scope place) (c.in-If.is ∙ ap (λ o. If c.in-If.number condition consequence o) c.in-Some.is)
+    ∙ stmt_code-If-else scope place c.in-If.number condition consequence alternative in
+    let long = ap length whole ∙ length-If-else (expr_code scope condition) (stmt_code consequence.value) (stmt_code alternative.value) scope place in
+    let next = place + length (expr_code scope condition) + 1 in
+    let yes = c.stmt_size-in-If.ensures scope next in
+    let no = c.stmt_size-in-Some.ensures scope (next + length (stmt_code consequence.value scope next) + 1) in
+    let size = c.if_size-size.ensures scope in
+    grind (arith, long, yes, no, size, c.with_else.ensures)

@@ -1,26 +1,28 @@
-use Rattle.std.proofs.Common.{rules, arith, ◌+◌, refl, ◌≡◌, ap, sym, subst, ◌∙◌, [], ◌∷◌, Some, MatchResult}
+use Rattle.std.proofs.Common.{rules, arith, ◌+◌, refl, ◌≡◌, ap, sym, subst, ◌∙◌, [], ◌∷◌, ◌++◌, Some, MatchResult}
 use Rattle.lexer.specs.declared.token.Kind.TheVariants as kind
 use Rattle.lexer.specs.declared.token.Word.TheVariants as word
 use Rattle.syntax_tree.specs.declared.Stmt.{Stmt}
 use Rattle.lexer.specs.declared.token.Symbol.TheVariants as symbol
 use Rattle.token_cursor.specs.declared.fault.ParseFault.TheVariants.{TooDeep}
-use Rattle.grammar.specs.Spelling.{Reads, of_kind_at, word_symbol, stmt_spelling}
+use Rattle.grammar.specs.Spelling.{Reads, of_kind_at, word_symbol, expr_spelling, stmt_spelling}
 use Rattle.grammar.specs.Following.{next_kind, EndsStmt}
 use Rattle.parser.specs.Reading.{Stops, ReadWithin, ReadsDeep}
 use Rattle.parser.specs.Refusing.{Refused}
-use Rattle.parser.proofs.Deep.{front_none, front_on, refused_behind_front, memory_refused, refused_behind_opening, refused_spent}
+use Rattle.parser.proofs.Deep.{front_none, front_on, refused_behind, refused_behind_front, memory_refused, refused_behind_opening, refused_spent}
 use Rattle.parser.specs.Rules.{Read}
 use Rattle.grammar.specs.Begins.{BeginsStatements, BeginsStmt}
 use Rattle.grammar.proofs.Lists.{pushed, emptied}
 use Rattle.parser.proofs.Kept.{handed_on, last, was_read, not_kept}
 use Rattle.grammar.proofs.Rows.{begins, same_first}
-use Rattle.parser.proofs.Exact.{stops_above}
+use Rattle.parser.proofs.Exact.{stops_above, boxed_within}
 use Rattle.grammar.proofs.Parts.{parts_end}
 use Rattle.grammar.proofs.Reading.{reads_fewer, reads_no_more}
 use Rattle.parser.proofs.Reading.{unchanged}
+use Rattle.grammar.proofs.Chains.{then_ends}
+use Rattle.grammar.proofs.Conditionals.{conditional_opened}
 use Rattle.grammar.proofs.Statements.{compounded, opened_compound, statement_list_parts, statement_list_begins, statement_list_goes_on}
-use Rattle.parser.proofs.ExactStatements.{statement_answer, statement_list_left}
-use Rattle.parser.proofs.Statements.{gives-Empty, StatementsGrow, statements_grow_first, statements_grow, compound_closed, compound_stands}
+use Rattle.parser.proofs.ExactStatements.{statement_answer, statement_list_left, branches_left, alternative_left, alternative_taken}
+use Rattle.parser.proofs.Statements.{gives-Empty, StatementsGrow, statements_grow_first, statements_grow, compound_closed, compound_stands, guard_spelled, gives-If}
 use Rattle.parser.proofs.statement.+statement.Goals as goal
 
 pub compound-returns-clause-given : goal.compound-returns-clause-given
@@ -177,3 +179,104 @@ statements-returns-in_default-clause-exact t c = λ depth statements others h en
     c.loop-statements.invariant.1 in
     ap (λ k. k.rest.now) c.in_default.ensures.kept ∙ parts_end Stmt statement_list_parts depth c.statement.new.cursor.rest.now others
     c.in_default.ensures.missed (left depth statements others h ends)
+
+pub statement-returns-in-Some-Word-If-clause-exact : goal.statement-returns-in-Some-Word-If-clause-exact
+statement-returns-in-Some-Word-If-clause-exact t c = λ depth s others h ends.
+    let first : next_kind c.args.cursor.now.rest.now ≡ Some (kind.Word word.If) = search rules in
+    subst (λ n. ReadWithin n depth others c.conditional.new.cursor c.conditional.result) c.in_ok-levels.ensures.left
+    (c.conditional.ensures.exact first depth s others h ends)
+
+pub body-returns-clause-exact : goal.body-returns-clause-exact
+body-returns-clause-exact t c = λ depth s others h ends.
+    boxed_within c.args.levels depth others c.statement.new.cursor c.statement.result c.boxed.result c.boxed.ensures.given (c.statement.ensures.exact depth s others h ends)
+
+pub alternative-returns-in_err-body-clause-given : goal.alternative-returns-in_err-body-clause-given
+alternative-returns-in_err-body-clause-given t c =
+    let fault = c.in_err-body.field-0.0 in
+    handed_on _ _ c.from_residual.result fault c.from_residual.ensures
+    (refused_behind c.args.levels c.args.cursor.now c.take_word.new.self (of_kind_at (kind.Word word.Else) c.in-Some.field-0 ∷ []) fault c.in-Some.ensures.spelled
+    c.in_err-body.ensures.given)
+
+pub alternative-returns-in_err-body-clause-exact : goal.alternative-returns-in_err-body-clause-exact
+alternative-returns-in_err-body-clause-exact t c = λ depth found others h ends.
+    let o = alternative_taken depth c.in-Some.field-0 c.args.cursor.now.rest.now c.take_word.new.self.rest.now others found c.in-Some.ensures.spelled h in
+    handed_on _ _ c.from_residual.result c.in_err-body.field-0.0 c.from_residual.ensures (c.in_err-body.ensures.exact depth o.statement others o.begun ends)
+
+pub alternative-returns-clause-exact : goal.alternative-returns-clause-exact
+alternative-returns-clause-exact t c = λ depth found others h ends.
+    let o = alternative_taken depth c.in-Some.field-0 c.args.cursor.now.rest.now c.take_word.new.self.rest.now others found c.in-Some.ensures.spelled h in
+    c.in_ok-body.ensures.exact depth o.statement others o.begun ends
+
+pub conditional-returns-in_err-condition-clause-given : goal.conditional-returns-in_err-condition-clause-given
+conditional-returns-in_err-condition-clause-given t c =
+    let fault = c.in_err-condition.field-0.0 in
+    handed_on _ _ c.from_residual-in_err-condition.result fault c.from_residual-in_err-condition.ensures
+    (refused_behind (c.args.levels + 1) c.args.cursor.now c.expect_word.new.self (of_kind_at (kind.Word word.If) c.in_ok-place.place ∷ []) fault
+    c.in_ok-place.ensures.spelled c.in_err-condition.ensures.given)
+
+pub conditional-returns-in_err-consequence-clause-given : goal.conditional-returns-in_err-consequence-clause-given
+conditional-returns-in_err-consequence-clause-given t c =
+    let n = c.args.levels in
+    let fault = c.in_err-consequence.field-0.0 in
+    let condition = c.in_ok-condition.condition in
+    handed_on _ _ c.from_residual-in_err-consequence.result fault c.from_residual-in_err-consequence.ensures
+    (refused_behind_opening n (n + 1) c.args.cursor.now c.expect_word.new.self (kind.Word word.If) c.in_ok-place.place fault refl refl
+    c.in_ok-place.ensures.spelled
+    (refused_behind n c.expect_word.new.self c.guard.new.cursor (expr_spelling condition ++ word_symbol word.Then ∷ []) fault
+    (guard_spelled word.Then n c.expect_word.new.self c.guard.new.cursor condition c.in_ok-condition.ensures.given) c.in_err-consequence.ensures.given))
+
+pub conditional-returns-in_err-alternative-clause-given : goal.conditional-returns-in_err-alternative-clause-given
+conditional-returns-in_err-alternative-clause-given t c =
+    let n = c.args.levels in
+    let fault = c.in_err-alternative.field-0.0 in
+    let condition = c.in_ok-condition.condition in
+    handed_on _ _ c.from_residual-in_err-alternative.result fault c.from_residual-in_err-alternative.ensures
+    (refused_behind_opening n (n + 1) c.args.cursor.now c.expect_word.new.self (kind.Word word.If) c.in_ok-place.place fault refl refl
+    c.in_ok-place.ensures.spelled
+    (refused_behind n c.expect_word.new.self c.guard.new.cursor (expr_spelling condition ++ word_symbol word.Then ∷ []) fault
+    (guard_spelled word.Then n c.expect_word.new.self c.guard.new.cursor condition c.in_ok-condition.ensures.given)
+    (refused_behind n c.guard.new.cursor c.body.new.cursor (stmt_spelling c.in_ok-consequence.consequence.value) fault
+    c.in_ok-consequence.ensures.given.spelled c.in_err-alternative.ensures.given)))
+
+pub conditional-returns-clause-given : goal.conditional-returns-clause-given
+conditional-returns-clause-given t c =
+    gives-If c.args.levels c.args.cursor.now c.expect_word.new.self c.guard.new.cursor c.body.new.cursor c.alternative.new.cursor c.in_ok-place.place
+    c.in_ok-condition.condition c.in_ok-consequence.consequence c.in_ok-alternative.alternative c.in_ok-place.ensures.spelled
+    c.in_ok-condition.ensures.given c.in_ok-consequence.ensures.given c.in_ok-alternative.ensures.given
+
+pub conditional-returns-in_err-condition-clause-exact : goal.conditional-returns-in_err-condition-clause-exact
+conditional-returns-in_err-condition-clause-exact t c = λ first depth s others h ends.
+    let o = conditional_opened depth c.in_ok-place.place c.args.cursor.now.rest.now c.expect_word.new.self.rest.now others s c.in_ok-place.ensures.spelled h ends in
+    let p = o.parts in
+    let fault = c.in_err-condition.field-0.0 in
+    handed_on _ _ c.from_residual-in_err-condition.result fault c.from_residual-in_err-condition.ensures
+    (stops_above (c.args.levels + 1) c.args.levels depth p.below fault refl p.less
+    (c.in_err-condition.ensures.exact then_ends p.below o.condition p.middle p.guarded tt))
+
+pub conditional-returns-in_err-consequence-clause-exact : goal.conditional-returns-in_err-consequence-clause-exact
+conditional-returns-in_err-consequence-clause-exact t c = λ first depth s others h ends.
+    let o = conditional_opened depth c.in_ok-place.place c.args.cursor.now.rest.now c.expect_word.new.self.rest.now others s c.in_ok-place.ensures.spelled h ends in
+    let l = branches_left c.args.levels depth c.expect_word.new.self c.guard.new.cursor c.in_ok-condition.condition others
+    (c.in_ok-condition.ensures.exact then_ends) o in
+    let fault = c.in_err-consequence.field-0.0 in
+    handed_on _ _ c.from_residual-in_err-consequence.result fault c.from_residual-in_err-consequence.ensures
+    (stops_above (c.args.levels + 1) c.args.levels depth l.below fault refl l.less
+    (c.in_err-consequence.ensures.exact l.below l.consequence l.branches.middle l.branches.begun l.branches.ends))
+
+pub conditional-returns-in_err-alternative-clause-exact : goal.conditional-returns-in_err-alternative-clause-exact
+conditional-returns-in_err-alternative-clause-exact t c = λ first depth s others h ends.
+    let o = conditional_opened depth c.in_ok-place.place c.args.cursor.now.rest.now c.expect_word.new.self.rest.now others s c.in_ok-place.ensures.spelled h ends in
+    let l = branches_left c.args.levels depth c.expect_word.new.self c.guard.new.cursor c.in_ok-condition.condition others
+    (c.in_ok-condition.ensures.exact then_ends) o in
+    let k = alternative_left c.args.levels depth c.guard.new.cursor c.body.new.cursor c.in_ok-consequence.consequence others c.in_ok-consequence.ensures.exact l in
+    let fault = c.in_err-alternative.field-0.0 in
+    handed_on _ _ c.from_residual-in_err-alternative.result fault c.from_residual-in_err-alternative.ensures
+    (stops_above (c.args.levels + 1) c.args.levels depth k.below fault refl k.less (c.in_err-alternative.ensures.exact k.below k.other others k.behind ends))
+
+pub conditional-returns-clause-exact : goal.conditional-returns-clause-exact
+conditional-returns-clause-exact t c = λ first depth s others h ends.
+    let o = conditional_opened depth c.in_ok-place.place c.args.cursor.now.rest.now c.expect_word.new.self.rest.now others s c.in_ok-place.ensures.spelled h ends in
+    let l = branches_left c.args.levels depth c.expect_word.new.self c.guard.new.cursor c.in_ok-condition.condition others
+    (c.in_ok-condition.ensures.exact then_ends) o in
+    let k = alternative_left c.args.levels depth c.guard.new.cursor c.body.new.cursor c.in_ok-consequence.consequence others c.in_ok-consequence.ensures.exact l in
+    c.in_ok-alternative.ensures.exact k.below k.other others k.behind ends

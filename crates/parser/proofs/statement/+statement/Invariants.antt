@@ -6,13 +6,22 @@ use Rattle.parser.proofs.Statements.{StatementsGrow}
 use Rattle.parser.proofs.statement.+statement.Given as goal
 
 abbrev pub decreases-compound : goal.decreases-compound
-decreases-compound l = 3 * l.levels + 2
+decreases-compound l = 4 * l.levels + 2
 
 abbrev pub decreases-statements : goal.decreases-statements
-decreases-statements l = 3 * l.levels + 1
+decreases-statements l = 4 * l.levels + 1
 
 abbrev pub decreases-statement : goal.decreases-statement
-decreases-statement l = 3 * l.levels
+decreases-statement l = 4 * l.levels
+
+abbrev pub decreases-conditional : goal.decreases-conditional
+decreases-conditional l = 4 * l.levels + 3
+
+abbrev pub decreases-alternative : goal.decreases-alternative
+decreases-alternative l = 4 * l.levels + 2
+
+abbrev pub decreases-body : goal.decreases-body
+decreases-body l = 4 * l.levels + 1
 
 abbrev pub invariant-statements-loop-statements : goal.invariant-statements-loop-statements
 invariant-statements-loop-statements l =

@@ -1,0 +1,238 @@
+-- Statements whose code is emitted by their sizes: the sizes tell where the code of a statement ends before it is there.
+use Rattle.std.proofs.Common.{◌≡◌, ℕ, ◌+◌, ◌<◌, ◌≤◌, List, [], ◌∷◌, ◌++◌, drop, take, get_or, length, map, Some, None, Result, Ok, Err, refl, sym, ap, ◌∙◌, subst, arith, length-append, append_assoc, append-nil}
+use Rattle.std.specs.Prelude.{OnOk, slice_set}
+use Rattle.std.specs.Global.{Vec, Box}
+use Rattle.std.specs.List.{flat_map}
+use Rattle.std.specs.declared.alloc.AllocError.{AllocError}
+use Rattle.std.proofs.lemmas.List.{drop_more, map_more, flat_map_more}
+use Rattle.std.proofs.lemmas.List.Sums.{sum_by-cons}
+use Rattle.std.proofs.lemmas.Simd.{map-map}
+use Rattle.pcode_assembler.specs.declared.instr.Instr.{Instr}
+use Rattle.pcode_assembler.specs.declared.instr.Instr.TheVariants as instr
+use Rattle.place.specs.declared.Place.{Place as SourcePlace}
+use Rattle.typed_tree.specs.declared.tree.Access.{Access}
+use Rattle.typed_tree.specs.declared.tree.RangeTest.{RangeTest}
+use Rattle.typed_tree.specs.declared.tree.Expr.{Expr}
+use Rattle.typed_tree.specs.declared.tree.Stmt.{Stmt}
+use Rattle.typed_tree.specs.declared.tree.Stmt.TheVariants.{Assign, rolls-Assign, Compound, rolls-Compound, If, rolls-If}
+use Rattle.typed_tree.specs.declared.tree.Stmt.TheOpen.Stmt-F.{Assign as Assign-layer, Compound as Compound-layer, If as If-layer}
+use Rattle.typed_tree.specs.declared.tree.Stmt.TheFolds.{fold-roll-Stmt}
+use Rattle.code_generator.specs.declared.scope.Scope.{Scope}
+use Rattle.code_generator.specs.Code.{Placed, assign_code, expr_code, stmt_code, if_code, if_else_code}
+use Rattle.code_generator.specs.Emitted.{Emits}
+use Rattle.code_generator.specs.Sizes.{capped, first_of, rest_of, Measured, measured, measured_step, table_of, all_sizes, all_tables}
+use Rattle.code_generator.proofs.Measures.{is_measured}
+use Rattle.code_generator.proofs.Pieces.{stmts_code, length-If, length-If-else}
+
+-- what is told of a compound statement, and of an if statement
+pub measured-Compound : (scope : Scope) (number : ℕ) (statements : Vec Stmt)
+    → measured (Compound number statements) scope ≡ record {
+      size = all_sizes (map (λ s. measured s scope) statements.items);
+      inner = all_tables (map (λ s. measured s scope) statements.items);
+    }
+measured-Compound scope number statements =
+    ap (λ s. measured s scope) (sym (rolls-Compound number statements))
+    ∙ ap (λ m. m scope) (fold-roll-Stmt (Scope → Measured) measured_step (Compound-layer number statements))
+    ∙ ap (λ ms. record { size = all_sizes ms; inner = all_tables ms }) (map-map (λ (measure : Scope → Measured). measure scope) measured statements.items)
+
+abbrev pub if_measured : List Instr → Measured → Measured
+if_measured test one = record { size = length test + 1 + one.size; inner = table_of one }
+
+abbrev pub if_else_measured : List Instr → Measured → Measured → Measured
+if_else_measured test one other = record { size = length test + 1 + one.size + 1 + other.size; inner = table_of one ++ table_of other }
+
+pub measured-If : (scope : Scope) (number : ℕ) (condition : Expr) (consequence : Box Stmt)
+    → measured (If number condition consequence None) scope ≡ if_measured (expr_code scope condition) (measured consequence.value scope)
+measured-If scope number condition consequence =
+    ap (λ s. measured s scope) (sym (rolls-If number condition consequence None))
+    ∙ ap (λ m. m scope) (fold-roll-Stmt (Scope → Measured) measured_step (If-layer number condition consequence None))
+
+pub measured-If-else : (scope : Scope) (number : ℕ) (condition : Expr) (consequence alternative : Box Stmt)
+    → measured (If number condition consequence (Some alternative)) scope ≡ if_else_measured (expr_code scope condition)
+    (measured consequence.value scope) (measured alternative.value scope)
+measured-If-else scope number condition consequence alternative =
+    ap (λ s. measured s scope) (sym (rolls-If number condition consequence (Some alternative)))
+    ∙ ap (λ m. m scope) (fold-roll-Stmt (Scope → Measured) measured_step (If-layer number condition consequence (Some alternative)))
+
+pub measured-Assign : (scope : Scope) (number : ℕ) (becomes : SourcePlace) (target : Access) (fits : RangeTest) (value : Expr)
+    → measured (Assign number becomes target fits value) scope ≡ record { size = length (assign_code scope target.root fits value); inner = [] }
+measured-Assign scope number becomes target fits value =
+    ap (λ s. measured s scope) (sym (rolls-Assign number becomes target fits value))
+    ∙ ap (λ m. m scope) (fold-roll-Stmt (Scope → Measured) measured_step (Assign-layer number becomes target fits value))
+
+-- what is told of the first statements, and of one more
+all_sizes-push : (ms : List Measured) (m : Measured) → all_sizes (ms ++ m ∷ []) ≡ all_sizes ms + m.size
+all_sizes-push [] m = sum_by-cons (λ (x : Measured). x.size) m [] ∙ omega arith
+all_sizes-push (first ∷ ms) m =
+    let rest = all_sizes-push ms m in
+    omega (arith, rest, sum_by-cons (λ (x : Measured). x.size) first ms, sum_by-cons (λ (x : Measured). x.size) first (ms ++ m ∷ []))
+
+pub sizes_one_more : (scope : Scope) (ss : List Stmt) (i : ℕ) (s : Stmt) → i < length ss → s ≡ get_or ss i s
+    → all_sizes (map (λ x. measured x scope) (take (i + 1) ss)) ≡ all_sizes (map (λ x. measured x scope) (take i ss)) + (measured s scope).size
+sizes_one_more scope ss i s h here =
+    ap all_sizes (map_more (λ x. measured x scope) ss i s h)
+    ∙ all_sizes-push (map (λ x. measured x scope) (take i ss)) (measured (get_or ss i s) scope)
+    ∙ ap (λ x. all_sizes (map (λ y. measured y scope) (take i ss)) + (measured x scope).size) (sym here)
+
+pub tables_one_more : (scope : Scope) (before : List ℕ) (ss : List Stmt) (i : ℕ) (s : Stmt) → i < length ss → s ≡ get_or ss i s
+    → (before ++ all_tables (map (λ x. measured x scope) (take i ss))) ++ table_of (measured s scope) ≡ before ++ all_tables
+    (map (λ x. measured x scope) (take (i + 1) ss))
+tables_one_more scope before ss i s h here =
+    ap (λ x. (before ++ all_tables (map (λ y. measured y scope) (take i ss))) ++ table_of (measured x scope)) here
+    ∙ flat_map_more table_of before (map (λ x. measured x scope) (take i ss)) (measured (get_or ss i s) scope)
+    ∙ ap (λ ms. before ++ all_tables ms) (sym (map_more (λ x. measured x scope) ss i s h))
+
+-- the size of a statement comes where room was left for it
+pub set_at_seam : (before inner : List ℕ) (a b : ℕ) → slice_set (before ++ a ∷ inner) (length before) b ≡ before ++ b ∷ inner
+set_at_seam [] inner a b = refl
+set_at_seam (x ∷ before) inner a b = ap (λ l. x ∷ l) (set_at_seam before inner a b)
+
+pub on_ok : {P Q : Type 0} (answer : Result (Unit {0}) AllocError) → OnOk answer P → (P → Q) → OnOk answer Q
+on_ok (Ok done) p f = f p
+on_ok (Err error) p f = p
+
+-- a code that is emitted as another one
+pub same_emitted : (answer : Result (Unit {0}) AllocError) (before after : List Instr) (sizes left table table' : List ℕ) (code code' : List Instr)
+    → code' ≡ code → table' ≡ table → Emits answer before after sizes left code table → Emits answer before after sizes left code' table'
+same_emitted answer before after sizes left table table' code code' p q h =
+    subst (λ c. Emits answer before after sizes left c table') (sym p) (subst (Emits answer before after sizes left code) (sym q) h)
+
+-- behind the passed size of the statement that they are in
+pub passed_emitted : (answer : Result (Unit {0}) AllocError) (before after : List Instr) (sizes now left : List ℕ) (own : ℕ) (inner : List ℕ) (code : List Instr)
+    → now ≡ rest_of sizes → Emits answer before after now left code inner → Emits answer before after sizes left code
+    (own ∷ inner)
+passed_emitted answer before after sizes now left own inner code is h rest e few =
+    h rest (is ∙ ap rest_of e) few
+
+-- behind an instruction
+pub behind_emitted : (answer : Result (Unit {0}) AllocError) (before more after : List Instr) (sizes left table : List ℕ) (i : Instr)
+    (code : ℕ → List Instr) → more ≡ before ++ i ∷ [] → Emits answer more after sizes left (code (length more)) table
+    → Emits answer before after sizes left (i ∷ code (length before + 1)) table
+behind_emitted answer before more after sizes left table i code is h rest told few =
+    let at : length more ≡ length before + 1 = ap length is ∙ length-append before (i ∷ []) in
+    let few' : length more + length (code (length more)) ≤ 4294967295 =
+    subst (λ n. n + length (code n) ≤ 4294967295) (sym at) (omega arith) in
+    on_ok answer (h rest told few') (λ done. (
+      done.0
+          ∙ ap (λ n. more ++ code n) at
+          ∙ ap (λ c. c ++ code (length before + 1)) is
+          ∙ append_assoc before (i ∷ []) (code (length before + 1)),
+      done.1,
+    ))
+
+-- where the code of the next statement ends, behind so many instructions more
+target_is : (s : Stmt) (scope : Scope) (place : ℕ) (sizes rest : List ℕ) → sizes ≡ table_of (measured s scope) ++ rest
+    → place + length (stmt_code s scope place) ≤ 4294967295 → first_of sizes ≡ length (stmt_code s scope place)
+target_is s scope place sizes rest e few =
+    let size = is_measured s scope place in
+    let least : capped (measured s scope).size ≡ (measured s scope).size = omega arith in
+    ap first_of e ∙ least ∙ sym size
+
+-- an if statement without `else`
+pub if_emitted : (answer : Result (Unit {0}) AllocError) (test : List Instr) (consequence : Stmt) (scope : Scope) (before tested jumping after : List Instr)
+    (sizes left : List ℕ) → tested ≡ before ++ test → jumping ≡ tested ++ instr.JumpIfFalse (capped (length tested + 1 + first_of sizes)) ∷ []
+    → Emits answer jumping after sizes left (stmt_code consequence scope (length jumping)) (table_of (measured consequence scope))
+    → Emits answer before after sizes left (if_code test (stmt_code consequence) scope (length before)) (table_of (measured consequence scope))
+if_emitted answer test consequence scope before tested jumping after sizes left is put emits rest told few =
+    let target = capped (length tested + 1 + first_of sizes) in
+    let place = length before in
+    let yes = place + length test + 1 in
+    let code = stmt_code consequence scope yes in
+    let all = length-If test (stmt_code consequence) scope place in
+    let long : length tested ≡ place + length test = ap length is ∙ length-append before test in
+    let at : length jumping ≡ yes = ap length put ∙ length-append tested (instr.JumpIfFalse target ∷ []) ∙ ap (λ n. n + 1) long in
+    let size : first_of sizes ≡ length code = target_is consequence scope yes sizes rest told (omega arith) in
+    let there : target ≡ yes + length code = omega (arith, long, size) in
+    let few' : length jumping + length (stmt_code consequence scope (length jumping)) ≤ 4294967295 =
+    subst (λ n. n + length (stmt_code consequence scope n) ≤ 4294967295) (sym at) (omega arith) in
+    on_ok answer (emits rest told few') (λ done. (
+      done.0
+          ∙ ap (λ n. jumping ++ stmt_code consequence scope n) at
+          ∙ ap (λ c. c ++ code) (put ∙ ap (λ t. t ++ instr.JumpIfFalse target ∷ []) is)
+          ∙ append_assoc (before ++ test) (instr.JumpIfFalse target ∷ []) code
+          ∙ append_assoc before test (instr.JumpIfFalse target ∷ code)
+          ∙ ap (λ n. before ++ (test ++ (instr.JumpIfFalse n ∷ code))) there,
+      done.1,
+    ))
+
+-- and one with it
+pub if_else_emitted : (answer : Result (Unit {0}) AllocError) (test : List Instr) (consequence alternative : Stmt) (scope : Scope)
+    (before tested jumping done jumped after : List Instr) (sizes between left : List ℕ) → tested ≡ before ++ test
+    → jumping ≡ tested ++ instr.JumpIfFalse (capped (length tested + 1 + capped (first_of sizes + 1))) ∷ []
+    → Emits (Ok tt) jumping done sizes between (stmt_code consequence scope (length jumping)) (table_of (measured consequence scope))
+    → jumped ≡ done ++ instr.Jump (capped (length done + 1 + first_of between)) ∷ []
+    → Emits answer jumped after between left (stmt_code alternative scope (length jumped)) (table_of (measured alternative scope))
+    → Emits answer before after sizes left (if_else_code test (stmt_code consequence) (stmt_code alternative) scope (length before))
+    (table_of (measured consequence scope) ++ table_of (measured alternative scope))
+if_else_emitted answer test consequence alternative scope before tested jumping done jumped after sizes between left is put emits put' emits' rest told few =
+    let target = capped (length tested + 1 + capped (first_of sizes + 1)) in
+    let over = capped (length done + 1 + first_of between) in
+    let place = length before in
+    let yes = place + length test + 1 in
+    let code = stmt_code consequence scope yes in
+    let no = yes + length code + 1 in
+    let other = stmt_code alternative scope no in
+    let all = length-If-else test (stmt_code consequence) (stmt_code alternative) scope place in
+    let rest' = table_of (measured alternative scope) ++ rest in
+    let told' : sizes ≡ table_of (measured consequence scope) ++ rest' =
+    told ∙ append_assoc (table_of (measured consequence scope)) (table_of (measured alternative scope)) rest in
+    let long : length tested ≡ place + length test = ap length is ∙ length-append before test in
+    let at : length jumping ≡ yes = ap length put ∙ length-append tested (instr.JumpIfFalse target ∷ []) ∙ ap (λ n. n + 1) long in
+    let size : first_of sizes ≡ length code = target_is consequence scope yes sizes rest' told' (omega arith) in
+    let there : target ≡ no = omega (arith, long, size) in
+    let few' : length jumping + length (stmt_code consequence scope (length jumping)) ≤ 4294967295 =
+    subst (λ n. n + length (stmt_code consequence scope n) ≤ 4294967295) (sym at) (omega arith) in
+    let first = emits rest' told' few' in
+    let whole : done ≡ before ++ (test ++ (instr.JumpIfFalse no ∷ code)) =
+    first.0
+    ∙ ap (λ n. jumping ++ stmt_code consequence scope n) at
+    ∙ ap (λ c. c ++ code) (put ∙ ap (λ t. t ++ instr.JumpIfFalse target ∷ []) is)
+    ∙ append_assoc (before ++ test) (instr.JumpIfFalse target ∷ []) code
+    ∙ append_assoc before test (instr.JumpIfFalse target ∷ code)
+    ∙ ap (λ n. before ++ (test ++ (instr.JumpIfFalse n ∷ code))) there in
+    let long' : length done ≡ yes + length code = ap length whole ∙ length-append before (test ++ (instr.JumpIfFalse no ∷ code))
+    ∙ ap (λ n. place + n) (length-append test (instr.JumpIfFalse no ∷ code)) ∙ (omega arith) in
+    let at' : length jumped ≡ no = ap length put' ∙ length-append done (instr.Jump over ∷ []) ∙ ap (λ n. n + 1) long' in
+    let size' : first_of between ≡ length other = target_is alternative scope no between rest first.1 (omega arith) in
+    let there' : over ≡ no + length other = omega (arith, long', size') in
+    let few'' : length jumped + length (stmt_code alternative scope (length jumped)) ≤ 4294967295 =
+    subst (λ n. n + length (stmt_code alternative scope n) ≤ 4294967295) (sym at') (omega arith) in
+    let behind = instr.Jump over ∷ other in
+    on_ok answer (emits' rest first.1 few'') (λ end. (
+      end.0
+          ∙ ap (λ n. jumped ++ stmt_code alternative scope n) at'
+          ∙ ap (λ c. c ++ other) put'
+          ∙ append_assoc done (instr.Jump over ∷ []) other
+          ∙ ap (λ c. c ++ behind) whole
+          ∙ append_assoc before (test ++ (instr.JumpIfFalse no ∷ code)) behind
+          ∙ ap (λ c. before ++ c) (append_assoc test (instr.JumpIfFalse no ∷ code) behind)
+          ∙ ap (λ n. before ++ (test ++ (instr.JumpIfFalse no ∷ (code ++ (instr.Jump n ∷ other))))) there',
+      end.1,
+    ))
+
+-- ---- statements one after another
+
+-- what is emitted, and what is still to do: with the code of the statements that are left it is the whole
+pub record IsLeft (scope : Scope) (whole : List Instr) (rest : List ℕ) (statements : List Stmt) (code : List Instr) (sizes : List ℕ) : Type 0 where
+  pub code_is : code ++ stmts_code scope statements (length code) ≡ whole
+  pub sizes_are : sizes ≡ all_tables (map (λ s. measured s scope) statements) ++ rest
+
+-- a statement further
+pub one_emitted : (scope : Scope) (whole : List Instr) (rest : List ℕ) (s : Stmt) (statements : List Stmt) (code after : List Instr) (sizes left : List ℕ)
+    → length whole ≤ 4294967295 → IsLeft scope whole rest (s ∷ statements) code sizes
+    → Emits (Ok tt) code after sizes left (stmt_code s scope (length code)) (table_of (measured s scope)) → IsLeft scope whole rest statements after left
+one_emitted scope whole rest s statements code after sizes left few h emits =
+    let place = length code in
+    let c = stmt_code s scope place in
+    let next = stmts_code scope statements (place + length c) in
+    let tables = all_tables (map (λ x. measured x scope) statements) in
+    let long = ap length h.code_is in
+    let e = emits (tables ++ rest) (h.sizes_are ∙ append_assoc (table_of (measured s scope)) tables rest)
+    (omega (arith, long, length-append code (c ++ next), length-append c next)) in
+    record {
+      code_is = ap (λ xs. xs ++ stmts_code scope statements (length xs)) e.0
+          ∙ ap (λ n. (code ++ c) ++ stmts_code scope statements n) (length-append code c)
+          ∙ append_assoc code c next
+          ∙ h.code_is;
+      sizes_are = e.1;
+    }

@@ -1,0 +1,64 @@
+-- What is told of a statement is how many instructions it has.
+use Rattle.std.proofs.Common.{◌≡◌, ℕ, ◌+◌, List, [], ◌∷◌, ◌++◌, length, map, Some, None, refl, ap, sym, subst, ◌∙◌, arith, length-append}
+use Rattle.std.specs.List.{flat_map}
+use Rattle.std.proofs.lemmas.List.Sums.{sum_by-cons}
+use Rattle.typed_tree.specs.declared.tree.Stmt.{Stmt}
+use Rattle.typed_tree.specs.declared.tree.Stmt.TheOpen.{Stmt-F}
+use Rattle.typed_tree.specs.declared.tree.Stmt.TheOpen.Stmt-F.{Empty, Assign, Write, Compound, If}
+use Rattle.typed_tree.specs.declared.tree.Stmt.TheViews.{roll-Stmt}
+use Rattle.typed_tree.specs.declared.tree.Stmt.TheFolds.{map-Stmt, fold-roll-Stmt, ind-Stmt}
+use Rattle.code_generator.specs.declared.scope.Scope.{Scope}
+use Rattle.code_generator.specs.Code.{Placed, placed, expr_code, stmt_code, stmt_step}
+use Rattle.code_generator.specs.Sizes.{Measured, measured, measured_step, all_sizes}
+use Rattle.code_generator.proofs.Pieces.{length-If, length-If-else}
+
+abbrev pub IsMeasured : Stmt → Type 0
+IsMeasured s = (scope : Scope) (place : ℕ) → length (stmt_code s scope place) ≡ (measured s scope).size
+
+abbrev MeasuredStmt : Type 0
+MeasuredStmt = (s : Stmt) × IsMeasured s
+
+abbrev bare : Stmt-F MeasuredStmt → Stmt-F Stmt
+bare = map-Stmt MeasuredStmt Stmt (λ s. s.0)
+
+rolled : (x : Stmt-F Stmt) → ((scope : Scope) (place : ℕ) → length (stmt_step (map-Stmt Stmt Placed stmt_code x) scope place) ≡
+    (measured_step (map-Stmt Stmt (Scope → Measured) measured x) scope).size) → IsMeasured (roll-Stmt x)
+rolled x h scope place =
+    ap (λ code. length (code scope place)) (fold-roll-Stmt Placed stmt_step x) ∙ h scope place
+    ∙ sym (ap (λ m. (m scope).size) (fold-roll-Stmt (Scope → Measured) measured_step x))
+
+all_measured : (scope : Scope) (statements : List MeasuredStmt) (place : ℕ)
+    → length (placed (map (λ code. code scope) (map stmt_code (map (λ s. s.0) statements))) place) ≡ all_sizes
+    (map (λ (measure : Scope → Measured). measure scope) (map measured (map (λ s. s.0) statements)))
+all_measured scope [] place = refl
+all_measured scope (s ∷ statements) place =
+    let code = stmt_code s.0 scope place in
+    let next = place + length code in
+    let rest = map (λ (measure : Scope → Measured). measure scope) (map measured (map (λ s. s.0) statements)) in
+    length-append code (placed (map (λ c. c scope) (map stmt_code (map (λ s. s.0) statements))) next)
+    ∙ ap (λ n. n + length (placed (map (λ c. c scope) (map stmt_code (map (λ s. s.0) statements))) next)) (s.1 scope place)
+    ∙ ap (λ n. (measured s.0 scope).size + n) (all_measured scope statements next)
+    ∙ sym (sum_by-cons (λ (m : Measured). m.size) (measured s.0 scope) rest)
+
+layer : (y : Stmt-F MeasuredStmt) → IsMeasured (roll-Stmt (bare y))
+layer (Empty number) = rolled (Empty number) (λ scope place. refl)
+layer (Assign number becomes target fits value) = rolled (Assign number becomes target fits value) (λ scope place. refl)
+layer (Write number name parameters ends_line) = rolled (Write number name parameters ends_line) (λ scope place. refl)
+layer (Compound number statements) =
+    rolled (bare (Compound number statements)) (λ scope place. all_measured scope statements.items place)
+layer (If number condition consequence None) =
+    rolled (bare (If number condition consequence None)) (λ scope place.
+    let test = expr_code scope condition in
+    length-If test (stmt_code consequence.value.0) scope place ∙ ap (λ n. length test + 1 + n) (consequence.value.1 scope (place + length test + 1)))
+layer (If number condition consequence (Some alternative)) =
+    rolled (bare (If number condition consequence (Some alternative))) (λ scope place.
+    let test = expr_code scope condition in
+    let yes = place + length test + 1 in
+    let no = yes + length (stmt_code consequence.value.0 scope yes) + 1 in
+    length-If-else test (stmt_code consequence.value.0) (stmt_code alternative.value.0) scope place
+    ∙ ap (λ n. length test + 1 + n + 1 + length (stmt_code alternative.value.0 scope no)) (consequence.value.1 scope yes)
+    ∙ ap (λ n. length test + 1 + (measured consequence.value.0 scope).size + 1 + n) (alternative.value.1 scope no))
+
+-- the size of a statement is the length of its code, wherever that stands
+pub is_measured : (s : Stmt) → IsMeasured s
+is_measured = ind-Stmt IsMeasured (λ x y is. subst (λ z. IsMeasured (roll-Stmt z)) is (layer y))
