@@ -1,4 +1,5 @@
 pub mod Among
+pub mod Claims
 pub mod Entered
 pub mod Held
 pub mod Keeping

@@ -18,7 +18,7 @@ use Rattle.std.specs.declared.boxed.Box.{Box}
 use Rattle.std.specs.declared.vec.Vec.{Vec}
 use Rattle.std.specs.declared.alloc.Global.{Global}
 use Rattle.cert_checker.specs.declared.fault.CheckFault.{CheckFault}
-use Rattle.cert_checker.specs.declared.fault.CheckFault.TheVariants.{Memory, Broken}
+use Rattle.cert_checker.specs.declared.fault.CheckFault.TheVariants.{Memory, Foreign, Broken}
 use Rattle.abstract_state.specs.declared.known.Known.{Known}
 use Rattle.cert_checker.specs.declared.visits.Visits.{Visits}
 use Rattle.cert_checker.specs.declared.walk.Walk.{Walk}
@@ -30,7 +30,7 @@ use Rattle.abstract_state.specs.Changes.{assigned}
 use Rattle.abstract_state.specs.Conditions.{bound_form}
 use Rattle.domain.specs.Facts.{Bound}
 use Rattle.abstract_state.specs.State.{State, Dead, Live, is_defined, joined_states, limits_of, range_of, with_defined}
-use Rattle.cert_checker.specs.Walk.{Breach, Context, Linked, Walked, Walking, use_of, tested, positive, within, width_test, assign, change, fitting, ◌>>=◌, give, ordinal, enter, variable_walk, operated, combined, in_turn, value_walk, link_walk, parameter_walk, statement_walk, all_of, assignment, branches, breach_unless, facts_given, followed, loop_walk, repeat_round, while_round, with_state, where_so, numbers_of}
+use Rattle.cert_checker.specs.Walk.{Breach, Context, Linked, Walked, Walking, use_of, tested, positive, within, width_test, assign, change, fitting, ◌>>=◌, give, ordinal, enter, variable_walk, operated, combined, in_turn, value_walk, link_walk, parameter_walk, statement_walk, all_of, assignment, branches, breach_unless, facts_given, followed, here, loop_walk, repeat_round, while_round, with_state, where_so, numbers_of}
 use Rattle.cert_checker.specs.View.{context_of, all_counted, counted, else_walk, AtHead, EntersLoop, IsBehind, IsMoved, LeavesLoop, Meets, Parts, Walks, Goes}
 use Rattle.cert_checker.specs.Loops.{Claims, claims_on, limits_at, round_of, touched}
 use Rattle.abstract_state.specs.Loops.{gives_all, head}
@@ -136,6 +136,7 @@ first-stays (first ∷ one) two breach is = is
 breach-stays : {A B : Type 0} (walked : Walked A) (more : Walked B) (fault : CheckFault) (both : Walked B) → both.broken ≡ walked.broken ++ more.broken
     → IsBreachOf walked fault → IsBreachOf both fault
 breach-stays walked more Memory both are is = tt
+breach-stays walked more Foreign both are is = is
 breach-stays walked more (Broken rule place) both are is =
     ap first_breach are ∙ first-stays walked.broken more.broken (record { rule = rule; place = place }) is
 
@@ -143,6 +144,7 @@ breach-stays walked more (Broken rule place) both are is =
 breach-same : {A B : Type 0} (walked : Walked A) (other : Walked B) (fault : CheckFault) → walked.broken ≡ other.broken → IsBreachOf walked fault
     → IsBreachOf other fault
 breach-same walked other Memory same is = tt
+breach-same walked other Foreign same is = is
 breach-same walked other (Broken rule place) same is = ap first_breach (sym same) ∙ is
 
 -- the first piece was walked over: what the checker did over the next is what it did over both
@@ -179,10 +181,10 @@ given-up {A} walk old new before after fault (Err other) is goes =
 
 -- ---- a list of pieces, from one of them on
 
-item-cut : {X : Type 0} (items : List X) (i : ℕ) (x : X) → i < length items → x ≡ get_or items i x → drop i items ≡ x ∷ drop (i + 1) items
+pub item-cut : {X : Type 0} (items : List X) (i : ℕ) (x : X) → i < length items → x ≡ get_or items i x → drop i items ≡ x ∷ drop (i + 1) items
 item-cut items i x inside is = rw add-one (drop-cons items i x inside ∙ ap (λ y. y ∷ drop (suc i) items) (sym is))
 
-drop-past : {X : Type 0} (items : List X) (i : ℕ) → length items ≤ i → drop i items ≡ []
+pub drop-past : {X : Type 0} (items : List X) (i : ℕ) → length items ≤ i → drop i items ≡ []
 drop-past items i past = drop_all i items past
 
 all-cut : {X : Type 0} (walk : X → Walking (Unit {0})) (items : List X) (i : ℕ) (x : X) → i < length items → x ≡ get_or items i x
@@ -457,17 +459,17 @@ module _ (number : ℕ) (place : SourcePlace) (walking : Walking State) (old hea
   abbrev claims : Claims
   claims = claims_on old.certificate.now number
 
-  abbrev within : Context
-  within = record (context_of old) { rounds = (context_of old).rounds ++ round_of claims ∷ [] }
+  abbrev inner_context : Context
+  inner_context = record (context_of old) { rounds = (context_of old).rounds ++ round_of claims ∷ [] }
 
   abbrev turn : Walked State
-  turn = walking within (head (limits_at old.limits.items) (touched (round_of claims)) [] claims.facts (viewed old.state))
+  turn = walking inner_context (head (limits_at old.limits.items) (touched (round_of claims)) [] claims.facts (viewed old.state))
 
   abbrev whole : Walked (Unit {0})
   whole = loop_walk number place walking (context_of old) (viewed old.state)
 
   turn-same : walking (context_of headed) (viewed headed.state) ≡ turn
-  turn-same = ap (λ context. walking context (viewed headed.state)) at_head.context_is ∙ ap (walking within) at_head.state_is
+  turn-same = ap (λ context. walking context (viewed headed.state)) at_head.context_is ∙ ap (walking inner_context) at_head.state_is
 
   -- no rule is broken where the loop is entered
   entered-unbroken : whole.broken ≡ turn.broken ++ (facts_given LoopTurn place claims.facts (context_of old) turn.after).broken ++ []
@@ -484,7 +486,7 @@ module _ (number : ℕ) (place : SourcePlace) (walking : Walking State) (old hea
       (breach-same (walking (context_of headed) (viewed headed.state)) turn fault (ap (λ w. w.broken) turn-same) is)
 
   module _ (rounded : Walk) (before after : Visits) (behind : Kept) (one : Walks walking headed before rounded after (viewed behind)) where
-    context-within : context_of rounded ≡ within
+    context-within : context_of rounded ≡ inner_context
     context-within = one.context_is ∙ at_head.context_is
 
     claims-same : claims_on rounded.certificate.now number ≡ claims
@@ -554,3 +556,44 @@ repeat-begun statement number loop_number place statements condition items old e
     (goes-then (enter number) (λ _. looped) old entered new before between end tt result one
     (goes-as looped (loop_walk loop_number place (repeat_round (all_of (map statement_walk items)) condition)) entered new between end result
     (ap (λ l. loop_walk loop_number place (repeat_round (all_of (map statement_walk l)) condition)) (sym items_are)) two))
+
+-- ---- rounds
+
+-- a round of a while: the condition, and then the body where it is true
+pub while_round-done : (condition : Expr) (body : Walking (Unit {0})) (known : Known) (old valued taken new : Walk) (before between after : Visits)
+    (behind : Kept)
+    → Walks (value_walk condition) old before valued between known → Parts condition known valued (Ok behind) taken → Walks body taken between new after tt
+    → Walks (while_round condition body) old before new after (viewed behind)
+while_round-done condition body known old valued taken new before between after behind one parts two =
+    let was : Walked (Unit {0}) = body (context_of valued) (where_so true condition known (viewed valued.state)) in
+    let same = moved-same body (where_so true condition known (viewed valued.state)) valued taken parts.0 in
+    let rest = λ (known : Known). here >>= λ tested. (with_state (where_so true condition known tested) >>= λ _.
+    (body >>= λ _. give (where_so false condition known tested))) in
+    walks-then (value_walk condition) rest old valued new before between after known (viewed behind) one (record {
+      context_is = two.context_is ∙ ap context_of parts.0.only_state;
+      value_is = parts.1;
+      state_is = two.state_is ∙ ap (λ w. w.after) same;
+      open_is = two.open_is ∙ ap (λ (w : Walk). w.open_ids.items ++ (body (context_of taken) (viewed taken.state)).open_ids) parts.0.only_state
+          ∙ ap (λ w. valued.open_ids.items ++ w.open_ids) same ∙ ap (λ ids. valued.open_ids.items ++ ids) (sym (append-nil was.open_ids));
+      visits_are = two.visits_are ∙ ap (λ w. all_counted (numbers_of w.linked) between) same
+          ∙ ap (λ linked. all_counted (numbers_of linked) between) (sym (append-nil was.linked));
+      unbroken = append-nil was.broken ∙ ap (λ w. w.broken) (sym same) ∙ two.unbroken;
+    })
+
+-- a round of a repeat: the body, and then the condition
+pub repeat_round-done : (body : Walking (Unit {0})) (condition : Expr) (known : Known) (old bodied valued taken new : Walk) (before between after : Visits)
+    (again behind : Kept)
+    → Walks body old before bodied between tt → Walks (value_walk condition) bodied between valued after known
+    → Parts condition known valued (Ok again) taken → behind ≡ taken.state → new.state ≡ again → new ≡ record taken { state = new.state }
+    → Walks (repeat_round body condition) old before new after (viewed behind)
+repeat_round-done body condition known old bodied valued taken new before between after again behind one two parts behind_is again_is only =
+    let rest = λ (known : Known). here >>= λ tested. (with_state (where_so false condition known tested) >>= λ _. give (where_so true condition known tested)) in
+    walks-then body (λ _. value_walk condition >>= rest) old bodied new before between after tt (viewed behind) one
+    (walks-then (value_walk condition) rest bodied valued new between after after known (viewed behind) two (record {
+      context_is = ap context_of only ∙ ap context_of parts.0.only_state;
+      value_is = ap viewed behind_is ∙ parts.0.says;
+      state_is = ap viewed again_is ∙ parts.1;
+      open_is = ap (λ (w : Walk). w.open_ids.items) only ∙ ap (λ (w : Walk). w.open_ids.items) parts.0.only_state ∙ sym (append-nil valued.open_ids.items);
+      visits_are = refl;
+      unbroken = refl;
+    }))

@@ -15,9 +15,9 @@ use Rattle.cert_checker.specs.declared.visits.Visits.{Visits}
 use Rattle.cert_checker.specs.declared.walk.Walk.{Walk}
 use Rattle.cert_checker.specs.declared.rounds.Round.{Round as KeptRound}
 use Rattle.certificate.specs.declared.LoopClaims.{LoopClaims as KeptClaims}
-use Rattle.cert_checker.specs.Loops.{Claims, Round, claims_on, limits_at, no_claims, round_of, touched}
+use Rattle.cert_checker.specs.Loops.{Claims, Round, claims_of, claims_on, limits_at, round_of, touched}
+use Rattle.certificate.specs.Contents.{LoopClaims, loop_of}
 use Rattle.abstract_state.specs.Loops.{gives_all, head}
-use Rattle.domain.specs.Facts.{said}
 use Rattle.place.specs.declared.Place.{Place}
 use Rattle.abstract_state.specs.State.{State, joined_states}
 use Rattle.cert_checker.specs.Promise.{IsBreachOf}
@@ -34,10 +34,14 @@ abbrev pub all_counted : List ℕ → Visits → Visits
 all_counted [] visits = visits
 all_counted (number ∷ numbers) visits = all_counted numbers (counted number visits)
 
--- what is claimed of a loop, if anything is
+-- claims that the checker has found, as the definitions see them
+abbrev pub found_as : Option (Bor KeptClaims) → Option LoopClaims
+found_as None = None
+found_as (Some claims) = Some (loop_of claims.now)
+
+-- what they claim of a loop
 abbrev pub said_claims : Option (Bor KeptClaims) → Claims
-said_claims None = no_claims
-said_claims (Some claims) = record { changes = claims.now.changes.items; facts = map said claims.now.facts.items }
+said_claims claims = claims_of (found_as claims)
 
 -- a loop round the checker
 abbrev pub kept_round : KeptRound → Round

@@ -27,6 +27,9 @@ pub enum Rule {
 pub enum CheckFault {
     #[error("no memory")]
     Memory,
+    /// C1: the certificate names what the program doesn't have.
+    #[error("the certificate names what the program does not have")]
+    Foreign,
     /// A rule that is broken, and where.
     #[error("{place}: the certificate breaks a rule")]
     Broken { rule: Rule, place: Place },

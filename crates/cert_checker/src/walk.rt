@@ -133,7 +133,7 @@ impl<'a> Walk<'a> {
             } => {
                 self.enter(*number, visits)?;
                 self.enter_loop(*loop_number, *place)?;
-                let behind = self.while_round(condition, body, visits)?;
+                let behind = self.while_round(body, condition, visits)?;
                 self.leave_loop(*loop_number, *place, behind)
             }
             Stmt::Repeat {
@@ -166,8 +166,8 @@ impl<'a> Walk<'a> {
     #[cycle(statement)]
     fn while_round(
         &mut self,
-        condition: &Expr,
         body: &Stmt,
+        condition: &Expr,
         visits: &mut Visits,
     ) -> Result<State, CheckFault>
         ensures { Goes (while_round condition.now (statement_walk body.now)) self.old visits.old (said_state result)
