@@ -29,11 +29,11 @@ use Rattle.cert_checker.specs.declared.visits.Visits.{Visits}
 use Rattle.cert_checker.specs.Promise.{LinksEntries}
 use Rattle.abstract_state.specs.State.{State, Dead, start}
 use Rattle.cert_checker.specs.View.{all_counted, counted}
-use Rattle.cert_checker.specs.Loops.{all_limits, claims_on, limits_at, round_of, touched}
+use Rattle.cert_checker.specs.Loops.{claims_on, limits_at, round_of, touched}
 use Rattle.abstract_state.specs.Loops.{head}
 use Rattle.abstract_state.specs.Conditions.{bound_form}
 use Rattle.place.specs.declared.Place.{Place}
-use Rattle.cert_checker.specs.Walk.{Context, Linked, Walking, Combination, ◌>>=◌, numbers_of, operated, combined, width_test, fitting, assign, change, loop_walk, while_round, repeat_round, value_step, link_step, value_walk, link_walk, width_walk, parameter_walk, statement_step, statement_walk, in_turn, where_so, all_of, block_walk, program_walk}
+use Rattle.cert_checker.specs.Walk.{Context, Linked, Walking, Combination, ◌>>=◌, first_context, numbers_of, operated, combined, width_test, fitting, assign, change, loop_walk, while_round, repeat_round, value_step, link_step, value_walk, link_walk, width_walk, parameter_walk, statement_step, statement_walk, in_turn, where_so, all_of, block_walk, program_walk}
 
 -- a walk links states to these, in whatever context and from whatever state
 abbrev Enters : {A : Type 0} → Walking A → List ℕ → Type 0
@@ -250,7 +250,7 @@ block-entered block context state = statement-entered block.body context (start 
 -- and that over a program
 pub program-entered : (tree : Tree) (certificate : Certificate) → numbers_of (program_walk tree certificate).linked ≡ entries_of tree
 program-entered tree certificate =
-    all-entered block_walk (λ block. entries_of_statement block.body) block-entered tree.blocks.items (record { tree = tree; certificate = certificate; limits = all_limits tree; rounds = [] }) Dead
+    all-entered block_walk (λ block. entries_of_statement block.body) block-entered tree.blocks.items (first_context tree certificate) Dead
 
 pub links_entries : (tree : Tree) (certificate : Certificate) → LinksEntries tree certificate
 links_entries tree certificate = record { of_block = block-entered; of_program = program-entered tree certificate }

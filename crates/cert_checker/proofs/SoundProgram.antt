@@ -21,7 +21,7 @@ use Rattle.meaning.specs.Effect as effect
 use Rattle.meaning.specs.Effect.{Reply, Visit}
 use Rattle.meaning.specs.Meaning.{run, run_of, first_state, ended, home_of, program_environment}
 use Rattle.abstract_state.specs.State.{Dead, start}
-use Rattle.cert_checker.specs.Walk.{Context, Linked, Walked, block_walk, all_of, begin, statement_walk, program_walk, numbers_of}
+use Rattle.cert_checker.specs.Walk.{Context, Linked, Walked, block_walk, all_of, begin, first_context, statement_walk, program_walk, numbers_of}
 use Rattle.abstract_state.specs.Holds.{Separate, StateHolds, part_of}
 use Rattle.meaning.specs.declared.store.Value.{Value}
 use Rattle.cert_checker.specs.Promise.{open_in, AreNumbered, ClosedNeverErr, HoldsAt, StatesHold, moment_of, visits_of}
@@ -115,7 +115,7 @@ pub program-foretold : (tree : Tree) (certificate : Certificate) (input : List �
     → Foretold (program_world tree certificate) (run tree input turns)
 program-foretold tree certificate input turns unbroken well =
     blocks-foretold (program_world tree certificate) (program_environment tree) (program-shows tree well) tree.blocks.items
-    (record { tree = tree; certificate = certificate; limits = all_limits tree; rounds = [] }) input turns refl refl well.blocks unbroken
+    (first_context tree certificate) input turns refl refl well.blocks unbroken
     (record { ids = λ id inside. inside; linked = λ one inside. inside })
 
 -- ---- numbers that are places

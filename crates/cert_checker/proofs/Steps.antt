@@ -1,5 +1,5 @@
 -- What the checker did over a piece of a program, from what it did over the parts of the piece.
-use Rattle.std.proofs.Common.{rules, ◌≡◌, ◌≤◌, Bool, true, false, Option, Some, None, Result, Ok, Err, ℕ, ℤ, ◌+◌, List, [], ◌∷◌, ◌++◌, length, map, refl, sym, ap, ◌∙◌, subst, append_assoc, append-nil, ◌<◌, get_or, drop, drop-cons, add-one, suc}
+use Rattle.std.proofs.Common.{rules, ◌≡◌, ◌≤◌, Bool, true, false, ◌&&◌, Option, Some, None, Result, Ok, Err, ℕ, ℤ, ◌+◌, List, [], ◌∷◌, ◌++◌, length, map, refl, sym, ap, ◌∙◌, subst, append_assoc, append-nil, ◌<◌, get_or, drop, drop-cons, add-one, suc}
 use Rattle.std.proofs.lemmas.List.{drop_all}
 use Rattle.std.specs.Result.{IsErr, IsErrAnd}
 use Rattle.place.specs.declared.Place.{Place as SourcePlace}
@@ -30,11 +30,17 @@ use Rattle.abstract_state.specs.Changes.{assigned}
 use Rattle.abstract_state.specs.Conditions.{bound_form}
 use Rattle.domain.specs.Facts.{Bound}
 use Rattle.abstract_state.specs.State.{State, Dead, Live, is_defined, joined_states, limits_of, range_of, with_defined}
-use Rattle.cert_checker.specs.Walk.{Breach, Context, Linked, Walked, Walking, use_of, tested, positive, within, width_test, assign, change, fitting, ◌>>=◌, give, ordinal, enter, variable_walk, operated, combined, in_turn, value_walk, link_walk, parameter_walk, statement_walk, all_of, assignment, branches, breach_unless, facts_given, followed, here, loop_walk, repeat_round, while_round, with_state, where_so, numbers_of}
-use Rattle.cert_checker.specs.View.{context_of, all_counted, counted, else_walk, AtHead, EntersLoop, IsBehind, IsMoved, LeavesLoop, Meets, Parts, Walks, Goes}
-use Rattle.cert_checker.specs.Loops.{Claims, claims_on, limits_at, round_of, touched}
-use Rattle.abstract_state.specs.Loops.{gives_all, head}
-use Rattle.cert_checker.specs.declared.fault.Rule.TheVariants.{LoopEntry, LoopTurn}
+use Rattle.cert_checker.specs.Walk.{Breach, Context, Linked, Walked, Walking, use_of, tested, positive, within, width_test, assign, change, fitting, ◌>>=◌, give, ordinal, enter, variable_walk, operated, combined, in_turn, value_walk, link_walk, parameter_walk, statement_walk, all_of, assignment, block_walk, branches, breach_unless, facts_given, first_context, program_walk, followed, here, loop_walk, repeat_round, while_round, with_state, where_so, numbers_of}
+use Rattle.cert_checker.specs.View.{context_of, all_counted, counted, else_walk, AtHead, EntersLoop, IsBegun, IsBehind, IsMoved, kept_round, LeavesLoop, Meets, Parts, Walks, Goes}
+use Rattle.cert_checker.specs.Loops.{Claims, Round, all_list, claims_on, limits_at, round_of, touched}
+use Rattle.abstract_state.specs.Loops.{gives_all, head, is_among}
+use Rattle.std.specs.List.{list_all}
+use Rattle.std.proofs.lemmas.List.Folds.{list_all-map}
+use Rattle.domain.specs.Interval.{is_included}
+use Rattle.types.specs.declared.form.OrdinalRange.{OrdinalRange}
+use Rattle.typed_tree.specs.declared.tree.Tree.{Tree}
+use Rattle.certificate.specs.declared.Certificate.{Certificate}
+use Rattle.cert_checker.specs.declared.fault.Rule.TheVariants.{LoopEntry, LoopTurn, Changes}
 use Rattle.cert_checker.specs.Promise.{first_breach, IsBreachOf}
 
 -- ---- the walk, form by form
@@ -472,7 +478,7 @@ module _ (number : ℕ) (place : SourcePlace) (walking : Walking State) (old hea
   turn-same = ap (λ context. walking context (viewed headed.state)) at_head.context_is ∙ ap (walking inner_context) at_head.state_is
 
   -- no rule is broken where the loop is entered
-  entered-unbroken : whole.broken ≡ turn.broken ++ (facts_given LoopTurn place claims.facts (context_of old) turn.after).broken ++ []
+  entered-unbroken : whole.broken ≡ turn.broken ++ ((facts_given LoopTurn place claims.facts (context_of old) turn.after).broken ++ [])
   entered-unbroken =
       ap (λ given. breach_unless given LoopEntry place
       ++ (turn.broken ++ ((facts_given LoopTurn place claims.facts (context_of old) turn.after).broken ++ []))) at_head.given
@@ -597,3 +603,74 @@ repeat_round-done body condition known old bodied valued taken new before betwee
       visits_are = refl;
       unbroken = refl;
     }))
+
+-- ---- a change of a variable, and the whole program
+
+pub change-done : (place : SourcePlace) (root : ℕ) (range : OrdinalRange) (walk : Walk) (visits : Visits) (fits listed : Bool)
+    → fits ≡ is_included (limits_of range) (limits_at walk.limits.items root)
+    → listed ≡ list_all (λ round. is_among root (kept_round round).changes) walk.rounds.items → fits ≡ true → listed ≡ true
+    → Walks (change place root range) walk visits walk visits tt
+change-done place root range walk visits fits listed fits_is listed_is fit list =
+    let all = list_all-map (λ (round : Round). is_among root round.changes) kept_round walk.rounds.items ∙ sym listed_is in
+    record {
+      context_is = refl;
+      value_is = refl;
+      state_is = refl;
+      open_is = sym (append-nil walk.open_ids.items);
+      visits_are = refl;
+      unbroken = ap (λ l. breach_unless (l && is_included (limits_of range) (limits_at walk.limits.items root)) Changes place) (all ∙ list)
+          ∙ ap (λ f. breach_unless f Changes place) (sym fits_is ∙ fit);
+    }
+
+and-false : (a b : Bool) → b ≡ false → (a && b) ≡ false
+and-false true b is = is
+and-false false b is = refl
+
+-- the test of what a change asks
+asked-same : (root : ℕ) (range : OrdinalRange) (walk : Walk) (listed : Bool)
+    → listed ≡ list_all (λ round. is_among root (kept_round round).changes) walk.rounds.items
+    → (all_list root (context_of walk).rounds && is_included (limits_of range) (limits_at walk.limits.items root))
+    ≡ (listed && is_included (limits_of range) (limits_at walk.limits.items root))
+asked-same root range walk listed listed_is =
+    ap (λ l. l && is_included (limits_of range) (limits_at walk.limits.items root))
+    (list_all-map (λ (round : Round). is_among root round.changes) kept_round walk.rounds.items ∙ sym listed_is)
+
+-- a loop doesn't list the variable
+pub unlisted : (place : SourcePlace) (root : ℕ) (range : OrdinalRange) (walk : Walk) (visits : Visits) (listed : Bool)
+    → listed ≡ list_all (λ round. is_among root (kept_round round).changes) walk.rounds.items → listed ≡ false
+    → Goes {A = Unit {0}} (change place root range) walk visits (Err (Broken Changes place)) walk visits
+unlisted place root range walk visits listed listed_is none =
+    let fits = is_included (limits_of range) (limits_at walk.limits.items root) in
+    ap (λ l. first_breach (breach_unless l Changes place)) (asked-same root range walk listed listed_is ∙ ap (λ l. l && fits) none)
+
+-- the value isn't tested for the variable's type
+pub unfit : (place : SourcePlace) (root : ℕ) (range : OrdinalRange) (walk : Walk) (visits : Visits) (fits : Bool)
+    → fits ≡ is_included (limits_of range) (limits_at walk.limits.items root) → fits ≡ false
+    → Goes {A = Unit {0}} (change place root range) walk visits (Err (Broken Changes place)) walk visits
+unfit place root range walk visits fits fits_is none =
+    ap (λ l. first_breach (breach_unless l Changes place))
+    (and-false (all_list root (context_of walk).rounds) (is_included (limits_of range) (limits_at walk.limits.items root)) (sym fits_is ∙ none))
+
+module _ (tree : Tree) (certificate : Certificate) (begun : Walk) (start : IsBegun tree certificate begun) where
+  pub program-same : all_of (map block_walk begun.tree.now.blocks.items) (context_of begun) (viewed begun.state) ≡ program_walk tree certificate
+  program-same =
+      ap (λ (context : Context). all_of (map block_walk context.tree.blocks.items) context (viewed begun.state)) start.context_is
+      ∙ ap (all_of (map block_walk tree.blocks.items) (first_context tree certificate)) start.state_is
+
+  module _ (new : Walk) (before after : Visits) (walked : Walks (all_of (map block_walk begun.tree.now.blocks.items)) begun before new after tt) where
+    pub program-open : new.open_ids.items ≡ (program_walk tree certificate).open_ids
+    program-open =
+        walked.open_is ∙ ap (λ ids. ids ++ (all_of (map block_walk begun.tree.now.blocks.items) (context_of begun) (viewed begun.state)).open_ids) start.open_is
+        ∙ ap (λ w. w.open_ids) program-same
+
+    pub program-visits : after ≡ all_counted (numbers_of (program_walk tree certificate).linked) before
+    program-visits = walked.visits_are ∙ ap (λ w. all_counted (numbers_of w.linked) before) program-same
+
+    pub program-unbroken : (program_walk tree certificate).broken ≡ []
+    program-unbroken = ap (λ w. w.broken) (sym program-same) ∙ walked.unbroken
+
+  pub program-stopped : (fault : CheckFault) → IsBreachOf (all_of (map block_walk begun.tree.now.blocks.items) (context_of begun) (viewed begun.state)) fault
+      → IsBreachOf (program_walk tree certificate) fault
+  program-stopped fault is =
+      breach-same (all_of (map block_walk begun.tree.now.blocks.items) (context_of begun) (viewed begun.state)) (program_walk tree certificate) fault
+      (ap (λ w. w.broken) program-same) is

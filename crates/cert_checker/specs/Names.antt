@@ -7,7 +7,8 @@ use Rattle.typed_tree.specs.declared.tree.Loop.{Loop}
 use Rattle.domain.specs.declared.facts.Fact.{Fact}
 use Rattle.domain.specs.declared.facts.Fact.TheVariants.{Range, Defined, Order}
 use Rattle.certificate.specs.declared.Certificate.{Certificate}
-use Rattle.certificate.specs.Contents.{LoopClaims, Section, contents}
+use Rattle.certificate.specs.declared.LoopClaims.{LoopClaims}
+use Rattle.certificate.specs.declared.Section.{Section}
 
 -- a variable is one of the program's
 abbrev pub is_variable : Tree → ℕ → Bool
@@ -28,13 +29,14 @@ stands_in block (Some one) = nat_eq one.block block
 abbrev pub claims_are_known : Tree → ℕ → LoopClaims → Bool
 claims_are_known tree block claims =
     stands_in block (slice_get tree.loops.items claims.number)
-    && (list_all (is_variable tree) claims.changes && list_all (fact_is_known tree) claims.facts)
+    && (list_all (is_variable tree) claims.changes.items && list_all (fact_is_known tree) claims.facts.items)
 
 -- a section is on a block of the program, and on loops of that block
 abbrev pub section_is_known : Tree → Section → Bool
 section_is_known tree section =
-    nat_lt section.block (length tree.blocks.items) && list_all (claims_are_known tree section.block) section.loops
+    nat_lt section.block (length tree.blocks.items)
+    && list_all (claims_are_known tree section.block) section.loops.items
 
 -- a certificate names what the program has alone
 abbrev pub is_known : Tree → Certificate → Bool
-is_known tree certificate = list_all (section_is_known tree) (contents certificate)
+is_known tree certificate = list_all (section_is_known tree) certificate.sections.items

@@ -4,6 +4,8 @@ use Rattle.std.specs.Prelude.{◌≡◌, ℕ, ◌+◌, ◌&&◌, true, false, Li
 use Rattle.std.specs.declared.alloc.Global.{Global}
 use denote.Ref.{Bor}
 use Rattle.std.specs.declared.boxed.Box.{Box}
+use Rattle.certificate.specs.declared.Certificate.{Certificate}
+use Rattle.typed_tree.specs.declared.tree.Tree.{Tree}
 use Rattle.typed_tree.specs.declared.tree.Expr.{Expr}
 use Rattle.typed_tree.specs.declared.tree.Stmt.{Stmt}
 use Rattle.cert_checker.specs.declared.fault.CheckFault.{CheckFault}
@@ -21,7 +23,7 @@ use Rattle.abstract_state.specs.Loops.{gives_all, head}
 use Rattle.place.specs.declared.Place.{Place}
 use Rattle.abstract_state.specs.State.{State, joined_states}
 use Rattle.cert_checker.specs.Promise.{IsBreachOf}
-use Rattle.cert_checker.specs.Walk.{Context, Walking, facts_given, give, numbers_of, statement_walk, where_so}
+use Rattle.cert_checker.specs.Walk.{Context, Walking, facts_given, first_context, give, numbers_of, statement_walk, where_so}
 use Rattle.cert_checker.specs.declared.fault.Rule.TheVariants.{LoopEntry, LoopTurn}
 
 -- the counter after an entry of a number
@@ -131,3 +133,9 @@ LeavesLoop number place behind old (Ok done) new =
 LeavesLoop number place behind old (Err fault) new =
     IsBreachOf (facts_given LoopTurn place (claims_on old.certificate.now number).facts (context_of old) (viewed old.state))
     fault
+
+-- the checker before the first block
+pub record IsBegun (tree : Tree) (certificate : Certificate) (walk : Walk) : Type 0 where
+  pub context_is : context_of walk ≡ first_context tree certificate
+  pub state_is : viewed walk.state ≡ Dead
+  pub open_is : walk.open_ids.items ≡ []

@@ -382,10 +382,14 @@ block_walk block = do
   _ ← begin block
   statement_walk block.body
 
+-- what the walk over a program by a certificate goes by
+abbrev pub first_context : Tree → Certificate → Context
+first_context tree certificate =
+    record { tree = tree; certificate = certificate; limits = all_limits tree; rounds = [] }
+
 -- the walk over a program by a certificate, block by block
 abbrev pub program_walk : Tree → Certificate → Walked (Unit {0})
-program_walk tree certificate =
-    all_of (map block_walk tree.blocks.items) (record { tree = tree; certificate = certificate; limits = all_limits tree; rounds = [] }) Dead
+program_walk tree certificate = all_of (map block_walk tree.blocks.items) (first_context tree certificate) Dead
 
 -- the numbers to which states are linked
 abbrev pub numbers_of : List Linked → List ℕ

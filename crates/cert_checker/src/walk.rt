@@ -1,7 +1,7 @@
 ghost use Rattle.std.specs.Prelude.{◌≡◌, [], map, IfOk, MatchResult};
 ghost use Rattle.cert_checker.specs.Walk.{enter, variable_walk, tested, within, positive, divisor, whole, operated, combined, value_walk, link_walk, width_test, width_walk, parameter_walk, all_of, fitting, assignment, assign, change, while_round, repeat_round, statement_walk, block_walk, program_walk};
 ghost use Rattle.typed_tree.specs.Entries.{entries_of};
-ghost use Rattle.cert_checker.specs.View.{EntersLoop, Goes, LeavesLoop, Meets, Parts, all_counted, else_walk, said_claims, said_state};
+ghost use Rattle.cert_checker.specs.View.{EntersLoop, Goes, IsBegun, LeavesLoop, Meets, Parts, all_counted, else_walk, said_claims, said_state};
 ghost use Rattle.abstract_state.specs.View.{viewed};
 ghost use Rattle.abstract_state.specs.Loops.{gives_all, head};
 ghost use Rattle.cert_checker.specs.Loops.{limits_at};
@@ -51,20 +51,31 @@ pub(crate) fn program(
     ensures rules { MatchResult result (λ _. (program_walk tree.now certificate.now).broken ≡ [])
         (IsBreachOf (program_walk tree.now certificate.now)) }
 {
-    let mut walk = Walk {
-        alloc,
-        tree,
-        certificate,
-        limits: all_limits(alloc, tree)?,
-        rounds: Vec::new(alloc),
-        state: State::Dead,
-        open_ids: Vec::new(alloc),
-    };
+    let mut walk = Walk::new(alloc, tree, certificate)?;
     walk.blocks(visits)?;
     Ok(walk.open_ids)
 }
 
 impl<'a> Walk<'a> {
+    /// Before the first block.
+    fn new(
+        alloc: Global,
+        tree: &'a Tree,
+        certificate: &'a Certificate,
+    ) -> Result<Walk<'a>, AllocError>
+        ensures { IfOk result (IsBegun tree.now certificate.now) }
+    {
+        Ok(Walk {
+            alloc,
+            tree,
+            certificate,
+            limits: all_limits(alloc, tree)?,
+            rounds: Vec::new(alloc),
+            state: State::Dead,
+            open_ids: Vec::new(alloc),
+        })
+    }
+
     fn blocks(&mut self, visits: &mut Visits) -> Result<(), CheckFault>
         ensures { Goes (all_of (map block_walk self.old.tree.now.blocks.items))
             self.old visits.old result self.new visits.new }

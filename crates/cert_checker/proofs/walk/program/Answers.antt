@@ -1,8 +1,20 @@
 use Rattle.std.proofs.Common.{ap, ◌∙◌}
 use Rattle.cert_checker.specs.View.{all_counted}
 use Rattle.cert_checker.proofs.Entered.{program-entered}
+use Rattle.cert_checker.proofs.Steps.{program-open, program-visits, program-unbroken, program-stopped}
 use Rattle.cert_checker.proofs.walk.program.Goals as goal
+
+pub returns-clause-sites : goal.returns-clause-sites
+returns-clause-sites c =
+    program-open c.args.tree.now c.args.certificate.now c.in_ok-walk.walk c.in_ok-walk.ensures c.blocks.new.self c.args.visits.now c.blocks.new.visits
+    c.in_ok-blocks.ensures
 
 pub returns-clause-entries : goal.returns-clause-entries
 returns-clause-entries c =
-    c.in_ok-blocks.ensures.visits_are ∙ ap (λ numbers. all_counted numbers c.args.visits.now) (program-entered c.args.tree.now c.args.certificate.now)
+    program-visits c.args.tree.now c.args.certificate.now c.in_ok-walk.walk c.in_ok-walk.ensures c.blocks.new.self c.args.visits.now c.blocks.new.visits
+    c.in_ok-blocks.ensures ∙ ap (λ numbers. all_counted numbers c.args.visits.now) (program-entered c.args.tree.now c.args.certificate.now)
+
+pub returns-clause-rules : goal.returns-clause-rules
+returns-clause-rules c =
+    program-unbroken c.args.tree.now c.args.certificate.now c.in_ok-walk.walk c.in_ok-walk.ensures c.blocks.new.self c.args.visits.now c.blocks.new.visits
+    c.in_ok-blocks.ensures

@@ -61,7 +61,55 @@ repeat_round-returns t c =
     c.in_ok-statements.ensures c.in_ok-known.ensures c.in_ok-again.ensures c.replace.ensures.value c.replace.ensures.after refl
 
 pub statement-returns-in_ok-behind-in-While : goal.statement-returns-in_ok-behind-in-While
-statement-returns-in_ok-behind-in-While t c = ?
+statement-returns-in_ok-behind-in-While t c =
+    let it = c.in-While in
+    let walking = while_round it.condition (statement_walk c.deref-in-While.result.now) in
+    let entered = c.enter-in-While.new.self in
+    let between = c.enter-in-While.new.visits in
+    while-begun c.args.statement.now it.number it.loop_number it.place it.condition it.body c.deref-in-While.result.now c.args.self.now entered c.leave_loop.new.self
+    c.args.visits.now between c.while_round.new.visits c.leave_loop.result it.is c.deref-in-While.ensures c.in_ok-enter-in-While.ensures
+    (loop-done it.loop_number it.place walking entered c.enter_loop.new.self c.in_ok-enter_loop-in-While.ensures c.while_round.new.self between
+    c.while_round.new.visits c.in_ok-behind-in-While.behind c.in_ok-behind-in-While.ensures c.leave_loop.result c.leave_loop.new.self c.leave_loop.ensures)
 
 pub statement-returns-in_err-behind-in-While : goal.statement-returns-in_err-behind-in-While
-statement-returns-in_err-behind-in-While t c = ?
+statement-returns-in_err-behind-in-While t c =
+    let it = c.in-While in
+    let walking = while_round it.condition (statement_walk c.deref-in-While.result.now) in
+    let entered = c.enter-in-While.new.self in
+    let between = c.enter-in-While.new.visits in
+    let new = c.while_round.new.self in
+    let after = c.while_round.new.visits in
+    let fault = c.in_err-behind-in-While.field-0.0 in
+    let left = c.from_residual-in_err-behind-in-While in
+    given-up (statement_walk c.args.statement.now) c.args.self.now new c.args.visits.now after fault left.result left.ensures
+    (while-begun c.args.statement.now it.number it.loop_number it.place it.condition it.body c.deref-in-While.result.now c.args.self.now entered new
+    c.args.visits.now between after (Err fault) it.is c.deref-in-While.ensures c.in_ok-enter-in-While.ensures
+    (loop-stopped it.loop_number it.place walking entered c.enter_loop.new.self c.in_ok-enter_loop-in-While.ensures new between after fault
+    c.in_err-behind-in-While.ensures))
+
+pub statement-returns-in_ok-behind-in-Repeat : goal.statement-returns-in_ok-behind-in-Repeat
+statement-returns-in_ok-behind-in-Repeat t c =
+    let it = c.in-Repeat in
+    let walking = repeat_round (all_of (map statement_walk c.deref-in-Repeat.result.now)) it.condition in
+    let entered = c.enter-in-Repeat.new.self in
+    let between = c.enter-in-Repeat.new.visits in
+    repeat-begun c.args.statement.now it.number it.loop_number it.place it.statements it.condition c.deref-in-Repeat.result.now c.args.self.now entered c.leave_loop-in-Repeat.new.self
+    c.args.visits.now between c.repeat_round.new.visits c.leave_loop-in-Repeat.result it.is c.deref-in-Repeat.ensures.value c.in_ok-enter-in-Repeat.ensures
+    (loop-done it.loop_number it.place walking entered c.enter_loop-in-Repeat.new.self c.in_ok-enter_loop-in-Repeat.ensures c.repeat_round.new.self between
+    c.repeat_round.new.visits c.in_ok-behind-in-Repeat.behind c.in_ok-behind-in-Repeat.ensures c.leave_loop-in-Repeat.result c.leave_loop-in-Repeat.new.self c.leave_loop-in-Repeat.ensures)
+
+pub statement-returns-in_err-behind-in-Repeat : goal.statement-returns-in_err-behind-in-Repeat
+statement-returns-in_err-behind-in-Repeat t c =
+    let it = c.in-Repeat in
+    let walking = repeat_round (all_of (map statement_walk c.deref-in-Repeat.result.now)) it.condition in
+    let entered = c.enter-in-Repeat.new.self in
+    let between = c.enter-in-Repeat.new.visits in
+    let new = c.repeat_round.new.self in
+    let after = c.repeat_round.new.visits in
+    let fault = c.in_err-behind-in-Repeat.field-0.0 in
+    let left = c.from_residual-in_err-behind-in-Repeat in
+    given-up (statement_walk c.args.statement.now) c.args.self.now new c.args.visits.now after fault left.result left.ensures
+    (repeat-begun c.args.statement.now it.number it.loop_number it.place it.statements it.condition c.deref-in-Repeat.result.now c.args.self.now entered new
+    c.args.visits.now between after (Err fault) it.is c.deref-in-Repeat.ensures.value c.in_ok-enter-in-Repeat.ensures
+    (loop-stopped it.loop_number it.place walking entered c.enter_loop-in-Repeat.new.self c.in_ok-enter_loop-in-Repeat.ensures new between after fault
+    c.in_err-behind-in-Repeat.ensures))
