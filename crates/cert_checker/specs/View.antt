@@ -21,7 +21,7 @@ use Rattle.cert_checker.specs.Loops.{Claims, Round, claims_of, claims_on, limits
 use Rattle.certificate.specs.Contents.{LoopClaims, loop_of}
 use Rattle.abstract_state.specs.Loops.{gives_all, head}
 use Rattle.place.specs.declared.Place.{Place}
-use Rattle.abstract_state.specs.State.{State, joined_states}
+use Rattle.abstract_state.specs.State.{State, Dead, joined_states}
 use Rattle.cert_checker.specs.Promise.{IsBreachOf}
 use Rattle.cert_checker.specs.Walk.{Context, Walking, facts_given, first_context, give, numbers_of, statement_walk, where_so}
 use Rattle.cert_checker.specs.declared.fault.Rule.TheVariants.{LoopEntry, LoopTurn}
