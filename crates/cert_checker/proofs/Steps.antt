@@ -2,6 +2,7 @@
 use Rattle.std.proofs.Common.{rules, ◌≡◌, ◌≤◌, Bool, true, false, ◌&&◌, Option, Some, None, Result, Ok, Err, ℕ, ℤ, ◌+◌, List, [], ◌∷◌, ◌++◌, length, map, refl, sym, ap, ◌∙◌, subst, append_assoc, append-nil, ◌<◌, get_or, drop, drop-cons, add-one, suc}
 use Rattle.std.proofs.lemmas.List.{drop_all}
 use Rattle.std.specs.Result.{IsErr, IsErrAnd}
+use Rattle.std.specs.Prelude.{MatchResult}
 use Rattle.place.specs.declared.Place.{Place as SourcePlace}
 use Rattle.typed_tree.specs.declared.tree.Access.{Access}
 use Rattle.typed_tree.specs.declared.tree.RangeTest.{RangeTest}
@@ -674,3 +675,11 @@ module _ (tree : Tree) (certificate : Certificate) (begun : Walk) (start : IsBeg
   program-stopped fault is =
       breach-same (all_of (map block_walk begun.tree.now.blocks.items) (context_of begun) (viewed begun.state)) (program_walk tree certificate) fault
       (ap (λ w. w.broken) program-same) is
+
+  pub program-given_up : {A : Type 0} (P : A → Type 0) (result : Result A CheckFault) (fault : CheckFault)
+      → IsErr result × IsErrAnd result (λ e. e ≡ fault)
+      → IsBreachOf (all_of (map block_walk begun.tree.now.blocks.items) (context_of begun) (viewed begun.state)) fault
+      → MatchResult result P (IsBreachOf (program_walk tree certificate))
+  program-given_up P (Ok a) fault left is = absurd left.1
+  program-given_up P (Err other) fault left is =
+      subst (IsBreachOf (program_walk tree certificate)) (sym left.1) (program-stopped fault is)

@@ -1,7 +1,7 @@
 use Rattle.std.proofs.Common.{ap, ◌∙◌}
 use Rattle.cert_checker.specs.View.{all_counted}
 use Rattle.cert_checker.proofs.Entered.{program-entered}
-use Rattle.cert_checker.proofs.Steps.{program-open, program-visits, program-unbroken, program-stopped}
+use Rattle.cert_checker.proofs.Steps.{program-open, program-visits, program-unbroken, program-given_up}
 use Rattle.cert_checker.proofs.walk.program.Goals as goal
 
 pub returns-clause-sites : goal.returns-clause-sites
@@ -20,4 +20,6 @@ returns-clause-rules c =
     c.in_ok-blocks.ensures
 
 pub returns-in_err-blocks-clause-rules : goal.returns-in_err-blocks-clause-rules
-returns-in_err-blocks-clause-rules c = ?
+returns-in_err-blocks-clause-rules c =
+    program-given_up c.args.tree.now c.args.certificate.now c.in_ok-walk.walk c.in_ok-walk.ensures _ c.from_residual-in_err-blocks.result
+    c.in_err-blocks.field-0.0 c.from_residual-in_err-blocks.ensures c.in_err-blocks.ensures
