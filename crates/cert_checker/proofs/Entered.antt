@@ -17,7 +17,7 @@ use Rattle.typed_tree.specs.declared.tree.Expr.TheOpen.Expr-F.{Constant, Variabl
 use Rattle.typed_tree.specs.declared.tree.Expr.TheFolds.{fold-Link, map-Expr, map-Link, fold-roll-Expr, fold-roll-Link, ind-Expr}
 use Rattle.typed_tree.specs.declared.tree.Stmt.{Stmt}
 use Rattle.typed_tree.specs.declared.tree.Stmt.TheOpen.{Stmt-F}
-use Rattle.typed_tree.specs.declared.tree.Stmt.TheOpen.Stmt-F.{Empty, Assign, Write, Compound, If}
+use Rattle.typed_tree.specs.declared.tree.Stmt.TheOpen.Stmt-F.{Empty, Assign, Write, Compound, If, While, Repeat}
 use Rattle.typed_tree.specs.declared.tree.Stmt.TheFolds.{map-Stmt, fold-roll-Stmt, ind-Stmt}
 use Rattle.typed_tree.specs.declared.tree.Tree.{Tree}
 use Rattle.typed_tree.specs.declared.tree.Block.{Block}
@@ -29,7 +29,11 @@ use Rattle.cert_checker.specs.declared.visits.Visits.{Visits}
 use Rattle.cert_checker.specs.Promise.{LinksEntries}
 use Rattle.abstract_state.specs.State.{State, Dead, start}
 use Rattle.cert_checker.specs.View.{all_counted, counted}
-use Rattle.cert_checker.specs.Walk.{Context, Linked, Walking, Combination, ◌>>=◌, numbers_of, operated, combined, width_test, fitting, assign, value_step, link_step, value_walk, link_walk, width_walk, parameter_walk, statement_step, statement_walk, in_turn, where_so, all_of, block_walk, program_walk}
+use Rattle.cert_checker.specs.Loops.{claims_on, limits_at, round_of, touched}
+use Rattle.abstract_state.specs.Loops.{head}
+use Rattle.abstract_state.specs.Conditions.{bound_form}
+use Rattle.place.specs.declared.Place.{Place}
+use Rattle.cert_checker.specs.Walk.{Context, Linked, Walking, Combination, ◌>>=◌, first_context, numbers_of, operated, combined, width_test, fitting, assign, change, loop_walk, while_round, repeat_round, value_step, link_step, value_walk, link_walk, width_walk, parameter_walk, statement_step, statement_walk, in_turn, where_so, all_of, block_walk, program_walk}
 
 -- a walk links states to these, in whatever context and from whatever state
 abbrev Enters : {A : Type 0} → Walking A → List ℕ → Type 0
@@ -128,8 +132,12 @@ value-entered = ind-Expr (λ e. Enters (value_walk e) (entries_of_expression e))
 test-silent : (site : ℕ) (known : Known) → Enters (width_test site known) []
 test-silent site (Ordinal range) context state = refl
 
-fitting-silent : (target : Access) (fits : RangeTest) (known : Known) → Enters (fitting fits known >>= λ passed. assign target.root passed) []
-fitting-silent target fits (Ordinal range) context state = refl
+abbrev stores : Place → Access → RangeTest → Expr → Known → Walking (Unit {0})
+stores becomes target fits value known =
+    fitting fits known >>= λ passed. (change becomes target.root fits.range >>= λ _. assign target.root (bound_form value) passed)
+
+fitting-silent : (becomes : Place) (target : Access) (fits : RangeTest) (value : Expr) (known : Known) → Enters (stores becomes target fits value known) []
+fitting-silent becomes target fits value (Ordinal range) context state = refl
 
 width-entered : (width : Option Width) → Enters (width_walk width) (entries_of_width width)
 width-entered None context state = refl
@@ -164,32 +172,67 @@ statements-entered (statement ∷ statements) context state =
     let rest = all_of (map statement_walk (map (λ s. s.0) statements)) context first.after in
     and_then first.linked rest.linked _ _ (statement.1 context state) (statements-entered statements context first.after)
 
+-- a loop enters what a round of it does
+loop-entered : (number : ℕ) (place : Place) (round : Walking State) (numbers : List ℕ) → Enters round numbers → Enters (loop_walk number place round) numbers
+loop-entered number place round numbers each context state =
+    let claims = claims_on context.certificate number in
+    let own = round_of claims in
+    let within : Context = record context { rounds = context.rounds ++ own ∷ [] } in
+    let start = head (limits_at context.limits) (touched own) own.controls claims.facts state in
+    and_no_more (round within start).linked [] numbers (each within start) refl
+
+while-entered : (condition : Expr) (body : Walking (Unit {0})) (numbers : List ℕ) → Enters body numbers
+    → Enters (while_round condition body) (entries_of_expression condition ++ numbers)
+while-entered condition body numbers each context state =
+    let first = value_walk condition context state in
+    let start = where_so true condition first.value first.after in
+    and_then first.linked ((body context start).linked ++ []) (entries_of_expression condition) numbers (value-entered condition context state)
+    (and_no_more (body context start).linked [] numbers (each context start) refl)
+
+repeat-entered : (body : Walking (Unit {0})) (condition : Expr) (numbers : List ℕ) → Enters body numbers
+    → Enters (repeat_round body condition) (numbers ++ entries_of_expression condition)
+repeat-entered body condition numbers each context state =
+    let first = body context state in
+    let tested = value_walk condition context first.after in
+    and_then first.linked (tested.linked ++ []) numbers (entries_of_expression condition) (each context state)
+    (and_no_more tested.linked [] (entries_of_expression condition) (value-entered condition context first.after) refl)
+
 statement-parts : (y : Stmt-F EnteredStmt)
     → Enters (statement_step (map-Stmt Stmt (Walking (Unit {0})) statement_walk (map-Stmt EnteredStmt Stmt (λ s. s.0) y)))
     (statement_entries (map-Stmt Stmt (List ℕ) entries_of_statement (map-Stmt EnteredStmt Stmt (λ s. s.0) y)))
 statement-parts (Empty number) context state = refl
 statement-parts (Assign number becomes target fits value) context state =
     let first = value_walk value context state in
-    let rest = (fitting fits first.value >>= λ passed. assign target.root passed) context first.after in
+    let rest = stores becomes target fits value first.value context first.after in
     ap (λ numbers. number ∷ target.number ∷ numbers)
-    (and_no_more first.linked rest.linked _ (value-entered value context state) (fitting-silent target fits first.value context first.after))
+    (and_no_more first.linked rest.linked _ (value-entered value context state) (fitting-silent becomes target fits value first.value context first.after))
 statement-parts (Write number name parameters ends_line) context state =
     ap (λ numbers. number ∷ numbers) (all-entered parameter_walk entries_of_parameter parameter-entered parameters.items context state)
 statement-parts (Compound number statements) context state = ap (λ numbers. number ∷ numbers) (statements-entered statements.items context state)
 statement-parts (If number condition consequence None) context state =
     let first = value_walk condition context state in
-    let yes = statement_walk consequence.value.0 context (where_so true first.value first.after) in
+    let yes = statement_walk consequence.value.0 context (where_so true condition first.value first.after) in
     ap (λ numbers. number ∷ numbers)
     (and_then first.linked (yes.linked ++ []) _ _ (value-entered condition context state)
-    (and_then yes.linked [] _ _ (consequence.value.1 context (where_so true first.value first.after)) refl))
+    (and_then yes.linked [] _ _ (consequence.value.1 context (where_so true condition first.value first.after)) refl))
 statement-parts (If number condition consequence (Some alternative)) context state =
     let first = value_walk condition context state in
-    let yes = statement_walk consequence.value.0 context (where_so true first.value first.after) in
-    let no = statement_walk alternative.value.0 context (where_so false first.value first.after) in
+    let yes = statement_walk consequence.value.0 context (where_so true condition first.value first.after) in
+    let no = statement_walk alternative.value.0 context (where_so false condition first.value first.after) in
     ap (λ numbers. number ∷ numbers)
     (and_then first.linked (yes.linked ++ no.linked) _ _ (value-entered condition context state)
-    (and_then yes.linked no.linked _ _ (consequence.value.1 context (where_so true first.value first.after))
-    (alternative.value.1 context (where_so false first.value first.after))))
+    (and_then yes.linked no.linked _ _ (consequence.value.1 context (where_so true condition first.value first.after))
+    (alternative.value.1 context (where_so false condition first.value first.after))))
+
+statement-parts (While number loop_number place condition body) context state =
+    ap (λ numbers. number ∷ numbers) (loop-entered loop_number place (while_round condition (statement_walk body.value.0))
+    (entries_of_expression condition ++ entries_of_statement body.value.0)
+    (while-entered condition (statement_walk body.value.0) (entries_of_statement body.value.0) body.value.1) context state)
+statement-parts (Repeat number loop_number place statements condition) context state =
+    let inner = map statement_walk (map (λ (s : EnteredStmt). s.0) statements.items) in
+    let numbers = joined (map entries_of_statement (map (λ (s : EnteredStmt). s.0) statements.items)) in
+    ap (λ numbers. number ∷ numbers) (loop-entered loop_number place (repeat_round (all_of inner) condition) (numbers ++ entries_of_expression condition)
+    (repeat-entered (all_of inner) condition numbers (statements-entered statements.items)) context state)
 
 statement-entered : (s : Stmt) → Enters (statement_walk s) (entries_of_statement s)
 statement-entered = ind-Stmt (λ s. Enters (statement_walk s) (entries_of_statement s))
@@ -207,7 +250,7 @@ block-entered block context state = statement-entered block.body context (start 
 -- and that over a program
 pub program-entered : (tree : Tree) (certificate : Certificate) → numbers_of (program_walk tree certificate).linked ≡ entries_of tree
 program-entered tree certificate =
-    all-entered block_walk (λ block. entries_of_statement block.body) block-entered tree.blocks.items (record { tree = tree; certificate = certificate }) Dead
+    all-entered block_walk (λ block. entries_of_statement block.body) block-entered tree.blocks.items (first_context tree certificate) Dead
 
 pub links_entries : (tree : Tree) (certificate : Certificate) → LinksEntries tree certificate
 links_entries tree certificate = record { of_block = block-entered; of_program = program-entered tree certificate }

@@ -1,8 +1,11 @@
 pub mod Among
+pub mod Claims
 pub mod Entered
 pub mod Held
+pub mod Keeping
 pub mod Sound
 pub mod SoundForms
+pub mod SoundLoops
 pub mod SoundOperations
 pub mod SoundProgram
 pub mod Steps

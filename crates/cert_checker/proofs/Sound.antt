@@ -1,31 +1,29 @@
 -- The walk is sound: what a piece of a program does from a state that holds, the walk over that piece foretells.
-use Rattle.std.proofs.Common.{arith, ◌≡◌, ⊎_elim, ◌⊎◌, inl, inr, ◌∙◌, sym, refl, subst, ℕ, ℤ, pos, ◌<◌, Bool, true, false, cond, ◌||◌, List, [], ◌∷◌, ◌++◌, Option, Some, None}
-use Rattle.std.proofs.lemmas.Int.{ints}
+use Rattle.std.proofs.Common.{arith, ◌≡◌, ⊎_elim, ◌⊎◌, inl, inr, ◌∙◌, sym, ap, refl, subst, ℕ, zero, suc, ◌<◌, Bool, true, false, ◌||◌, cond, List, [], ◌∷◌, ◌++◌, Option, Some, None}
 use Rattle.std.specs.List.{Contains}
 use Rattle.std.proofs.lemmas.List.Elements.{Contains-append_left, Contains-append_right, Contains-push_cases}
-use Rattle.domain.specs.Interval.{Interval, HasMember}
-use Rattle.domain.specs.Ranges.{without_zero_end-has}
-use Rattle.meaning.specs.declared.outcome.Ending.TheVariants.{Error}
+use Rattle.domain.specs.Interval.{Interval}
+use Rattle.meaning.specs.declared.outcome.Ending.TheVariants.{Error, More}
 use Rattle.meaning.specs.declared.store.Value.{Value}
-use Rattle.meaning.specs.declared.store.Value.TheVariants.{Number}
-use Rattle.meaning.specs.Integers.{is_true}
-use Rattle.meaning.specs.Meaning.{is_so}
 use Rattle.meaning.specs.Store.{Environment, Place, Store, stored}
 use Rattle.meaning.specs.Effect as effect
 use Rattle.meaning.specs.Effect.{Action, Reply, Visit, and_then}
+use Rattle.abstract_state.specs.State.{State, Dead, Live, is_dead, is_defined, range_of, with_defined}
+use Rattle.abstract_state.specs.Holds.{IsIn, StateHolds, Separate}
 use Rattle.abstract_state.specs.declared.known.Known.{Known}
 use Rattle.abstract_state.specs.declared.known.Known.TheVariants.{Ordinal}
-use Rattle.abstract_state.specs.State.{State, Dead, Live, is_dead, is_defined, range_of, with_defined}
+use Rattle.abstract_state.proofs.Ranged.{IsKnown}
+use Rattle.abstract_state.proofs.Knows.{Shows, Knows, place_of, moment, at-place, known-holds, read-in, defined-stored, nonempty-known, used-known}
+use Rattle.cert_checker.specs.Loops.{Round}
 use Rattle.cert_checker.specs.Walk as walk
 use Rattle.cert_checker.specs.Walk.{Breach, Context, Linked, Walked, Walking, followed, left_open}
-use Rattle.abstract_state.specs.Holds.{IsIn, StateHolds, Separate}
 use Rattle.cert_checker.specs.Promise.{moment_of, visits_of}
-use Rattle.abstract_state.proofs.Ranged.{IsKnown, common-in}
-use Rattle.abstract_state.proofs.Knows.{Shows, Knows, place_of, at-place, known-holds, read-in, defined-stored, nonempty-known, used-known, assigned-known, joined-known_one, joined-known_other}
+use Rattle.cert_checker.proofs.Keeping.{InTypes, Keeps, keeps-itself, keeps-then}
 
--- what is fixed for a program: the sites that the whole walk leaves open, how many sites and variables the program has,
--- the states that the whole walk links, and the pairs of aliases of each block by its number
+-- what is fixed for a program: the values of its variables' types, the sites that the whole walk leaves open, how many sites and variables the
+-- program has, the states that the whole walk links, and the pairs of aliases of each block by its number
 pub record World : Type 0 where
+  pub limits : List Interval
   pub ids : List ℕ
   pub sites : ℕ
   pub variables : ℕ
@@ -36,6 +34,12 @@ pub record World : Type 0 where
 pub record IsPartOf {A : Type 0} (world : World) (walked : Walked A) : Type 0 where
   pub ids : (id : ℕ) → Contains walked.open_ids id → Contains world.ids id
   pub linked : (one : Linked) → Contains walked.linked one → Contains world.linked one
+
+-- a walk goes by the world's program; its state holds, and each value lies in the range of its variable's type
+pub record Stands (world : World) (env : Environment) (context : Context) (state : State) (store : Store) : Type 0 where
+  pub limits_are : context.limits ≡ world.limits
+  pub known : Knows world.variables env state store
+  pub typed : InTypes world.limits env store
 
 -- a state of the world is linked to the entry, and it holds there
 abbrev pub Meets : World → Visit → Type 0
@@ -52,23 +56,31 @@ abbrev pub ErrsWithin : {A : Type 0} → World → Reply A → Type 0
 ErrsWithin world (effect.Gives a s) = Unit {0}
 ErrsWithin world (effect.Stops e s) = (id : ℕ) → e ≡ Error id → Contains world.ids id × (id < world.sites)
 
--- where the reply gives a value, R ties it to the walk's, and the state behind holds
-abbrev pub GivesAs : {A B : Type 0} → World → Environment → (B → A → Type 0) → Walked B → Reply A → Type 0
-GivesAs world env R walked (effect.Gives a s) = R walked.value a × Knows world.variables env walked.after s.store
-GivesAs world env R walked (effect.Stops e s) = Unit {0}
+-- where the reply gives a value, P is so of it and of the store behind it
+abbrev pub GivesSo : {A : Type 0} → (A → Store → Type 0) → Reply A → Type 0
+GivesSo P (effect.Gives a s) = P a s.store
+GivesSo P (effect.Stops e s) = Unit {0}
 
--- a reply is as the walk foretells
-pub record Good {A B : Type 0} (world : World) (env : Environment) (R : B → A → Type 0) (walked : Walked B) (before : List Visit) (reply : Reply A)
-    : Type 0 where
+-- a reply errs at open sites alone, its new visits meet states of the world, and P is so of what it gives
+pub record Good {A : Type 0} (world : World) (P : A → Store → Type 0) (before : List Visit) (reply : Reply A) : Type 0 where
   pub errs : ErrsWithin world reply
   pub new : New world before (visits_of reply)
-  pub gives : GivesAs world env R walked reply
+  pub gives : GivesSo P reply
+
+-- a value and the store behind it are as the walk foretells: R ties the value to the walk's, the state behind holds, and
+-- of each loop round the piece nothing changed but what that touches
+pub record IsForetold {A B : Type 0} (world : World) (env : Environment) (R : B → A → Type 0) (context : Context) (walked : Walked B) (start : Store)
+    (a : A) (store : Store) : Type 0 where
+  pub tie : R walked.value a
+  pub stands : Stands world env context walked.after store
+  pub kept : Keeps env context.rounds start store
 
 -- from each state that holds, where the piece breaks no rule and is part of the world, the replies are as it foretells
 abbrev pub Sound : {A B : Type 0} → World → Environment → (B → A → Type 0) → Action A → Walking B → Type 0
 Sound world env R action walking =
     (context : Context) (state : State) (s : effect.State) → (walking context state).broken ≡ [] → IsPartOf world (walking context state)
-    → Knows world.variables env state s.store → Good world env R (walking context state) s.visited (action s)
+    → Stands world env context state s.store
+    → Good world (IsForetold world env R context (walking context state) s.store) s.visited (action s)
 
 -- no tie between two values
 abbrev pub Any_value : {A B : Type 0} → B → A → Type 0
@@ -102,86 +114,79 @@ nothing-new world visits visit inside = inl inside
 new-then : (world : World) (before mid after : List Visit) → New world before mid → New world mid after → New world before after
 new-then world before mid after one two visit inside = ⊎_elim (λ old. one visit old) (λ meets. inr meets) (two visit inside)
 
--- what was foretold of a second piece, foretold of both
-good-then : {A B C : Type 0} (world : World) (env : Environment) (R : B → A → Type 0) (first : Walked C) (second : Walked B) (before mid : List Visit)
-    (reply : Reply A)
-    → New world before mid → Good world env R second mid reply → Good world env R (followed first second) before reply
-good-then world env R first second before mid (effect.Gives a s) new good =
-    record { errs = tt; new = new-then world before mid s.visited new good.new; gives = good.gives }
-good-then world env R first second before mid (effect.Stops e s) new good =
-    record { errs = good.errs; new = new-then world before mid s.visited new good.new; gives = tt }
+-- a value, and nothing changes
+pub good-give : {A : Type 0} (world : World) (P : A → Store → Type 0) (a : A) (s : effect.State) → P a s.store → Good world P s.visited (effect.give a s)
+good-give world P a s so = record { errs = tt; new = nothing-new world s.visited; gives = so }
 
-good-next : {A B C D : Type 0} (world : World) (env : Environment) (R : B → A → Type 0) (S : D → C → Type 0) (context : Context) (walked : Walked B)
-    (walk_next : B → Walking D) (next : A → Action C) → ((b : B) (a : A) → R b a → Sound world env S (next a) (walk_next b))
-    → (walk_next walked.value context walked.after).broken ≡ [] → IsPartOf world (walk_next walked.value context walked.after)
-    → (before : List Visit) (reply : Reply A) → Good world env R walked before reply
-    → Good world env S (followed walked (walk_next walked.value context walked.after)) before (and_then reply next)
-good-next world env R S context walked walk_next next two unbroken part before (effect.Gives a s) good =
-    good-then world env S walked (walk_next walked.value context walked.after) before s.visited (next a s) good.new
-    (two walked.value a good.gives.0 context walked.after s unbroken part good.gives.1)
-good-next world env R S context walked walk_next next two unbroken part before (effect.Stops e s) good =
-    record { errs = good.errs; new = good.new; gives = tt }
+-- what follows from what is given
+pub good-weaker : {A : Type 0} (world : World) (P Q : A → Store → Type 0) (before : List Visit) (reply : Reply A)
+    → ((a : A) (t : effect.State) → reply ≡ effect.Gives a t → P a t.store → Q a t.store) → Good world P before reply → Good world Q before reply
+good-weaker world P Q before (effect.Gives a s) then good = record { errs = tt; new = good.new; gives = then a s refl good.gives }
+good-weaker world P Q before (effect.Stops e s) then good = record { errs = good.errs; new = good.new; gives = tt }
+
+-- a piece, and then another
+pub good-then : {A C : Type 0} (world : World) (P : A → Store → Type 0) (Q : C → Store → Type 0) (before : List Visit) (reply : Reply A) (next : A → Action C)
+    → Good world P before reply
+    → ((a : A) (t : effect.State) → reply ≡ effect.Gives a t → P a t.store → Good world Q t.visited (next a t)) → Good world Q before (and_then reply next)
+good-then world P Q before (effect.Gives a s) next good two =
+    let then = two a s refl good.gives in
+    record { errs = then.errs; new = new-then world before s.visited (visits_of (next a s)) good.new then.new; gives = then.gives }
+good-then world P Q before (effect.Stops e s) next good two = record { errs = good.errs; new = good.new; gives = tt }
 
 pub sound-then : {A B C D : Type 0} (world : World) (env : Environment) (R : B → A → Type 0) (S : D → C → Type 0)
     (action : Action A) (next : A → Action C) (walking : Walking B) (walk_next : B → Walking D)
     → Sound world env R action walking → ((b : B) (a : A) → R b a → Sound world env S (next a) (walk_next b))
     → Sound world env S (effect.◌>>=◌ action next) (walk.◌>>=◌ walking walk_next)
-sound-then world env R S action next walking walk_next one two context state s unbroken part known =
+sound-then world env R S action next walking walk_next one two context state s unbroken part stands =
     let first = walking context state in
     let second = walk_next first.value context first.after in
-    good-next world env R S context first walk_next next two (unbroken-right first.broken second.broken unbroken)
-    (part-right world first second part) s.visited (action s)
-    (one context state s (unbroken-left first.broken second.broken unbroken) (part-left world first second part) known)
+    good-then world (IsForetold world env R context first s.store) (IsForetold world env S context (followed first second) s.store) s.visited (action s) next
+    (one context state s (unbroken-left first.broken second.broken unbroken) (part-left world first second part) stands)
+    (λ a t is told.
+    good-weaker world (IsForetold world env S context second t.store) (IsForetold world env S context (followed first second) s.store) t.visited (next a t)
+    (λ c u gives then. record { tie = then.tie; stands = then.stands; kept = keeps-then env context.rounds s.store t.store u.store told.kept then.kept })
+    (two first.value a told.tie context first.after t (unbroken-right first.broken second.broken unbroken) (part-right world first second part) told.stands))
 
 -- the run goes on with a value of which the walk doesn't know
-good-given : {A B C : Type 0} (world : World) (env : Environment) (R : B → A → Type 0) (S : B → C → Type 0) (f : A → C) → ((b : B) (a : A) → R b a → S b (f a))
-    → (walked : Walked B) (before : List Visit) (reply : Reply A) → Good world env R walked before reply
-    → Good world env S walked before (and_then reply (λ a. effect.give (f a)))
-good-given world env R S f ties walked before (effect.Gives a s) good =
-    record { errs = tt; new = good.new; gives = (ties walked.value a good.gives.0, good.gives.1) }
-good-given world env R S f ties walked before (effect.Stops e s) good = record { errs = good.errs; new = good.new; gives = tt }
-
 pub sound-given : {A B C : Type 0} (world : World) (env : Environment) (R : B → A → Type 0) (S : B → C → Type 0) (f : A → C)
     → ((b : B) (a : A) → R b a → S b (f a))
     → (action : Action A) (walking : Walking B) → Sound world env R action walking → Sound world env S (effect.◌>>=◌ action (λ a. effect.give (f a))) walking
-sound-given world env R S f ties action walking one context state s unbroken part known =
-    good-given world env R S f ties (walking context state) s.visited (action s) (one context state s unbroken part known)
+sound-given world env R S f ties action walking one context state s unbroken part stands =
+    let first = walking context state in
+    good-then world (IsForetold world env R context first s.store) (IsForetold world env S context first s.store) s.visited (action s)
+    (λ a. effect.give (f a)) (one context state s unbroken part stands)
+    (λ a t is told.
+    good-give world (IsForetold world env S context first s.store) (f a) t
+    (record { tie = ties first.value a told.tie; stands = told.stands; kept = told.kept }))
 
 -- so it does with a piece of output
-good-written : {A B : Type 0} (world : World) (env : Environment) (R : B → A → Type 0) (bytes : A → List ℕ) (walked : Walked B) (before : List Visit)
-    (reply : Reply A)
-    → Good world env R walked before reply → Good {A = Unit {0}} world env Any_value walked before (and_then reply (λ a. effect.write (bytes a)))
-good-written world env R bytes walked before (effect.Gives a s) good = record { errs = tt; new = good.new; gives = (tt, good.gives.1) }
-good-written world env R bytes walked before (effect.Stops e s) good = record { errs = good.errs; new = good.new; gives = tt }
-
 pub sound-written : {A B : Type 0} (world : World) (env : Environment) (R : B → A → Type 0) (bytes : A → List ℕ) (action : Action A) (walking : Walking B)
     → Sound world env R action walking → Sound {A = Unit {0}} world env Any_value (effect.◌>>=◌ action (λ a. effect.write (bytes a))) walking
-sound-written world env R bytes action walking one context state s unbroken part known =
-    good-written world env R bytes (walking context state) s.visited (action s) (one context state s unbroken part known)
+sound-written world env R bytes action walking one context state s unbroken part stands =
+    let first = walking context state in
+    good-then {C = Unit {0}} world (IsForetold world env R context first s.store)
+    (IsForetold {A = Unit {0}} world env Any_value context first s.store) s.visited (action s)
+    (λ a. effect.write (bytes a)) (one context state s unbroken part stands)
+    (λ a t is told. record { errs = tt; new = nothing-new world t.visited; gives = record { tie = tt; stands = told.stands; kept = told.kept } })
 
 -- the walk goes on with a value of which the run doesn't know
-good-named : {A B C : Type 0} (world : World) (env : Environment) (R : B → A → Type 0) (S : C → A → Type 0) (f : B → C) → ((b : B) (a : A) → R b a → S (f b) a)
-    → (context : Context) (walked : Walked B) (before : List Visit) (reply : Reply A) → Good world env R walked before reply
-    → Good world env S (followed walked (walk.give (f walked.value) context walked.after)) before reply
-good-named world env R S f ties context walked before (effect.Gives a s) good =
-    record { errs = tt; new = good.new; gives = (ties walked.value a good.gives.0, good.gives.1) }
-good-named world env R S f ties context walked before (effect.Stops e s) good = record { errs = good.errs; new = good.new; gives = tt }
-
 pub sound-named : {A B C : Type 0} (world : World) (env : Environment) (R : B → A → Type 0) (S : C → A → Type 0) (f : B → C)
     → ((b : B) (a : A) → R b a → S (f b) a)
     → (action : Action A) (walking : Walking B) → Sound world env R action walking → Sound world env S action (walk.◌>>=◌ walking (λ b. walk.give (f b)))
-sound-named world env R S f ties action walking one context state s unbroken part known =
+sound-named world env R S f ties action walking one context state s unbroken part stands =
     let first = walking context state in
     let second = walk.give (f first.value) context first.after in
-    good-named world env R S f ties context first s.visited (action s)
-    (one context state s (unbroken-left first.broken second.broken unbroken) (part-left world first second part) known)
+    good-weaker world (IsForetold world env R context first s.store) (IsForetold world env S context (followed first second) s.store) s.visited (action s)
+    (λ a t is told. record { tie = ties first.value a told.tie; stands = told.stands; kept = told.kept })
+    (one context state s (unbroken-left first.broken second.broken unbroken) (part-left world first second part) stands)
 
 -- ---- the pieces
 
 pub sound-give : {A B : Type 0} (world : World) (env : Environment) (R : B → A → Type 0) (a : A) (b : B) → R b a
     → Sound world env R (effect.give a) (walk.give b)
-sound-give world env R a b tie context state s unbroken part known =
-    record { errs = tt; new = nothing-new world s.visited; gives = (tie, known) }
+sound-give world env R a b tie context state s unbroken part stands =
+    good-give world (IsForetold world env R context (walk.give b context state) s.store) a s
+    (record { tie = tie; stands = stands; kept = keeps-itself env context.rounds s.store })
 
 none-shared : (env : Environment) (pairs : List (ℕ × ℕ)) → Separate env [] → Separate env pairs
 none-shared env pairs separate a b p q at_a at_b differ overlaps =
@@ -189,10 +194,10 @@ none-shared env pairs separate a b p q at_a at_b differ overlaps =
 
 pub sound-enter : (world : World) (env : Environment) → Shows world.variables env → (number : ℕ)
     → Sound world env Any_value (effect.enter number env) (walk.enter number)
-sound-enter world env shows number context state s unbroken part known =
+sound-enter world env shows number context state s unbroken part stands =
     let one : Linked = record { number = number; state = state } in
     let entered : Visit = record { number = number; environment = env; store = s.store } in
-    let meets : Meets world entered = (one, part.linked one (0, omega arith, refl), refl, known-holds world.variables env state s.store known) in
+    let meets : Meets world entered = (one, part.linked one (0, omega arith, refl), refl, known-holds world.variables env state s.store stands.known) in
     let separate : Separate env (world.aliases 0) = none-shared env (world.aliases 0) shows.separate in
     record {
       errs = tt;
@@ -200,7 +205,7 @@ sound-enter world env shows number context state s unbroken part known =
           ⊎_elim (λ old. inl old)
           (λ is. inr (subst (λ (v : Visit). Meets world v × Separate v.environment (world.aliases 0)) is (meets, separate)))
           (Contains-push_cases s.visited entered visit inside);
-      gives = (tt, known);
+      gives = record { tie = tt; stands = stands; kept = keeps-itself env context.rounds s.store };
     }
 
 -- an error at a site that is left open
@@ -217,34 +222,42 @@ open-here site false unclosed = (0, omega arith, refl)
 none-some : (v : Value) → ◌≡◌ {A = Option Value} None (Some v) → ⊥
 none-some v is = cc
 
+-- another state that holds
+pub stands-as : (world : World) (env : Environment) (context : Context) (state other : State) (store : Store) → Stands world env context state store
+    → Knows world.variables env other store
+    → Stands world env context other store
+stands-as world env context state other store stands known = record { limits_are = stands.limits_are; known = known; typed = stands.typed }
+
 good-use : (world : World) (env : Environment) → Shows world.variables env → (root site : ℕ) → root < world.variables → site < world.sites
-    → (context : Context) (state : State) (s : effect.State) → IsPartOf world (walk.use_of root site context state) → Knows world.variables env state s.store
+    → (context : Context) (state : State) (s : effect.State) → IsPartOf world (walk.use_of root site context state)
+    → Stands world env context state s.store
     → (found : Option Value) → stored s.store (place_of env root) ≡ found
-    → Good world env IsKnown (walk.use_of root site context state) s.visited (effect.fetched found site s)
-good-use world env shows root site within below context state s part known None is =
+    → Good world (IsForetold world env IsKnown context (walk.use_of root site context state) s.store) s.visited (effect.fetched found site s)
+good-use world env shows root site within below context state s part stands None is =
     let unclosed : is_defined state root ≡ true → ⊥ = λ closed.
-    let at = defined-stored world.variables env shows state s.store root within known closed in none-some at.0 (sym is ∙ at.1) in
+    let at = defined-stored world.variables env shows state s.store root within stands.known closed in none-some at.0 (sym is ∙ at.1) in
     record {
       errs = errs-here world site (part.ids site (open-here site (is_defined state root) unclosed)) below;
       new = nothing-new world s.visited;
       gives = tt;
     }
-good-use world env shows root site within below context state s part known (Some v) is =
-    let inside : IsIn (range_of state root) v = read-in world.variables env shows state s.store root v within known is in
-    let used = used-known world.variables env shows state s.store root v within known is in
-    record {
-      errs = tt;
-      new = nothing-new world s.visited;
-      gives = (inside, nonempty-known world.variables env (range_of state root) (with_defined root state) s.store v inside used);
-    }
+good-use world env shows root site within below context state s part stands (Some v) is =
+    let inside : IsIn (range_of state root) v = read-in world.variables env shows state s.store root v within stands.known is in
+    let used = used-known world.variables env shows state s.store root v within stands.known is in
+    let known = nonempty-known world.variables env (range_of state root) (with_defined root state) s.store v inside used in
+    good-give world (IsForetold world env IsKnown context (walk.use_of root site context state) s.store) v s (record {
+      tie = inside;
+      stands = stands-as world env context state (walk.use_of root site context state).after s.store stands known;
+      kept = keeps-itself env context.rounds s.store;
+    })
 
 pub sound-use : (world : World) (env : Environment) → Shows world.variables env → (root site : ℕ) → root < world.variables → site < world.sites
     → Sound world env IsKnown (effect.fetch (env root) site) (walk.use_of root site)
 sound-use world env shows root site within below =
     subst (λ (place : Option Place). Sound world env IsKnown (effect.fetch place site) (walk.use_of root site)) (sym
     (at-place world.variables env shows root within))
-    (λ context state s unbroken part known.
-    good-use world env shows root site within below context state s part known (stored s.store (place_of env root)) refl)
+    (λ context state s unbroken part stands.
+    good-use world env shows root site within below context state s part stands (stored s.store (place_of env root)) refl)
 
 -- a value that passes a test lies in the range that passes
 abbrev pub Passes : Bool → Value → Interval → Unit {0} → Type 0
@@ -264,80 +277,19 @@ false-true is = cc
 pub sound-tested : (world : World) (env : Environment) (closed : Bool) (site : ℕ) (passed : Interval) (v : Value) (test : Bool) → site < world.sites
     → (closed ≡ true → test ≡ true) → (test ≡ true → IsIn passed v)
     → Sound world env (Passes test v) (effect.require test site) (walk.tested closed site passed)
-sound-tested world env closed site passed v true below holds lets context state s unbroken part known =
+sound-tested world env closed site passed v true below holds lets context state s unbroken part stands =
     let inside : IsIn passed v = lets refl in
-    record { errs = tt; new = nothing-new world s.visited; gives = ((inside, refl), nonempty-known world.variables env passed state s.store v inside known) }
-sound-tested world env closed site passed v false below holds lets context state s unbroken part known =
-    let unclosed : (is_dead state || closed) ≡ true → ⊥ = λ is. false-true (closed-passes world.variables env state s.store closed false known holds is) in
+    let after = (walk.tested closed site passed context state).after in
+    good-give world (IsForetold world env (Passes true v) context (walk.tested closed site passed context state) s.store) tt s (record {
+      tie = (inside, refl);
+      stands = stands-as world env context state after s.store stands
+          (nonempty-known world.variables env passed state s.store v inside stands.known);
+      kept = keeps-itself env context.rounds s.store;
+    })
+sound-tested world env closed site passed v false below holds lets context state s unbroken part stands =
+    let unclosed : (is_dead state || closed) ≡ true → ⊥ = λ is. false-true (closed-passes world.variables env state s.store closed false stands.known holds is) in
     record {
       errs = errs-here world site (part.ids site (open-here site (is_dead state || closed) unclosed)) below;
       new = nothing-new world s.visited;
       gives = tt;
     }
-
-pub sound-assign : (world : World) (env : Environment) → Shows world.variables env → (root : ℕ) (value : Known) (v : Value) → root < world.variables
-    → IsKnown value v
-    → Sound {B = Unit {0}} world env Any_value (effect.store (env root) v) (walk.assign root value)
-sound-assign world env shows root (Ordinal range) v within inside =
-    subst (λ (place : Option Place). Sound {B = Unit {0}} world env Any_value (effect.store place v) (walk.assign root (Ordinal range)))
-    (sym (at-place world.variables env shows root within))
-    (λ context state s unbroken part known.
-    let assigned = assigned-known world.variables env shows state s.store root range v within known inside in
-    record { errs = tt; new = nothing-new world s.visited; gives = (tt, assigned) })
-
--- ---- branches
-
--- a number that isn't true is the 0 of its range
-false-has : (range : Interval) (n : ℤ) → HasMember range n → is_true n ≡ false → IsIn (walk.of_truth false range) (Number n)
-false-has range n inside so = common-in range (record { first = pos 0; last = pos 0 }) (Number n) inside (grind (arith, ints), grind (arith, ints))
-
--- a value that is true, or false, is among the numbers of its range that are
-truth-in-range : (b : Bool) (known : Known) (v : Value) (state : State) (variables : ℕ) (env : Environment) (store : Store) → IsKnown known v → is_so v ≡ b
-    → Knows variables env state store → Knows variables env (walk.where_so b known state) store
-truth-in-range true (Ordinal range) (Number n) state variables env store inside so known =
-    nonempty-known variables env (walk.of_truth true range) state store (Number n) (without_zero_end-has range n inside so) known
-truth-in-range false (Ordinal range) (Number n) state variables env store inside so known =
-    nonempty-known variables env (walk.of_truth false range) state store (Number n) (false-has range n inside so) known
-
--- behind one of two ways the joined state holds
-good-one : (world : World) (env : Environment) (one other : Walked (Unit {0})) (before : List Visit) (reply : Reply (Unit {0}))
-    → Good {A = Unit {0}} {B = Unit {0}} world env Any_value one before reply
-    → Good {A = Unit {0}} {B = Unit {0}} world env Any_value (walk.either_of one other) before reply
-good-one world env one other before (effect.Gives done s) good =
-    record { errs = tt; new = good.new; gives = (tt, joined-known_one world.variables env one.after other.after s.store good.gives.1) }
-good-one world env one other before (effect.Stops e s) good = record { errs = good.errs; new = good.new; gives = tt }
-
-good-other : (world : World) (env : Environment) (one other : Walked (Unit {0})) (before : List Visit) (reply : Reply (Unit {0}))
-    → Good {A = Unit {0}} {B = Unit {0}} world env Any_value other before reply
-    → Good {A = Unit {0}} {B = Unit {0}} world env Any_value (walk.either_of one other) before reply
-good-other world env one other before (effect.Gives done s) good =
-    record { errs = tt; new = good.new; gives = (tt, joined-known_other world.variables env one.after other.after s.store good.gives.1) }
-good-other world env one other before (effect.Stops e s) good = record { errs = good.errs; new = good.new; gives = tt }
-
--- the choice of a branch by a truth value
-sound-chosen : (world : World) (env : Environment) (one_action other_action : Action (Unit {0})) (consequence alternative : Walking (Unit {0})) (known : Known) (v : Value)
-    (b : Bool) → is_so v ≡ b → IsKnown known v
-    → Sound {A = Unit {0}} {B = Unit {0}} world env Any_value one_action consequence → Sound {A = Unit {0}} {B = Unit {0}} world env Any_value other_action alternative
-    → Sound {A = Unit {0}} {B = Unit {0}} world env Any_value (cond b one_action other_action) (walk.branches consequence alternative known)
-sound-chosen world env one_action other_action consequence alternative known v true so inside one other context state s unbroken part holds =
-    let first = consequence context (walk.where_so true known state) in
-    let second = alternative context (walk.where_so false known state) in
-    let own : IsPartOf world first = part-left world first second (record { ids = part.ids; linked = part.linked }) in
-    good-one world env first second s.visited (one_action s)
-    (one context (walk.where_so true known state) s (unbroken-left first.broken second.broken unbroken) own
-    (truth-in-range true known v state world.variables env s.store inside so holds))
-sound-chosen world env one_action other_action consequence alternative known v false so inside one other context state s unbroken part holds =
-    let first = consequence context (walk.where_so true known state) in
-    let second = alternative context (walk.where_so false known state) in
-    let own : IsPartOf world second = part-right world first second (record { ids = part.ids; linked = part.linked }) in
-    good-other world env first second s.visited (other_action s)
-    (other context (walk.where_so false known state) s (unbroken-right first.broken second.broken unbroken) own
-    (truth-in-range false known v state world.variables env s.store inside so holds))
-
--- the branches of a conditional statement
-pub sound-branches : (world : World) (env : Environment) (one_action other_action : Action (Unit {0})) (consequence alternative : Walking (Unit {0})) (known : Known) (v : Value)
-    → IsKnown known v
-    → Sound {A = Unit {0}} {B = Unit {0}} world env Any_value one_action consequence → Sound {A = Unit {0}} {B = Unit {0}} world env Any_value other_action alternative
-    → Sound {A = Unit {0}} {B = Unit {0}} world env Any_value (cond (is_so v) one_action other_action) (walk.branches consequence alternative known)
-sound-branches world env one_action other_action consequence alternative known v inside one other =
-    sound-chosen world env one_action other_action consequence alternative known v (is_so v) refl inside one other

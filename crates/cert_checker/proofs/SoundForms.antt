@@ -1,5 +1,5 @@
 -- The walk over expressions, statements and programs is sound, form by form.
-use Rattle.std.proofs.Common.{◌≡◌, sym, subst, ℕ, Bool, true, false, cond, ◌&&◌, nat_lt, List, [], ◌∷◌, map, Option, Some, None}
+use Rattle.std.proofs.Common.{◌≡◌, refl, sym, subst, ℕ, ◌<◌, Bool, true, false, cond, ◌&&◌, nat_lt, List, [], ◌∷◌, map, Option, Some, None}
 use Rattle.std.proofs.lemmas.Bool.{and_parts, ltb-true}
 use Rattle.typed_tree.specs.declared.tree.Access.{Access}
 use Rattle.typed_tree.specs.declared.tree.RangeTest.{RangeTest}
@@ -14,13 +14,13 @@ use Rattle.typed_tree.specs.declared.tree.Expr.TheViews.{roll-Expr, roll-Link}
 use Rattle.typed_tree.specs.declared.tree.Expr.TheFolds.{map-Expr, map-Link, fold-roll-Expr, fold-roll-Link, ind-Expr}
 use Rattle.typed_tree.specs.declared.tree.Stmt.{Stmt}
 use Rattle.typed_tree.specs.declared.tree.Stmt.TheOpen.{Stmt-F}
-use Rattle.typed_tree.specs.declared.tree.Stmt.TheOpen.Stmt-F.{Empty, Assign, Write, Compound, If}
+use Rattle.typed_tree.specs.declared.tree.Stmt.TheOpen.Stmt-F.{Empty, Assign, Write, Compound, If, While, Repeat}
 use Rattle.typed_tree.specs.declared.tree.Stmt.TheViews.{roll-Stmt}
 use Rattle.typed_tree.specs.declared.tree.Stmt.TheFolds.{map-Stmt, fold-roll-Stmt, ind-Stmt}
 use Rattle.typed_tree.specs.WellFormed.{all_hold, is_well_formed_test, dyadic_is_well_formed, expr_is_well_formed, is_well_formed_expr, is_well_formed_link, is_well_formed_parameter, is_well_formed_stmt, is_well_formed_width, is_whole, link_is_well_formed, monadic_is_well_formed, stmt_is_well_formed}
 use Rattle.meaning.specs.declared.store.Value.{Value}
 use Rattle.meaning.specs.declared.store.Value.TheVariants.{Number}
-use Rattle.meaning.specs.Store.{Environment}
+use Rattle.meaning.specs.Store.{Environment, Place as StorePlace}
 use Rattle.meaning.specs.Effect as effect
 use Rattle.meaning.specs.Effect.{is_in, is_positive, text_of}
 use Rattle.meaning.specs.Meaning as meaning
@@ -28,10 +28,22 @@ use Rattle.meaning.specs.Meaning.{Evaluation, Execution, is_so, value_of, link_o
 use Rattle.abstract_state.specs.declared.known.Known.{Known}
 use Rattle.abstract_state.specs.declared.known.Known.TheVariants.{Ordinal}
 use Rattle.cert_checker.specs.Walk as walk
-use Rattle.cert_checker.specs.Walk.{Walking, value_walk, link_walk, parameter_walk, width_walk, statement_walk}
-use Rattle.abstract_state.proofs.Ranged.{IsKnown, constant-in}
-use Rattle.abstract_state.proofs.Knows.{Shows}
-use Rattle.cert_checker.proofs.Sound.{World, Sound, Any_value, Passes, sound-then, sound-given, sound-written, sound-give, sound-enter, sound-use, sound-assign, sound-branches}
+use Rattle.cert_checker.specs.Walk.{Context, Walking, followed, value_walk, link_walk, parameter_walk, width_walk, statement_walk}
+use Rattle.abstract_state.proofs.Ranged.{IsKnown, constant-in, included-in, is_in-limits}
+use Rattle.abstract_state.proofs.Knows.{Shows, at-place, moment}
+use Rattle.cert_checker.proofs.Sound.{World, Sound, Any_value, Passes, sound-then, sound-given, sound-written, sound-give, sound-enter, sound-use, IsPartOf, IsForetold, Stands, Good, good-then, good-weaker, nothing-new, unbroken-left, unbroken-right, part-left, part-right}
+use Rattle.cert_checker.proofs.SoundLoops.{Foretold, sound-choice, sound-loop, sound-while, sound-repeat, kept-rule}
+use Rattle.cert_checker.proofs.Keeping.{written-kept, written-typed, keeps-then}
+use Rattle.abstract_state.proofs.Changed.{IsOfForm, assigned-known}
+use Rattle.abstract_state.proofs.Refined.{form-known}
+use Rattle.abstract_state.specs.Conditions.{bound_form}
+use Rattle.cert_checker.specs.Loops.{all_list, limits_at}
+use Rattle.cert_checker.specs.declared.fault.Rule.TheVariants.{Changes}
+use Rattle.domain.specs.Facts.{Bound}
+use Rattle.domain.specs.Interval.{Interval, is_included}
+use Rattle.abstract_state.specs.State.{State, limits_of}
+use Rattle.abstract_state.specs.Holds.{IsIn}
+use Rattle.place.specs.declared.Place.{Place}
 use Rattle.cert_checker.proofs.SoundOperations.{IsKnownOf, given-sound, operated-sound, combined-sound, positive-sound, fitting-sound}
 
 -- the walk over an action that gives no value is sound
@@ -241,36 +253,111 @@ module _ (world : World) (env : Environment) (shows : Shows world.variables env)
       (statement_walk statement.0) (λ done. walk.all_of (map statement_walk later))
       (statement.1 parts.0) (λ b a tie. all-sound statements parts.1)
 
+  required-same : (test : Bool) (site : ℕ) (s t : effect.State) (done : Unit {0}) → effect.require test site s ≡ effect.Gives done t
+      → (test ≡ true) × (s ≡ t)
+  required-same true site s t done is = (refl, cc)
+  required-same false site s t done is = absurd (cc)
+
   -- a value is tested, and then it is stored
   abbrev tested-store : Access → RangeTest → Value → effect.Action (Unit {0})
   tested-store target fits v = effect.◌>>=◌ (effect.require (is_in fits.range v) fits.site) (λ tested. effect.store (env target.root) v)
 
-  store-sound : (target : Access) (fits : RangeTest) (known : Known) (v : Value) → nat_lt target.root world.variables ≡ true
-      → nat_lt fits.site world.sites ≡ true
-      → IsKnown known v → SoundAction world env (tested-store target fits v) (walk.◌>>=◌ (walk.fitting fits known) (λ passed. walk.assign target.root passed))
-  store-sound target fits known v within below inside =
-      sound-then world env (IsKnownOf v) Any_value (effect.require (is_in fits.range v) fits.site) (λ tested. effect.store (env target.root) v)
-      (walk.fitting fits known) (λ passed. walk.assign target.root passed)
-      (fitting-sound world env fits known v (ltb-true fits.site world.sites below) inside)
-      (λ passed tested is. sound-assign world env shows target.root passed v (ltb-true target.root world.variables within) is)
+  -- what the walk does with a value that is tested and stored
+  abbrev walked-store : Place → Access → RangeTest → Expr → Known → Walking (Unit {0})
+  walked-store becomes target fits value known =
+      walk.◌>>=◌ (walk.fitting fits known)
+      (λ passed. walk.◌>>=◌ (walk.change becomes target.root fits.range) (λ listed. walk.assign target.root (bound_form value) passed))
+
+  -- the value is stored: each loop round lists its variable, and it lies in the range of the variable's type
+  stored-good : (target : Access) (fits : RangeTest) (form : Option Bound) (known : Known) (v : Value) (context : Context) (state : State) (t : effect.State)
+      → target.root < world.variables
+      → (all_list target.root context.rounds && is_included (limits_of fits.range) (limits_at context.limits target.root)) ≡ true
+      → IsKnown known v → IsIn (limits_of fits.range) v → IsOfForm (moment env t.store) form v → Stands world env context state t.store
+      → Good world (Foretold world env context (walk.assign target.root form known context state) t.store) t.visited (effect.store (env target.root) v t)
+  stored-good target fits form (Ordinal range) v context state t within listed inside fitting of_form stands =
+      let all = all_list target.root context.rounds in
+      let parts = and_parts all (is_included (limits_of fits.range) (limits_at context.limits target.root)) listed in
+      let own : IsIn (limits_at context.limits target.root) v = included-in (limits_of fits.range) (limits_at context.limits target.root) v parts.1 fitting in
+      subst (λ (place : Option StorePlace).
+      Good world (Foretold world env context (walk.assign target.root form (Ordinal range) context state) t.store) t.visited (effect.store place v t))
+      (sym (at-place world.variables env shows target.root within))
+      (record {
+        errs = tt;
+        new = nothing-new world t.visited;
+        gives = record {
+          tie = tt;
+          stands = record {
+            limits_are = stands.limits_are;
+            known = assigned-known world.variables env shows state t.store target.root range form v within stands.known inside of_form;
+            typed = written-typed world.variables env shows t.store target.root v within world.limits stands.typed
+                (subst (λ (limits : List Interval). IsIn (limits_at limits target.root) v) stands.limits_are own);
+          };
+          kept = written-kept world.variables env shows t.store target.root v within context.rounds parts.0;
+        };
+      })
+
+  store-sound : (becomes : Place) (target : Access) (fits : RangeTest) (value : Expr) (known : Known) (v : Value) (context : Context) (state : State)
+      (s t : effect.State)
+      → nat_lt target.root world.variables ≡ true → nat_lt fits.site world.sites ≡ true → value_of value env s ≡ effect.Gives v t → IsKnown known v
+      → (walked-store becomes target fits value known context state).broken ≡ []
+      → IsPartOf world (walked-store becomes target fits value known context state)
+      → Stands world env context state t.store
+      → Good world (Foretold world env context (walked-store becomes target fits value known context state) t.store) t.visited (tested-store target fits v t)
+  store-sound becomes target fits value known v context state s t within below is inside unbroken part stands =
+      let first = walk.fitting fits known context state in
+      let listed = all_list target.root context.rounds && is_included (limits_of fits.range) (limits_at context.limits target.root) in
+      let asked = walk.change becomes target.root fits.range context first.after in
+      let last = walk.assign target.root (bound_form value) first.value context first.after in
+      let rest = followed asked last in
+      let test = is_in fits.range v in
+      good-then world (IsForetold world env (IsKnownOf v) context first t.store) (Foretold world env context (followed first rest) t.store) t.visited
+      (effect.require test fits.site t) (λ tested. effect.store (env target.root) v)
+      (fitting-sound world env fits known v (ltb-true fits.site world.sites below) inside context state t (unbroken-left first.broken rest.broken unbroken)
+      (part-left world first rest part) stands)
+      (λ tested u gives told.
+      let same = required-same test fits.site t u tested gives in
+      let form : IsOfForm (moment env u.store) (bound_form value) v =
+      subst (λ (x : effect.State). IsOfForm (moment env x.store) (bound_form value) v) same.1 (form-known value env s t v is) in
+      let kept = kept-rule listed Changes becomes (unbroken-left asked.broken last.broken (unbroken-right first.broken rest.broken unbroken)) in
+      good-weaker world (Foretold world env context last u.store) (Foretold world env context (followed first rest) t.store) u.visited
+      (effect.store (env target.root) v u)
+      (λ done w stored then.
+      record { tie = tt; stands = then.stands; kept = keeps-then env context.rounds t.store u.store w.store told.kept then.kept })
+      (stored-good target fits (bound_form value) first.value v context first.after u (ltb-true target.root world.variables within) kept told.tie
+      (is_in-limits fits.range v same.0) form told.stands))
 
   -- the target is entered, and then comes the value
   abbrev assigned : Access → RangeTest → Expr → effect.Action (Unit {0})
   assigned target fits value = effect.◌>>=◌ (effect.enter target.number env) (λ entered. effect.◌>>=◌ (value_of value env) (tested-store target fits))
 
-  assignment-sound : (target : Access) (fits : RangeTest) (value : Expr)
+  value-stored : (becomes : Place) (target : Access) (fits : RangeTest) (value : Expr) → well_expr value ≡ true → nat_lt target.root world.variables ≡ true
+      → nat_lt fits.site world.sites ≡ true
+      → SoundAction world env (effect.◌>>=◌ (value_of value env) (tested-store target fits))
+      (walk.◌>>=◌ (value_walk value) (walked-store becomes target fits value))
+  value-stored becomes target fits value well within below context state s unbroken part stands =
+      let first = value_walk value context state in
+      let second = walked-store becomes target fits value first.value context first.after in
+      good-then world (IsForetold world env IsKnown context first s.store) (Foretold world env context (followed first second) s.store) s.visited
+      (value_of value env s) (tested-store target fits)
+      (value-sound value well context state s (unbroken-left first.broken second.broken unbroken) (part-left world first second part) stands)
+      (λ v t is told.
+      good-weaker world (Foretold world env context second t.store) (Foretold world env context (followed first second) s.store) t.visited
+      (tested-store target fits v t)
+      (λ done u gives then. record { tie = tt; stands = then.stands; kept = keeps-then env context.rounds s.store t.store u.store told.kept then.kept })
+      (store-sound becomes target fits value first.value v context first.after s t within below is told.tie
+      (unbroken-right first.broken second.broken unbroken) (part-right world first second part) told.stands))
+
+  assignment-sound : (becomes : Place) (target : Access) (fits : RangeTest) (value : Expr)
       → (nat_lt target.root world.variables && (is_well_formed_test world.variables world.sites fits && well_expr value)) ≡ true
-      → SoundAction world env (assigned target fits value) (walk.assignment target fits value)
-  assignment-sound target fits value well =
+      → SoundAction world env (assigned target fits value) (walk.assignment becomes target fits value)
+  assignment-sound becomes target fits value well =
       let is_test = is_well_formed_test world.variables world.sites fits in
       let one = and_parts (nat_lt target.root world.variables) (is_test && well_expr value) well in
       let two = and_parts is_test (well_expr value) one.1 in
       let three = and_parts (nat_lt fits.site world.sites) (is_whole fits.range.first && is_whole fits.range.last) two.0 in
-      let test = λ (known : Known). walk.◌>>=◌ (walk.fitting fits known) (λ passed. walk.assign target.root passed) in
       entered-sound {A = Unit {0}} {B = Unit {0}} Any_value target.number
-      (effect.◌>>=◌ (value_of value env) (tested-store target fits)) (walk.◌>>=◌ (value_walk value) test)
-      (sound-then world env IsKnown Any_value (value_of value env) (tested-store target fits) (value_walk value) test
-      (value-sound value two.1) (λ known v inside. store-sound target fits known v one.0 three.0 inside))
+      (effect.◌>>=◌ (value_of value env) (tested-store target fits)) (walk.◌>>=◌ (value_walk value) (walked-store becomes target fits value))
+      (value-stored becomes target fits value two.1 one.0 three.0)
 
   -- a conditional statement: the condition, and then one of its branches
   choice-sound : (number : ℕ) (condition : Expr) (consequence alternative : effect.Action (Unit {0})) (true_walk false_walk : Walking (Unit {0}))
@@ -278,13 +365,12 @@ module _ (world : World) (env : Environment) (shows : Shows world.variables env)
       → SoundAction world env consequence true_walk → SoundAction world env alternative false_walk
       → SoundAction world env
       (effect.◌>>=◌ (effect.enter number env) (λ done. effect.◌>>=◌ (value_of condition env) (λ v. cond (is_so v) consequence alternative)))
-      (walk.◌>>=◌ (walk.enter number) (λ done. walk.◌>>=◌ (value_walk condition) (walk.branches true_walk false_walk)))
+      (walk.◌>>=◌ (walk.enter number) (λ done. walk.◌>>=◌ (value_walk condition) (walk.branches condition true_walk false_walk)))
   choice-sound number condition consequence alternative true_walk false_walk well one other =
-      let chosen = λ (v : Value). cond (is_so v) consequence alternative in
-      entered-sound {A = Unit {0}} {B = Unit {0}} Any_value number (effect.◌>>=◌ (value_of condition env) chosen)
-      (walk.◌>>=◌ (value_walk condition) (walk.branches true_walk false_walk))
-      (sound-then world env IsKnown Any_value (value_of condition env) chosen (value_walk condition) (walk.branches true_walk false_walk)
-      (value-sound condition well) (λ known v inside. sound-branches world env consequence alternative true_walk false_walk known v inside one other))
+      entered-sound {A = Unit {0}} {B = Unit {0}} Any_value number
+      (effect.◌>>=◌ (value_of condition env) (λ v. cond (is_so v) consequence alternative))
+      (walk.◌>>=◌ (value_walk condition) (walk.branches condition true_walk false_walk))
+      (sound-choice world env condition consequence alternative true_walk false_walk (value-sound condition well) one other)
 
   abbrev StmtLayer : Stmt-F Stmt → Type 0
   StmtLayer x =
@@ -295,8 +381,8 @@ module _ (world : World) (env : Environment) (shows : Shows world.variables env)
   statement-layer : (y : Stmt-F ProvedStmt) → StmtLayer (map-Stmt ProvedStmt Stmt (λ s. s.0) y)
   statement-layer (Empty number) well = sound-enter world env shows number
   statement-layer (Assign number becomes target fits value) well =
-      entered-sound {A = Unit {0}} {B = Unit {0}} Any_value number (assigned target fits value) (walk.assignment target fits value)
-      (assignment-sound target fits value well)
+      entered-sound {A = Unit {0}} {B = Unit {0}} Any_value number (assigned target fits value) (walk.assignment becomes target fits value)
+      (assignment-sound becomes target fits value well)
   statement-layer (Write number name parameters ends_line) well =
       let written = meaning.all_of (map parameter_of parameters.items) env in
       let walked = walk.all_of (map parameter_walk parameters.items) in
@@ -316,6 +402,23 @@ module _ (world : World) (env : Environment) (shows : Shows world.variables env)
       let each = and_parts (well_stmt consequence.value.0) (well_stmt alternative.value.0) parts.1 in
       choice-sound number condition (effect_of consequence.value.0 env) (effect_of alternative.value.0 env) (statement_walk consequence.value.0)
       (statement_walk alternative.value.0) parts.0 (consequence.value.1 each.0) (alternative.value.1 each.1)
+  statement-layer (While number loop_number place condition body) well =
+      let parts = and_parts (well_expr condition) (well_stmt body.value.0) well in
+      let round = meaning.while_round (value_of condition) (effect_of body.value.0) env in
+      let walked = walk.while_round condition (statement_walk body.value.0) in
+      entered-sound {A = Unit {0}} {B = Unit {0}} Any_value number (effect.looped round tt) (walk.loop_walk loop_number place walked)
+      (sound-loop world env shows loop_number place round tt walked
+      (λ a. sound-while world env condition (effect_of body.value.0) (statement_walk body.value.0) (value-sound condition parts.0) (body.value.1 parts.1)))
+  statement-layer (Repeat number loop_number place statements condition) well =
+      let inner = map (λ (s : ProvedStmt). s.0) statements.items in
+      let parts = and_parts (all_hold (map well_stmt inner)) (well_expr condition) well in
+      let body = meaning.all_of (map effect_of inner) in
+      let bodies = walk.all_of (map statement_walk inner) in
+      let round = meaning.repeat_round body (value_of condition) env in
+      let walked = walk.repeat_round bodies condition in
+      entered-sound {A = Unit {0}} {B = Unit {0}} Any_value number (effect.looped round tt) (walk.loop_walk loop_number place walked)
+      (sound-loop world env shows loop_number place round tt walked
+      (λ a. sound-repeat world env condition body bodies (all-sound statements.items parts.0) (value-sound condition parts.1)))
 
   along-statement : {a b : Bool} {execution executed : Execution} {walking walked : Walking (Unit {0})} → a ≡ b → execution ≡ executed → walking ≡ walked
       → SoundStatement b executed walked → SoundStatement a execution walking

@@ -4,6 +4,7 @@ use Rattle.std.specs.Prelude.{slice_get}
 use Rattle.std.specs.List.{Contains, list_any, list_all, range_with_len}
 use Rattle.std.proofs.lemmas.Bool.{and_parts, eqb-true, eq-eqb}
 use Rattle.std.proofs.lemmas.List.{length-map, get_or-map, get_or_default}
+use Rattle.std.proofs.lemmas.Option.{slice_get_past}
 use Rattle.std.proofs.lemmas.List.Folds.{list_any_at}
 use Rattle.std.proofs.lemmas.List.FromFn.{length-range_with_len, get_or-range_with_len}
 use Rattle.certificate.specs.declared.Certificate.{Certificate}
@@ -20,10 +21,12 @@ use Rattle.meaning.specs.Effect as effect
 use Rattle.meaning.specs.Effect.{Reply, Visit}
 use Rattle.meaning.specs.Meaning.{run, run_of, first_state, ended, home_of, program_environment}
 use Rattle.abstract_state.specs.State.{Dead, start}
-use Rattle.cert_checker.specs.Walk.{Context, Linked, Walked, block_walk, all_of, begin, statement_walk, program_walk, numbers_of}
-use Rattle.abstract_state.specs.Holds.{Separate, StateHolds}
+use Rattle.cert_checker.specs.Walk.{Context, Linked, Walked, block_walk, all_of, begin, first_context, statement_walk, program_walk, numbers_of}
+use Rattle.abstract_state.specs.Holds.{Separate, StateHolds, part_of}
+use Rattle.meaning.specs.declared.store.Value.{Value}
 use Rattle.cert_checker.specs.Promise.{open_in, AreNumbered, ClosedNeverErr, HoldsAt, StatesHold, moment_of, visits_of}
 use Rattle.abstract_state.proofs.Knows.{Shows, Knows, known-start}
+use Rattle.cert_checker.specs.Loops.{all_limits}
 use Rattle.cert_checker.proofs.Sound.{World, IsPartOf, Meets, New, ErrsWithin, unbroken-left, part-left, part-right}
 use Rattle.cert_checker.proofs.SoundForms.{statement-sound}
 
@@ -65,6 +68,7 @@ program-separate tree a b p q at_a at_b differ overlaps =
 program-shows : (tree : Tree) → IsWellFormed tree → Shows (length tree.variables.items) (program_environment tree)
 program-shows tree well = record {
   visible = λ root within. (home root, declared-home tree.variables.items root root well.declared within);
+  only = λ root past. ap (home_of root) (slice_get_past tree.variables.items root past);
   separate = program-separate tree;
 }
 
@@ -72,6 +76,7 @@ program-shows tree well = record {
 
 abbrev program_world : Tree → Certificate → World
 program_world tree certificate = record {
+  limits = all_limits tree;
   ids = (program_walk tree certificate).open_ids;
   sites = length tree.sites.items;
   variables = length tree.variables.items;
@@ -84,12 +89,17 @@ pub record Foretold (world : World) (reply : Reply (Unit {0})) : Type 0 where
   pub errs : ErrsWithin world reply
   pub new : New world [] (visits_of reply)
 
+-- nothing has a value where the store is empty
+none-at : (found : Option Place) (v : Value) → part_of [] found [] ≡ Some v → ⊥
+none-at None v is = cc
+none-at (Some p) v is = cc
+
 blocks-foretold : (world : World) (env : Environment) → Shows world.variables env → (blocks : List Block) (context : Context) (input : List ℕ) (turns : ℕ)
-    → length context.tree.variables.items ≡ world.variables → list_all (is_well_formed_block world.variables world.sites) blocks ≡ true
+    → context.limits ≡ world.limits → length context.tree.variables.items ≡ world.variables → list_all (is_well_formed_block world.variables world.sites) blocks ≡ true
     → (all_of (map block_walk blocks) context Dead).broken ≡ [] → IsPartOf world (all_of (map block_walk blocks) context Dead)
     → Foretold world (run_of (slice_get blocks 0) env (first_state input turns))
-blocks-foretold world env shows [] context input turns variables well unbroken part = record { errs = tt; new = λ visit inside. inl inside }
-blocks-foretold world env shows (block ∷ blocks) context input turns variables well unbroken part =
+blocks-foretold world env shows [] context input turns same variables well unbroken part = record { errs = tt; new = λ visit inside. inl inside }
+blocks-foretold world env shows (block ∷ blocks) context input turns same variables well unbroken part =
     let begun = start (length context.tree.variables.items) in
     let first : Walked (Unit {0}) = block_walk block context Dead in
     let body : Walked (Unit {0}) = statement_walk block.body context begun in
@@ -98,14 +108,14 @@ blocks-foretold world env shows (block ∷ blocks) context input turns variables
     let parts = and_parts (is_well block) (list_all is_well blocks) well in
     let known = known-start env (length context.tree.variables.items) in
     let good = statement-sound world env shows block.body parts.0 context begun (first_state input turns) (unbroken-left first.broken rest.broken unbroken)
-    (part-right world (begin block context Dead) body (part-left world first rest part)) (subst (λ n. Knows n env begun []) variables known) in
+    (part-right world (begin block context Dead) body (part-left world first rest part)) (record { limits_are = same; known = subst (λ n. Knows n env begun []) variables known; typed = λ root v is. absurd (none-at (env root) v is) }) in
     record { errs = good.errs; new = good.new }
 
 pub program-foretold : (tree : Tree) (certificate : Certificate) (input : List ℕ) (turns : ℕ) → (program_walk tree certificate).broken ≡ [] → IsWellFormed tree
     → Foretold (program_world tree certificate) (run tree input turns)
 program-foretold tree certificate input turns unbroken well =
     blocks-foretold (program_world tree certificate) (program_environment tree) (program-shows tree well) tree.blocks.items
-    (record { tree = tree; certificate = certificate }) input turns refl well.blocks unbroken
+    (first_context tree certificate) input turns refl refl well.blocks unbroken
     (record { ids = λ id inside. inside; linked = λ one inside. inside })
 
 -- ---- numbers that are places

@@ -1,7 +1,8 @@
 -- What the checker did over a piece of a program, from what it did over the parts of the piece.
-use Rattle.std.proofs.Common.{rules, ◌≡◌, ◌≤◌, Bool, true, false, Option, Some, None, Result, Ok, Err, ℕ, ℤ, ◌+◌, List, [], ◌∷◌, ◌++◌, length, map, refl, sym, ap, ◌∙◌, subst, append_assoc, append-nil, ◌<◌, get_or, drop, drop-cons, add-one, suc}
+use Rattle.std.proofs.Common.{rules, ◌≡◌, ◌≤◌, Bool, true, false, ◌&&◌, Option, Some, None, Result, Ok, Err, ℕ, ℤ, ◌+◌, List, [], ◌∷◌, ◌++◌, length, map, refl, sym, ap, ◌∙◌, subst, append_assoc, append-nil, ◌<◌, get_or, drop, drop-cons, add-one, suc}
 use Rattle.std.proofs.lemmas.List.{drop_all}
 use Rattle.std.specs.Result.{IsErr, IsErrAnd}
+use Rattle.std.specs.Prelude.{MatchResult}
 use Rattle.place.specs.declared.Place.{Place as SourcePlace}
 use Rattle.typed_tree.specs.declared.tree.Access.{Access}
 use Rattle.typed_tree.specs.declared.tree.RangeTest.{RangeTest}
@@ -26,9 +27,21 @@ use Rattle.domain.specs.Interval.{Interval}
 use Rattle.abstract_state.specs.declared.state.State.{State as Kept}
 use Rattle.abstract_state.specs.declared.known.Known.TheVariants.{Ordinal}
 use Rattle.abstract_state.specs.View.{viewed}
-use Rattle.abstract_state.specs.State.{State, Dead, Live, is_defined, joined_states, limits_of, range_of, with_defined, with_value}
-use Rattle.cert_checker.specs.Walk.{Breach, Context, Linked, Walked, Walking, use_of, tested, positive, within, width_test, assign, fitting, ◌>>=◌, give, ordinal, enter, variable_walk, operated, combined, in_turn, value_walk, link_walk, parameter_walk, statement_walk, all_of, assignment, branches, where_so, numbers_of}
-use Rattle.cert_checker.specs.View.{context_of, all_counted, counted, else_walk, IsMoved, Meets, Parts, Walks, Goes}
+use Rattle.abstract_state.specs.Changes.{assigned}
+use Rattle.abstract_state.specs.Conditions.{bound_form}
+use Rattle.domain.specs.Facts.{Bound}
+use Rattle.abstract_state.specs.State.{State, Dead, Live, is_defined, joined_states, limits_of, range_of, with_defined}
+use Rattle.cert_checker.specs.Walk.{Breach, Context, Linked, Walked, Walking, use_of, tested, positive, within, width_test, assign, change, fitting, ◌>>=◌, give, ordinal, enter, variable_walk, operated, combined, in_turn, value_walk, link_walk, parameter_walk, statement_walk, all_of, assignment, block_walk, branches, breach_unless, facts_given, first_context, program_walk, followed, here, loop_walk, repeat_round, while_round, with_state, where_so, numbers_of}
+use Rattle.cert_checker.specs.View.{context_of, all_counted, counted, else_walk, AtHead, EntersLoop, IsBegun, IsBehind, IsMoved, kept_round, LeavesLoop, Meets, Parts, Walks, Goes}
+use Rattle.cert_checker.specs.Loops.{Claims, Round, all_list, claims_on, limits_at, round_of, touched}
+use Rattle.abstract_state.specs.Loops.{gives_all, head, is_among}
+use Rattle.std.specs.List.{list_all}
+use Rattle.std.proofs.lemmas.List.Folds.{list_all-map}
+use Rattle.domain.specs.Interval.{is_included}
+use Rattle.types.specs.declared.form.OrdinalRange.{OrdinalRange}
+use Rattle.typed_tree.specs.declared.tree.Tree.{Tree}
+use Rattle.certificate.specs.declared.Certificate.{Certificate}
+use Rattle.cert_checker.specs.declared.fault.Rule.TheVariants.{LoopEntry, LoopTurn, Changes}
 use Rattle.cert_checker.specs.Promise.{first_breach, IsBreachOf}
 
 -- ---- the walk, form by form
@@ -55,7 +68,7 @@ pub statement-Empty : (number : ℕ) → statement_walk (stmt.Empty number) ≡ 
 statement-Empty number = search (rules, stmt_lemmas)
 
 pub statement-Assign : (number : ℕ) (becomes : SourcePlace) (target : Access) (fits : RangeTest) (value : Expr)
-    → statement_walk (stmt.Assign number becomes target fits value) ≡ (enter number >>= λ _. assignment target fits value)
+    → statement_walk (stmt.Assign number becomes target fits value) ≡ (enter number >>= λ _. assignment becomes target fits value)
 statement-Assign number becomes target fits value = search (rules, stmt_lemmas)
 
 pub statement-Write : (number : ℕ) (name : SourcePlace) (parameters : Vec WriteParameter Global) (ends_line : Bool)
@@ -68,9 +81,19 @@ statement-Compound number statements = search (rules, stmt_lemmas)
 
 pub statement-If : (number : ℕ) (condition : Expr) (consequence : Box Stmt Global) (alternative : Option (Box Stmt Global))
     → statement_walk (stmt.If number condition consequence alternative)
-    ≡ (enter number >>= λ _. (value_walk condition >>= branches (statement_walk consequence.value) (else_walk alternative)))
+    ≡ (enter number >>= λ _. (value_walk condition >>= branches condition (statement_walk consequence.value) (else_walk alternative)))
 statement-If number condition consequence None = search (rules, stmt_lemmas)
 statement-If number condition consequence (Some statement) = search (rules, stmt_lemmas)
+
+pub statement-While : (number loop_number : ℕ) (place : SourcePlace) (condition : Expr) (body : Box Stmt Global)
+    → statement_walk (stmt.While number loop_number place condition body)
+    ≡ (enter number >>= λ _. loop_walk loop_number place (while_round condition (statement_walk body.value)))
+statement-While number loop_number place condition body = search (rules, stmt_lemmas)
+
+pub statement-Repeat : (number loop_number : ℕ) (place : SourcePlace) (statements : Vec Stmt Global) (condition : Expr)
+    → statement_walk (stmt.Repeat number loop_number place statements condition)
+    ≡ (enter number >>= λ _. loop_walk loop_number place (repeat_round (all_of (map statement_walk statements.items)) condition))
+statement-Repeat number loop_number place statements condition = search (rules, stmt_lemmas)
 
 -- ---- one piece of a walk after another
 
@@ -120,7 +143,7 @@ first-stays (first ∷ one) two breach is = is
 breach-stays : {A B : Type 0} (walked : Walked A) (more : Walked B) (fault : CheckFault) (both : Walked B) → both.broken ≡ walked.broken ++ more.broken
     → IsBreachOf walked fault → IsBreachOf both fault
 breach-stays walked more Memory both are is = tt
-breach-stays walked more Foreign both are is = absurd is
+breach-stays walked more Foreign both are is = is
 breach-stays walked more (Broken rule place) both are is =
     ap first_breach are ∙ first-stays walked.broken more.broken (record { rule = rule; place = place }) is
 
@@ -128,7 +151,7 @@ breach-stays walked more (Broken rule place) both are is =
 breach-same : {A B : Type 0} (walked : Walked A) (other : Walked B) (fault : CheckFault) → walked.broken ≡ other.broken → IsBreachOf walked fault
     → IsBreachOf other fault
 breach-same walked other Memory same is = tt
-breach-same walked other Foreign same is = absurd is
+breach-same walked other Foreign same is = is
 breach-same walked other (Broken rule place) same is = ap first_breach (sym same) ∙ is
 
 -- the first piece was walked over: what the checker did over the next is what it did over both
@@ -165,10 +188,10 @@ given-up {A} walk old new before after fault (Err other) is goes =
 
 -- ---- a list of pieces, from one of them on
 
-item-cut : {X : Type 0} (items : List X) (i : ℕ) (x : X) → i < length items → x ≡ get_or items i x → drop i items ≡ x ∷ drop (i + 1) items
+pub item-cut : {X : Type 0} (items : List X) (i : ℕ) (x : X) → i < length items → x ≡ get_or items i x → drop i items ≡ x ∷ drop (i + 1) items
 item-cut items i x inside is = rw add-one (drop-cons items i x inside ∙ ap (λ y. y ∷ drop (suc i) items) (sym is))
 
-drop-past : {X : Type 0} (items : List X) (i : ℕ) → length items ≤ i → drop i items ≡ []
+pub drop-past : {X : Type 0} (items : List X) (i : ℕ) → length items ≤ i → drop i items ≡ []
 drop-past items i past = drop_all i items past
 
 all-cut : {X : Type 0} (walk : X → Walking (Unit {0})) (items : List X) (i : ℕ) (x : X) → i < length items → x ≡ get_or items i x
@@ -255,22 +278,24 @@ use-walks root site closed range value old new state before after closed_is rang
     }
 
 -- an assignment changes nothing but the state
-pub assign-walks : (root : ℕ) (known : Known) (range : Interval) (old : Walk) (state : Kept) (visits : Visits) → known ≡ Ordinal range
-    → viewed state ≡ with_value root range (viewed old.state)
-    → Walks (assign root known) old visits (record old { state = state }) visits tt
-assign-walks root known range old state visits known_is is =
-    subst (λ k. Walks (assign root k) old visits (record old { state = state }) visits tt) (sym known_is)
+pub assign-walks : (root : ℕ) (form : Option Bound) (known : Known) (range : Interval) (old : Walk) (state : Kept) (visits : Visits) → known ≡ Ordinal range
+    → viewed state ≡ assigned root range form (viewed old.state)
+    → Walks (assign root form known) old visits (record old { state = state }) visits tt
+assign-walks root form known range old state visits known_is is =
+    subst (λ k. Walks (assign root form k) old visits (record old { state = state }) visits tt) (sym known_is)
     (record { context_is = refl; value_is = refl; state_is = is; open_is = sym (append-nil old.open_ids.items); visits_are = refl; unbroken = refl })
 
 -- an assignment from its target's entry on
-pub assignment-done : (target : Access) (fits : RangeTest) (value : Expr) (old entered valued : Walk) (before entries after : Visits)
+pub assignment-done : (becomes : SourcePlace) (target : Access) (fits : RangeTest) (value : Expr) (old entered valued : Walk) (before entries after : Visits)
     (known : Known) (result : Result (Unit {0}) CheckFault) (new : Walk)
     → Walks (enter target.number) old before entered entries tt → Walks (value_walk value) entered entries valued after known
-    → Goes (fitting fits known >>= assign target.root) valued after result new after → Goes (assignment target fits value) old before result new after
-assignment-done target fits value old entered valued before entries after known result new one two three =
-    goes-then (enter target.number) (λ _. value_walk value >>= λ known. (fitting fits known >>= assign target.root)) old entered new before entries after
-    tt result one
-    (goes-then (value_walk value) (λ known. fitting fits known >>= assign target.root) entered valued new entries after after known result two three)
+    → Goes (fitting fits known >>= λ passed. (change becomes target.root fits.range >>= λ _. assign target.root (bound_form value) passed)) valued after
+    result new after
+    → Goes (assignment becomes target fits value) old before result new after
+assignment-done becomes target fits value old entered valued before entries after known result new one two three =
+    let rest = λ (known : Known). fitting fits known >>= λ passed. (change becomes target.root fits.range >>= λ _. assign target.root (bound_form value) passed) in
+    goes-then (enter target.number) (λ _. value_walk value >>= rest) old entered new before entries after tt result one
+    (goes-then (value_walk value) rest entered valued new entries after after known result two three)
 
 pub use-stopped : (root site : ℕ) (old new : Walk) (before after : Visits) (closed : Bool) (range : Interval) (state : Kept) (fault : CheckFault)
     → IsBreachOf (tested closed site range (context_of old) (viewed state)) fault → Goes (use_of root site) old before (Err fault) new after
@@ -346,18 +371,18 @@ moved-same walking state old new moved =
     ap (λ context. walking context (viewed new.state)) (ap context_of moved.only_state) ∙ ap (walking (context_of old)) moved.says
 
 -- the ways of two branches, and where they meet
-pub branches-walk : (true_walk false_walk : Walking (Unit {0})) (known : Known) (old taken mid start done new : Walk) (before between after : Visits)
-    → IsMoved (where_so true known (viewed old.state)) old taken → Walks true_walk taken before mid between tt
-    → IsMoved (where_so false known (viewed old.state)) mid start → Walks false_walk start between done after tt
+pub branches-walk : (condition : Expr) (true_walk false_walk : Walking (Unit {0})) (known : Known) (old taken mid start done new : Walk) (before between after : Visits)
+    → IsMoved (where_so true condition known (viewed old.state)) old taken → Walks true_walk taken before mid between tt
+    → IsMoved (where_so false condition known (viewed old.state)) mid start → Walks false_walk start between done after tt
     → IsMoved (joined_states (viewed mid.state) (viewed done.state)) done new
-    → Walks (branches true_walk false_walk known) old before new after tt
-branches-walk true_walk false_walk known old taken mid start done new before between after to_yes one to_no two met =
-    let first : Walked (Unit {0}) = true_walk (context_of old) (where_so true known (viewed old.state)) in
-    let second : Walked (Unit {0}) = false_walk (context_of old) (where_so false known (viewed old.state)) in
-    let first_same = moved-same true_walk (where_so true known (viewed old.state)) old taken to_yes in
+    → Walks (branches condition true_walk false_walk known) old before new after tt
+branches-walk condition true_walk false_walk known old taken mid start done new before between after to_yes one to_no two met =
+    let first : Walked (Unit {0}) = true_walk (context_of old) (where_so true condition known (viewed old.state)) in
+    let second : Walked (Unit {0}) = false_walk (context_of old) (where_so false condition known (viewed old.state)) in
+    let first_same = moved-same true_walk (where_so true condition known (viewed old.state)) old taken to_yes in
     let context : context_of mid ≡ context_of old = one.context_is ∙ ap context_of to_yes.only_state in
     let second_same : false_walk (context_of start) (viewed start.state) ≡ second =
-    moved-same false_walk (where_so false known (viewed old.state)) mid start to_no ∙ ap (λ x. false_walk x (where_so false known (viewed old.state))) context in
+    moved-same false_walk (where_so false condition known (viewed old.state)) mid start to_no ∙ ap (λ x. false_walk x (where_so false condition known (viewed old.state))) context in
     let first_after = one.state_is ∙ ap (λ w. w.after) first_same in
     let second_after = two.state_is ∙ ap (λ w. w.after) second_same in
     let first_open = one.open_is ∙ ap (λ (w : Walk). w.open_ids.items ++ (true_walk (context_of taken) (viewed taken.state)).open_ids) to_yes.only_state
@@ -378,45 +403,283 @@ branches-walk true_walk false_walk known old taken mid start done new before bet
     }
 
 -- where the ways meet, or no memory is found there
-pub branches-done : (true_walk false_walk : Walking (Unit {0})) (known : Known) (old taken mid start done new : Walk) (before between after : Visits)
+pub branches-done : (condition : Expr) (true_walk false_walk : Walking (Unit {0})) (known : Known) (old taken mid start done new : Walk) (before between after : Visits)
     (behind otherwise : Kept) (result : Result (Unit {0}) CheckFault)
-    → Parts known old (Ok otherwise) taken → Walks true_walk taken before mid between tt
+    → Parts condition known old (Ok otherwise) taken → Walks true_walk taken before mid between tt
     → behind ≡ mid.state → start.state ≡ otherwise → start ≡ record mid { state = start.state } → Walks false_walk start between done after tt
     → Meets behind done result new
-    → Goes (branches true_walk false_walk known) old before result new after
-branches-done true_walk false_walk known old taken mid start done new before between after behind otherwise (Ok value) parts one behind_is replaced only two
+    → Goes (branches condition true_walk false_walk known) old before result new after
+branches-done condition true_walk false_walk known old taken mid start done new before between after behind otherwise (Ok value) parts one behind_is replaced only two
     met =
-    let to_no : IsMoved (where_so false known (viewed old.state)) mid start = record { only_state = only; says = ap viewed replaced ∙ parts.1 } in
-    branches-walk true_walk false_walk known old taken mid start done new before between after parts.0 one to_no two
+    let to_no : IsMoved (where_so false condition known (viewed old.state)) mid start = record { only_state = only; says = ap viewed replaced ∙ parts.1 } in
+    branches-walk condition true_walk false_walk known old taken mid start done new before between after parts.0 one to_no two
     (subst (λ (s : Kept). IsMoved (joined_states (viewed s) (viewed done.state)) done new) behind_is met)
-branches-done true_walk false_walk known old taken mid start done new before between after behind otherwise (Err fault) parts one behind_is replaced only two
+branches-done condition true_walk false_walk known old taken mid start done new before between after behind otherwise (Err fault) parts one behind_is replaced only two
     is =
-    subst (IsBreachOf (branches true_walk false_walk known (context_of old) (viewed old.state))) (sym is) tt
+    subst (IsBreachOf (branches condition true_walk false_walk known (context_of old) (viewed old.state))) (sym is) tt
 
 -- the checker gave up on the way where the condition is true
-pub branches-stopped : (true_walk false_walk : Walking (Unit {0})) (known : Known) (old taken new : Walk) (before after : Visits) (otherwise : Kept)
+pub branches-stopped : (condition : Expr) (true_walk false_walk : Walking (Unit {0})) (known : Known) (old taken new : Walk) (before after : Visits) (otherwise : Kept)
     (fault : CheckFault)
-    → Parts known old (Ok otherwise) taken → IsBreachOf (true_walk (context_of taken) (viewed taken.state)) fault
-    → Goes (branches true_walk false_walk known) old before (Err fault) new after
-branches-stopped true_walk false_walk known old taken new before after otherwise fault parts is =
-    let first : Walked (Unit {0}) = true_walk (context_of old) (where_so true known (viewed old.state)) in
-    let second : Walked (Unit {0}) = false_walk (context_of old) (where_so false known (viewed old.state)) in
-    breach-stays first second fault (branches true_walk false_walk known (context_of old) (viewed old.state)) refl
+    → Parts condition known old (Ok otherwise) taken → IsBreachOf (true_walk (context_of taken) (viewed taken.state)) fault
+    → Goes (branches condition true_walk false_walk known) old before (Err fault) new after
+branches-stopped condition true_walk false_walk known old taken new before after otherwise fault parts is =
+    let first : Walked (Unit {0}) = true_walk (context_of old) (where_so true condition known (viewed old.state)) in
+    let second : Walked (Unit {0}) = false_walk (context_of old) (where_so false condition known (viewed old.state)) in
+    breach-stays first second fault (branches condition true_walk false_walk known (context_of old) (viewed old.state)) refl
     (breach-same (true_walk (context_of taken) (viewed taken.state)) first fault
-    (ap (λ w. w.broken) (moved-same true_walk (where_so true known (viewed old.state)) old taken parts.0)) is)
+    (ap (λ w. w.broken) (moved-same true_walk (where_so true condition known (viewed old.state)) old taken parts.0)) is)
 
 -- a conditional statement from its entry on
 pub if-begun : (statement : Stmt) (number : ℕ) (condition : Expr) (consequence : Box Stmt Global) (alternative : Option (Box Stmt Global)) (inner : Stmt)
     (old entered valued new : Walk) (before between after end : Visits) (known : Known) (result : Result (Unit {0}) CheckFault)
     → statement ≡ stmt.If number condition consequence alternative → inner ≡ consequence.value
     → Walks (enter number) old before entered between tt → Walks (value_walk condition) entered between valued after known
-    → Goes (branches (statement_walk inner) (else_walk alternative) known) valued after result new end
+    → Goes (branches condition (statement_walk inner) (else_walk alternative) known) valued after result new end
     → Goes (statement_walk statement) old before result new end
 if-begun statement number condition consequence alternative inner old entered valued new before between after end known result is inner_is one two three =
-    let chosen = branches (statement_walk consequence.value) (else_walk alternative) in
+    let chosen = branches condition (statement_walk consequence.value) (else_walk alternative) in
     goes-as (statement_walk statement) (enter number >>= λ _. (value_walk condition >>= chosen)) old new before end result
     (ap statement_walk is ∙ statement-If number condition consequence alternative)
     (goes-then (enter number) (λ _. value_walk condition >>= chosen) old entered new before between end tt result one
     (goes-then (value_walk condition) chosen entered valued new between after end known result two
-    (goes-as (chosen known) (branches (statement_walk inner) (else_walk alternative) known) valued new after end result
-    (ap (λ s. branches (statement_walk s) (else_walk alternative) known) (sym inner_is)) three)))
+    (goes-as (chosen known) (branches condition (statement_walk inner) (else_walk alternative) known) valued new after end result
+    (ap (λ s. branches condition (statement_walk s) (else_walk alternative) known) (sym inner_is)) three)))
+
+-- ---- loops
+
+-- where no facts are given at the entry, a loop stops there
+pub loop-not_entered : (number : ℕ) (place : SourcePlace) (walking : Walking State) (old new : Walk) (before after : Visits) (fault : CheckFault)
+    → EntersLoop number place old (Err fault) new → Goes (loop_walk number place walking) old before (Err fault) new after
+loop-not_entered number place walking old new before after fault is =
+    let claims = claims_on old.certificate.now number in
+    let context = context_of old in
+    let state = viewed old.state in
+    let entry = facts_given LoopEntry place claims.facts context state in
+    let begun = head (limits_at old.limits.items) (touched (round_of claims)) [] claims.facts state in
+    let turn = walking (record context { rounds = context.rounds ++ round_of claims ∷ [] }) begun in
+    let rest : Walked (Unit {0}) = followed turn
+    (followed (facts_given LoopTurn place claims.facts context turn.after) (with_state turn.value context turn.after)) in
+    breach-stays entry rest fault (loop_walk number place walking context state) refl is
+
+module _ (number : ℕ) (place : SourcePlace) (walking : Walking State) (old headed : Walk) (at_head : AtHead number old headed) where
+  abbrev claims : Claims
+  claims = claims_on old.certificate.now number
+
+  abbrev inner_context : Context
+  inner_context = record (context_of old) { rounds = (context_of old).rounds ++ round_of claims ∷ [] }
+
+  abbrev turn : Walked State
+  turn = walking inner_context (head (limits_at old.limits.items) (touched (round_of claims)) [] claims.facts (viewed old.state))
+
+  abbrev whole : Walked (Unit {0})
+  whole = loop_walk number place walking (context_of old) (viewed old.state)
+
+  turn-same : walking (context_of headed) (viewed headed.state) ≡ turn
+  turn-same = ap (λ context. walking context (viewed headed.state)) at_head.context_is ∙ ap (walking inner_context) at_head.state_is
+
+  -- no rule is broken where the loop is entered
+  entered-unbroken : whole.broken ≡ turn.broken ++ ((facts_given LoopTurn place claims.facts (context_of old) turn.after).broken ++ [])
+  entered-unbroken =
+      ap (λ given. breach_unless given LoopEntry place
+      ++ (turn.broken ++ ((facts_given LoopTurn place claims.facts (context_of old) turn.after).broken ++ []))) at_head.given
+
+  -- the checker gave up in a round
+  pub loop-stopped : (new : Walk) (before after : Visits) (fault : CheckFault) → IsBreachOf (walking (context_of headed) (viewed headed.state)) fault
+      → Goes (loop_walk number place walking) old before (Err fault) new after
+  loop-stopped new before after fault is =
+      let rest : Walked (Unit {0}) = followed (facts_given LoopTurn place claims.facts (context_of old) turn.after) (with_state turn.value (context_of old) turn.after) in
+      breach-stays turn rest fault whole entered-unbroken
+      (breach-same (walking (context_of headed) (viewed headed.state)) turn fault (ap (λ w. w.broken) turn-same) is)
+
+  module _ (rounded : Walk) (before after : Visits) (behind : Kept) (one : Walks walking headed before rounded after (viewed behind)) where
+    context-within : context_of rounded ≡ inner_context
+    context-within = one.context_is ∙ at_head.context_is
+
+    claims-same : claims_on rounded.certificate.now number ≡ claims
+    claims-same = ap (λ (context : Context). claims_on context.certificate number) context-within
+
+    after-same : viewed rounded.state ≡ turn.after
+    after-same = one.state_is ∙ ap (λ w. w.after) turn-same
+
+    value-same : viewed behind ≡ turn.value
+    value-same = one.value_is ∙ ap (λ w. w.value) turn-same
+
+    turn-unbroken : turn.broken ≡ []
+    turn-unbroken = ap (λ w. w.broken) (sym turn-same) ∙ one.unbroken
+
+    -- the whole breaks no rule but that which is asked behind a round
+    whole-broken : whole.broken ≡ breach_unless (gives_all turn.after claims.facts) LoopTurn place ++ []
+    whole-broken = entered-unbroken ∙ ap (λ b. b ++ (breach_unless (gives_all turn.after claims.facts) LoopTurn place ++ [])) turn-unbroken
+
+    pub loop-done : (result : Result (Unit {0}) CheckFault) (new : Walk) → LeavesLoop number place behind rounded result new
+        → Goes (loop_walk number place walking) old before result new after
+    loop-done (Ok value) new left =
+        let behind_loop = left (context_of old).rounds (round_of claims) (ap (λ (context : Context). context.rounds) context-within) in
+        let given : gives_all turn.after claims.facts ≡ true =
+        ap (λ (s : State). gives_all s claims.facts) (sym after-same)
+        ∙ ap (λ (c : Claims). gives_all (viewed rounded.state) c.facts) (sym claims-same) ∙ behind_loop.given in
+        record {
+          context_is = behind_loop.context_is ∙ ap (λ (context : Context). record context { rounds = (context_of old).rounds }) context-within;
+          value_is = refl;
+          state_is = behind_loop.state_is ∙ value-same;
+          open_is = ap (λ (ids : Vec ℕ Global). ids.items) behind_loop.open_is ∙ one.open_is
+              ∙ ap (λ (ids : Vec ℕ Global). ids.items ++ (walking (context_of headed) (viewed headed.state)).open_ids) at_head.open_is
+              ∙ ap (λ (w : Walked State). old.open_ids.items ++ w.open_ids) turn-same
+              ∙ ap (λ ids. old.open_ids.items ++ ids) (sym (append-nil turn.open_ids));
+          visits_are = one.visits_are ∙ ap (λ (w : Walked State). all_counted (numbers_of w.linked) before) turn-same
+              ∙ ap (λ linked. all_counted (numbers_of linked) before) (sym (append-nil turn.linked));
+          unbroken = whole-broken ∙ ap (λ given. breach_unless given LoopTurn place ++ []) given;
+        }
+    loop-done (Err fault) new is =
+        breach-same (facts_given LoopTurn place (claims_on rounded.certificate.now number).facts (context_of rounded) (viewed rounded.state)) whole fault
+        (ap (λ (c : Claims). breach_unless (gives_all (viewed rounded.state) c.facts) LoopTurn place) claims-same
+        ∙ ap (λ (s : State). breach_unless (gives_all s claims.facts) LoopTurn place) after-same
+        ∙ sym (append-nil (breach_unless (gives_all turn.after claims.facts) LoopTurn place)) ∙ sym whole-broken) is
+
+-- a loop from its entry on
+pub while-begun : (statement : Stmt) (number loop_number : ℕ) (place : SourcePlace) (condition : Expr) (body : Box Stmt Global) (inner : Stmt)
+    (old entered new : Walk) (before between end : Visits) (result : Result (Unit {0}) CheckFault)
+    → statement ≡ stmt.While number loop_number place condition body → inner ≡ body.value → Walks (enter number) old before entered between tt
+    → Goes (loop_walk loop_number place (while_round condition (statement_walk inner))) entered between result new end
+    → Goes (statement_walk statement) old before result new end
+while-begun statement number loop_number place condition body inner old entered new before between end result is inner_is one two =
+    let looped = loop_walk loop_number place (while_round condition (statement_walk body.value)) in
+    goes-as (statement_walk statement) (enter number >>= λ _. looped) old new before end result
+    (ap statement_walk is ∙ statement-While number loop_number place condition body)
+    (goes-then (enter number) (λ _. looped) old entered new before between end tt result one
+    (goes-as looped (loop_walk loop_number place (while_round condition (statement_walk inner))) entered new between end result
+    (ap (λ s. loop_walk loop_number place (while_round condition (statement_walk s))) (sym inner_is)) two))
+
+pub repeat-begun : (statement : Stmt) (number loop_number : ℕ) (place : SourcePlace) (statements : Vec Stmt Global) (condition : Expr) (items : List Stmt)
+    (old entered new : Walk) (before between end : Visits) (result : Result (Unit {0}) CheckFault)
+    → statement ≡ stmt.Repeat number loop_number place statements condition → items ≡ statements.items → Walks (enter number) old before entered between tt
+    → Goes (loop_walk loop_number place (repeat_round (all_of (map statement_walk items)) condition)) entered between result new end
+    → Goes (statement_walk statement) old before result new end
+repeat-begun statement number loop_number place statements condition items old entered new before between end result is items_are one two =
+    let looped = loop_walk loop_number place (repeat_round (all_of (map statement_walk statements.items)) condition) in
+    goes-as (statement_walk statement) (enter number >>= λ _. looped) old new before end result
+    (ap statement_walk is ∙ statement-Repeat number loop_number place statements condition)
+    (goes-then (enter number) (λ _. looped) old entered new before between end tt result one
+    (goes-as looped (loop_walk loop_number place (repeat_round (all_of (map statement_walk items)) condition)) entered new between end result
+    (ap (λ l. loop_walk loop_number place (repeat_round (all_of (map statement_walk l)) condition)) (sym items_are)) two))
+
+-- ---- rounds
+
+-- a round of a while: the condition, and then the body where it is true
+pub while_round-done : (condition : Expr) (body : Walking (Unit {0})) (known : Known) (old valued taken new : Walk) (before between after : Visits)
+    (behind : Kept)
+    → Walks (value_walk condition) old before valued between known → Parts condition known valued (Ok behind) taken → Walks body taken between new after tt
+    → Walks (while_round condition body) old before new after (viewed behind)
+while_round-done condition body known old valued taken new before between after behind one parts two =
+    let was : Walked (Unit {0}) = body (context_of valued) (where_so true condition known (viewed valued.state)) in
+    let same = moved-same body (where_so true condition known (viewed valued.state)) valued taken parts.0 in
+    let rest = λ (known : Known). here >>= λ tested. (with_state (where_so true condition known tested) >>= λ _.
+    (body >>= λ _. give (where_so false condition known tested))) in
+    walks-then (value_walk condition) rest old valued new before between after known (viewed behind) one (record {
+      context_is = two.context_is ∙ ap context_of parts.0.only_state;
+      value_is = parts.1;
+      state_is = two.state_is ∙ ap (λ w. w.after) same;
+      open_is = two.open_is ∙ ap (λ (w : Walk). w.open_ids.items ++ (body (context_of taken) (viewed taken.state)).open_ids) parts.0.only_state
+          ∙ ap (λ w. valued.open_ids.items ++ w.open_ids) same ∙ ap (λ ids. valued.open_ids.items ++ ids) (sym (append-nil was.open_ids));
+      visits_are = two.visits_are ∙ ap (λ w. all_counted (numbers_of w.linked) between) same
+          ∙ ap (λ linked. all_counted (numbers_of linked) between) (sym (append-nil was.linked));
+      unbroken = append-nil was.broken ∙ ap (λ w. w.broken) (sym same) ∙ two.unbroken;
+    })
+
+-- a round of a repeat: the body, and then the condition
+pub repeat_round-done : (body : Walking (Unit {0})) (condition : Expr) (known : Known) (old bodied valued taken new : Walk) (before between after : Visits)
+    (again behind : Kept)
+    → Walks body old before bodied between tt → Walks (value_walk condition) bodied between valued after known
+    → Parts condition known valued (Ok again) taken → behind ≡ taken.state → new.state ≡ again → new ≡ record taken { state = new.state }
+    → Walks (repeat_round body condition) old before new after (viewed behind)
+repeat_round-done body condition known old bodied valued taken new before between after again behind one two parts behind_is again_is only =
+    let rest = λ (known : Known). here >>= λ tested. (with_state (where_so false condition known tested) >>= λ _. give (where_so true condition known tested)) in
+    walks-then body (λ _. value_walk condition >>= rest) old bodied new before between after tt (viewed behind) one
+    (walks-then (value_walk condition) rest bodied valued new between after after known (viewed behind) two (record {
+      context_is = ap context_of only ∙ ap context_of parts.0.only_state;
+      value_is = ap viewed behind_is ∙ parts.0.says;
+      state_is = ap viewed again_is ∙ parts.1;
+      open_is = ap (λ (w : Walk). w.open_ids.items) only ∙ ap (λ (w : Walk). w.open_ids.items) parts.0.only_state ∙ sym (append-nil valued.open_ids.items);
+      visits_are = refl;
+      unbroken = refl;
+    }))
+
+-- ---- a change of a variable, and the whole program
+
+pub change-done : (place : SourcePlace) (root : ℕ) (range : OrdinalRange) (walk : Walk) (visits : Visits) (fits listed : Bool)
+    → fits ≡ is_included (limits_of range) (limits_at walk.limits.items root)
+    → listed ≡ list_all (λ round. is_among root (kept_round round).changes) walk.rounds.items → fits ≡ true → listed ≡ true
+    → Walks (change place root range) walk visits walk visits tt
+change-done place root range walk visits fits listed fits_is listed_is fit list =
+    let all = list_all-map (λ (round : Round). is_among root round.changes) kept_round walk.rounds.items ∙ sym listed_is in
+    record {
+      context_is = refl;
+      value_is = refl;
+      state_is = refl;
+      open_is = sym (append-nil walk.open_ids.items);
+      visits_are = refl;
+      unbroken = ap (λ l. breach_unless (l && is_included (limits_of range) (limits_at walk.limits.items root)) Changes place) (all ∙ list)
+          ∙ ap (λ f. breach_unless f Changes place) (sym fits_is ∙ fit);
+    }
+
+and-false : (a b : Bool) → b ≡ false → (a && b) ≡ false
+and-false true b is = is
+and-false false b is = refl
+
+-- the test of what a change asks
+asked-same : (root : ℕ) (range : OrdinalRange) (walk : Walk) (listed : Bool)
+    → listed ≡ list_all (λ round. is_among root (kept_round round).changes) walk.rounds.items
+    → (all_list root (context_of walk).rounds && is_included (limits_of range) (limits_at walk.limits.items root))
+    ≡ (listed && is_included (limits_of range) (limits_at walk.limits.items root))
+asked-same root range walk listed listed_is =
+    ap (λ l. l && is_included (limits_of range) (limits_at walk.limits.items root))
+    (list_all-map (λ (round : Round). is_among root round.changes) kept_round walk.rounds.items ∙ sym listed_is)
+
+-- a loop doesn't list the variable
+pub unlisted : (place : SourcePlace) (root : ℕ) (range : OrdinalRange) (walk : Walk) (visits : Visits) (listed : Bool)
+    → listed ≡ list_all (λ round. is_among root (kept_round round).changes) walk.rounds.items → listed ≡ false
+    → Goes {A = Unit {0}} (change place root range) walk visits (Err (Broken Changes place)) walk visits
+unlisted place root range walk visits listed listed_is none =
+    let fits = is_included (limits_of range) (limits_at walk.limits.items root) in
+    ap (λ l. first_breach (breach_unless l Changes place)) (asked-same root range walk listed listed_is ∙ ap (λ l. l && fits) none)
+
+-- the value isn't tested for the variable's type
+pub unfit : (place : SourcePlace) (root : ℕ) (range : OrdinalRange) (walk : Walk) (visits : Visits) (fits : Bool)
+    → fits ≡ is_included (limits_of range) (limits_at walk.limits.items root) → fits ≡ false
+    → Goes {A = Unit {0}} (change place root range) walk visits (Err (Broken Changes place)) walk visits
+unfit place root range walk visits fits fits_is none =
+    ap (λ l. first_breach (breach_unless l Changes place))
+    (and-false (all_list root (context_of walk).rounds) (is_included (limits_of range) (limits_at walk.limits.items root)) (sym fits_is ∙ none))
+
+module _ (tree : Tree) (certificate : Certificate) (begun : Walk) (start : IsBegun tree certificate begun) where
+  pub program-same : all_of (map block_walk begun.tree.now.blocks.items) (context_of begun) (viewed begun.state) ≡ program_walk tree certificate
+  program-same =
+      ap (λ (context : Context). all_of (map block_walk context.tree.blocks.items) context (viewed begun.state)) start.context_is
+      ∙ ap (all_of (map block_walk tree.blocks.items) (first_context tree certificate)) start.state_is
+
+  module _ (new : Walk) (before after : Visits) (walked : Walks (all_of (map block_walk begun.tree.now.blocks.items)) begun before new after tt) where
+    pub program-open : new.open_ids.items ≡ (program_walk tree certificate).open_ids
+    program-open =
+        walked.open_is ∙ ap (λ ids. ids ++ (all_of (map block_walk begun.tree.now.blocks.items) (context_of begun) (viewed begun.state)).open_ids) start.open_is
+        ∙ ap (λ w. w.open_ids) program-same
+
+    pub program-visits : after ≡ all_counted (numbers_of (program_walk tree certificate).linked) before
+    program-visits = walked.visits_are ∙ ap (λ w. all_counted (numbers_of w.linked) before) program-same
+
+    pub program-unbroken : (program_walk tree certificate).broken ≡ []
+    program-unbroken = ap (λ w. w.broken) (sym program-same) ∙ walked.unbroken
+
+  pub program-stopped : (fault : CheckFault) → IsBreachOf (all_of (map block_walk begun.tree.now.blocks.items) (context_of begun) (viewed begun.state)) fault
+      → IsBreachOf (program_walk tree certificate) fault
+  program-stopped fault is =
+      breach-same (all_of (map block_walk begun.tree.now.blocks.items) (context_of begun) (viewed begun.state)) (program_walk tree certificate) fault
+      (ap (λ w. w.broken) program-same) is
+
+  pub program-given_up : {A : Type 0} (P : A → Type 0) (result : Result A CheckFault) (fault : CheckFault)
+      → IsErr result × IsErrAnd result (λ e. e ≡ fault)
+      → IsBreachOf (all_of (map block_walk begun.tree.now.blocks.items) (context_of begun) (viewed begun.state)) fault
+      → MatchResult result P (IsBreachOf (program_walk tree certificate))
+  program-given_up P (Ok a) fault left is = absurd left.1
+  program-given_up P (Err other) fault left is =
+      subst (IsBreachOf (program_walk tree certificate)) (sym left.1) (program-stopped fault is)

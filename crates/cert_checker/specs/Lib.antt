@@ -1,3 +1,5 @@
+pub mod Loops
+pub mod Names
 pub mod View
 pub mod Walk
 pub mod Promise

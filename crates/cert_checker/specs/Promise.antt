@@ -1,7 +1,7 @@
 -- What a verdict promises: the list of open sites, and of the runs of a program that they err at its open sites alone
 -- (ISO 7185:1990, 3.1), and that at each entry the states of the walk hold; and why a certificate gets no verdict. It
 -- does not say that an open site can err.
-use Rattle.std.specs.Prelude.{◌≡◌, ℕ, List, [], ◌∷◌, ◌==◌, Contains, Option, Some, None, filter, length}
+use Rattle.std.specs.Prelude.{◌≡◌, ℕ, true, false, List, [], ◌∷◌, ◌==◌, Contains, Option, Some, None, filter, length}
 use Rattle.std.specs.List.{list_any, range_with_len}
 use Rattle.certificate.specs.declared.Certificate.{Certificate}
 use Rattle.typed_tree.specs.declared.tree.Tree.{Tree}
@@ -14,6 +14,7 @@ use Rattle.meaning.specs.Meaning.{run, meaning}
 use Rattle.abstract_state.specs.State.{State}
 use Rattle.cert_checker.specs.declared.fault.CheckFault.{CheckFault}
 use Rattle.cert_checker.specs.declared.fault.CheckFault.TheVariants.{Memory, Foreign, Broken}
+use Rattle.cert_checker.specs.Names.{is_known}
 use Rattle.cert_checker.specs.Walk.{Breach, Context, Linked, Walked, block_walk, program_walk, numbers_of}
 use Rattle.abstract_state.specs.Holds.{Moment, StateHolds, Separate}
 
@@ -21,8 +22,10 @@ use Rattle.abstract_state.specs.Holds.{Moment, StateHolds, Separate}
 abbrev pub open_in : List ℕ → List Site → List Site
 open_in ids sites = filter (λ site. list_any (λ id. id == site.id) ids) sites
 
--- a certificate is valid for a program, and these sites are open: the walk by it breaks no rule
+-- a certificate is valid for a program, and these sites are open: it names what the program has, and the walk by it
+-- breaks no rule
 pub record Valid (tree : Tree) (certificate : Certificate) (open_sites : List Site) : Type 0 where
+  pub known : is_known tree certificate ≡ true
   pub unbroken : (program_walk tree certificate).broken ≡ []
   pub open_are : open_sites ≡ open_in (program_walk tree certificate).open_ids tree.sites.items
 
@@ -31,11 +34,19 @@ abbrev pub first_breach : List Breach → Option Breach
 first_breach [] = None
 first_breach (breach ∷ breaches) = Some breach
 
--- why a certificate is refused: for the first rule that the walk by it breaks, or for want of memory
+-- why a walk by a certificate is given up: for the first rule that it breaks, or for want of memory
 abbrev pub IsBreachOf : {A : Type 0} → Walked A → CheckFault → Type 0
 IsBreachOf walked Memory = Unit {0}
 IsBreachOf walked Foreign = ⊥
 IsBreachOf walked (Broken rule place) = first_breach walked.broken ≡ Some (record { rule = rule; place = place })
+
+-- why a certificate is refused: it names what the program doesn't have; or the walk by it breaks a rule; or for want of
+-- memory
+abbrev pub IsRefusedFor : Tree → Certificate → CheckFault → Type 0
+IsRefusedFor tree certificate Memory = Unit {0}
+IsRefusedFor tree certificate Foreign = is_known tree certificate ≡ false
+IsRefusedFor tree certificate (Broken rule place) =
+    (is_known tree certificate ≡ true) × IsBreachOf (program_walk tree certificate) (Broken rule place)
 
 -- each error of a run is at a site of the table that is open
 abbrev pub ClosedNeverErr : Tree → List Site → Type 0

@@ -1,8 +1,12 @@
 -- The checker's own values as the definitions see them, and that the checker has walked over a piece of a program.
 -- It does not say what a walk is.
-use Rattle.std.specs.Prelude.{◌≡◌, ℕ, ◌+◌, ◌&&◌, true, false, List, [], ◌∷◌, ◌++◌, Option, Some, None, Result, Ok, Err, nat_eq}
+use Rattle.std.specs.Prelude.{◌≡◌, ℕ, ◌+◌, ◌&&◌, true, false, List, [], ◌∷◌, ◌++◌, Option, Some, None, Result, Ok, Err, nat_eq, map}
 use Rattle.std.specs.declared.alloc.Global.{Global}
+use denote.Ref.{Bor}
 use Rattle.std.specs.declared.boxed.Box.{Box}
+use Rattle.certificate.specs.declared.Certificate.{Certificate}
+use Rattle.typed_tree.specs.declared.tree.Tree.{Tree}
+use Rattle.typed_tree.specs.declared.tree.Expr.{Expr}
 use Rattle.typed_tree.specs.declared.tree.Stmt.{Stmt}
 use Rattle.cert_checker.specs.declared.fault.CheckFault.{CheckFault}
 use Rattle.cert_checker.specs.declared.fault.CheckFault.TheVariants.{Memory}
@@ -11,9 +15,16 @@ use Rattle.abstract_state.specs.declared.state.State.{State as Kept}
 use Rattle.abstract_state.specs.View.{viewed}
 use Rattle.cert_checker.specs.declared.visits.Visits.{Visits}
 use Rattle.cert_checker.specs.declared.walk.Walk.{Walk}
-use Rattle.abstract_state.specs.State.{State, joined_states}
+use Rattle.cert_checker.specs.declared.rounds.Round.{Round as KeptRound}
+use Rattle.certificate.specs.declared.LoopClaims.{LoopClaims as KeptClaims}
+use Rattle.cert_checker.specs.Loops.{Claims, Round, claims_of, claims_on, limits_at, round_of, touched}
+use Rattle.certificate.specs.Contents.{LoopClaims, loop_of}
+use Rattle.abstract_state.specs.Loops.{gives_all, head}
+use Rattle.place.specs.declared.Place.{Place}
+use Rattle.abstract_state.specs.State.{State, Dead, joined_states}
 use Rattle.cert_checker.specs.Promise.{IsBreachOf}
-use Rattle.cert_checker.specs.Walk.{Context, Walking, give, numbers_of, statement_walk, where_so}
+use Rattle.cert_checker.specs.Walk.{Context, Walking, facts_given, first_context, give, numbers_of, statement_walk, where_so}
+use Rattle.cert_checker.specs.declared.fault.Rule.TheVariants.{LoopEntry, LoopTurn}
 
 -- the counter after an entry of a number
 abbrev pub counted : ℕ → Visits → Visits
@@ -25,9 +36,27 @@ abbrev pub all_counted : List ℕ → Visits → Visits
 all_counted [] visits = visits
 all_counted (number ∷ numbers) visits = all_counted numbers (counted number visits)
 
+-- claims that the checker has found, as the definitions see them
+abbrev pub found_as : Option (Bor KeptClaims) → Option LoopClaims
+found_as None = None
+found_as (Some claims) = Some (loop_of claims.now)
+
+-- what they claim of a loop
+abbrev pub said_claims : Option (Bor KeptClaims) → Claims
+said_claims claims = claims_of (found_as claims)
+
+-- a loop round the checker
+abbrev pub kept_round : KeptRound → Round
+kept_round round = round_of (said_claims round.claims)
+
 -- what a walk of the checker goes by
 abbrev pub context_of : Walk → Context
-context_of walk = record { tree = walk.tree.now; certificate = walk.certificate.now }
+context_of walk = record {
+  tree = walk.tree.now;
+  certificate = walk.certificate.now;
+  limits = walk.limits.items;
+  rounds = map kept_round walk.rounds.items;
+}
 
 -- the checker came from an old to a new point as the walk of a piece does, and has its value; it counted the entries of
 -- the piece; the piece breaks no rule
@@ -52,11 +81,11 @@ pub record IsMoved (state : State) (old new : Walk) : Type 0 where
   pub says : viewed new.state ≡ state
 
 -- the checker goes on where a condition is true, and has the state where it is false; or it found no memory
-abbrev pub Parts : Known → Walk → Result Kept CheckFault → Walk → Type 0
-Parts known old (Ok otherwise) new =
-    IsMoved (where_so true known (viewed old.state)) old new
-    × (viewed otherwise ≡ where_so false known (viewed old.state))
-Parts known old (Err fault) new = fault ≡ Memory
+abbrev pub Parts : Expr → Known → Walk → Result Kept CheckFault → Walk → Type 0
+Parts condition known old (Ok otherwise) new =
+    IsMoved (where_so true condition known (viewed old.state)) old new
+    × (viewed otherwise ≡ where_so false condition known (viewed old.state))
+Parts condition known old (Err fault) new = fault ≡ Memory
 
 -- the checker goes on where the way from an earlier state meets that to the present one; or it found no memory
 abbrev pub Meets : Kept → Walk → Result (Unit {0}) CheckFault → Walk → Type 0
@@ -67,3 +96,46 @@ Meets before old (Err fault) new = fault ≡ Memory
 abbrev pub else_walk : Option (Box Stmt Global) → Walking (Unit {0})
 else_walk None = give tt
 else_walk (Some statement) = statement_walk statement.value
+
+-- a state of the checker that is answered, as the definitions see it
+abbrev pub said_state : Result Kept CheckFault → Result State CheckFault
+said_state (Ok state) = Ok (viewed state)
+said_state (Err fault) = Err fault
+
+-- the checker came to the head of a loop, whose facts were given
+pub record AtHead (number : ℕ) (old new : Walk) : Type 0 where
+  pub given : gives_all (viewed old.state) (claims_on old.certificate.now number).facts ≡ true
+  pub context_is : context_of new
+      ≡ record (context_of old) { rounds = (context_of old).rounds ++ round_of (claims_on old.certificate.now number) ∷ [] }
+  pub state_is : viewed new.state
+      ≡ head (limits_at old.limits.items) (touched (round_of (claims_on old.certificate.now number))) []
+          (claims_on old.certificate.now number).facts (viewed old.state)
+  pub open_is : new.open_ids ≡ old.open_ids
+
+-- the checker came to the head of a loop of a number and a place, or its facts weren't given, or it found no memory
+abbrev pub EntersLoop : ℕ → Place → Walk → Result (Unit {0}) CheckFault → Walk → Type 0
+EntersLoop number place old (Ok done) new = AtHead number old new
+EntersLoop number place old (Err fault) new =
+    IsBreachOf (facts_given LoopEntry place (claims_on old.certificate.now number).facts (context_of old) (viewed old.state))
+    fault
+
+-- the checker came behind a loop, whose facts were given
+pub record IsBehind (number : ℕ) (behind : Kept) (rounds : List Round) (old new : Walk) : Type 0 where
+  pub given : gives_all (viewed old.state) (claims_on old.certificate.now number).facts ≡ true
+  pub context_is : context_of new ≡ record (context_of old) { rounds = rounds }
+  pub state_is : viewed new.state ≡ viewed behind
+  pub open_is : new.open_ids ≡ old.open_ids
+
+-- the checker came behind a loop of a number and a place that is round it, or its facts weren't given
+abbrev pub LeavesLoop : ℕ → Place → Kept → Walk → Result (Unit {0}) CheckFault → Walk → Type 0
+LeavesLoop number place behind old (Ok done) new =
+    (rounds : List Round) (own : Round) → (context_of old).rounds ≡ rounds ++ own ∷ [] → IsBehind number behind rounds old new
+LeavesLoop number place behind old (Err fault) new =
+    IsBreachOf (facts_given LoopTurn place (claims_on old.certificate.now number).facts (context_of old) (viewed old.state))
+    fault
+
+-- the checker before the first block
+pub record IsBegun (tree : Tree) (certificate : Certificate) (walk : Walk) : Type 0 where
+  pub context_is : context_of walk ≡ first_context tree certificate
+  pub state_is : viewed walk.state ≡ Dead
+  pub open_is : walk.open_ids.items ≡ []

@@ -1,7 +1,7 @@
 -- The walk of the checker over a program, one equation a form: the state after it, the sites that it leaves open, the
 -- rules that are broken, and the state at each entry into a statement or expression (ISO 7185:1990, 6.7, 6.8).
 -- It does not say that a program does what the walk says of it.
-use Rattle.std.specs.Prelude.{ℕ, pos, Bool, true, false, not, ◌||◌, int_le, List, [], ◌∷◌, ◌++◌, Option, Some, None, if◌then◌else◌, map, length}
+use Rattle.std.specs.Prelude.{ℕ, pos, Bool, true, false, not, ◌&&◌, ◌||◌, int_le, List, [], ◌∷◌, ◌++◌, Option, Some, None, if◌then◌else◌, map, length}
 use Rattle.std.specs.declared.alloc.Global.{Global}
 use Rattle.std.specs.declared.boxed.Box.{Box}
 use Rattle.place.specs.declared.Place.{Place}
@@ -23,18 +23,28 @@ use Rattle.typed_tree.specs.declared.tree.Expr.TheOpen.Expr-F.{Constant, Variabl
 use Rattle.typed_tree.specs.declared.tree.Expr.TheFolds.{fold-Expr, fold-Link}
 use Rattle.typed_tree.specs.declared.tree.Stmt.{Stmt}
 use Rattle.typed_tree.specs.declared.tree.Stmt.TheOpen.{Stmt-F}
-use Rattle.typed_tree.specs.declared.tree.Stmt.TheOpen.Stmt-F.{Empty, Assign, Write, Compound, If}
+use Rattle.typed_tree.specs.declared.tree.Stmt.TheOpen.Stmt-F.{Empty, Assign, Write, Compound, If, While, Repeat}
 use Rattle.typed_tree.specs.declared.tree.Stmt.TheFolds.{fold-Stmt}
 use Rattle.domain.specs.Interval.{Interval, is_included, has_number, common, sum, difference, negated, product, squared, absolute, quotient, remainder, without_zero_end, at_least, both, either, complement, truth_values}
 use Rattle.cert_checker.specs.declared.fault.Rule.{Rule}
+use Rattle.cert_checker.specs.declared.fault.Rule.TheVariants.{LoopEntry, LoopTurn, Changes}
+use Rattle.domain.specs.Facts.{Bound, Fact}
+use Rattle.types.specs.declared.form.OrdinalRange.{OrdinalRange}
 use Rattle.abstract_state.specs.declared.known.Known.{Known}
 use Rattle.abstract_state.specs.declared.known.Known.TheVariants.{Ordinal}
-use Rattle.abstract_state.specs.State.{State, Dead, start, integer, is_dead, is_defined, joined_states, limits_of, range_of, with_defined, with_value, unless_empty}
+use Rattle.abstract_state.specs.State.{State, Dead, start, integer, is_dead, is_defined, joined_states, limits_of, range_of, with_defined, unless_empty}
+use Rattle.abstract_state.specs.Changes.{assigned}
+use Rattle.abstract_state.specs.Conditions.{bound_form, branched}
+use Rattle.abstract_state.specs.Loops.{gives_all, head}
+use Rattle.cert_checker.specs.Loops.{Round, all_limits, all_list, claims_on, limits_at, round_of, touched}
 
--- what a walk goes by: the program and its certificate
+-- what a walk goes by: the program and its certificate, the values of the variables' types, and the loops round the
+-- point, the outermost first
 pub record Context : Type 0 where
   pub tree : Tree
   pub certificate : Certificate
+  pub limits : List Interval
+  pub rounds : List Round
 
 -- a rule of certificates that is broken at a place
 pub record Breach : Type 0 where
@@ -125,9 +135,23 @@ positive site range = tested (int_le (pos 1) range.first) site (at_least (pos 1)
 abbrev pub divisor : ℕ → Interval → Walking Interval
 divisor site range = tested (not (has_number range (pos 0))) site (without_zero_end range)
 
--- the assignment of a value to a variable
-abbrev pub assign : ℕ → Known → Walking (Unit {0})
-assign root (Ordinal range) context state = with_state (with_value root range state) context state
+-- a rule that is kept, or broken at a place
+abbrev pub breach_unless : Bool → Rule → Place → List Breach
+breach_unless kept rule place = if kept then [] else record { rule = rule; place = place } ∷ []
+
+-- what a rule asks for at a place
+abbrev pub asked : Bool → Rule → Place → Walking (Unit {0})
+asked kept rule place context state =
+    record { value = tt; after = state; open_ids = []; broken = breach_unless kept rule place; linked = [] }
+
+-- a variable is changed at a place by a value in a range, which is that of its type: each loop round it lists it
+abbrev pub change : Place → ℕ → OrdinalRange → Walking (Unit {0})
+change place root range context =
+    asked (all_list root context.rounds && is_included (limits_of range) (limits_at context.limits root)) Changes place context
+
+-- the assignment of a value to a variable, perhaps of a bound form
+abbrev pub assign : ℕ → Option Bound → Known → Walking (Unit {0})
+assign root form (Ordinal range) context state = with_state (assigned root range form state) context state
 
 -- the start of a block: each variable of the program is one of its own
 abbrev pub begin : Block → Walking (Unit {0})
@@ -246,42 +270,91 @@ fitting fits (Ordinal range) = do
   ordinal passed
 
 -- an assignment: the target is entered, and then comes the value
-abbrev pub assignment : Access → RangeTest → Expr → Walking (Unit {0})
-assignment target fits value = do
+abbrev pub assignment : Place → Access → RangeTest → Expr → Walking (Unit {0})
+assignment becomes target fits value = do
   _ ← enter target.number
   known ← value_walk value
   passed ← fitting fits known
-  assign target.root passed
+  _ ← change becomes target.root fits.range
+  assign target.root (bound_form value) passed
 
 -- two pieces of which a run takes one, each walked from its own state; behind them the states are joined
 abbrev pub either_of : Walked (Unit {0}) → Walked (Unit {0}) → Walked (Unit {0})
 either_of one other = record (followed one other) { after = joined_states one.after other.after }
 
--- the numbers of a range that are true, or those that are false
-abbrev pub of_truth : Bool → Interval → Interval
-of_truth true range = without_zero_end range
-of_truth false range = common range (record { first = pos 0; last = pos 0 })
-
--- the state where a condition has a truth value: no run comes there if its range leaves that out
-abbrev pub where_so : Bool → Known → State → State
-where_so truth (Ordinal range) state = unless_empty (of_truth truth range) state
+-- the state where a condition has a truth value
+abbrev pub where_so : Bool → Expr → Known → State → State
+where_so truth condition (Ordinal range) state = branched truth condition range state
 
 -- what is executed where a condition is true, and what is where it is false
-abbrev pub branches : (consequence alternative : Walking (Unit {0})) → Known → Walking (Unit {0})
-branches consequence alternative known context state =
-    either_of (consequence context (where_so true known state)) (alternative context (where_so false known state))
+abbrev pub branches : Expr → (consequence alternative : Walking (Unit {0})) → Known → Walking (Unit {0})
+branches condition consequence alternative known context state =
+    either_of (consequence context (where_so true condition known state))
+    (alternative context (where_so false condition known state))
 
 -- the statement behind `else`, or nothing where there is none
 abbrev pub alternative_walk : Option (Box (Walking (Unit {0})) Global) → Walking (Unit {0})
 alternative_walk None = give tt
 alternative_walk (Some statement) = statement.value
 
+-- the state here
+abbrev pub here : Walking State
+here context state = give state context state
+
+-- a round of a loop: it ends where another round follows, and gives the state where none does
+
+-- a round of a while: the condition, and then perhaps the body
+abbrev pub while_round : Expr → Walking (Unit {0}) → Walking State
+while_round condition body = do
+  known ← value_walk condition
+  tested ← here
+  _ ← with_state (where_so true condition known tested)
+  _ ← body
+  give (where_so false condition known tested)
+
+-- a round of a repeat: the body, and then the condition, which ends it
+abbrev pub repeat_round : Walking (Unit {0}) → Expr → Walking State
+repeat_round body condition = do
+  _ ← body
+  known ← value_walk condition
+  tested ← here
+  _ ← with_state (where_so false condition known tested)
+  give (where_so true condition known tested)
+
+-- the facts of a loop are given at a point
+abbrev pub facts_given : Rule → Place → List Fact → Walking (Unit {0})
+facts_given rule place facts context state = asked (gives_all state facts) rule place context state
+
+-- the state at the head of a loop, where a turn begins
+abbrev pub enter_head : Round → List Fact → Walking (Unit {0})
+enter_head round facts context state =
+    with_state (head (limits_at context.limits) (touched round) round.controls facts state) context state
+
+-- inside a loop
+abbrev pub inside : {A : Type 0} → Round → Walking A → Walking A
+inside round walking context = walking (record context { rounds = context.rounds ++ round ∷ [] })
+
+-- a loop with the place of its first word: its facts are given where it is entered and after each turn, and from its
+-- head one round is walked
+abbrev pub loop_by : Place → Round → List Fact → Walking State → Walking (Unit {0})
+loop_by place round facts walking = do
+  _ ← facts_given LoopEntry place facts
+  _ ← enter_head round facts
+  behind ← inside round walking
+  _ ← facts_given LoopTurn place facts
+  with_state behind
+
+-- the loop of a number
+abbrev pub loop_walk : ℕ → Place → Walking State → Walking (Unit {0})
+loop_walk number place walking context =
+    loop_by place (round_of (claims_on context.certificate number)) (claims_on context.certificate number).facts walking context
+
 -- one layer of a statement
 abbrev pub statement_step : Stmt-F (Walking (Unit {0})) → Walking (Unit {0})
 statement_step (Empty number) = enter number
 statement_step (Assign number becomes target fits value) = do
   _ ← enter number
-  assignment target fits value
+  assignment becomes target fits value
 statement_step (Write number name parameters ends_line) = do
   _ ← enter number
   all_of (map parameter_walk parameters.items)
@@ -291,7 +364,13 @@ statement_step (Compound number statements) = do
 statement_step (If number condition consequence alternative) = do
   _ ← enter number
   known ← value_walk condition
-  branches consequence.value (alternative_walk alternative) known
+  branches condition consequence.value (alternative_walk alternative) known
+statement_step (While number loop_number place condition body) = do
+  _ ← enter number
+  loop_walk loop_number place (while_round condition body.value)
+statement_step (Repeat number loop_number place statements condition) = do
+  _ ← enter number
+  loop_walk loop_number place (repeat_round (all_of statements.items) condition)
 
 -- the walk over a statement
 abbrev pub statement_walk : Stmt → Walking (Unit {0})
@@ -303,10 +382,14 @@ block_walk block = do
   _ ← begin block
   statement_walk block.body
 
+-- what the walk over a program by a certificate goes by
+abbrev pub first_context : Tree → Certificate → Context
+first_context tree certificate =
+    record { tree = tree; certificate = certificate; limits = all_limits tree; rounds = [] }
+
 -- the walk over a program by a certificate, block by block
 abbrev pub program_walk : Tree → Certificate → Walked (Unit {0})
-program_walk tree certificate =
-    all_of (map block_walk tree.blocks.items) (record { tree = tree; certificate = certificate }) Dead
+program_walk tree certificate = all_of (map block_walk tree.blocks.items) (first_context tree certificate) Dead
 
 -- the numbers to which states are linked
 abbrev pub numbers_of : List Linked → List ℕ

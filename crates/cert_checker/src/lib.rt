@@ -5,11 +5,13 @@ ghost use Rattle.std.specs.Prelude.{◌≡◌, IfErr, IfOk, length};
 ghost use Rattle.typed_tree.specs.Entries.{entries_of};
 ghost use Rattle.typed_tree.specs.Ids.{AreInOrder};
 ghost use Rattle.typed_tree.specs.WellFormed.{IsWellFormed};
-ghost use Rattle.cert_checker.specs.Promise.{AreNumbered, ClosedNeverErr, IsBreachOf, LinksEntries, StatesHold, Valid};
+ghost use Rattle.cert_checker.specs.Promise.{AreNumbered, ClosedNeverErr, IsRefusedFor, LinksEntries, StatesHold, Valid};
 ghost use Rattle.cert_checker.specs.Walk.{program_walk};
 
 pub mod fault;
+mod names;
 mod open_sites;
+mod rounds;
 mod visits;
 mod walk;
 
@@ -37,10 +39,11 @@ pub struct Verdict {
 /// share a place.
 ///
 /// # Errors
-/// The first rule that the certificate breaks, with its place; a certificate without claims breaks none. Or `Memory`.
+/// That the certificate names what the program doesn't have, or else the first rule that it breaks, with its place; a
+/// certificate without claims names nothing. Or `Memory`.
 pub fn check(alloc: Global, tree: &Tree, certificate: &Certificate) -> Result<Verdict, CheckFault>
     ensures valid { IfOk result (λ verdict. Valid tree.now certificate.now verdict.open_sites.items) }
-    ensures refused { IfErr result (IsBreachOf (program_walk tree.now certificate.now)) }
+    ensures refused { IfErr result (IsRefusedFor tree.now certificate.now) }
 
     // One pass: states are linked to the entries of the program, each once, and so many entries were counted.
     ensures entries { LinksEntries tree.now certificate.now }
@@ -52,6 +55,9 @@ pub fn check(alloc: Global, tree: &Tree, certificate: &Certificate) -> Result<Ve
     ensures states_hold { IfOk result (λ _. IsWellFormed tree.now → AreNumbered tree.now
         → StatesHold tree.now certificate.now) }
 {
+    if !names::is_known(tree, certificate) {
+        return Err(CheckFault::Foreign);
+    }
     let mut visits = Visits::new();
     let walked = walk::program(alloc, tree, certificate, &mut visits);
     let entries = visits.finish(tree, &walked);

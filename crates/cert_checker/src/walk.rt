@@ -1,20 +1,27 @@
 ghost use Rattle.std.specs.Prelude.{◌≡◌, [], map, IfOk, MatchResult};
-ghost use Rattle.cert_checker.specs.Walk.{enter, variable_walk, tested, within, positive, divisor, whole, operated, combined, value_walk, link_walk, width_test, width_walk, parameter_walk, all_of, fitting, assignment, of_truth, statement_walk, block_walk, program_walk};
+ghost use Rattle.cert_checker.specs.Walk.{enter, variable_walk, tested, within, positive, divisor, whole, operated, combined, value_walk, link_walk, width_test, width_walk, parameter_walk, all_of, fitting, assignment, assign, change, while_round, repeat_round, statement_walk, block_walk, program_walk};
 ghost use Rattle.typed_tree.specs.Entries.{entries_of};
-ghost use Rattle.cert_checker.specs.View.{Goes, Meets, Parts, all_counted, else_walk};
+ghost use Rattle.cert_checker.specs.View.{EntersLoop, Goes, IsBegun, LeavesLoop, Meets, Parts, all_counted, else_walk, said_claims, said_state};
+ghost use Rattle.abstract_state.specs.View.{viewed};
+ghost use Rattle.abstract_state.specs.Loops.{gives_all, head};
+ghost use Rattle.cert_checker.specs.Loops.{limits_at};
+ghost use Rattle.abstract_state.specs.Conditions.{bound_form};
 ghost use Rattle.cert_checker.specs.Promise.{IsBreachOf};
 
-use crate::fault::CheckFault;
+use crate::fault::{CheckFault, Rule};
+use crate::rounds::{Round, all_limits, all_list, claims_on, limits_at};
 use crate::visits::Visits;
-use abstract_state::{Known, State, limits};
-use certificate::Certificate;
+use abstract_state::{Known, State, bound_form, limits};
+use place::Place;
+use certificate::{Certificate, LoopClaims};
 use domain::Domain;
 use domain::interval::Interval;
-use std::alloc::Global;
+use std::alloc::{AllocError, Global};
 use std::mem;
 use typed_tree::tree::{
     Access, Block, Dyadic, Expr, Link, Monadic, RangeTest, Stmt, Tree, Width, WriteParameter,
 };
+use types::OrdinalRange;
 
 /// A walk over the statements of a program, in the order in which they are run. The counter of entries is lent to it.
 #[derive(Drop)]
@@ -22,6 +29,10 @@ pub(crate) struct Walk<'a> {
     alloc: Global,
     tree: &'a Tree,
     certificate: &'a Certificate,
+    /// The values of the variables' types, by root number.
+    limits: Vec<Interval>,
+    /// The loops round the walk, the outermost first.
+    rounds: Vec<Round<'a>>,
     /// What is known where the walk is.
     state: State,
     /// The ids of the sites that the walk leaves open, in its order.
@@ -40,18 +51,31 @@ pub(crate) fn program(
     ensures rules { MatchResult result (λ _. (program_walk tree.now certificate.now).broken ≡ [])
         (IsBreachOf (program_walk tree.now certificate.now)) }
 {
-    let mut walk = Walk {
-        alloc,
-        tree,
-        certificate,
-        state: State::Dead,
-        open_ids: Vec::new(alloc),
-    };
+    let mut walk = Walk::new(alloc, tree, certificate)?;
     walk.blocks(visits)?;
     Ok(walk.open_ids)
 }
 
 impl<'a> Walk<'a> {
+    /// Before the first block.
+    fn new(
+        alloc: Global,
+        tree: &'a Tree,
+        certificate: &'a Certificate,
+    ) -> Result<Walk<'a>, AllocError>
+        ensures { IfOk result (IsBegun tree.now certificate.now) }
+    {
+        Ok(Walk {
+            alloc,
+            tree,
+            certificate,
+            limits: all_limits(alloc, tree)?,
+            rounds: Vec::new(alloc),
+            state: State::Dead,
+            open_ids: Vec::new(alloc),
+        })
+    }
+
     fn blocks(&mut self, visits: &mut Visits) -> Result<(), CheckFault>
         ensures { Goes (all_of (map block_walk self.old.tree.now.blocks.items))
             self.old visits.old result self.new visits.new }
@@ -77,13 +101,13 @@ impl<'a> Walk<'a> {
             Stmt::Empty { number } => self.enter(*number, visits),
             Stmt::Assign {
                 number,
+                becomes,
                 target,
                 fits,
                 value,
-                ..
             } => {
                 self.enter(*number, visits)?;
-                self.assignment(*target, *fits, value, visits)
+                self.assignment(*becomes, *target, *fits, value, visits)
             }
             Stmt::Write {
                 number,
@@ -105,11 +129,35 @@ impl<'a> Walk<'a> {
             } => {
                 self.enter(*number, visits)?;
                 let known = self.expression(condition, visits)?;
-                let otherwise = self.part(known)?;
+                let otherwise = self.part(condition, known)?;
                 self.statement(consequence, visits)?;
                 let behind = mem::replace(&mut self.state, otherwise);
                 self.alternative(alternative, visits)?;
                 self.meet(behind)
+            }
+            Stmt::While {
+                number,
+                loop_number,
+                place,
+                condition,
+                body,
+            } => {
+                self.enter(*number, visits)?;
+                self.enter_loop(*loop_number, *place)?;
+                let behind = self.while_round(body, condition, visits)?;
+                self.leave_loop(*loop_number, *place, behind)
+            }
+            Stmt::Repeat {
+                number,
+                loop_number,
+                place,
+                statements,
+                condition,
+            } => {
+                self.enter(*number, visits)?;
+                self.enter_loop(*loop_number, *place)?;
+                let behind = self.repeat_round(statements, condition, visits)?;
+                self.leave_loop(*loop_number, *place, behind)
             }
         }
     }
@@ -123,6 +171,40 @@ impl<'a> Walk<'a> {
             self.statement(statement, visits)?;
         }
         Ok(())
+    }
+
+    /// A round of a while, from the loop's head; the state behind the loop.
+    #[cycle(statement)]
+    fn while_round(
+        &mut self,
+        body: &Stmt,
+        condition: &Expr,
+        visits: &mut Visits,
+    ) -> Result<State, CheckFault>
+        ensures { Goes (while_round condition.now (statement_walk body.now)) self.old visits.old (said_state result)
+            self.new visits.new }
+    {
+        let known = self.expression(condition, visits)?;
+        let behind = self.part(condition, known)?;
+        self.statement(body, visits)?;
+        Ok(behind)
+    }
+
+    /// A round of a repeat, from the loop's head; the state behind the loop.
+    #[cycle(statement)]
+    fn repeat_round(
+        &mut self,
+        statements: &[Stmt],
+        condition: &Expr,
+        visits: &mut Visits,
+    ) -> Result<State, CheckFault>
+        ensures { Goes (repeat_round (all_of (map statement_walk statements.now)) condition.now)
+            self.old visits.old (said_state result) self.new visits.new }
+    {
+        self.statements(statements, visits)?;
+        let known = self.expression(condition, visits)?;
+        let again = self.part(condition, known)?;
+        Ok(mem::replace(&mut self.state, again))
     }
 
     /// The statement behind `else`, if there is one.
@@ -143,18 +225,43 @@ impl<'a> Walk<'a> {
     /// The value has to lie in the range of the target's type.
     fn assignment(
         &mut self,
+        becomes: Place,
         target: Access,
         fits: RangeTest,
         value: &Expr,
         visits: &mut Visits,
     ) -> Result<(), CheckFault>
-        ensures { Goes (assignment target fits value.now) self.old visits.old result self.new visits.new }
+        ensures { Goes (assignment becomes target fits value.now) self.old visits.old result self.new visits.new }
     {
         self.enter(target.number, visits)?;
         let known = self.expression(value, visits)?;
         let passed = self.fitting(fits, known)?;
-        self.state.assign(target.root, passed.range());
+        self.change(becomes, target.root, fits.range)?;
+        self.store(target.root, value, passed)
+    }
+
+    /// A variable gets the value of an expression.
+    fn store(&mut self, root: u32, value: &Expr, passed: Known) -> Result<(), CheckFault>
+        ensures { (visits : Visits) → Goes (assign root (bound_form value.now) passed) self.old visits result self.new visits }
+    {
+        let range = passed.range();
+        self.state.assign(root, range, bound_form(value))?;
         Ok(())
+    }
+
+    /// Each loop round the walk lists the variable that is changed.
+    fn change(&mut self, place: Place, root: u32, range: OrdinalRange) -> Result<(), CheckFault>
+        ensures { (visits : Visits) → Goes (change place root range) self.old visits result self.new visits }
+    {
+        let fits = limits(range).leq(&limits_at(&self.limits, root));
+        if fits && all_list(&self.rounds, root) {
+            Ok(())
+        } else {
+            Err(CheckFault::Broken {
+                rule: Rule::Changes,
+                place,
+            })
+        }
     }
 
     fn parameters(
@@ -267,13 +374,13 @@ impl<'a> Walk<'a> {
 // Where a condition parts the walk, and where its ways meet.
 impl<'a> Walk<'a> {
     /// Goes on where a condition is true; the state where it is false.
-    fn part(&mut self, known: Known) -> Result<State, CheckFault>
-        ensures { Parts known self.old result self.new }
+    fn part(&mut self, condition: &Expr, known: Known) -> Result<State, CheckFault>
+        ensures { Parts condition.now known self.old result self.new }
     {
         let range = known.range();
         let mut otherwise = self.state.copied(self.alloc)?;
-        otherwise.unless_empty(of_truth(false, range));
-        self.state.unless_empty(of_truth(true, range));
+        otherwise.branch(condition, range, false)?;
+        self.state.branch(condition, range, true)?;
         Ok(otherwise)
     }
 
@@ -282,7 +389,42 @@ impl<'a> Walk<'a> {
         ensures { Meets before self.old result self.new }
     {
         let now = mem::replace(&mut self.state, before);
-        self.state.join(now)?;
+        self.state.join(self.alloc, now)?;
+        Ok(())
+    }
+}
+
+// Where a loop begins and ends.
+impl<'a> Walk<'a> {
+    /// Goes on at the head of a loop, whose facts have to be given here.
+    fn enter_loop(&mut self, number: u32, place: Place) -> Result<(), CheckFault>
+        ensures { EntersLoop number place self.old result self.new }
+    {
+        let claims = claims_on(self.certificate, number);
+        if !gives_all(&self.state, claims) {
+            return Err(CheckFault::Broken {
+                rule: Rule::LoopEntry,
+                place,
+            });
+        }
+        head(&mut self.state, &self.limits, claims)?;
+        self.rounds.push(Round { claims })?;
+        Ok(())
+    }
+
+    /// Goes on behind a loop, whose facts have to be given where a round of it ends.
+    fn leave_loop(&mut self, number: u32, place: Place, behind: State) -> Result<(), CheckFault>
+        ensures { LeavesLoop number place behind self.old result self.new }
+    {
+        let is_given = gives_all(&self.state, claims_on(self.certificate, number));
+        if !is_given {
+            return Err(CheckFault::Broken {
+                rule: Rule::LoopTurn,
+                place,
+            });
+        }
+        self.rounds.pop();
+        self.state = behind;
         Ok(())
     }
 }
@@ -395,13 +537,23 @@ impl<'a> Walk<'a> {
     }
 }
 
-/// The numbers of a range that are true, or those that are false.
-fn of_truth(truth: bool, range: Interval) -> Interval
-    ensures { result ≡ of_truth truth range }
+/// Whether a state gives the facts of a loop.
+fn gives_all(state: &State, claims: Option<&LoopClaims>) -> bool
+    ensures { result ≡ gives_all (viewed state.now) (said_claims claims.entry).facts }
 {
-    if truth {
-        range.without_zero_end()
-    } else {
-        range.meet(&Interval::between(0, 0))
+    match claims {
+        None => true,
+        Some(claims) => state.gives_all(&claims.facts),
+    }
+}
+
+/// Brings a state to the head of a loop.
+fn head(state: &mut State, limits: &[Interval], claims: Option<&LoopClaims>) -> Result<(), AllocError>
+    ensures { IfOk result (λ _. viewed state.new ≡ head (limits_at limits.now) (said_claims claims.entry).changes []
+        (said_claims claims.entry).facts (viewed state.old)) }
+{
+    match claims {
+        None => Ok(()),
+        Some(claims) => state.head(limits, &claims.changes, &[], &claims.facts),
     }
 }

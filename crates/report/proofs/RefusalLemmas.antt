@@ -25,7 +25,7 @@ use Rattle.report.specs.Faults.{lexer_fault, parser_fault, typing_fault, certifi
 use Rattle.certificate.specs.declared.Certificate.{Certificate as CertificateRead}
 use Rattle.cert_checker.specs.declared.fault.CheckFault.{CheckFault}
 use Rattle.cert_checker.specs.declared.fault.CheckFault.TheVariants as check
-use Rattle.cert_checker.specs.Promise.{IsBreachOf}
+use Rattle.cert_checker.specs.Promise.{IsRefusedFor}
 use Rattle.cert_checker.specs.Walk.{program_walk}
 use Rattle.report.specs.Headline.{IsWrittenAs, IsTypedTreeOf}
 use Rattle.report.specs.Typed.{IsSoundTreeOf}
@@ -61,9 +61,9 @@ pub typing-refusal : (source text : List ℕ) (fault : TypeFault) (program : Pro
 typing-refusal source text untyped.Memory program written h = tt
 typing-refusal source text fault program written h = (program, written, ⊎_elim (λ e. cc) (λ told. told) h)
 
--- a certificate is refused for the first rule that it breaks
+-- a certificate is refused for what it names, or for the first rule that it breaks
 pub checking-refusal : (source text : List ℕ) (tree : Tree) (certificate : CertificateRead) (fault : CheckFault) → AreOf source text tree certificate
-    → IsBreachOf (program_walk tree certificate) fault → IsRefusal source text (checker_fault fault)
+    → IsRefusedFor tree certificate fault → IsRefusal source text (checker_fault fault)
 checking-refusal source text tree certificate check.Memory are h = tt
 checking-refusal source text tree certificate check.Foreign are h = (tree, certificate, are, h)
 checking-refusal source text tree certificate (check.Broken rule place) are h = (tree, certificate, are, h)

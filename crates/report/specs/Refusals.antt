@@ -15,7 +15,7 @@ use Rattle.certificate.specs.declared.Certificate.{Certificate as CertificateRea
 use Rattle.certificate.specs.Contents.{Spells}
 use Rattle.certificate.specs.Text.{first_fault}
 use Rattle.cert_checker.specs.declared.fault.CheckFault.TheVariants as check
-use Rattle.cert_checker.specs.Promise.{IsBreachOf}
+use Rattle.cert_checker.specs.Promise.{IsRefusedFor}
 use Rattle.cert_checker.specs.Walk.{program_walk}
 use Rattle.code_generator.specs.declared.fault.GenFault.TheVariants as generate
 use Rattle.code_generator.specs.Code.{program_code}
@@ -47,7 +47,7 @@ IsRefusal source text (Certificate fault) = (tree : Tree) × IsTypedTreeOf tree 
 IsRefusal source text (Check check.Memory) = ⊥
 IsRefusal source text (Check fault) =
     (tree : Tree) × (certificate : CertificateRead) × AreOf source text tree certificate
-    × IsBreachOf (program_walk tree certificate) fault
+    × IsRefusedFor tree certificate fault
 IsRefusal source text (Generate generate.Memory) = ⊥
 IsRefusal source text (Generate generate.TooLarge) =
     (tree : Tree) × (certificate : CertificateRead) × AreOf source text tree certificate

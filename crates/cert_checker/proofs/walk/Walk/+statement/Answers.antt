@@ -1,7 +1,7 @@
-use Rattle.std.proofs.Common.{refl, Ok, Err}
-use Rattle.cert_checker.specs.Walk.{statement_walk}
+use Rattle.std.proofs.Common.{refl, map, Ok, Err}
+use Rattle.cert_checker.specs.Walk.{all_of, repeat_round, statement_walk, while_round}
 use Rattle.cert_checker.specs.View.{else_walk}
-use Rattle.cert_checker.proofs.Steps.{all-step, all-end, given-up, if-begun, branches-done, branches-stopped}
+use Rattle.cert_checker.proofs.Steps.{all-step, all-end, given-up, if-begun, branches-done, branches-stopped, loop-done, loop-stopped, loop-not_entered, while-begun, repeat-begun, while_round-done, repeat_round-done}
 use Rattle.cert_checker.proofs.walk.Walk.+statement.Goals as goal
 
 pub statements-loop-statement-preserved : goal.statements-loop-statement-preserved
@@ -32,7 +32,7 @@ statement-returns-in_err-statement-in-If t c =
     (if-begun c.args.statement.now it.number it.condition it.consequence it.alternative c.deref-in-If.result.now c.args.self.now c.enter-in-If.new.self
     valued new c.args.visits.now c.enter-in-If.new.visits between after known (Err fault) it.is c.deref-in-If.ensures c.in_ok-enter-in-If.ensures
     c.in_ok-known-in-If.ensures
-    (branches-stopped (statement_walk c.deref-in-If.result.now) (else_walk it.alternative) known valued c.part.new.self new between after
+    (branches-stopped it.condition (statement_walk c.deref-in-If.result.now) (else_walk it.alternative) known valued c.part.new.self new between after
     c.in_ok-otherwise-in-If.otherwise fault c.in_ok-otherwise-in-If.ensures c.in_err-statement-in-If.ensures))
 
 pub statement-returns-in_ok-alternative-in-If : goal.statement-returns-in_ok-alternative-in-If
@@ -43,7 +43,73 @@ statement-returns-in_ok-alternative-in-If t c =
     if-begun c.args.statement.now it.number it.condition it.consequence it.alternative c.deref-in-If.result.now c.args.self.now c.enter-in-If.new.self
     valued c.meet.new.self c.args.visits.now c.enter-in-If.new.visits c.expression.new.visits c.alternative.new.visits known c.meet.result
     it.is c.deref-in-If.ensures c.in_ok-enter-in-If.ensures c.in_ok-known-in-If.ensures
-    (branches-done (statement_walk c.deref-in-If.result.now) (else_walk it.alternative) known valued c.part.new.self c.statement.new.self _
+    (branches-done it.condition (statement_walk c.deref-in-If.result.now) (else_walk it.alternative) known valued c.part.new.self c.statement.new.self _
     c.alternative.new.self c.meet.new.self c.expression.new.visits c.statement.new.visits c.alternative.new.visits c.replace-behind.result
     c.in_ok-otherwise-in-If.otherwise c.meet.result c.in_ok-otherwise-in-If.ensures c.in_ok-statement-in-If.ensures c.replace-behind.ensures.value
     c.replace-behind.ensures.after refl c.in_ok-alternative-in-If.ensures c.meet.ensures)
+
+pub while_round-returns : goal.while_round-returns
+while_round-returns t c =
+    while_round-done c.args.condition.now (statement_walk c.args.body.now) c.in_ok-known.known c.args.self.now c.expression.new.self c.part.new.self
+    c.statement.new.self c.args.visits.now c.expression.new.visits c.statement.new.visits c.in_ok-behind.behind c.in_ok-known.ensures c.in_ok-behind.ensures
+    c.in_ok-statement.ensures
+
+pub repeat_round-returns : goal.repeat_round-returns
+repeat_round-returns t c =
+    repeat_round-done (all_of (map statement_walk c.args.statements.now)) c.args.condition.now c.in_ok-known.known c.args.self.now c.statements.new.self
+    c.expression.new.self c.part.new.self _ c.args.visits.now c.statements.new.visits c.expression.new.visits c.in_ok-again.again c.replace.result
+    c.in_ok-statements.ensures c.in_ok-known.ensures c.in_ok-again.ensures c.replace.ensures.value c.replace.ensures.after refl
+
+pub statement-returns-in_ok-behind-in-While : goal.statement-returns-in_ok-behind-in-While
+statement-returns-in_ok-behind-in-While t c =
+    let it = c.in-While in
+    let walking = while_round it.condition (statement_walk c.deref-in-While.result.now) in
+    let entered = c.enter-in-While.new.self in
+    let between = c.enter-in-While.new.visits in
+    while-begun c.args.statement.now it.number it.loop_number it.place it.condition it.body c.deref-in-While.result.now c.args.self.now entered c.leave_loop.new.self
+    c.args.visits.now between c.while_round.new.visits c.leave_loop.result it.is c.deref-in-While.ensures c.in_ok-enter-in-While.ensures
+    (loop-done it.loop_number it.place walking entered c.enter_loop.new.self c.in_ok-enter_loop-in-While.ensures c.while_round.new.self between
+    c.while_round.new.visits c.in_ok-behind-in-While.behind c.in_ok-behind-in-While.ensures c.leave_loop.result c.leave_loop.new.self c.leave_loop.ensures)
+
+pub statement-returns-in_err-behind-in-While : goal.statement-returns-in_err-behind-in-While
+statement-returns-in_err-behind-in-While t c =
+    let it = c.in-While in
+    let walking = while_round it.condition (statement_walk c.deref-in-While.result.now) in
+    let entered = c.enter-in-While.new.self in
+    let between = c.enter-in-While.new.visits in
+    let new = c.while_round.new.self in
+    let after = c.while_round.new.visits in
+    let fault = c.in_err-behind-in-While.field-0.0 in
+    let left = c.from_residual-in_err-behind-in-While in
+    given-up (statement_walk c.args.statement.now) c.args.self.now new c.args.visits.now after fault left.result left.ensures
+    (while-begun c.args.statement.now it.number it.loop_number it.place it.condition it.body c.deref-in-While.result.now c.args.self.now entered new
+    c.args.visits.now between after (Err fault) it.is c.deref-in-While.ensures c.in_ok-enter-in-While.ensures
+    (loop-stopped it.loop_number it.place walking entered c.enter_loop.new.self c.in_ok-enter_loop-in-While.ensures new between after fault
+    c.in_err-behind-in-While.ensures))
+
+pub statement-returns-in_ok-behind-in-Repeat : goal.statement-returns-in_ok-behind-in-Repeat
+statement-returns-in_ok-behind-in-Repeat t c =
+    let it = c.in-Repeat in
+    let walking = repeat_round (all_of (map statement_walk c.deref-in-Repeat.result.now)) it.condition in
+    let entered = c.enter-in-Repeat.new.self in
+    let between = c.enter-in-Repeat.new.visits in
+    repeat-begun c.args.statement.now it.number it.loop_number it.place it.statements it.condition c.deref-in-Repeat.result.now c.args.self.now entered c.leave_loop-in-Repeat.new.self
+    c.args.visits.now between c.repeat_round.new.visits c.leave_loop-in-Repeat.result it.is c.deref-in-Repeat.ensures.value c.in_ok-enter-in-Repeat.ensures
+    (loop-done it.loop_number it.place walking entered c.enter_loop-in-Repeat.new.self c.in_ok-enter_loop-in-Repeat.ensures c.repeat_round.new.self between
+    c.repeat_round.new.visits c.in_ok-behind-in-Repeat.behind c.in_ok-behind-in-Repeat.ensures c.leave_loop-in-Repeat.result c.leave_loop-in-Repeat.new.self c.leave_loop-in-Repeat.ensures)
+
+pub statement-returns-in_err-behind-in-Repeat : goal.statement-returns-in_err-behind-in-Repeat
+statement-returns-in_err-behind-in-Repeat t c =
+    let it = c.in-Repeat in
+    let walking = repeat_round (all_of (map statement_walk c.deref-in-Repeat.result.now)) it.condition in
+    let entered = c.enter-in-Repeat.new.self in
+    let between = c.enter-in-Repeat.new.visits in
+    let new = c.repeat_round.new.self in
+    let after = c.repeat_round.new.visits in
+    let fault = c.in_err-behind-in-Repeat.field-0.0 in
+    let left = c.from_residual-in_err-behind-in-Repeat in
+    given-up (statement_walk c.args.statement.now) c.args.self.now new c.args.visits.now after fault left.result left.ensures
+    (repeat-begun c.args.statement.now it.number it.loop_number it.place it.statements it.condition c.deref-in-Repeat.result.now c.args.self.now entered new
+    c.args.visits.now between after (Err fault) it.is c.deref-in-Repeat.ensures.value c.in_ok-enter-in-Repeat.ensures
+    (loop-stopped it.loop_number it.place walking entered c.enter_loop-in-Repeat.new.self c.in_ok-enter_loop-in-Repeat.ensures new between after fault
+    c.in_err-behind-in-Repeat.ensures))

@@ -1,6 +1,7 @@
-use Rattle.std.proofs.Common.{Ok, Err}
-use Rattle.cert_checker.specs.Walk.{assign, assignment, fitting}
-use Rattle.cert_checker.proofs.Steps.{given-up, goes-stopped, walks-then, assign-walks, assignment-done}
+use Rattle.std.proofs.Common.{Err}
+use Rattle.abstract_state.specs.Conditions.{bound_form}
+use Rattle.cert_checker.specs.Walk.{◌>>=◌, assign, assignment, change, fitting}
+use Rattle.cert_checker.proofs.Steps.{given-up, goes-then, goes-stopped, assignment-done}
 use Rattle.cert_checker.proofs.walk.Walk.assignment.Goals as goal
 
 pub returns-in_err-passed : goal.returns-in_err-passed
@@ -8,29 +9,54 @@ returns-in_err-passed c =
     let target = c.args.target in
     let fits = c.args.fits in
     let value = c.args.value.now in
-    let old = c.args.self.now in
     let valued = c.expression.new.self in
     let new = c.fitting.new.self in
-    let before = c.args.visits.now in
     let after = c.expression.new.visits in
     let known = c.in_ok-known.known in
     let fault = c.in_err-passed.field-0.0 in
     let left = c.from_residual-in_err-passed in
-    given-up (assignment target fits value) old new before after fault left.result left.ensures
-    (assignment-done target fits value old c.enter.new.self valued before c.enter.new.visits after known (Err fault) new c.in_ok-enter.ensures
-    c.in_ok-known.ensures
-    (goes-stopped (fitting fits known) (assign target.root) valued new after after fault (c.in_err-passed.ensures after)))
+    given-up (assignment c.args.becomes target fits value) c.args.self.now new c.args.visits.now after fault left.result left.ensures
+    (assignment-done c.args.becomes target fits value c.args.self.now c.enter.new.self valued c.args.visits.now c.enter.new.visits after known (Err fault) new
+    c.in_ok-enter.ensures c.in_ok-known.ensures
+    (goes-stopped (fitting fits known) (λ passed. change c.args.becomes target.root fits.range >>= λ _. assign target.root (bound_form value) passed)
+    valued new after after fault (c.in_err-passed.ensures after)))
+
+pub returns-in_err-change : goal.returns-in_err-change
+returns-in_err-change c =
+    let target = c.args.target in
+    let fits = c.args.fits in
+    let value = c.args.value.now in
+    let valued = c.expression.new.self in
+    let tested = c.fitting.new.self in
+    let new = c.change.new.self in
+    let after = c.expression.new.visits in
+    let known = c.in_ok-known.known in
+    let passed = c.in_ok-passed.passed in
+    let fault = c.in_err-change.field-0.0 in
+    let left = c.from_residual-in_err-change in
+    given-up (assignment c.args.becomes target fits value) c.args.self.now new c.args.visits.now after fault left.result left.ensures
+    (assignment-done c.args.becomes target fits value c.args.self.now c.enter.new.self valued c.args.visits.now c.enter.new.visits after known (Err fault) new
+    c.in_ok-enter.ensures c.in_ok-known.ensures
+    (goes-then (fitting fits known) (λ passed. change c.args.becomes target.root fits.range >>= λ _. assign target.root (bound_form value) passed)
+    valued tested new after after after passed (Err fault) (c.in_ok-passed.ensures after)
+    (goes-stopped (change c.args.becomes target.root fits.range) (λ _. assign target.root (bound_form value) passed) tested new after after fault
+    (c.in_err-change.ensures after))))
 
 pub returns : goal.returns
 returns c =
     let target = c.args.target in
     let fits = c.args.fits in
+    let value = c.args.value.now in
     let valued = c.expression.new.self in
+    let tested = c.fitting.new.self in
+    let changed = c.change.new.self in
+    let new = c.store.new.self in
     let after = c.expression.new.visits in
     let known = c.in_ok-known.known in
     let passed = c.in_ok-passed.passed in
-    let tested = c.fitting.new.self in
-    assignment-done target fits c.args.value.now c.args.self.now c.enter.new.self valued c.args.visits.now c.enter.new.visits after known (Ok tt) _
+    assignment-done c.args.becomes target fits value c.args.self.now c.enter.new.self valued c.args.visits.now c.enter.new.visits after known c.store.result new
     c.in_ok-enter.ensures c.in_ok-known.ensures
-    (walks-then (fitting fits known) (assign target.root) valued tested _ after after after passed tt (c.in_ok-passed.ensures after)
-    (assign-walks target.root passed c.range.result tested c.assign.new.self after c.range.ensures c.assign.ensures))
+    (goes-then (fitting fits known) (λ passed. change c.args.becomes target.root fits.range >>= λ _. assign target.root (bound_form value) passed)
+    valued tested new after after after passed c.store.result (c.in_ok-passed.ensures after)
+    (goes-then (change c.args.becomes target.root fits.range) (λ _. assign target.root (bound_form value) passed) tested changed new after after after
+    tt c.store.result (c.in_ok-change.ensures after) (c.store.ensures after)))

@@ -1,0 +1,92 @@
+-- What of the store a piece of a program keeps, for each loop round it; and that values lie in the ranges of their types.
+use Rattle.std.proofs.Common.{◌≡◌, ◌≢◌, ⊎_elim, ◌∙◌, sym, ap, refl, subst, ℕ, ◌<◌, Bool, true, false, cond, ◌||◌, nat_eq, List, [], Option, Some, None}
+use Rattle.std.specs.List.{Contains, list_all}
+use Rattle.std.proofs.lemmas.Bool.{cases_eq}
+use Rattle.std.proofs.lemmas.List.Folds.{list_any-append, list_all_at}
+use Rattle.domain.specs.Interval.{Interval}
+use Rattle.meaning.specs.declared.store.Value.{Value}
+use Rattle.meaning.specs.Store.{Environment, Place, Step, Store, place_eq, stored, written}
+use Rattle.abstract_state.specs.Holds.{IsIn, part_of, value_at}
+use Rattle.abstract_state.specs.Knows.{IsKept, Shows, moment}
+use Rattle.abstract_state.specs.Loops.{is_among}
+use Rattle.abstract_state.proofs.Looped.{kept-itself, kept-then}
+use Rattle.abstract_state.proofs.Apart.{part, written-stored, other-kept}
+use Rattle.abstract_state.proofs.Knows.{place_of, at-place, entire-value}
+use Rattle.cert_checker.specs.Loops.{Round, all_list, limits_at, touched}
+
+-- each variable's value lies in the range of its type
+abbrev pub InTypes : List Interval → Environment → Store → Type 0
+InTypes limits env store = (root : ℕ) (v : Value) → value_at (moment env store) root [] ≡ Some v → IsIn (limits_at limits root) v
+
+-- so it is for each loop round a piece
+abbrev pub Keeps : Environment → List Round → Store → Store → Type 0
+Keeps env rounds before after = (round : Round) → Contains rounds round → IsKept env (touched round) round.controls before after
+
+pub keeps-itself : (env : Environment) (rounds : List Round) (store : Store) → Keeps env rounds store store
+keeps-itself env rounds store round inside = kept-itself env (touched round) round.controls store
+
+pub keeps-then : (env : Environment) (rounds : List Round) (before mid after : Store) → Keeps env rounds before mid → Keeps env rounds mid after
+    → Keeps env rounds before after
+keeps-then env rounds before mid after one two round inside =
+    kept-then env (touched round) round.controls before mid after (one round inside) (two round inside)
+
+-- ---- an assignment
+
+still-some : (same : Bool) (v : Value) (before : Option Value) → (w : Value) × (before ≡ Some w) → (w : Value) × (cond same (Some v) before ≡ Some w)
+still-some true v before has = (v, refl)
+still-some false v before has = has
+
+-- what is defined stays so
+still-value : (store : Store) (p : Place) (v : Value) (found : Option Place) (steps : List Step) → (w : Value) × (part_of store found steps ≡ Some w)
+    → (w : Value) × (part_of (written store p v) found steps ≡ Some w)
+still-value store p v None steps has = has
+still-value store p v (Some q) steps has = still-some (place_eq p (part q steps)) v (stored store (part q steps)) has
+
+some-same : (v w : Value) → Some v ≡ Some w → v ≡ w
+some-same v w is = cc
+
+true-false : (b : Bool) → b ≡ true → b ≡ false → ⊥
+true-false b is isnt = cc
+
+-- a test that all pass, each passes
+pub all-pass : {X : Type 0} (test : X → Bool) (xs : List X) (x : X) (passes : Bool) → test x ≡ passes → Contains xs x → list_all test xs ≡ true
+    → passes ≡ true
+all-pass test xs x true is inside all = refl
+all-pass test xs x false is inside all =
+    absurd (true-false (list_all test xs) all (list_all_at test xs inside.0 x inside.1 (ap test inside.2 ∙ is)))
+
+or-true : (b : Bool) → (b || true) ≡ true
+or-true true = refl
+or-true false = refl
+
+among-touched : (root : ℕ) (round : Round) → is_among root round.changes ≡ true → is_among root (touched round) ≡ true
+among-touched root round is = list_any-append (λ other. nat_eq other root) round.controls round.changes
+    ∙ ap (λ b. is_among root round.controls || b) is ∙ or-true (is_among root round.controls)
+
+module _ (variables : ℕ) (env : Environment) (shows : Shows variables env) (store : Store) (root : ℕ) (v : Value) (within : root < variables) where
+  abbrev after : Store
+  after = written store (place_of env root) v
+
+  -- another variable has the value that it had
+  others : (other : ℕ) → root ≢ other → (steps : List Step) → value_at (moment env after) other steps ≡ value_at (moment env store) other steps
+  others other differ steps =
+      other-kept env shows.separate store v root other (place_of env root) (at-place variables env shows root within) differ (env other) refl steps
+
+  own-value : value_at (moment env after) root [] ≡ Some v
+  own-value = entire-value variables env shows after root within ∙ written-stored store (place_of env root) v
+
+  -- each loop lists it, so no other is changed
+  pub written-kept : (rounds : List Round) → all_list root rounds ≡ true → Keeps env rounds store after
+  written-kept rounds listed round inside = record {
+    values = λ other among steps. others other (λ same. true-false (is_among other (touched round))
+        (subst (λ (r : ℕ). is_among r (touched round) ≡ true) same (among-touched root round
+        (all-pass (λ (one : Round). is_among root one.changes) rounds round (is_among root round.changes) refl inside listed))) among) steps;
+    defined = λ other among steps has. still-value store (place_of env root) v (env other) steps has;
+  }
+
+  pub written-typed : (limits : List Interval) → InTypes limits env store → IsIn (limits_at limits root) v → InTypes limits env after
+  written-typed limits typed inside other w is = ⊎_elim
+      (λ same.
+      let one : v ≡ w = some-same v w (sym own-value ∙ subst (λ (r : ℕ). value_at (moment env after) r [] ≡ Some w) (sym same) is) in
+      subst (λ (r : ℕ). IsIn (limits_at limits r) w) same (subst (IsIn (limits_at limits root)) one inside))
+      (λ differ. typed other w (sym (others other differ []) ∙ is)) (cases_eq root other)

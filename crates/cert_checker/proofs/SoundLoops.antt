@@ -1,0 +1,346 @@
+-- The branches of a conditional statement and the loops are sound. A loop is a head, a round and a way out: what holds at
+-- its head holds there again whenever a round ends that another follows.
+use Rattle.std.proofs.Common.{arith, ◌≡◌, ◌∙◌, sym, ap, refl, subst, ℕ, zero, suc, Bool, true, false, cond, List, [], ◌∷◌, ◌++◌, Option, Some, None}
+use Rattle.std.specs.List.{All, Contains}
+use Rattle.std.proofs.lemmas.List.Elements.{Contains-append_left, Contains-append_right}
+use Rattle.domain.specs.Interval.{Interval}
+use Rattle.cert_checker.specs.declared.fault.Rule.{Rule}
+use Rattle.cert_checker.specs.declared.fault.Rule.TheVariants.{LoopEntry, LoopTurn}
+use Rattle.typed_tree.specs.declared.tree.Expr.{Expr}
+use Rattle.place.specs.declared.Place.{Place as SourcePlace}
+use Rattle.domain.specs.Facts.{Fact}
+use Rattle.meaning.specs.declared.outcome.Ending.TheVariants.{More}
+use Rattle.meaning.specs.declared.store.Value.{Value}
+use Rattle.meaning.specs.Store.{Environment, Store}
+use Rattle.meaning.specs.Effect as effect
+use Rattle.meaning.specs.Effect.{Action, Reply, Visit, and_then}
+use Rattle.meaning.specs.Meaning as meaning
+use Rattle.meaning.specs.Meaning.{is_so, value_of}
+use Rattle.abstract_state.specs.State.{State, joined_states}
+use Rattle.abstract_state.specs.Holds.{Holds, IsIn, value_at}
+use Rattle.abstract_state.specs.declared.known.Known.{Known}
+use Rattle.abstract_state.specs.declared.known.Known.TheVariants.{Ordinal}
+use Rattle.abstract_state.proofs.Ranged.{IsKnown}
+use Rattle.abstract_state.proofs.Knows.{joined-known_one, joined-known_other}
+use Rattle.abstract_state.proofs.Refined.{branched-known}
+use Rattle.cert_checker.specs.Loops.{Round, claims_on, limits_at, round_of, touched}
+use Rattle.abstract_state.specs.Loops.{gives_all, head}
+use Rattle.abstract_state.specs.Knows.{IsKept, Shows, Knows, moment}
+use Rattle.abstract_state.proofs.Looped.{given-all_known, head-known}
+use Rattle.cert_checker.specs.Walk as walk
+use Rattle.cert_checker.specs.Walk.{Context, Walked, Walking, followed, value_walk, where_so}
+use Rattle.cert_checker.proofs.Keeping.{Keeps, InTypes, keeps-itself, keeps-then}
+use Rattle.cert_checker.proofs.Sound.{World, IsPartOf, Stands, Good, IsForetold, Sound, Any_value, unbroken-left, unbroken-right, part-left, part-right, nothing-new, good-give, good-weaker, good-then, stands-as}
+
+-- ---- branches
+
+-- where a condition has a truth value, what is known of it holds
+pub chosen-stands : (world : World) (env : Environment) (condition : Expr) (known : Known) (v : Value) (s t : effect.State) (context : Context) (state : State)
+    → value_of condition env s ≡ effect.Gives v t → IsKnown known v → Stands world env context state t.store
+    → Stands world env context (where_so (is_so v) condition known state) t.store
+chosen-stands world env condition (Ordinal range) v s t context state is inside stands =
+    stands-as world env context state (where_so (is_so v) condition (Ordinal range) state) t.store stands
+    (branched-known world.variables env condition s t v range state is inside stands.known)
+
+-- behind one of two ways the joined state holds
+abbrev pub Foretold : World → Environment → Context → Walked (Unit {0}) → Store → Unit {0} → Store → Type 0
+Foretold world env context walked start = IsForetold {A = Unit {0}} {B = Unit {0}} world env Any_value context walked start
+
+one-way : (world : World) (env : Environment) (context : Context) (one other : Walked (Unit {0})) (start store : Store) (done : Unit {0})
+    → Foretold world env context one start done store → Foretold world env context (walk.either_of one other) start done store
+one-way world env context one other start store done told = record {
+  tie = tt;
+  stands = stands-as world env context one.after (joined_states one.after other.after) store told.stands
+      (joined-known_one world.variables env one.after other.after store told.stands.known);
+  kept = told.kept;
+}
+
+other-way : (world : World) (env : Environment) (context : Context) (one other : Walked (Unit {0})) (start store : Store) (done : Unit {0})
+    → Foretold world env context other start done store → Foretold world env context (walk.either_of one other) start done store
+other-way world env context one other start store done told = record {
+  tie = tt;
+  stands = stands-as world env context other.after (joined_states one.after other.after) store told.stands
+      (joined-known_other world.variables env one.after other.after store told.stands.known);
+  kept = told.kept;
+}
+
+-- the choice of a branch by a truth value
+chosen-good : (world : World) (env : Environment) (one_action other_action : Action (Unit {0})) (condition : Expr) (consequence alternative : Walking (Unit {0}))
+    (known : Known) (b : Bool) (context : Context) (state : State) (t : effect.State)
+    → Sound {A = Unit {0}} {B = Unit {0}} world env Any_value one_action consequence
+    → Sound {A = Unit {0}} {B = Unit {0}} world env Any_value other_action alternative
+    → (walk.branches condition consequence alternative known context state).broken ≡ []
+    → IsPartOf world (walk.branches condition consequence alternative known context state)
+    → Stands world env context (where_so b condition known state) t.store
+    → Good world (Foretold world env context (walk.branches condition consequence alternative known context state) t.store) t.visited
+    (cond b one_action other_action t)
+chosen-good world env one_action other_action condition consequence alternative known true context state t one other unbroken part stands =
+    let first = consequence context (where_so true condition known state) in
+    let second = alternative context (where_so false condition known state) in
+    let own : IsPartOf world first = part-left world first second (record { ids = part.ids; linked = part.linked }) in
+    good-weaker world (Foretold world env context first t.store) (Foretold world env context (walk.either_of first second) t.store) t.visited (one_action t)
+    (λ done u is told. one-way world env context first second t.store u.store done told)
+    (one context (where_so true condition known state) t (unbroken-left first.broken second.broken unbroken) own stands)
+chosen-good world env one_action other_action condition consequence alternative known false context state t one other unbroken part stands =
+    let first = consequence context (where_so true condition known state) in
+    let second = alternative context (where_so false condition known state) in
+    let own : IsPartOf world second = part-right world first second (record { ids = part.ids; linked = part.linked }) in
+    good-weaker world (Foretold world env context second t.store) (Foretold world env context (walk.either_of first second) t.store) t.visited (other_action t)
+    (λ done u is told. other-way world env context first second t.store u.store done told)
+    (other context (where_so false condition known state) t (unbroken-right first.broken second.broken unbroken) own stands)
+
+-- a condition, and then one of two branches
+pub sound-choice : (world : World) (env : Environment) (condition : Expr) (one_action other_action : Action (Unit {0}))
+    (consequence alternative : Walking (Unit {0}))
+    → Sound world env IsKnown (value_of condition env) (value_walk condition)
+    → Sound {A = Unit {0}} {B = Unit {0}} world env Any_value one_action consequence
+    → Sound {A = Unit {0}} {B = Unit {0}} world env Any_value other_action alternative
+    → Sound {A = Unit {0}} {B = Unit {0}} world env Any_value
+    (effect.◌>>=◌ (value_of condition env) (λ v. cond (is_so v) one_action other_action))
+    (walk.◌>>=◌ (value_walk condition) (walk.branches condition consequence alternative))
+sound-choice world env condition one_action other_action consequence alternative valued one other context state s unbroken part stands =
+    let first = value_walk condition context state in
+    let second = walk.branches condition consequence alternative first.value context first.after in
+    good-then world (IsForetold world env IsKnown context first s.store) (Foretold world env context (followed first second) s.store) s.visited
+    (value_of condition env s) (λ v. cond (is_so v) one_action other_action)
+    (valued context state s (unbroken-left first.broken second.broken unbroken) (part-left world first second part) stands)
+    (λ v t is told.
+    good-weaker world (Foretold world env context second t.store) (Foretold world env context (followed first second) s.store) t.visited
+    (cond (is_so v) one_action other_action t)
+    (λ done u gives then. record { tie = tt; stands = then.stands; kept = keeps-then env context.rounds s.store t.store u.store told.kept then.kept })
+    (chosen-good world env one_action other_action condition consequence alternative first.value (is_so v) context first.after t one other
+    (unbroken-right first.broken second.broken unbroken) (part-right world first second part)
+    (chosen-stands world env condition first.value v s t context first.after is told.tie told.stands)))
+
+-- ---- loops in general
+
+-- behind a round: P holds at the start of another, and Q where none follows
+abbrev pub Turns : {A : Type 0} → (A → Store → Type 0) → (Store → Type 0) → Option A → Store → Type 0
+Turns P Q None store = Q store
+Turns P Q (Some a) store = P a store
+
+module _ {A : Type 0} (world : World) (P : A → Store → Type 0) (Q : Store → Type 0) (round : effect.Round A)
+    (each : (a : A) (s : effect.State) → P a s.store → Good world (Turns P Q) s.visited (round a s)) where
+  -- no round is left
+  ended-good : (more : Option A) (t : effect.State) → Turns P Q more t.store
+      → Good {A = Unit {0}} world (λ done store. Q store) t.visited (effect.another more (λ b. effect.stop More) t)
+  ended-good None t so = good-give world (λ (done : Unit {0}) store. Q store) tt t so
+  ended-good (Some b) t so = record { errs = λ id is. absurd (cc); new = nothing-new world t.visited; gives = tt }
+
+  another-good : (next : A → Action (Unit {0})) → ((a : A) (t : effect.State) → P a t.store → Good world (λ done store. Q store) t.visited (next a t))
+      → (more : Option A) (t : effect.State) → Turns P Q more t.store → Good world (λ done store. Q store) t.visited (effect.another more next t)
+  another-good next later None t so = good-give world (λ (done : Unit {0}) store. Q store) tt t so
+  another-good next later (Some b) t so = later b t so
+
+  -- the rounds of a loop: where it ends, Q holds
+  looping-good : (bound : ℕ) (a : A) (s : effect.State) → P a s.store → Good world (λ (done : Unit {0}) store. Q store) s.visited (effect.looping bound round a s)
+  looping-good zero a s so =
+      good-then world (Turns P Q) (λ (done : Unit {0}) store. Q store) s.visited (round a s) (λ more. effect.another more (λ b. effect.stop More))
+      (each a s so) (λ more t is then. ended-good more t then)
+  looping-good (suc left) a s so =
+      good-then world (Turns P Q) (λ (done : Unit {0}) store. Q store) s.visited (round a s) (λ more. effect.another more (effect.looping left round))
+      (each a s so) (λ more t is then. another-good (effect.looping left round) (looping-good left) more t then)
+
+-- a round and the walk over it: the states at its ends hold there
+abbrev pub EndsHold : World → Environment → Context → (again out : State) → Store → {A : Type 0} → Option A → Store → Type 0
+EndsHold world env context again out start =
+    Turns (λ a store. Stands world env context again store × Keeps env context.rounds start store)
+    (λ store. Stands world env context out store × Keeps env context.rounds start store)
+
+abbrev pub SoundRound : {A : Type 0} → World → Environment → Action (Option A) → Walking State → Type 0
+SoundRound {A} world env round walking =
+    (context : Context) (state : State) (s : effect.State) → (walking context state).broken ≡ [] → IsPartOf world (walking context state)
+    → Stands world env context state s.store
+    → Good world (EndsHold world env context (walking context state).after (walking context state).value s.store {A = A}) s.visited (round s)
+
+-- ---- the head of a loop
+
+abbrev AllHold : List Fact → Environment → Store → Type 0
+AllHold facts env store = All (λ fact. Holds fact (moment env store)) facts
+
+-- what a rule asks for, where it isn't broken
+pub kept-rule : (kept : Bool) (rule : Rule) (place : SourcePlace) → walk.breach_unless kept rule place ≡ [] → kept ≡ true
+kept-rule true rule place is = refl
+kept-rule false rule place is = absurd (cc)
+
+-- ---- the loops
+
+type-limits : (one other : List Interval) (root : ℕ) (v : Value) → one ≡ other → IsIn (limits_at other root) v → IsIn (limits_at one root) v
+type-limits one other root v is inside = subst (λ (limits : List Interval). IsIn (limits_at limits root) v) (sym is) inside
+
+-- of the loops round a round of a loop, the last is the loop itself
+rounds-own : (env : Environment) (rounds : List Round) (own : Round) (before after : Store) → Keeps env (rounds ++ own ∷ []) before after
+    → IsKept env (touched own) own.controls before after
+rounds-own env rounds own before after kept = kept own (Contains-append_right rounds (own ∷ []) own (0, omega arith, refl))
+
+rounds-outer : (env : Environment) (rounds : List Round) (own : Round) (before after : Store) → Keeps env (rounds ++ own ∷ []) before after
+    → Keeps env rounds before after
+rounds-outer env rounds own before after kept round inside = kept round (Contains-append_left rounds (own ∷ []) round inside)
+
+module _ (world : World) (env : Environment) (shows : Shows world.variables env) (context : Context) (state : State) (start : Store)
+    (own : Round) (facts : List Fact) (again out : State) (stands : Stands world env context state start) where
+  -- inside the loop
+  abbrev within : Context
+  within = record context { rounds = context.rounds ++ own ∷ [] }
+
+  abbrev begun : State
+  begun = head (limits_at context.limits) (touched own) own.controls facts state
+
+  -- at the start of a round the head holds, and behind the loop its way out
+  abbrev AtHead : Store → Type 0
+  AtHead store = Stands world env within begun store × Keeps env within.rounds start store
+
+  abbrev AtOut : Store → Type 0
+  AtOut store = Stands world env context out store × Keeps env context.rounds start store
+
+  -- the loop's facts hold there, and nothing changed but what the loop touches: so the head holds
+  head-stands : (store : Store) → InTypes world.limits env store → Keeps env within.rounds start store → AllHold facts env store
+      → Stands world env within begun store
+  head-stands store typed kept hold = record {
+    limits_are = stands.limits_are;
+    known = head-known world.variables env shows (limits_at context.limits) (touched own) own.controls facts state start store
+        (rounds-own env context.rounds own start store kept)
+        (λ root v among is. type-limits context.limits world.limits root v stands.limits_are (typed root v is)) hold stands.known;
+    typed = typed;
+  }
+
+  -- behind a round
+  round-turns : {A : Type 0} → gives_all again facts ≡ true → (before after : Store) → Keeps env within.rounds start before → (more : Option A)
+      → EndsHold world env within again out before more after → Turns (λ a store. AtHead store) AtOut more after
+  round-turns given before after kept None (stood, own_kept) =
+      (record { limits_are = stood.limits_are; known = stood.known; typed = stood.typed },
+      rounds-outer env context.rounds own start after (keeps-then env within.rounds start before after kept own_kept))
+  round-turns given before after kept (Some b) (stood, own_kept) =
+      let all = keeps-then env within.rounds start before after kept own_kept in
+      (head-stands after stood.typed all (given-all_known world.variables env again after facts stood.known given), all)
+
+-- a loop whose round is sound
+pub sound-loop : {A : Type 0} (world : World) (env : Environment) → Shows world.variables env → (number : ℕ) (place : SourcePlace) (round : effect.Round A) (a : A)
+    (walking : Walking State)
+    → ((b : A) → SoundRound world env (round b) walking)
+    → Sound {A = Unit {0}} {B = Unit {0}} world env Any_value (effect.looped round a) (walk.loop_walk number place walking)
+sound-loop {A} world env shows number place round a walking each context state s unbroken part stands =
+    let claims = claims_on context.certificate number in
+    let own = round_of claims in
+    let facts = claims.facts in
+    let begun = head (limits_at context.limits) (touched own) own.controls facts state in
+    let within : Context = record context { rounds = context.rounds ++ own ∷ [] } in
+    let turn = walking within begun in
+    let entry = walk.facts_given LoopEntry place facts context state in
+    let entering = walk.enter_head own facts context state in
+    let turned = walk.facts_given LoopTurn place facts context turn.after in
+    let after_turn = followed turned (walk.with_state turn.value context turn.after) in
+    let from_head = followed turn after_turn in
+    let whole = walk.loop_walk number place walking context state in
+    let from_entry = unbroken-right entry.broken (turn.broken ++ (turned.broken ++ [])) unbroken in
+    let given = given-all_known world.variables env state s.store facts stands.known
+    (kept-rule (gives_all state facts) LoopEntry place (unbroken-left entry.broken (turn.broken ++ (turned.broken ++ [])) unbroken)) in
+    let given_again = kept-rule (gives_all turn.after facts) LoopTurn place
+    (unbroken-left turned.broken [] (unbroken-right turn.broken (turned.broken ++ []) from_entry)) in
+    let turn_part : IsPartOf world turn = part-left world turn after_turn (part-right world entering from_head (part-right world entry (followed entering from_head) part)) in
+    let P = λ (b : A). AtHead world env shows context state s.store own facts turn.after turn.value stands in
+    let Q : Store → Type 0 = AtOut world env shows context state s.store own facts turn.after turn.value stands in
+    let begin_kept = keeps-itself env within.rounds s.store in
+    let start : P a s.store =
+    (head-stands world env shows context state s.store own facts turn.after turn.value stands s.store stands.typed begin_kept given, begin_kept) in
+    let rounds : (b : A) (t : effect.State) → P b t.store → Good world (Turns P Q) t.visited (round b t) =
+    λ b t holds.
+    good-weaker world (EndsHold world env within turn.after turn.value t.store {A = A}) (Turns P Q) t.visited (round b t)
+    (λ more u is told. round-turns world env shows context state s.store own facts turn.after turn.value stands given_again t.store u.store holds.1 more told)
+    (each b within begun t (unbroken-left turn.broken (turned.broken ++ []) from_entry) turn_part holds.0) in
+    good-weaker world (λ (done : Unit {0}) store. Q store) (Foretold world env context whole s.store) s.visited (effect.looped round a s)
+    (λ done t is so. record { tie = tt; stands = so.0; kept = so.1 })
+    (looping-good world P Q round rounds s.turns a s start)
+
+-- ---- a turn
+
+-- behind the use of a turn, the store is the same
+turn-then : {C : Type 0} (world : World) (Q : C → Store → Type 0) (next : Unit {0} → Action C) (t : effect.State)
+    → ((u : effect.State) → u.store ≡ t.store → u.visited ≡ t.visited → Good world Q u.visited (next tt u)) → (n : ℕ)
+    → Good world Q t.visited (and_then (effect.take_turn n t) next)
+turn-then world Q next t then zero = record { errs = λ id is. absurd (cc); new = nothing-new world t.visited; gives = tt }
+turn-then world Q next t then (suc left) = then (record t { turns = left }) refl refl
+
+-- a round of a while
+module _ (world : World) (env : Environment) (condition : Expr) (execution : meaning.Execution) (body : Walking (Unit {0}))
+    (valued : Sound world env IsKnown (value_of condition env) (value_walk condition))
+    (one : Sound {A = Unit {0}} {B = Unit {0}} world env Any_value (execution env) body) (context : Context) (start : Store) (known : Known) (tested : State) where
+  abbrev inside_state : State
+  inside_state = where_so true condition known tested
+
+  abbrev bodied : Walked (Unit {0})
+  bodied = body context inside_state
+
+  abbrev Behind : Option (Unit {0}) → Store → Type 0
+  Behind = EndsHold world env context bodied.after (where_so false condition known tested) start
+
+  while-turned : (b : Bool) (t : effect.State) → Keeps env context.rounds start t.store → Stands world env context (where_so b condition known tested) t.store
+      → bodied.broken ≡ [] → IsPartOf world bodied
+      → Good world Behind t.visited (meaning.turn_if b (execution env) t)
+  while-turned false t kept stands unbroken part = good-give world Behind None t (stands, kept)
+  while-turned true t kept stands unbroken part =
+      let P = Behind in
+      turn-then world P (λ done. effect.◌>>=◌ (execution env) (λ done. effect.give (Some tt))) t
+      (λ u same visited.
+      let here = subst (Stands world env context inside_state) (sym same) stands in
+      good-then world (Foretold world env context bodied u.store) P u.visited (execution env u) (λ done. effect.give (Some tt))
+      (one context inside_state u unbroken part here)
+      (λ done w is told.
+      good-give world P (Some tt) w
+      (told.stands, keeps-then env context.rounds start t.store w.store kept
+      (subst (λ (x : Store). Keeps env context.rounds x w.store) same told.kept)))) t.turns
+
+pub sound-while : (world : World) (env : Environment) (condition : Expr) (execution : meaning.Execution) (body : Walking (Unit {0}))
+    → Sound world env IsKnown (value_of condition env) (value_walk condition)
+    → Sound {A = Unit {0}} {B = Unit {0}} world env Any_value (execution env) body
+    → SoundRound world env (meaning.while_round (value_of condition) execution env tt) (walk.while_round condition body)
+sound-while world env condition execution body valued one context state s unbroken part stands =
+    let first = value_walk condition context state in
+    let inner = body context (where_so true condition first.value first.after) in
+    let out = where_so false condition first.value first.after in
+    let rest = followed inner (walk.give out context inner.after) in
+    good-then world (IsForetold world env IsKnown context first s.store) (EndsHold world env context inner.after out s.store {A = Unit {0}}) s.visited
+    (value_of condition env s) (λ v. meaning.turn_if (is_so v) (execution env))
+    (valued context state s (unbroken-left first.broken rest.broken unbroken) (part-left world first rest part) stands)
+    (λ v t is told.
+    while-turned world env condition execution body valued one context s.store first.value first.after (is_so v) t told.kept
+    (chosen-stands world env condition first.value v s t context first.after is told.tie told.stands)
+    (unbroken-left inner.broken [] (unbroken-right first.broken (inner.broken ++ []) unbroken))
+    (part-left world inner (walk.give out context inner.after) (part-right world first rest part)))
+
+-- a round of a repeat: behind the condition
+repeat-ends : (world : World) (env : Environment) (condition : Expr) (known : Known) (context : Context) (start : Store) (tested : State) (b : Bool)
+    (t : effect.State)
+    → Keeps env context.rounds start t.store → Stands world env context (where_so b condition known tested) t.store
+    → EndsHold world env context (where_so false condition known tested) (where_so true condition known tested) start {A = Unit {0}}
+    (cond b None (Some tt)) t.store
+repeat-ends world env condition known context start tested true t kept stands = (stands, kept)
+repeat-ends world env condition known context start tested false t kept stands = (stands, kept)
+
+pub sound-repeat : (world : World) (env : Environment) (condition : Expr) (execution : meaning.Execution) (body : Walking (Unit {0}))
+    → Sound {A = Unit {0}} {B = Unit {0}} world env Any_value (execution env) body
+    → Sound world env IsKnown (value_of condition env) (value_walk condition)
+    → SoundRound world env (meaning.repeat_round execution (value_of condition) env tt) (walk.repeat_round body condition)
+sound-repeat world env condition execution body one valued context state s unbroken part stands =
+    let first = body context state in
+    let second = value_walk condition context first.after in
+    let again = where_so false condition second.value second.after in
+    let out = where_so true condition second.value second.after in
+    let rest = followed second (walk.give out context again) in
+    let P = EndsHold world env context again out s.store {A = Unit {0}} in
+    let answer = λ (v : Value). cond (is_so v) None (Some (tt {0})) in
+    turn-then world P (λ done. effect.◌>>=◌ (execution env) (λ done. effect.◌>>=◌ (value_of condition env) (λ v. effect.give (answer v)))) s
+    (λ u same visited.
+    good-then world (Foretold world env context first u.store) P u.visited (execution env u)
+    (λ done. effect.◌>>=◌ (value_of condition env) (λ v. effect.give (answer v)))
+    (one context state u (unbroken-left first.broken rest.broken unbroken) (part-left world first rest part)
+    (subst (Stands world env context state) (sym same) stands))
+    (λ done w is told.
+    good-then world (IsForetold world env IsKnown context second w.store) P w.visited (value_of condition env w) (λ v. effect.give (answer v))
+    (valued context first.after w (unbroken-left second.broken [] (unbroken-right first.broken (second.broken ++ []) unbroken))
+    (part-left world second (walk.give out context again) (part-right world first rest part)) told.stands)
+    (λ v t gives then.
+    good-give world P (answer v) t
+    (repeat-ends world env condition second.value context s.store second.after (is_so v) t
+    (keeps-then env context.rounds s.store w.store t.store (subst (λ (x : Store). Keeps env context.rounds x w.store) same told.kept) then.kept)
+    (chosen-stands world env condition second.value v w t context second.after gives then.tie then.stands))))) s.turns

@@ -1,0 +1,81 @@
+-- What a certificate claims of a loop, and what the checker goes by where a turn of it begins (ISO 7185:1990, 6.8.3.6).
+-- It does not say that a loop keeps to that.
+use Rattle.std.specs.Prelude.{ℕ, List, [], ◌∷◌, ◌++◌, Option, Some, None, Bool, if◌then◌else◌, map, nat_eq, slice_index_or}
+use Rattle.std.specs.List.{list_all}
+use Rattle.types.specs.declared.form.OrdinalRange.{OrdinalRange}
+use Rattle.types.specs.declared.form.TypeForm.{TypeForm}
+use Rattle.types.specs.Types.{range_of}
+use Rattle.typed_tree.specs.declared.tree.Tree.{Tree}
+use Rattle.typed_tree.specs.declared.tree.Variable.{Variable}
+use Rattle.certificate.specs.declared.Certificate.{Certificate}
+use Rattle.certificate.specs.Contents.{LoopClaims, Section, contents}
+use Rattle.domain.specs.Interval.{Interval, vacant}
+use Rattle.domain.specs.Facts.{Fact, said}
+use Rattle.abstract_state.specs.State.{integer, limits_of}
+use Rattle.abstract_state.specs.Loops.{is_among}
+
+-- what is claimed of a loop: the variables that it changes, and facts that hold whenever a turn begins
+pub record Claims : Type 0 where
+  pub changes : List ℕ
+  pub facts : List Fact
+
+-- nothing is claimed
+abbrev pub no_claims : Claims
+no_claims = record { changes = []; facts = [] }
+
+-- what is claimed, if anything is
+abbrev pub claims_of : Option LoopClaims → Claims
+claims_of None = no_claims
+claims_of (Some one) = record { changes = one.changes; facts = map said one.facts }
+
+-- the claims on the loop of a number among those on several
+abbrev pub found_among : ℕ → List LoopClaims → Option LoopClaims
+found_among number [] = None
+found_among number (one ∷ more) = if nat_eq one.number number then Some one else found_among number more
+
+-- what is found first
+abbrev pub or_else : Option LoopClaims → Option LoopClaims → Option LoopClaims
+or_else None other = other
+or_else (Some one) other = Some one
+
+-- the claims on it in several sections
+abbrev pub found_in : ℕ → List Section → Option LoopClaims
+found_in number [] = None
+found_in number (section ∷ sections) = or_else (found_among number section.loops) (found_in number sections)
+
+-- the claims of a certificate on the loop of a number: none, where it doesn't speak of it
+abbrev pub claims_on : Certificate → ℕ → Claims
+claims_on certificate number = claims_of (found_in number (contents certificate))
+
+-- a loop round a point: the variables that its claims list, and the control variables of the for statements in it
+pub record Round : Type 0 where
+  pub changes : List ℕ
+  pub controls : List ℕ
+
+-- a loop, by its claims
+abbrev pub round_of : Claims → Round
+round_of claims = record { changes = claims.changes; controls = [] }
+
+-- what a loop touches
+abbrev pub touched : Round → List ℕ
+touched round = round.controls ++ round.changes
+
+-- the values of a type; those of integer, where the tree doesn't tell it
+abbrev pub limits_or_integer : Option OrdinalRange → Interval
+limits_or_integer None = integer
+limits_or_integer (Some range) = limits_of range
+
+abbrev pub type_limits : List TypeForm → Variable → Interval
+type_limits types variable = limits_or_integer (range_of types variable.type_id)
+
+-- the values of the type of each variable, by root number
+abbrev pub all_limits : Tree → List Interval
+all_limits tree = map (λ variable. type_limits tree.types variable) tree.variables.items
+
+-- the values of a variable by those of all; none where there is no such variable
+abbrev pub limits_at : List Interval → ℕ → Interval
+limits_at limits root = slice_index_or limits root vacant
+
+-- each of these loops lists a variable
+abbrev pub all_list : ℕ → List Round → Bool
+all_list root rounds = list_all (λ round. is_among root round.changes) rounds

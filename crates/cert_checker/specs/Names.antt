@@ -1,0 +1,42 @@
+-- What a certificate may name of a program: its blocks, its loops, each under its block, and its variables
+-- (ISO 7185:1990, 6.2.2, 6.8.3.6). It does not say that what is claimed of them holds.
+use Rattle.std.specs.Prelude.{ℕ, Bool, false, ◌&&◌, List, Option, Some, None, length, nat_eq, nat_lt, slice_get}
+use Rattle.std.specs.List.{list_all}
+use Rattle.typed_tree.specs.declared.tree.Tree.{Tree}
+use Rattle.typed_tree.specs.declared.tree.Loop.{Loop}
+use Rattle.domain.specs.declared.facts.Fact.{Fact}
+use Rattle.domain.specs.declared.facts.Fact.TheVariants.{Range, Defined, Order}
+use Rattle.certificate.specs.declared.Certificate.{Certificate}
+use Rattle.certificate.specs.declared.LoopClaims.{LoopClaims}
+use Rattle.certificate.specs.declared.Section.{Section}
+
+-- a variable is one of the program's
+abbrev pub is_variable : Tree → ℕ → Bool
+is_variable tree root = nat_lt root (length tree.variables.items)
+
+-- a fact names variables of the program
+abbrev pub fact_is_known : Tree → Fact → Bool
+fact_is_known tree (Range root range) = is_variable tree root
+fact_is_known tree (Defined root) = is_variable tree root
+fact_is_known tree (Order root other number) = is_variable tree root && is_variable tree other
+
+-- a loop is there, and stands in a block
+abbrev pub stands_in : ℕ → Option Loop → Bool
+stands_in block None = false
+stands_in block (Some one) = nat_eq one.block block
+
+-- claims are on a loop of a block, and name variables of the program
+abbrev pub claims_are_known : Tree → ℕ → LoopClaims → Bool
+claims_are_known tree block claims =
+    stands_in block (slice_get tree.loops.items claims.number)
+    && (list_all (is_variable tree) claims.changes.items && list_all (fact_is_known tree) claims.facts.items)
+
+-- a section is on a block of the program, and on loops of that block
+abbrev pub section_is_known : Tree → Section → Bool
+section_is_known tree section =
+    nat_lt section.block (length tree.blocks.items)
+    && list_all (claims_are_known tree section.block) section.loops.items
+
+-- a certificate names what the program has alone
+abbrev pub is_known : Tree → Certificate → Bool
+is_known tree certificate = list_all (section_is_known tree) certificate.sections.items
