@@ -223,7 +223,6 @@ statement-parts (If number condition consequence (Some alternative)) context sta
     (and_then first.linked (yes.linked ++ no.linked) _ _ (value-entered condition context state)
     (and_then yes.linked no.linked _ _ (consequence.value.1 context (where_so true condition first.value first.after))
     (alternative.value.1 context (where_so false condition first.value first.after))))
-
 statement-parts (While number loop_number place condition body) context state =
     ap (λ numbers. number ∷ numbers) (loop-entered loop_number place (while_round condition (statement_walk body.value.0))
     (entries_of_expression condition ++ entries_of_statement body.value.0)

@@ -207,9 +207,10 @@ module _ (world : World) (env : Environment) (shows : Shows world.variables env)
   -- behind a round
   round-turns : {A : Type 0} → gives_all again facts ≡ true → (before after : Store) → Keeps env within.rounds start before → (more : Option A)
       → EndsHold world env within again out before more after → Turns (λ a store. AtHead store) AtOut more after
-  round-turns given before after kept None (stood, own_kept) =
-      (record { limits_are = stood.limits_are; known = stood.known; typed = stood.typed },
-      rounds-outer env context.rounds own start after (keeps-then env within.rounds start before after kept own_kept))
+  round-turns given before after kept None (stood, own_kept) = (
+    record { limits_are = stood.limits_are; known = stood.known; typed = stood.typed },
+    rounds-outer env context.rounds own start after (keeps-then env within.rounds start before after kept own_kept),
+  )
   round-turns given before after kept (Some b) (stood, own_kept) =
       let all = keeps-then env within.rounds start before after kept own_kept in
       (head-stands after stood.typed all (given-all_known world.variables env again after facts stood.known given), all)
@@ -286,9 +287,11 @@ module _ (world : World) (env : Environment) (condition : Expr) (execution : mea
       good-then world (Foretold world env context bodied u.store) P u.visited (execution env u) (λ done. effect.give (Some tt))
       (one context inside_state u unbroken part here)
       (λ done w is told.
-      good-give world P (Some tt) w
-      (told.stands, keeps-then env context.rounds start t.store w.store kept
-      (subst (λ (x : Store). Keeps env context.rounds x w.store) same told.kept)))) t.turns
+      good-give world P (Some tt) w (
+        told.stands,
+        keeps-then env context.rounds start t.store w.store kept
+            (subst (λ (x : Store). Keeps env context.rounds x w.store) same told.kept),
+      ))) t.turns
 
 pub sound-while : (world : World) (env : Environment) (condition : Expr) (execution : meaning.Execution) (body : Walking (Unit {0}))
     → Sound world env IsKnown (value_of condition env) (value_walk condition)

@@ -109,7 +109,7 @@ pub record AtHead (number : ℕ) (old new : Walk) : Type 0 where
       ≡ record (context_of old) { rounds = (context_of old).rounds ++ round_of (claims_on old.certificate.now number) ∷ [] }
   pub state_is : viewed new.state
       ≡ head (limits_at old.limits.items) (touched (round_of (claims_on old.certificate.now number))) []
-          (claims_on old.certificate.now number).facts (viewed old.state)
+      (claims_on old.certificate.now number).facts (viewed old.state)
   pub open_is : new.open_ids ≡ old.open_ids
 
 -- the checker came to the head of a loop of a number and a place, or its facts weren't given, or it found no memory

@@ -12,10 +12,10 @@ use crate::fault::{CheckFault, Rule};
 use crate::rounds::{Round, all_limits, all_list, claims_on, limits_at};
 use crate::visits::Visits;
 use abstract_state::{Known, State, bound_form, limits};
-use place::Place;
 use certificate::{Certificate, LoopClaims};
 use domain::Domain;
 use domain::interval::Interval;
+use place::Place;
 use std::alloc::{AllocError, Global};
 use std::mem;
 use typed_tree::tree::{
@@ -548,7 +548,11 @@ fn gives_all(state: &State, claims: Option<&LoopClaims>) -> bool
 }
 
 /// Brings a state to the head of a loop.
-fn head(state: &mut State, limits: &[Interval], claims: Option<&LoopClaims>) -> Result<(), AllocError>
+fn head(
+    state: &mut State,
+    limits: &[Interval],
+    claims: Option<&LoopClaims>,
+) -> Result<(), AllocError>
     ensures { IfOk result (λ _. viewed state.new ≡ head (limits_at limits.now) (said_claims claims.entry).changes []
         (said_claims claims.entry).facts (viewed state.old)) }
 {
