@@ -1,9 +1,9 @@
 -- The claims of a certificate on a loop, from one of several on; and lists that are made element by element.
-use Rattle.std.proofs.Common.{◌≡◌, ◌∙◌, sym, ap, ℕ, ◌+◌, ◌<◌, ◌≤◌, Bool, true, false, cond, nat_eq, List, [], ◌∷◌, ◌++◌, Option, Some, None, length, map, drop, take, get_or}
+use Rattle.std.proofs.Common.{◌≡◌, ◌∙◌, sym, ap, ℕ, ◌+◌, ◌<◌, ◌≤◌, Bool, cond, nat_eq, List, [], ◌∷◌, ◌++◌, Option, Some, None, length, map, drop, take, get_or}
 use Rattle.std.proofs.lemmas.List.{take_more, map-append}
 use Rattle.certificate.specs.declared.LoopClaims.{LoopClaims as KeptClaims}
 use Rattle.certificate.specs.declared.Section.{Section as KeptSection}
-use Rattle.certificate.specs.Contents.{LoopClaims, Section, loop_of, section_of}
+use Rattle.certificate.specs.Contents.{LoopClaims, loop_of, section_of}
 use Rattle.cert_checker.specs.Loops.{found_among, found_in, or_else}
 use Rattle.cert_checker.proofs.Steps.{item-cut, drop-past}
 

@@ -1,20 +1,17 @@
 -- The walk is sound: what a piece of a program does from a state that holds, the walk over that piece foretells.
-use Rattle.std.proofs.Common.{arith, ◌≡◌, ⊎_elim, ◌⊎◌, inl, inr, ◌∙◌, sym, ap, refl, subst, ℕ, zero, suc, ◌<◌, Bool, true, false, ◌||◌, cond, List, [], ◌∷◌, ◌++◌, Option, Some, None}
+use Rattle.std.proofs.Common.{arith, ◌≡◌, ⊎_elim, ◌⊎◌, inl, inr, ◌∙◌, sym, refl, subst, ℕ, ◌<◌, Bool, true, false, ◌||◌, List, [], ◌∷◌, ◌++◌, Option, Some, None}
 use Rattle.std.specs.List.{Contains}
 use Rattle.std.proofs.lemmas.List.Elements.{Contains-append_left, Contains-append_right, Contains-push_cases}
 use Rattle.domain.specs.Interval.{Interval}
-use Rattle.meaning.specs.declared.outcome.Ending.TheVariants.{Error, More}
+use Rattle.meaning.specs.declared.outcome.Ending.TheVariants.{Error}
 use Rattle.meaning.specs.declared.store.Value.{Value}
 use Rattle.meaning.specs.Store.{Environment, Place, Store, stored}
 use Rattle.meaning.specs.Effect as effect
 use Rattle.meaning.specs.Effect.{Action, Reply, Visit, and_then}
 use Rattle.abstract_state.specs.State.{State, Dead, Live, is_dead, is_defined, range_of, with_defined}
 use Rattle.abstract_state.specs.Holds.{IsIn, StateHolds, Separate}
-use Rattle.abstract_state.specs.declared.known.Known.{Known}
-use Rattle.abstract_state.specs.declared.known.Known.TheVariants.{Ordinal}
 use Rattle.abstract_state.proofs.Ranged.{IsKnown}
-use Rattle.abstract_state.proofs.Knows.{Shows, Knows, place_of, moment, at-place, known-holds, read-in, defined-stored, nonempty-known, used-known}
-use Rattle.cert_checker.specs.Loops.{Round}
+use Rattle.abstract_state.proofs.Knows.{Shows, Knows, place_of, at-place, known-holds, read-in, defined-stored, nonempty-known, used-known}
 use Rattle.cert_checker.specs.Walk as walk
 use Rattle.cert_checker.specs.Walk.{Breach, Context, Linked, Walked, Walking, followed, left_open}
 use Rattle.cert_checker.specs.Promise.{moment_of, visits_of}

@@ -1,7 +1,7 @@
 -- The branches of a conditional statement and the loops are sound. A loop is a head, a round and a way out: what holds at
 -- its head holds there again whenever a round ends that another follows.
-use Rattle.std.proofs.Common.{arith, ◌≡◌, ◌∙◌, sym, ap, refl, subst, ℕ, zero, suc, Bool, true, false, cond, List, [], ◌∷◌, ◌++◌, Option, Some, None}
-use Rattle.std.specs.List.{All, Contains}
+use Rattle.std.proofs.Common.{arith, ◌≡◌, sym, refl, subst, ℕ, zero, suc, Bool, true, false, cond, List, [], ◌∷◌, ◌++◌, Option, Some, None}
+use Rattle.std.specs.List.{All}
 use Rattle.std.proofs.lemmas.List.Elements.{Contains-append_left, Contains-append_right}
 use Rattle.domain.specs.Interval.{Interval}
 use Rattle.cert_checker.specs.declared.fault.Rule.{Rule}
@@ -17,7 +17,7 @@ use Rattle.meaning.specs.Effect.{Action, Reply, Visit, and_then}
 use Rattle.meaning.specs.Meaning as meaning
 use Rattle.meaning.specs.Meaning.{is_so, value_of}
 use Rattle.abstract_state.specs.State.{State, joined_states}
-use Rattle.abstract_state.specs.Holds.{Holds, IsIn, value_at}
+use Rattle.abstract_state.specs.Holds.{Holds, IsIn}
 use Rattle.abstract_state.specs.declared.known.Known.{Known}
 use Rattle.abstract_state.specs.declared.known.Known.TheVariants.{Ordinal}
 use Rattle.abstract_state.proofs.Ranged.{IsKnown}
@@ -25,7 +25,7 @@ use Rattle.abstract_state.proofs.Knows.{joined-known_one, joined-known_other}
 use Rattle.abstract_state.proofs.Refined.{branched-known}
 use Rattle.cert_checker.specs.Loops.{Round, claims_on, limits_at, round_of, touched}
 use Rattle.abstract_state.specs.Loops.{gives_all, head}
-use Rattle.abstract_state.specs.Knows.{IsKept, Shows, Knows, moment}
+use Rattle.abstract_state.specs.Knows.{IsKept, Shows, moment}
 use Rattle.abstract_state.proofs.Looped.{given-all_known, head-known}
 use Rattle.cert_checker.specs.Walk as walk
 use Rattle.cert_checker.specs.Walk.{Context, Walked, Walking, followed, value_walk, where_so}

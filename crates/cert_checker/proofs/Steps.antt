@@ -32,7 +32,7 @@ use Rattle.abstract_state.specs.Conditions.{bound_form}
 use Rattle.domain.specs.Facts.{Bound}
 use Rattle.abstract_state.specs.State.{State, Dead, Live, is_defined, joined_states, limits_of, range_of, with_defined}
 use Rattle.cert_checker.specs.Walk.{Breach, Context, Linked, Walked, Walking, use_of, tested, positive, within, width_test, assign, change, fitting, ◌>>=◌, give, ordinal, enter, variable_walk, operated, combined, in_turn, value_walk, link_walk, parameter_walk, statement_walk, all_of, assignment, block_walk, branches, breach_unless, facts_given, first_context, program_walk, followed, here, loop_walk, repeat_round, while_round, with_state, where_so, numbers_of}
-use Rattle.cert_checker.specs.View.{context_of, all_counted, counted, else_walk, AtHead, EntersLoop, IsBegun, IsBehind, IsMoved, kept_round, LeavesLoop, Meets, Parts, Walks, Goes}
+use Rattle.cert_checker.specs.View.{context_of, all_counted, counted, else_walk, AtHead, EntersLoop, IsBegun, IsMoved, kept_round, LeavesLoop, Meets, Parts, Walks, Goes}
 use Rattle.cert_checker.specs.Loops.{Claims, Round, all_list, claims_on, limits_at, round_of, touched}
 use Rattle.abstract_state.specs.Loops.{gives_all, head, is_among}
 use Rattle.std.specs.List.{list_all}

@@ -1,6 +1,6 @@
 -- What a certificate may name of a program: its blocks, its loops, each under its block, and its variables
 -- (ISO 7185:1990, 6.2.2, 6.8.3.6). It does not say that what is claimed of them holds.
-use Rattle.std.specs.Prelude.{ℕ, Bool, false, ◌&&◌, List, Option, Some, None, length, nat_eq, nat_lt, slice_get}
+use Rattle.std.specs.Prelude.{ℕ, Bool, false, ◌&&◌, Option, Some, None, length, nat_eq, nat_lt, slice_get}
 use Rattle.std.specs.List.{list_all}
 use Rattle.typed_tree.specs.declared.tree.Tree.{Tree}
 use Rattle.typed_tree.specs.declared.tree.Loop.{Loop}

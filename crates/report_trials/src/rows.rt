@@ -178,7 +178,7 @@ static SENTENCES: [((&str, &str), &str); 19] = [
     ((LEAST, "pcert 2\n"), "certificate:1: no certificate"),
     (
         (LEAST, "pcert 1\nproc 0\n"),
-        "certificate:2: no line of a certificate",
+        "certificate:2: a line out of its place",
     ),
     ((LEAST, "pcert 1"), "certificate:1: a line without its end"),
 ];

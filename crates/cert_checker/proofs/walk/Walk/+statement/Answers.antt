@@ -1,7 +1,7 @@
 use Rattle.std.proofs.Common.{refl, map, Ok, Err}
 use Rattle.cert_checker.specs.Walk.{all_of, repeat_round, statement_walk, while_round}
 use Rattle.cert_checker.specs.View.{else_walk}
-use Rattle.cert_checker.proofs.Steps.{all-step, all-end, given-up, if-begun, branches-done, branches-stopped, loop-done, loop-stopped, loop-not_entered, while-begun, repeat-begun, while_round-done, repeat_round-done}
+use Rattle.cert_checker.proofs.Steps.{all-step, all-end, given-up, if-begun, branches-done, branches-stopped, loop-done, loop-stopped, while-begun, repeat-begun, while_round-done, repeat_round-done}
 use Rattle.cert_checker.proofs.walk.Walk.+statement.Goals as goal
 
 pub statements-loop-statement-preserved : goal.statements-loop-statement-preserved
