@@ -106,7 +106,9 @@ said_state (Err fault) = Err fault
 pub record AtHead (number : ℕ) (old new : Walk) : Type 0 where
   pub given : gives_all (viewed old.state) (claims_on old.certificate.now number).facts ≡ true
   pub context_is : context_of new
-      ≡ record (context_of old) { rounds = (context_of old).rounds ++ round_of (claims_on old.certificate.now number) ∷ [] }
+      ≡ record (context_of old) {
+        rounds = (context_of old).rounds ++ round_of (claims_on old.certificate.now number) ∷ [];
+      }
   pub state_is : viewed new.state
       ≡ head (limits_at old.limits.items) (touched (round_of (claims_on old.certificate.now number))) []
       (claims_on old.certificate.now number).facts (viewed old.state)
@@ -116,7 +118,8 @@ pub record AtHead (number : ℕ) (old new : Walk) : Type 0 where
 abbrev pub EntersLoop : ℕ → Place → Walk → Result (Unit {0}) CheckFault → Walk → Type 0
 EntersLoop number place old (Ok done) new = AtHead number old new
 EntersLoop number place old (Err fault) new =
-    IsBreachOf (facts_given LoopEntry place (claims_on old.certificate.now number).facts (context_of old) (viewed old.state))
+    IsBreachOf
+    (facts_given LoopEntry place (claims_on old.certificate.now number).facts (context_of old) (viewed old.state))
     fault
 
 -- the checker came behind a loop, whose facts were given
@@ -129,9 +132,11 @@ pub record IsBehind (number : ℕ) (behind : Kept) (rounds : List Round) (old ne
 -- the checker came behind a loop of a number and a place that is round it, or its facts weren't given
 abbrev pub LeavesLoop : ℕ → Place → Kept → Walk → Result (Unit {0}) CheckFault → Walk → Type 0
 LeavesLoop number place behind old (Ok done) new =
-    (rounds : List Round) (own : Round) → (context_of old).rounds ≡ rounds ++ own ∷ [] → IsBehind number behind rounds old new
+    (rounds : List Round) (own : Round) → (context_of old).rounds ≡ rounds ++ own ∷ []
+    → IsBehind number behind rounds old new
 LeavesLoop number place behind old (Err fault) new =
-    IsBreachOf (facts_given LoopTurn place (claims_on old.certificate.now number).facts (context_of old) (viewed old.state))
+    IsBreachOf
+    (facts_given LoopTurn place (claims_on old.certificate.now number).facts (context_of old) (viewed old.state))
     fault
 
 -- the checker before the first block

@@ -147,7 +147,8 @@ asked kept rule place context state =
 -- a variable is changed at a place by a value in a range, which is that of its type: each loop round it lists it
 abbrev pub change : Place → ℕ → OrdinalRange → Walking (Unit {0})
 change place root range context =
-    asked (all_list root context.rounds && is_included (limits_of range) (limits_at context.limits root)) Changes place context
+    asked (all_list root context.rounds && is_included (limits_of range) (limits_at context.limits root)) Changes place
+    context
 
 -- the assignment of a value to a variable, perhaps of a bound form
 abbrev pub assign : ℕ → Option Bound → Known → Walking (Unit {0})
@@ -347,7 +348,8 @@ loop_by place round facts walking = do
 -- the loop of a number
 abbrev pub loop_walk : ℕ → Place → Walking State → Walking (Unit {0})
 loop_walk number place walking context =
-    loop_by place (round_of (claims_on context.certificate number)) (claims_on context.certificate number).facts walking context
+    loop_by place (round_of (claims_on context.certificate number)) (claims_on context.certificate number).facts walking
+    context
 
 -- one layer of a statement
 abbrev pub statement_step : Stmt-F (Walking (Unit {0})) → Walking (Unit {0})

@@ -242,7 +242,8 @@ impl<'a> Walk<'a> {
 
     /// A variable gets the value of an expression.
     fn store(&mut self, root: u32, value: &Expr, passed: Known) -> Result<(), CheckFault>
-        ensures { (visits : Visits) → Goes (assign root (bound_form value.now) passed) self.old visits result self.new visits }
+        ensures { (visits : Visits)
+            → Goes (assign root (bound_form value.now) passed) self.old visits result self.new visits }
     {
         let range = passed.range();
         self.state.assign(root, range, bound_form(value))?;
