@@ -22,7 +22,7 @@ use Rattle.typed_tree.specs.declared.tree.Expr.TheOpen.Expr-F.{Constant, Variabl
 use Rattle.typed_tree.specs.declared.tree.Expr.TheFolds.{fold-Expr, fold-Link}
 use Rattle.typed_tree.specs.declared.tree.Stmt.{Stmt}
 use Rattle.typed_tree.specs.declared.tree.Stmt.TheOpen.{Stmt-F}
-use Rattle.typed_tree.specs.declared.tree.Stmt.TheOpen.Stmt-F.{Empty, Assign, Write, Compound, If, While, Repeat}
+use Rattle.typed_tree.specs.declared.tree.Stmt.TheOpen.Stmt-F.{Empty, Assign, Write, Compound, If, While, Repeat, For}
 use Rattle.typed_tree.specs.declared.tree.Stmt.TheFolds.{fold-Stmt}
 
 -- they all hold
@@ -95,6 +95,11 @@ module _ (variables sites : ℕ) where
   stmt_is_well_formed (While number loop_number place condition body) = is_well_formed_expr condition && body.value
   stmt_is_well_formed (Repeat number loop_number place statements condition) =
       all_hold statements.items && is_well_formed_expr condition
+  stmt_is_well_formed (For number loop_number place control first first_fits direction last last_fits body) =
+      nat_lt control variables
+      && (is_well_formed_expr first
+      && (is_well_formed_test first_fits
+      && (is_well_formed_expr last && (is_well_formed_test last_fits && body.value))))
 
   -- a statement is well formed
   abbrev pub is_well_formed_stmt : Stmt → Bool
