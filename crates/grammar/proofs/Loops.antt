@@ -1,5 +1,5 @@
 -- The parts of while, repeat and for statements.
-use Rattle.std.proofs.Common.{◌≡◌, ℕ, ◌<◌, ◌≤◌, true, ◌&&◌, max, List, [], ◌∷◌, ◌++◌, map, length, Some, refl, sym, ◌∙◌, arith}
+use Rattle.std.proofs.Common.{◌≡◌, ℕ, ◌<◌, true, ◌&&◌, max, List, [], ◌∷◌, ◌++◌, map, length, Some, refl, sym, ◌∙◌, arith}
 use Rattle.std.specs.List.{list_all}
 use Rattle.std.specs.declared.alloc.Global.{Global}
 use Rattle.std.specs.declared.boxed.Box.{Box}
@@ -20,7 +20,7 @@ use Rattle.grammar.specs.WellFormed.{relation_level, StmtForm, stmt_form, is_exp
 use Rattle.grammar.specs.Nesting.{expr_levels, stmt_levels, deepest}
 use Rattle.grammar.specs.Following.{Next, EndsStmt, EndsStatements, repeated}
 use Rattle.grammar.specs.Begins.{BeginsExpr, BeginsGuard, BeginsStmt, BeginsStatements, BeginsControl, BeginsInitial}
-use Rattle.grammar.proofs.Lists.{and_left, and_right, all_computed, length_map}
+use Rattle.grammar.proofs.Lists.{and_left, and_right, all_computed}
 use Rattle.grammar.proofs.Rows.{parted, begins, same_first}
 use Rattle.grammar.proofs.Starts.{first_of, Layer, layer, form_at}
 use Rattle.grammar.proofs.Conditionals.{guard_parted}
