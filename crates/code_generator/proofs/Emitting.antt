@@ -130,7 +130,8 @@ same_emitted answer before after sizes left table table' code code' p q h =
     subst (λ c. Emits answer before after sizes left c table') (sym p) (subst (Emits answer before after sizes left code) (sym q) h)
 
 -- behind the passed size of the statement that they are in
-pub passed_emitted : (answer : Result (Unit {0}) AllocError) (before after : List Instr) (sizes now left : List ℕ) (own : ℕ) (inner : List ℕ) (code : List Instr)
+pub passed_emitted : (answer : Result (Unit {0}) AllocError) (before after : List Instr) (sizes now left : List ℕ) (own : ℕ) (inner : List ℕ) (code : List
+    Instr)
     → now ≡ rest_of sizes → Emits answer before after now left code inner → Emits answer before after sizes left code
     (own ∷ inner)
 passed_emitted answer before after sizes now left own inner code is h rest e few =
@@ -323,7 +324,8 @@ for_emitted answer control first first_fits way last last_fits body scope before
 -- a repeat statement
 pub repeat_emitted : (answer : Result (Unit {0}) AllocError) (statements : ℕ → List Instr) (test : List Instr) (before done after : List Instr)
     (sizes left table : List ℕ) (head : ℕ) → Emits (Ok tt) before done sizes left (statements (length before)) table → head ≡ capped (length before)
-    → OnOk answer (after ≡ (done ++ test) ++ instr.JumpIfFalse head ∷ []) → Emits answer before after sizes left (repeat_code statements test (length before)) table
+    → OnOk answer (after ≡ (done ++ test) ++ instr.JumpIfFalse head ∷ []) → Emits answer before after sizes left (repeat_code statements test (length
+    before)) table
 repeat_emitted answer statements test before done after sizes left table head emits begins last rest told few =
     let place = length before in
     let code = statements place in

@@ -195,7 +195,8 @@ module _ (g : Setting) where
     decides i f holds place out at1 at2 at3 at4 rule is =
         let size = long in
         let a = loads_held store base held bounds [] here 0 (Number n) place output based high (sym (append-nil here)) refl (omega arith) at1 in
-        let b = loads_held store base held bounds (Number n ∷ []) (here ++ Number n ∷ []) 1 (Number l) (place + 1) output based high refl refl (omega arith) at2 in
+        let b = loads_held store base held bounds (Number n ∷ []) (here ++ Number n ∷ []) 1 (Number l) (place + 1) output based high refl refl (omega arith)
+        at2 in
         let c = operates i f here n l (place + 1 + 1) output at3 rule in_frame (omega arith) in
         let d = branches_on g out here (f n l) (place + 1 + 1 + 1) output at4 in_frame in
         let whole = comes_on g.target 1 3 _ _ _ a (comes_on g.target 1 2 _ _ _ b (comes_on g.target 1 1 _ _ _ c d)) in

@@ -71,7 +71,8 @@ module _ (g : Setting) {A : Type 0} (fit : A → Type 0) (hold : A → List Cell
 
   -- a turn, behind which an instruction came or comes
   pub turned : (bound k : ℕ) (s : effect.State) (m : State) (next : Unit {0} → Action (Option A)) → m.output ≡ s.output
-      → ((left : ℕ) → k ≡ suc left → Rounds 0 bound k m (next tt (record s { turns = left }))) → Rounds 0 bound k m (effect.and_then (effect.take_turn k s) next)
+      → ((left : ℕ) → k ≡ suc left → Rounds 0 bound k m (next tt (record s { turns = left }))) → Rounds 0 bound k m (effect.and_then (effect.take_turn k s)
+      next)
   turned bound zero s m next same h = (m, comes_less g.target (0 - g.slack) 0 m m (omega arith) (stays_here g.target m), same)
   turned bound (suc left) s m next same h = h left refl
 
@@ -145,7 +146,8 @@ module _ (g : Setting) (slack height : ℕ) where
 
   -- a round with less slack, behind its turn
   pub rounds_from_reset : {A : Type 0} (fit : A → Type 0) (hold : A → List Cell) (head end : ℕ) (held : List Cell) (left : ℕ) (m : State) (r : Reply (Option A))
-      → suc slack ≤ g.slack → Rounds (reset g slack height) fit hold head end held 1 (suc left) left m r → Rounds g fit hold head end held 0 (suc left) (suc left) m r
+      → suc slack ≤ g.slack → Rounds (reset g slack height) fit hold head end held 1 (suc left) left m r
+      → Rounds g fit hold head end held 0 (suc left) (suc left) m r
   rounds_from_reset fit hold head end held left m (Gives None s) le e = (
     e.0,
     from_reset s.store e.0 e.1,

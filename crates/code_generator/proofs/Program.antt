@@ -340,7 +340,8 @@ module _ (tree : Tree) (well : IsWellFormed tree) (short : length (program_code 
         → Executes setting s.turns (on setting (entered_cells variables ++ []) 1 s.output) [] (1 + length (body_instructions variables o))
         (meant.run_of o (program_environment tree) s)
     body_runs None s apart stands good based deep = done setting 0 _ (entered_cells variables) [] 1 s based (stays_here target _)
-    body_runs (Some block) s apart stands good based deep = stmt_runs block.body setting apart 1 (entered_cells variables) [] s stands good based refl (omega arith)
+    body_runs (Some block) s apart stands good based deep = stmt_runs block.body setting apart 1 (entered_cells variables) [] s stands good based refl (omega
+        arith)
 
     -- what a run of the machine comes to for so many turns: it stops as the program ends, or the turns were used up, and
     -- it goes on by as many instructions at least, but for the slack

@@ -310,7 +310,8 @@ repeats = fold-Stmt ℕ repeats_step
 
 -- what is shown of a statement, in each setting
 abbrev pub StmtRuns : Stmt → Type 0
-StmtRuns s = (g : Setting) → repeats s ≤ g.slack → ExecutesAs g (stmt_code s) (stmt_depth s) (is_well_formed_stmt (length g.tree.variables.items) (length g.tree.sites.items) s)
+StmtRuns s = (g : Setting) → repeats s ≤ g.slack → ExecutesAs g (stmt_code s) (stmt_depth s) (is_well_formed_stmt (length g.tree.variables.items) (length
+    g.tree.sites.items) s)
     (effect_of s)
 
 each_statement : (g : Setting) (ss : List ((s : Stmt) × StmtRuns s)) (before : ℕ) → fold max before (map repeats (map (λ x. x.0) ss)) ≤ g.slack → Each
@@ -426,17 +427,22 @@ while_runs g number condition body few place base held s stands good based high 
     let hold : Unit {0} → List Cell = λ _. held in
     let round : Round (Unit {0}) = while_round (value_of condition) (effect_of body.0) g.environment in
     let turns_on : (bound : ℕ) (holds : Bool) (base2 : List Cell) (t : effect.State) → Based g t.store base2 → t.turns ≤ bound → (m : State)
-    → m.output ≡ t.output → Comes g.target 1 m (on g (base2 ++ held) (if holds then inside else end) t.output) → Rounds g (λ _. Unit {0}) hold place end held 0 bound t.turns m
+    → m.output ≡ t.output → Comes g.target 1 m (on g (base2 ++ held) (if holds then inside else end) t.output)
+    → Rounds g (λ _. Unit {0}) hold place end held 0 bound t.turns m
     (turn_if holds (effect_of body.0 g.environment) t) =
     λ bound holds. elim holds as (λ h. (base2 : List Cell) (t : effect.State) → Based g t.store base2 → t.turns ≤ bound → (m : State)
-    → m.output ≡ t.output → Comes g.target 1 m (on g (base2 ++ held) (if h then inside else end) t.output) → Rounds g (λ _. Unit {0}) hold place end held 0 bound t.turns m
+    → m.output ≡ t.output → Comes g.target 1 m (on g (base2 ++ held) (if h then inside else end) t.output)
+    → Rounds g (λ _. Unit {0}) hold place end held 0 bound t.turns m
     (turn_if h (effect_of body.0 g.environment) t)) [
       | true ↦ λ base2 t based2 few' m same came.
           turned g (λ _. Unit {0}) hold place end held bound t.turns t m (λ _. effect_of body.0 g.environment >>= λ _. give (Some tt)) same (λ left is.
           rounds_on g (λ _. Unit {0}) hold place end held 0 bound t.turns left m (on g (base2 ++ held) inside t.output)
           ((effect_of body.0 g.environment >>= λ _. give (Some tt)) (record t { turns = left })) (omega arith)
           (comes_less g.target (t.turns - left) 1 m _ (omega arith) came)
-          (then_rounds g (λ _. Unit {0}) hold place end held 0 bound left _ held (inside + length code) (effect_of body.0 g.environment (record t { turns = left }))
+          (then_rounds g (λ _. Unit {0}) hold place end held 0 bound left _ held (inside + length code) (effect_of body.0 g.environment (record t {
+            turns =
+                left;
+          }))
           (λ _. give (Some tt))
           (body.1 g few inside base2 held (record t { turns = left }) (stands_front g.target inside code back within) parts.1
           (record { full = based2.full; alike = based2.alike }) high (omega arith))
@@ -482,7 +488,8 @@ repeat_runs g number condition ss few place base held s stands good based high d
     let hold : Unit {0} → List Cell = λ _. held in
     let statements = all_of (map effect_of (map (λ x. x.0) ss)) in
     let round : Round (Unit {0}) = repeat_round statements (value_of condition) g.environment in
-    let decides : (bound : ℕ) (n : ℤ) (base2 : List Cell) (t : effect.State) → Based h t.store base2 → t.turns < bound → Rounds h (λ _. Unit {0}) hold place end held 1 bound
+    let decides : (bound : ℕ) (n : ℤ) (base2 : List Cell) (t : effect.State) → Based h t.store base2 → t.turns < bound
+    → Rounds h (λ _. Unit {0}) hold place end held 1 bound
     t.turns (on g ((base2 ++ held) ++ Number n ∷ []) (last + length test) t.output) (give (if frames.is_true n then None else Some tt) t) =
     λ bound n base2 t based2 fewer.
     (elim (frames.is_true n) as (λ b. Comes g.target 1 (on g ((base2 ++ held) ++ Number n ∷ []) (last + length test) t.output)
@@ -491,7 +498,8 @@ repeat_runs g number condition ss few place base held s stands good based high d
       | true ↦ λ came. (base2, based2, comes_less g.target (t.turns - t.turns + 1) 1 _ _ (omega arith) came, omega arith)
       | false ↦ λ came. (base2, based2, comes_less g.target (t.turns - t.turns + 1) 1 _ _ (omega arith) came, fewer, tt)
     ]) (branches_on g place (base2 ++ held) n (last + length test) t.output jump.0 (linked h t.store base2 held based2)) in
-    let inside : (left : ℕ) (base2 : List Cell) (t : effect.State) → t.turns ≡ left → Based h t.store base2 → Rounds h (λ _. Unit {0}) hold place end held 1 (suc left) left
+    let inside : (left : ℕ) (base2 : List Cell) (t : effect.State) → t.turns ≡ left → Based h t.store base2
+    → Rounds h (λ _. Unit {0}) hold place end held 1 (suc left) left
     (on g (base2 ++ held) place t.output)
     ((statements g.environment >>= λ _. value_of condition g.environment >>= λ v. give (if is_so v then None else Some tt)) t) =
     λ left base2 t is based2.
@@ -664,8 +672,10 @@ module _ (g : Setting) (control : ℕ) (within : control < length g.tree.variabl
           let in_frame' = linked g s.store base one based in
           let loop = subst (λ m. Executes g s.turns (on g here m s.output) (hold l) out (effect.looped round n s)) (sym q)
           (loops g fit hold head out (hold l) round (for_round_runs beginning inside next) n base s (fits, has) based) in
-          let last' = tests g last_fits (base ++ one) (hold l) l (place + 1 + 1 + 1 + 1 + 1 + 1 + 1) out s (effect.looped round n) fit_last rest.1.1.1.0 site_last
-          in_frame' (subst (λ cs. Executes g s.turns (on g cs (place + 1 + 1 + 1 + 1 + 1 + 1 + 1 + 1) s.output) (hold l) out (effect.looped round n s)) split loop) in
+          let last' = tests g last_fits (base ++ one) (hold l) l (place + 1 + 1 + 1 + 1 + 1 + 1 + 1) out s (effect.looped round n) fit_last rest.1.1.1.0
+          site_last
+          in_frame' (subst (λ cs. Executes g s.turns (on g cs (place + 1 + 1 + 1 + 1 + 1 + 1 + 1 + 1) s.output) (hold l) out (effect.looped round n s)) split
+          loop) in
           let last_here = subst (λ cs. Executes g s.turns (on g cs (place + 1 + 1 + 1 + 1 + 1 + 1 + 1) s.output) (hold l) out
           (effect.and_then (require (effect.is_in last_fits.range (value.Number l)) last_fits.site s) (λ _. effect.looped round n))) (sym split) last' in
           subst (λ m. Executes g s.turns (on g here m s.output) (hold l) out
@@ -706,7 +716,8 @@ for_runs : (g : Setting) (number control : ℕ) (first : Expr) (first_fits : Ran
     (nat_lt control (variables g) && (is_well_formed_expr (variables g) (sites g) first && (is_well_formed_test (variables g) (sites g) first_fits &&
     (is_well_formed_expr (variables g) (sites g) last && (is_well_formed_test (variables g) (sites g) last_fits && is_well_formed_stmt (variables g) (sites g)
     body.0)))))
-    (λ e. effect.enter number e >>= λ _. value_of first e >>= λ a. value_of last e >>= λ b. for_between control first_fits way last_fits (effect_of body.0) e a b
+    (λ e. effect.enter number e >>= λ _. value_of first e >>= λ a. value_of last e >>= λ b. for_between control first_fits way last_fits (effect_of body.0) e
+    a b
     >>= λ _. effect.undefine (e control))
 for_runs g number control first first_fits way last last_fits body few place base held s stands good based high deep =
     let s1 : effect.State = record s { visited = s.visited ++ record { number = number; environment = g.environment; store = s.store } ∷ [] } in
@@ -771,7 +782,8 @@ module _ (x : Stmt-F Stmt) where
   abbrev is_step : Setting → Stmt-F Bool → Bool
   is_step g = stmt_is_well_formed (length g.tree.variables.items) (length g.tree.sites.items)
 
-  rolled_stmt : ((g : Setting) → repeats_step (map-Stmt Stmt ℕ repeats x) ≤ g.slack → ExecutesAs g (stmt_step (map-Stmt Stmt Placed stmt_code x)) (stmt_depth_step (map-Stmt Stmt ℕ stmt_depth x))
+  rolled_stmt : ((g : Setting) → repeats_step (map-Stmt Stmt ℕ repeats x) ≤ g.slack → ExecutesAs g (stmt_step (map-Stmt Stmt Placed stmt_code x))
+      (stmt_depth_step (map-Stmt Stmt ℕ stmt_depth x))
       (is_step g (map-Stmt Stmt Bool (fold-Stmt Bool (is_step g)) x)) (effect_step (map-Stmt Stmt Execution effect_of x))) → StmtRuns (roll-Stmt x)
   rolled_stmt runs g few =
       same_executes g _ _ _ _ _ _ _ _ (fold-roll-Stmt Placed stmt_step x) (fold-roll-Stmt ℕ stmt_depth_step x) (fold-roll-Stmt Bool (is_step g) x)

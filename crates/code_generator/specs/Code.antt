@@ -167,7 +167,7 @@ if_else_code test consequence alternative scope place =
     test ++ (instr.JumpIfFalse no ∷ (consequence scope yes
     ++ (instr.Jump (no + length (alternative scope no)) ∷ alternative scope no)))
 
--- the code of a while statement (6.8.3.8): where the condition is false, a jump behind the loop; and behind the body one
+-- the code of a while statement (6.8.3.8): where the condition is false, a jump behind the loop; behind the body one
 -- back to the condition
 abbrev pub while_code : List Instr → Placed → Placed
 while_code test body scope place =
@@ -200,8 +200,8 @@ abbrev pub next_instr : Direction → Instr
 next_instr direction.To = instr.Add
 next_instr direction.DownTo = instr.Subtract
 
--- The code behind both bounds, whose values are held from then on: without a value a jump out of the loop, and the tests
--- of the first and of the last.
+-- The code behind both bounds, whose values are held from then on: a jump out of the loop where they leave no value, and
+-- the tests of the first and of the last.
 abbrev pub for_entry : Scope → RangeTest → Direction → RangeTest → ℕ → List Instr
 for_entry scope first_fits way last_fits out =
     instr.Load 0 (held_offset scope 0) ∷ instr.Load 0 (held_offset scope 1) ∷ order_instr way ∷ instr.JumpIfFalse out
@@ -220,8 +220,8 @@ for_next scope way head out =
     ∷ instr.Load 0 (held_offset scope 0) ∷ instr.LoadConstant (pos 1) ∷ next_instr way
     ∷ instr.Store 0 (held_offset scope 0) ∷ instr.Jump head ∷ []
 
--- Behind the loop nothing more is held, and the control variable is undefined. The program's frame has no return, so its
--- third cell never gets a value.
+-- Behind the loop nothing more is held, and the control variable is undefined. The program's frame has no return, so
+-- its third cell never gets a value.
 abbrev pub for_end : Scope → ℕ → List Instr
 for_end scope control =
     instr.Store 0 (variable_offset scope control) ∷ instr.Store 0 (variable_offset scope control)

@@ -80,7 +80,8 @@ fn emit_program(
     body: &Stmt,
 ) -> Result<(), AllocError>
     requires { variables ≤ 16777216 }
-    ensures { length code.old.items + length (block_code variables body.now (program_scope variables) (length code.old.items))
+    ensures { length code.old.items
+        + length (block_code variables body.now (program_scope variables) (length code.old.items))
         ≤ 4294967295 → OnOk result (code.new.items
         ≡ code.old.items ++ block_code variables body.now (program_scope variables) (length code.old.items)) }
 {
