@@ -1,12 +1,14 @@
 -- What the work that an interpreter has still to do means: from its operands and the state, the topmost first.
 -- It says nothing of how many steps the work takes.
-use Rattle.std.specs.Prelude.{◌≡◌, ℕ, pos, Bool, List, [], ◌∷◌, Option, Some, None, Result, Ok, Err, IfOk}
+use Rattle.std.specs.Prelude.{◌≡◌, ℕ, ℤ, pos, Bool, List, [], ◌∷◌, Option, Some, None, Result, Ok, Err, IfOk}
 use Rattle.std.specs.Prelude.{if◌then◌else◌, drop, map, reverse, slice_get}
 use Rattle.std.specs.BTreeMap.{BTreeMap, get}
 use Rattle.std.specs.declared.alloc.AllocError.{AllocError}
 use Rattle.std.specs.declared.alloc.Global.{Global}
 use Rattle.std.specs.declared.boxed.Box.{Box}
 use Rattle.types.specs.declared.form.OrdinalRange.{OrdinalRange}
+use Rattle.typed_tree.specs.declared.tree.Direction.{Direction}
+use Rattle.typed_tree.specs.declared.tree.RangeTest.{RangeTest}
 use Rattle.typed_tree.specs.declared.tree.Expr.{Expr}
 use Rattle.typed_tree.specs.declared.tree.Stmt.{Stmt}
 use Rattle.meaning.specs.declared.outcome.Ending.{Ending}
@@ -20,9 +22,11 @@ use Rattle.meaning.specs.declared.interpreter.Run.{Run}
 use Rattle.meaning.specs.contracts.store.PlaceOrd.TheImpl.{ghosts as places}
 use Rattle.meaning.specs.Store.{Environment, Place, Store, stored}
 use Rattle.meaning.specs.Effect.{State, Reply, Stops, Action, Round, ◌>>=◌, give, stop, require, use_turn}
-use Rattle.meaning.specs.Effect.{another, looped, store, write, is_in, is_positive, text_of}
+use Rattle.meaning.specs.Effect.{another, looped, store, undefine, write, is_in, is_positive, text_of}
 use Rattle.meaning.specs.Meaning.{Combination, Execution, completed, ended, home_of, operated, combined, value_of, link_of}
 use Rattle.meaning.specs.Meaning.{effect_of, all_of, width_of, parameter_of, line_ended, is_so, turn_if, while_round, repeat_round}
+use Rattle.meaning.specs.Meaning.{for_round, for_between}
+use Rattle.meaning.specs.Counting.{Counting, counted, value_behind}
 
 -- what is done with the operands, the topmost first, and the state
 abbrev pub Resumption : Type 0
@@ -54,6 +58,25 @@ answered (Err site) = stop (ending.Error site)
 -- a result is the value that an action gives, or the site of the error where it stops
 abbrev pub Answers : Action Value → Result Value ℕ → Type 0
 Answers action result = (s : State) → action s ≡ answered result s
+
+-- an error at a site, if there is one
+abbrev pub failing : Option ℕ → Action (Unit {0})
+failing None = give tt
+failing (Some site) = stop (ending.Error site)
+
+-- a result is the site of the error where an action stops
+abbrev pub IsFailing : Action (Unit {0}) → Option ℕ → Type 0
+IsFailing action result = (s : State) → action s ≡ failing result s
+
+-- the tests of the bounds of a for
+abbrev pub bounds_tested : RangeTest → Value → RangeTest → Value → Action (Unit {0})
+bounds_tested first_fits first last_fits last = do
+  _ ← require (is_in first_fits.range first) first_fits.site
+  require (is_in last_fits.range last) last_fits.site
+
+-- the values between the bounds of a for, if there are any
+abbrev pub values_counted : Direction → Value → Value → Option Counting
+values_counted direction (Number first) (Number last) = counted direction first last
 
 -- a value, if it lies in a range
 abbrev pub checked : OrdinalRange → Value → Option Value
@@ -96,6 +119,16 @@ while_rounds env condition body = while_round (value_of condition) (effect_of bo
 abbrev pub repeat_rounds : Environment → List Stmt → Expr → Round (Unit {0})
 repeat_rounds env statements condition = repeat_round (all_of (map effect_of statements)) (value_of condition) env
 
+-- the rounds of a for
+abbrev pub count_rounds : Environment → ℕ → Counting → Stmt → Round ℤ
+count_rounds env control count body = for_round control count.direction count.last (effect_of body) env
+
+-- a place is undefined from here, and then the rest
+abbrev pub forgetting : Option Place → Resumption → Resumption
+forgetting place next operands = do
+  _ ← undefine place
+  next operands
+
 -- further rounds of a repeat, unless the topmost operand ends it, and then the rest
 abbrev pub unless_so : Environment → List Stmt → Expr → Resumption → Resumption
 unless_so env statements condition next =
@@ -130,6 +163,19 @@ resumed env (work.Until statements condition) next operands =
     giving (value_of condition.now env) (unless_so env statements.now condition.now next) operands
 resumed env (work.Unless statements condition) next operands =
     unless_so env statements.now condition.now next operands
+resumed env (work.Bounds control first_fits direction last_fits body) next operands =
+    with_top
+    (λ last rest. with_top
+    (λ first below. for_between control first_fits direction last_fits (effect_of body.now) env first last
+    >>= λ _. forgetting (env control) next below)
+    rest)
+    operands
+resumed env (work.For control count body) next operands = do
+  _ ← looped (count_rounds env control count body.now) count.value
+  forgetting (env control) next operands
+resumed env (work.Next control count body) next operands = do
+  _ ← further (count_rounds env control count body.now) (give (value_behind count.direction count.last count.value))
+  forgetting (env control) next operands
 resumed env (work.Parameters parameters ends_line) next operands = do
   _ ← all_of (map parameter_of parameters.now) env
   line_ending ends_line next operands
@@ -150,6 +196,11 @@ resumed env (work.Monadic operation) next operands = with_top (λ v. giving (ope
 resumed env (work.Links links) next operands = linking env (map link_of links.now) next operands
 resumed env (work.Combine operation) next operands =
     with_top (λ right rest. with_top (λ left. giving (combined operation left right) next) rest) operands
+
+-- two values, a piece of work with them, and then the rest
+abbrev pub evaluating : Environment → Expr → Expr → Work → Resumption → Resumption
+evaluating env first second later next =
+    giving (value_of first env) (giving (value_of second env) (resumed env later next))
 
 -- two pieces of work in a turn, and then the rest
 abbrev pub turning : Environment → Work → Work → Resumption → Resumption

@@ -1,10 +1,11 @@
 ghost use Rattle.std.specs.Prelude.{◌≡◌, pos};
 ghost use Rattle.meaning.specs.Effect.{is_in, is_positive};
 ghost use Rattle.meaning.specs.Meaning.{combined, default_width, is_so, operated, relates, whole};
-ghost use Rattle.meaning.specs.Pending.{Answers, checked, positive};
+ghost use Rattle.meaning.specs.Pending.{Answers, IsFailing, bounds_tested, checked, positive, values_counted};
 
+use crate::count::Count;
 use crate::store::{Ordinal, Value};
-use typed_tree::tree::{Dyadic, Monadic, Relation, Representation};
+use typed_tree::tree::{Direction, Dyadic, Monadic, RangeTest, Relation, Representation};
 use types::OrdinalRange;
 
 // The default total widths (ISO 7185:1990, 6.9.3.1).
@@ -96,6 +97,34 @@ pub fn value_in(range: OrdinalRange, value: Value) -> Option<Value>
     let Value::Number(number) = value;
     if number.is_integer() && number.is_within(range.first, range.last) {
         Some(value)
+    } else {
+        None
+    }
+}
+
+/// The values of a control variable between its bounds, if there are any.
+pub fn values_between(direction: Direction, first: Value, last: Value) -> Option<Count>
+    ensures { result ≡ values_counted direction first last }
+{
+    let Value::Number(first) = first;
+    let Value::Number(last) = last;
+    Count::between(direction, first, last)
+}
+
+/// The site at which one of the bounds of a for is outside the type of its control variable; the first is tested first
+/// (ISO 7185:1990, 6.8.3.9).
+pub fn outside_bound(
+    first_fits: RangeTest,
+    first: Value,
+    last_fits: RangeTest,
+    last: Value,
+) -> Option<u32>
+    ensures { IsFailing (bounds_tested first_fits first last_fits last) result }
+{
+    if value_in(first_fits.range, first).is_none() {
+        Some(first_fits.site)
+    } else if value_in(last_fits.range, last).is_none() {
+        Some(last_fits.site)
     } else {
         None
     }

@@ -1,8 +1,9 @@
 ghost use Rattle.std.specs.Prelude.{◌≡◌, [], ◌∷◌, ◌++◌, OnOk};
 
+use crate::count::Count;
 use std::alloc::AllocError;
 use typed_tree::tree::{
-    Dyadic, Expr, Link, Monadic, RangeTest, Representation, Stmt, WriteParameter,
+    Direction, Dyadic, Expr, Link, Monadic, RangeTest, Representation, Stmt, WriteParameter,
 };
 
 /// Work that a run has still to do. What it needs lies on the stack of values.
@@ -40,6 +41,26 @@ pub enum Work<'t> {
     Unless {
         statements: &'t [Stmt],
         condition: &'t Expr,
+    },
+    /// A for statement, whose bounds are topmost, the last above the first.
+    Bounds {
+        control: u32,
+        first_fits: RangeTest,
+        direction: Direction,
+        last_fits: RangeTest,
+        body: &'t Stmt,
+    },
+    /// The rounds of a for, with these values of its control variable.
+    For {
+        control: u32,
+        count: Count,
+        body: &'t Stmt,
+    },
+    /// The rounds of a for behind that with the first of these values.
+    Next {
+        control: u32,
+        count: Count,
+        body: &'t Stmt,
     },
     /// The parameters of a write, one after another, and behind them the line end of a writeln.
     Parameters {
