@@ -110,13 +110,17 @@ repeat_uses body condition env done tested =
           (λ _. extended_then (condition env) until tested (λ v. extended_give (if is_so v then None else Some tt))));
     }
 
+-- a control variable gets a value, and then comes a turn
+pub counted_uses : (control : ℕ) (body : Execution) (env : Environment) (behind : ℤ → Option ℤ) → Extended (body env) →
+    UsesTurns (λ n. store (env control) (Number n) >>= λ _. use_turn >>= λ _. body env >>= λ _. give (behind n))
+counted_uses control body env behind done =
+    let next : ℤ → Action (Option ℤ) = λ n. give (behind n) in
+    record {
+      spent = λ n s. spent_then (store (env control) (Number n) s) (λ _. use_turn >>= λ _. body env >>= λ _. next n) s.turns (omega arith)
+          (λ _ t. spent_turn (body env >>= λ _. next n) t (extended_then (body env) (λ _. next n) done (λ _. extended_give (behind n))));
+    }
+
 -- each turn of a for is used
 pub for_uses : (control : ℕ) (direction : Direction) (last : ℤ) (body : Execution) (env : Environment) → Extended (body env) →
     UsesTurns (for_round control direction last body env)
-for_uses control direction last body env done =
-    let next : ℤ → Action (Option ℤ) = λ n. give (value_behind direction last n) in
-    record {
-      spent = λ n s. spent_then (store (env control) (Number n) s) (λ _. use_turn >>= λ _. body env >>= λ _. next n) s.turns (omega arith)
-          (λ _ t. spent_turn (body env >>= λ _. next n) t
-          (extended_then (body env) (λ _. next n) done (λ _. extended_give (value_behind direction last n))));
-    }
+for_uses control direction last body env done = counted_uses control body env (value_behind direction last) done

@@ -188,8 +188,8 @@ rising_work (work.Unless statements condition) =
     omega (arith, rounds)
 rising_work (work.Bounds control first_fits direction last_fits body) =
     λ turns more. let rounds = rising_for (weight_of_statement body.now) turns more in omega (arith, rounds)
-rising_work (work.For control count body) = rising_for (weight_of_statement body.now)
-rising_work (work.Next control count body) =
+rising_work (work.For control direction value last body) = rising_for (weight_of_statement body.now)
+rising_work (work.Next control direction value last body) =
     λ turns more. let rounds = rising_for (weight_of_statement body.now) turns more in omega (arith, rounds)
 rising_work (work.Parameters parameters ends_line) = rising_row 1 weight_of_parameter parameters.now rising_parameter
 rising_work (work.Parameter parameter) = rising_parameter parameter.now

@@ -1,6 +1,6 @@
 -- The values that the control variable of a for statement gets (ISO 7185:1990, 6.8.3.9): the first, and each next one
 -- until the last. It says nothing of types and of what happens at a value.
-use Rattle.std.specs.Prelude.{ℤ, pos, ◌+ℤ◌, ◌-ℤ◌, int_le, Bool, Option, Some, None, if◌then◌else◌, option_map}
+use Rattle.std.specs.Prelude.{ℤ, pos, ◌+ℤ◌, ◌-ℤ◌, int_le, Bool, Option, Some, None, if◌then◌else◌}
 use Rattle.std.specs.Ordering.{int_eq}
 use Rattle.typed_tree.specs.declared.tree.Direction.{Direction}
 use Rattle.typed_tree.specs.declared.tree.Direction.TheVariants.{To, DownTo}
@@ -18,20 +18,3 @@ next_value DownTo n = n -ℤ pos 1
 -- the value behind one that isn't the last
 abbrev pub value_behind : Direction → ℤ → ℤ → Option ℤ
 value_behind direction last n = if int_eq n last then None else Some (next_value direction n)
-
--- the values from one on
-pub record Counting : Type 0 where
-  pub direction : Direction
-  pub value : ℤ
-  pub last : ℤ
-
--- all values between the bounds, if there are any
-abbrev pub counted : Direction → ℤ → ℤ → Option Counting
-counted direction first last =
-    if has_values direction first last
-    then Some (record { direction = direction; value = first; last = last })
-    else None
-
--- the values behind the one that is first among them
-abbrev pub counted_behind : Counting → Option Counting
-counted_behind c = option_map (λ n. record c { value = n }) (value_behind c.direction c.last c.value)

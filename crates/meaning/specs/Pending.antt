@@ -1,13 +1,14 @@
 -- What the work that an interpreter has still to do means: from its operands and the state, the topmost first.
 -- It says nothing of how many steps the work takes.
 use Rattle.std.specs.Prelude.{◌≡◌, ℕ, ℤ, pos, Bool, List, [], ◌∷◌, Option, Some, None, Result, Ok, Err, IfOk}
-use Rattle.std.specs.Prelude.{if◌then◌else◌, drop, map, reverse, slice_get}
+use Rattle.std.specs.Prelude.{int_lt, if◌then◌else◌, drop, map, reverse, slice_get}
 use Rattle.std.specs.BTreeMap.{BTreeMap, get}
 use Rattle.std.specs.declared.alloc.AllocError.{AllocError}
 use Rattle.std.specs.declared.alloc.Global.{Global}
 use Rattle.std.specs.declared.boxed.Box.{Box}
 use Rattle.types.specs.declared.form.OrdinalRange.{OrdinalRange}
 use Rattle.typed_tree.specs.declared.tree.Direction.{Direction}
+use Rattle.typed_tree.specs.declared.tree.Direction.TheVariants.{To, DownTo}
 use Rattle.typed_tree.specs.declared.tree.RangeTest.{RangeTest}
 use Rattle.typed_tree.specs.declared.tree.Expr.{Expr}
 use Rattle.typed_tree.specs.declared.tree.Stmt.{Stmt}
@@ -25,8 +26,8 @@ use Rattle.meaning.specs.Effect.{State, Reply, Stops, Action, Round, ◌>>=◌, 
 use Rattle.meaning.specs.Effect.{another, looped, store, undefine, write, is_in, is_positive, text_of}
 use Rattle.meaning.specs.Meaning.{Combination, Execution, completed, ended, home_of, operated, combined, value_of, link_of}
 use Rattle.meaning.specs.Meaning.{effect_of, all_of, width_of, parameter_of, line_ended, is_so, turn_if, while_round, repeat_round}
-use Rattle.meaning.specs.Meaning.{for_round, for_between}
-use Rattle.meaning.specs.Counting.{Counting, counted, value_behind}
+use Rattle.meaning.specs.Meaning.{for_between}
+use Rattle.meaning.specs.Counting.{has_values, next_value}
 
 -- what is done with the operands, the topmost first, and the state
 abbrev pub Resumption : Type 0
@@ -59,24 +60,27 @@ answered (Err site) = stop (ending.Error site)
 abbrev pub Answers : Action Value → Result Value ℕ → Type 0
 Answers action result = (s : State) → action s ≡ answered result s
 
--- an error at a site, if there is one
-abbrev pub failing : Option ℕ → Action (Unit {0})
-failing None = give tt
-failing (Some site) = stop (ending.Error site)
+-- a bound of a for, or the site of its test
+abbrev pub bound_tested : RangeTest → ℤ → Result ℤ ℕ
+bound_tested fits n = if is_in fits.range (Number n) then Ok n else Err fits.site
 
--- a result is the site of the error where an action stops
-abbrev pub IsFailing : Action (Unit {0}) → Option ℕ → Type 0
-IsFailing action result = (s : State) → action s ≡ failing result s
+-- two bounds, the first tested first
+abbrev pub both_bounds : Result ℤ ℕ → Result ℤ ℕ → Result (Option (ℤ × ℤ)) ℕ
+both_bounds (Err site) last = Err site
+both_bounds (Ok first) (Err site) = Err site
+both_bounds (Ok first) (Ok last) = Ok (Some (first, last))
 
--- the tests of the bounds of a for
-abbrev pub bounds_tested : RangeTest → Value → RangeTest → Value → Action (Unit {0})
-bounds_tested first_fits first last_fits last = do
-  _ ← require (is_in first_fits.range first) first_fits.site
-  require (is_in last_fits.range last) last_fits.site
+-- the bounds of a for, if they leave any value between them
+abbrev pub bounds_tested : Direction → RangeTest → Value → RangeTest → Value → Result (Option (ℤ × ℤ)) ℕ
+bounds_tested direction first_fits (Number first) last_fits (Number last) =
+    if has_values direction first last
+    then both_bounds (bound_tested first_fits first) (bound_tested last_fits last)
+    else Ok None
 
--- the values between the bounds of a for, if there are any
-abbrev pub values_counted : Direction → Value → Value → Option Counting
-values_counted direction (Number first) (Number last) = counted direction first last
+-- the next value of a control variable on its way to the last one
+abbrev pub value_before : Direction → ℤ → ℤ → Option ℤ
+value_before To last n = if int_lt n last then Some (next_value To n) else None
+value_before DownTo last n = if int_lt last n then Some (next_value DownTo n) else None
 
 -- a value, if it lies in a range
 abbrev pub checked : OrdinalRange → Value → Option Value
@@ -119,9 +123,13 @@ while_rounds env condition body = while_round (value_of condition) (effect_of bo
 abbrev pub repeat_rounds : Environment → List Stmt → Expr → Round (Unit {0})
 repeat_rounds env statements condition = repeat_round (all_of (map effect_of statements)) (value_of condition) env
 
--- the rounds of a for
-abbrev pub count_rounds : Environment → ℕ → Counting → Stmt → Round ℤ
-count_rounds env control count body = for_round control count.direction count.last (effect_of body) env
+-- the rounds of a for with values that haven't passed the last one
+abbrev pub counting : Environment → ℕ → Direction → ℤ → Stmt → Round ℤ
+counting env control direction last body n = do
+  _ ← store (env control) (Number n)
+  _ ← use_turn
+  _ ← effect_of body env
+  give (value_before direction last n)
 
 -- a place is undefined from here, and then the rest
 abbrev pub forgetting : Option Place → Resumption → Resumption
@@ -170,11 +178,11 @@ resumed env (work.Bounds control first_fits direction last_fits body) next opera
     >>= λ _. forgetting (env control) next below)
     rest)
     operands
-resumed env (work.For control count body) next operands = do
-  _ ← looped (count_rounds env control count body.now) count.value
+resumed env (work.For control direction value last body) next operands = do
+  _ ← looped (counting env control direction last body.now) value
   forgetting (env control) next operands
-resumed env (work.Next control count body) next operands = do
-  _ ← further (count_rounds env control count body.now) (give (value_behind count.direction count.last count.value))
+resumed env (work.Next control direction value last body) next operands = do
+  _ ← further (counting env control direction last body.now) (give (value_before direction last value))
   forgetting (env control) next operands
 resumed env (work.Parameters parameters ends_line) next operands = do
   _ ← all_of (map parameter_of parameters.now) env

@@ -118,8 +118,8 @@ weight_of turns (work.Unless statements condition) =
     1 + repeat_weight (row_weight 1 (map weight_of_statement statements.now)) (weight_of_expression condition.now) turns
 weight_of turns (work.Bounds control first_fits direction last_fits body) =
     1 + for_weight (weight_of_statement body.now) turns
-weight_of turns (work.For control count body) = for_weight (weight_of_statement body.now) turns
-weight_of turns (work.Next control count body) = 1 + for_weight (weight_of_statement body.now) turns
+weight_of turns (work.For control direction value last body) = for_weight (weight_of_statement body.now) turns
+weight_of turns (work.Next control direction value last body) = 1 + for_weight (weight_of_statement body.now) turns
 weight_of turns (work.Parameters parameters ends_line) = row_weight 1 (map weight_of_parameter parameters.now) turns
 weight_of turns (work.Parameter parameter) = weight_of_parameter parameter.now turns
 weight_of turns (work.Width parameter) = weight_of_width parameter.now.width turns

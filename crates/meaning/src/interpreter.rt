@@ -6,10 +6,9 @@ ghost use Rattle.meaning.specs.Pending.{Does, Finishes, StoreAgrees, answered, g
 ghost use Rattle.meaning.specs.Pending.{top_of, below_top};
 ghost use Rattle.meaning.specs.Meaning.{home_of, meaning, run_of};
 
-use crate::count::Count;
 use crate::operations::{
-    combined_value, operated_value, outside_bound, positive_width, truth_of, value_in,
-    values_between, width_by_default,
+    combined_value, operated_value, positive_width, tested_bounds, truth_of, value_in,
+    value_toward, width_by_default,
 };
 use crate::outcome::{Ending, Outcome};
 use crate::store::{Ordinal, Place, Value};
@@ -132,14 +131,18 @@ impl<'t> Run<'t, '_> {
             } => self.bounds(control, first_fits, direction, last_fits, body),
             Work::For {
                 control,
-                count,
+                direction,
+                value,
+                last,
                 body,
-            } => self.for_round(control, count, body),
+            } => self.for_round(control, direction, value, last, body),
             Work::Next {
                 control,
-                count,
+                direction,
+                value,
+                last,
                 body,
-            } => self.next_round(control, count, body),
+            } => self.next_round(control, direction, value, last, body),
             Work::Parameters {
                 parameters,
                 ends_line,
@@ -404,34 +407,39 @@ impl<'t> Run<'t, '_> {
     {
         let last = self.popped();
         let first = self.popped();
-        match values_between(direction, first, last) {
-            Some(count) => match outside_bound(first_fits, first, last_fits, last) {
-                Some(site) => Ok(Some(Ending::Error(site))),
-                None => self.do_next(Work::For {
-                    control,
-                    count,
-                    body,
-                }),
-            },
-            None => self.forget(control),
+        match tested_bounds(direction, first_fits, first, last_fits, last) {
+            Ok(Some((value, last))) => self.do_next(Work::For {
+                control,
+                direction,
+                value,
+                last,
+                body,
+            }),
+            Ok(None) => self.forget(control),
+            Err(site) => Ok(Some(Ending::Error(site))),
         }
     }
 
     fn for_round(
         &mut self,
         control: u32,
-        count: Count,
+        direction: Direction,
+        value: i32,
+        last: i32,
         body: &'t Stmt,
     ) -> Result<Option<Ending>, AllocError>
-        ensures fewer { Lightens (Work.For control count body.entry) self.old result self.new }
-        ensures does { Does (λ env. resumed env (Work.For control count body.entry)) self.old result self.new }
+        ensures fewer { Lightens (Work.For control direction value last body.entry) self.old result self.new }
+        ensures does { Does (λ env. resumed env (Work.For control direction value last body.entry))
+            self.old result self.new }
     {
-        self.keep(control, Value::Number(count.value()))?;
+        self.keep(control, Value::Number(Ordinal::new(value)))?;
         self.turn(
             Work::Statement(body),
             Work::Next {
                 control,
-                count,
+                direction,
+                value,
+                last,
                 body,
             },
         )
@@ -440,16 +448,21 @@ impl<'t> Run<'t, '_> {
     fn next_round(
         &mut self,
         control: u32,
-        count: Count,
+        direction: Direction,
+        value: i32,
+        last: i32,
         body: &'t Stmt,
     ) -> Result<Option<Ending>, AllocError>
-        ensures fewer { Lightens (Work.Next control count body.entry) self.old result self.new }
-        ensures does { Does (λ env. resumed env (Work.Next control count body.entry)) self.old result self.new }
+        ensures fewer { Lightens (Work.Next control direction value last body.entry) self.old result self.new }
+        ensures does { Does (λ env. resumed env (Work.Next control direction value last body.entry))
+            self.old result self.new }
     {
-        match count.behind() {
-            Some(count) => self.do_next(Work::For {
+        match value_toward(direction, last, value) {
+            Some(value) => self.do_next(Work::For {
                 control,
-                count,
+                direction,
+                value,
+                last,
                 body,
             }),
             None => self.forget(control),

@@ -2,7 +2,6 @@
 //! (ISO 7185:1990, 6.7 to 6.10).
 #![tactic(auto)]
 
-mod count;
 mod interpreter;
 pub mod laws;
 mod operations;

@@ -1,11 +1,9 @@
-ghost use Rattle.std.specs.Prelude.{◌≡◌, ◌≢◌, ◌+ℤ◌, ◌-ℤ◌, ◌*ℤ◌, ◌≤ℤ◌, ℤ, pos, neg_ℤ, int_div, int_le, int_lt, if◌then◌else◌, Option, true, false};
+ghost use Rattle.std.specs.Prelude.{◌≡◌, ◌≢◌, ◌+ℤ◌, ◌-ℤ◌, ◌*ℤ◌, ◌≤ℤ◌, ℤ, pos, neg_ℤ, int_div, int_le, int_lt, if◌then◌else◌, Option};
 ghost use Rattle.std.specs.Int.{int_rem_euclid};
 ghost use Rattle.std.specs.Ordering.{int_eq};
-ghost use Rattle.meaning.specs.Counting.{has_values, next_value};
 ghost use Rattle.meaning.specs.Integers.{integer_or_none, is_integer_number, is_odd, is_true, is_within, magnitude, truth};
 
 use std::marker::Model;
-use typed_tree::tree::Direction;
 
 /// A step from a variable to a component of it.
 #[derive(PartialEq, Eq, PartialOrd, Ord, Drop)]
@@ -153,28 +151,6 @@ impl Ordinal {
         ensures { result ≡ is_true self }
     {
         self.number != 0
-    }
-
-    /// The next one, where another one still comes in this direction.
-    pub(crate) fn next(self, direction: Direction, last: Ordinal) -> Ordinal
-        requires left { has_values direction self last ≡ true }
-        requires other { int_eq self last ≡ false }
-        ensures { result ≡ next_value direction self }
-    {
-        match direction {
-            Direction::To => {
-                prove!(self.number < last.number);
-                Ordinal {
-                    number: self.number + 1,
-                }
-            }
-            Direction::DownTo => {
-                prove!(last.number < self.number);
-                Ordinal {
-                    number: self.number - 1,
-                }
-            }
-        }
     }
 
     /// Whether it lies within `first` to `last`.

@@ -1,6 +1,5 @@
 ghost use Rattle.std.specs.Prelude.{◌≡◌, [], ◌∷◌, ◌++◌, OnOk};
 
-use crate::count::Count;
 use std::alloc::AllocError;
 use typed_tree::tree::{
     Direction, Dyadic, Expr, Link, Monadic, RangeTest, Representation, Stmt, WriteParameter,
@@ -50,16 +49,20 @@ pub enum Work<'t> {
         last_fits: RangeTest,
         body: &'t Stmt,
     },
-    /// The rounds of a for, with these values of its control variable.
+    /// The rounds of a for, from a value of its control variable on.
     For {
         control: u32,
-        count: Count,
+        direction: Direction,
+        value: i32,
+        last: i32,
         body: &'t Stmt,
     },
-    /// The rounds of a for behind that with the first of these values.
+    /// The rounds of a for behind that with a value of its control variable.
     Next {
         control: u32,
-        count: Count,
+        direction: Direction,
+        value: i32,
+        last: i32,
         body: &'t Stmt,
     },
     /// The parameters of a write, one after another, and behind them the line end of a writeln.
