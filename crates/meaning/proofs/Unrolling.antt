@@ -1,5 +1,5 @@
 -- Each form of an expression and of a statement, as the work that an interpreter has to do for it.
-use Rattle.std.proofs.Common.{◌≡◌, ℕ, ℤ, List, [], ◌∷◌, ◌++◌, Bool, true, false, Option, Some, None, Bor, if◌then◌else◌, Box, Vec, Global, map, sym, ◌∙◌, ap, refl}
+use Rattle.std.proofs.Common.{◌≡◌, ℕ, ℤ, List, [], ◌∷◌, ◌++◌, Bool, true, false, Option, Some, None, Result, Bor, if◌then◌else◌, Box, Vec, Global, map, sym, ◌∙◌, ap, refl}
 use Rattle.place.specs.declared.Place.{Place as SourcePlace}
 use Rattle.typed_tree.specs.declared.tree.Access.{Access}
 use Rattle.typed_tree.specs.declared.tree.Direction.{Direction}
@@ -25,11 +25,11 @@ use Rattle.meaning.specs.Effect.{State, Reply, Gives, Stops, Action, ◌>>=◌, 
 use Rattle.meaning.specs.Effect.{fetch, store, undefine, write, is_in, text_of}
 use Rattle.meaning.specs.Meaning.{Evaluation, Combination, Execution, value_step, link_step, effect_step, operated, combined, in_turn, all_of}
 use Rattle.meaning.specs.Meaning.{width_of, parameter_of, line_ended, is_so, turn_if, for_between, value_of, link_of, effect_of}
-use Rattle.meaning.specs.Pending.{Resumption, pending_of, resumed, chosen, further, while_rounds, repeat_rounds, value_before, counting, forgetting, turning, line_ending, linking, giving, with_top}
+use Rattle.meaning.specs.Pending.{Resumption, pending_of, resumed, chosen, further, while_rounds, repeat_rounds, bounds_tested, value_before, counting, forgetting, turning, line_ending, linking, giving, with_top}
 use Rattle.meaning.specs.Pending.{positive, top_of, below_top}
 use Rattle.meaning.proofs.Turns.{extended_value, extended_effect, extended_statements}
 use Rattle.meaning.proofs.Loops.{looped-rounds, while_uses, repeat_uses, counted_uses}
-use Rattle.meaning.proofs.Counts.{turn-given}
+use Rattle.meaning.proofs.Counts.{rounds_of, between-tested, turn-given}
 use Rattle.meaning.proofs.Resuming.{and_then-and_then, and_then-same}
 
 value-Variable : (a : Access) (defined : ℕ) (env : Environment) →
@@ -329,6 +329,18 @@ does-For n loop_number place control first first_fits direction last last_fits b
     ∙ and_then-same (value_of last env t) _ _ (λ b u. and_then-and_then (between a b u) behind then_rest))
     ∙ ap (λ (e : Stmt). giving (value_of first env) (giving (value_of last env)
     (bounding env control first_fits direction last_fits e works)) operands there) (sym same)
+
+pub does-bounds : (env : Environment) (control : ℕ) (first_fits : RangeTest) (direction : Direction) (last_fits : RangeTest) (body : Stmt)
+    (works : List Work) (operands : List Value) (s : State) (result : Result (Option (ℤ × ℤ)) ℕ) →
+    bounds_tested direction first_fits (top_of (below_top operands)) last_fits (top_of operands) ≡ result →
+    bounding env control first_fits direction last_fits body works operands s ≡
+    and_then (rounds_of env control direction (effect_of body) result s)
+    (λ _. forgetting (env control) (pending_of env works) (below_top (below_top operands)))
+does-bounds env control first_fits direction last_fits body works operands s result is =
+    let then_rest : Unit {0} → Action (Unit {0}) = λ _. forgetting (env control) (pending_of env works) (below_top (below_top operands)) in
+    ap (λ (r : Reply (Unit {0})). and_then r then_rest)
+    (between-tested env control first_fits direction last_fits (effect_of body) (top_of (below_top operands)) (top_of operands) s
+    ∙ ap (λ (r : Result (Option (ℤ × ℤ)) ℕ). rounds_of env control direction (effect_of body) r s) is)
 
 -- the rounds of a for from a value on, and then what is pending
 abbrev pub counting_on : Environment → ℕ → Direction → ℤ → ℤ → Stmt → Resumption → Resumption

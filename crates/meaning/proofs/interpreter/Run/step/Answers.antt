@@ -26,6 +26,15 @@ returns-in-Until-clause-does c = does_as c.args.self.now c.until.new.self c.args
 pub returns-in-Unless-clause-does : goal.returns-in-Unless-clause-does
 returns-in-Unless-clause-does c = does_as c.args.self.now c.unless.new.self c.args.work _ c.unless.result c.in-Unless.is c.unless.ensures.does
 
+pub returns-in-Bounds-clause-does : goal.returns-in-Bounds-clause-does
+returns-in-Bounds-clause-does c = does_as c.args.self.now c.bounds.new.self c.args.work _ c.bounds.result c.in-Bounds.is c.bounds.ensures.does
+
+pub returns-in-For-clause-does : goal.returns-in-For-clause-does
+returns-in-For-clause-does c = does_as c.args.self.now c.for_round.new.self c.args.work _ c.for_round.result c.in-For.is c.for_round.ensures.does
+
+pub returns-in-Next-clause-does : goal.returns-in-Next-clause-does
+returns-in-Next-clause-does c = does_as c.args.self.now c.next_round.new.self c.args.work _ c.next_round.result c.in-Next.is c.next_round.ensures.does
+
 pub returns-in-Parameters-clause-does : goal.returns-in-Parameters-clause-does
 returns-in-Parameters-clause-does c =
     does_as c.args.self.now c.parameters.new.self c.args.work _ c.parameters.result c.in-Parameters.is c.parameters.ensures.does
