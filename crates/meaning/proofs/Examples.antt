@@ -4,7 +4,6 @@ use Rattle.typed_tree.specs.declared.tree.Dyadic.{Dyadic}
 use Rattle.typed_tree.specs.declared.tree.Relation.{Relation}
 use Rattle.typed_tree.specs.declared.tree.Direction.{Direction}
 use Rattle.typed_tree.specs.declared.tree.Direction.TheVariants.{To, DownTo}
-use Rattle.typed_tree.specs.declared.tree.Representation.TheVariants.{Integer}
 use Rattle.typed_tree.specs.declared.tree.Dyadic.TheVariants as dyadic
 use Rattle.typed_tree.specs.declared.tree.Monadic.TheVariants as monadic
 use Rattle.typed_tree.specs.declared.tree.Relation.TheVariants.{Equal, Less}
@@ -20,7 +19,7 @@ use Rattle.meaning.specs.declared.store.Value.{Value}
 use Rattle.meaning.specs.declared.store.Value.TheVariants.{Number}
 use Rattle.meaning.specs.Store.{Place, Step, Element, Environment, stored, written, undefined, overlap}
 use Rattle.meaning.specs.Integers.{is_integer_number}
-use Rattle.meaning.specs.Effect.{State, Reply, Gives, Stops, Action, Round, looped, ◌>>=◌, and_then, give, enter, fetch, store, undefine, use_turn, write, is_in, boolean_text, text_of}
+use Rattle.meaning.specs.Effect.{State, Reply, Gives, Stops, Action, Round, looped, ◌>>=◌, and_then, give, enter, fetch, store, undefine, use_turn, write, is_in, places, boolean_text, text_of}
 use Rattle.meaning.specs.Meaning.{Evaluation, Combination, Execution, effect_step, is_so, alternative_of, combined, while_round, repeat_round, for_between, Meaning, ended, link_step, in_turn, operated}
 use Rattle.meaning.specs.Meaning.{value_of, width_of, parameter_of, completed, first_state}
 use Rattle.meaning.specs.Meaning.{home_of, program_environment}
@@ -335,11 +334,15 @@ repeat_wants_more = refl
 everywhere : Environment
 everywhere root = Some (place 0 [])
 
--- writes the control variable
+abbrev number_out : Value → Action (Unit {0})
+number_out (Number n) = write (places n ∷ [])
+
+-- writes the control variable, as a number without its sign
 abbrev written_out : Execution
 written_out environment = do
   v ← fetch (environment 0) 7
-  write (text_of Integer v (Number (pos 1)))
+  w ← operated monadic.Abs v
+  number_out w
 
 abbrev integers : OrdinalRange
 integers = record { first = negsuc 2147483646; last = pos 2147483647 }
@@ -353,21 +356,21 @@ counts_out range direction first last = do
 abbrev of_for : OrdinalRange → Direction → ℤ → ℤ → ℕ → Meaning
 of_for range direction first last turns = ended (counts_out range direction first last (first_state [] turns))
 
-upward : of_for integers To (pos 1) (pos 3) 3 ≡ record { output = codes "123"; ending = Finished }
+upward : of_for integers To (pos 1) (pos 3) 3 ≡ record { output = 1 ∷ 2 ∷ 3 ∷ []; ending = Finished }
 unfolding everywhere
 upward = refl
 
-downward : of_for integers DownTo (pos 2) (negsuc 0) 9 ≡ record { output = codes "210-1"; ending = Finished }
+downward : of_for integers DownTo (pos 2) (negsuc 0) 9 ≡ record { output = 2 ∷ 1 ∷ 0 ∷ 1 ∷ []; ending = Finished }
 unfolding everywhere
 downward = refl
 
 -- the last value may be the last of type integer: behind it the control variable isn't increased
-to_maxint : of_for integers To (pos 2147483646) (pos 2147483647) 2 ≡ record { output = codes "21474836462147483647"; ending = Finished }
+to_maxint : of_for integers To (pos 2147483646) (pos 2147483647) 2 ≡ record { output = 2147483646 ∷ 2147483647 ∷ []; ending = Finished }
 unfolding everywhere
 to_maxint = refl
 
 down_to_the_least : of_for integers DownTo (negsuc 2147483645) (negsuc 2147483646) 2 ≡
-    record { output = codes "-2147483646-2147483647"; ending = Finished }
+    record { output = 2147483646 ∷ 2147483647 ∷ []; ending = Finished }
 unfolding everywhere
 down_to_the_least = refl
 
@@ -377,7 +380,7 @@ unfolding everywhere
 never = refl
 
 -- with a turn less than it asks for
-for_wants_more : of_for integers To (pos 1) (pos 3) 2 ≡ record { output = codes "12"; ending = More }
+for_wants_more : of_for integers To (pos 1) (pos 3) 2 ≡ record { output = 1 ∷ 2 ∷ []; ending = More }
 unfolding everywhere
 for_wants_more = refl
 
@@ -392,7 +395,7 @@ both_are_outside = refl
 
 -- behind the for its control variable is undefined, also where nothing was executed
 undefined_behind : ended ((counts_out integers To (pos 1) (pos 1) >>= λ _. written_out everywhere) (first_state [] 1)) ≡
-    record { output = codes "1"; ending = Error 7 }
+    record { output = 1 ∷ []; ending = Error 7 }
 unfolding everywhere
 undefined_behind = refl
 

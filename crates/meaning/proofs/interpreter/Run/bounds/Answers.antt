@@ -25,7 +25,7 @@ returns-in-Ok-Some-clause-does c = λ env s agrees.
     let found : Value → Value → Result (Option (ℤ × ℤ)) ℕ = λ a b. bounds_tested direction c.args.first_fits a c.args.last_fits b in
     let tested : found (top_of (below_top operands)) (top_of operands) ≡ Ok (Some (value, final)) =
     ap (found (top_of (below_top operands))) (sym last.top) ∙ ap (λ v. found v c.popped-last.result) (sym (first.top ∙ ap top_of last.below))
-    ∙ sym c.tested_bounds.ensures ∙ c.in-Ok-Some.is in
+    ∙ sym c.tested_bounds.ensures ∙ c.in-Ok-Some.is ∙ ap Ok c.in-Ok-Some.field-0-is in
     let left = bounds-leave direction c.args.first_fits (top_of (below_top operands)) c.args.last_fits (top_of operands) value final tested in
     goes_on_below old taken c.do_next.new.self env s (λ env. counting_on env control direction value final body) below c.do_next.result _
     same (first.below ∙ ap below_top last.below)
@@ -46,7 +46,7 @@ returns-in-Ok-None-clause-does c = λ env s agrees.
     let found : Value → Value → Result (Option (ℤ × ℤ)) ℕ = λ a b. bounds_tested c.args.direction c.args.first_fits a c.args.last_fits b in
     let tested : found (top_of (below_top operands)) (top_of operands) ≡ Ok None =
     ap (found (top_of (below_top operands))) (sym last.top) ∙ ap (λ v. found v c.popped-last.result) (sym (first.top ∙ ap top_of last.below))
-    ∙ sym c.tested_bounds.ensures ∙ c.in-Ok-None.is in
+    ∙ sym c.tested_bounds.ensures ∙ c.in-Ok-None.is ∙ ap Ok c.in-Ok-None.field-0-is in
     goes_on_below old taken c.forget.new.self env s (λ env. forgetting (env control)) (below_top (below_top operands)) c.forget.result _
     same (first.below ∙ ap below_top last.below)
     (does-bounds env control c.args.first_fits c.args.direction c.args.last_fits c.args.body.now (reverse old.pending.items) operands s (Ok None) tested)

@@ -1,4 +1,5 @@
-use Rattle.std.proofs.Common.{ℤ, reverse, slice_get, sym, ◌∙◌, ap, subst}
+use Rattle.std.proofs.lemmas.Int.{ints}
+use Rattle.std.proofs.Common.{◌≡◌, ℤ, arith, reverse, slice_get, sym, ◌∙◌, ap, subst}
 use Rattle.meaning.specs.declared.interpreter.Run.{Run}
 use Rattle.meaning.specs.declared.store.Value.TheVariants.{Number}
 use Rattle.meaning.specs.declared.work.Work.TheVariants as work
@@ -18,12 +19,13 @@ returns-clause-does c = λ env s agrees.
     let control = c.args.control in
     let value = Number c.args.value in
     let body = c.args.body in
+    let told : c.new.result ≡ c.args.value = c.new.ensures ∙ omega (arith, ints, c.ranges.value.sfits) in
     let here = home_of control (slice_get old.variables.now control) in
     let after : State = record s { store = kept s.store (env control) value } in
     let moved : Agrees env (record old { store = new.store }) after = record {
       visible = agrees.visible;
       store = subst (λ home. StoreAgrees new.store (kept s.store home value)) (sym (agrees.visible control))
-          (subst (λ (n : ℤ). StoreAgrees new.store (kept s.store here (Number n))) c.new.ensures (c.in_ok-keep.ensures.agrees s.store agrees.store));
+          (subst (λ (n : ℤ). StoreAgrees new.store (kept s.store here (Number n))) told (c.in_ok-keep.ensures.agrees s.store agrees.store));
       input = agrees.input;
       output = agrees.output;
       turns = agrees.turns;
