@@ -13,9 +13,9 @@ use Rattle.meaning.specs.declared.store.Value.{Value}
 use Rattle.meaning.specs.declared.store.Value.TheVariants.{Number}
 use Rattle.meaning.specs.Counting.{has_values, next_value, value_behind}
 use Rattle.meaning.specs.Store.{Environment, kept}
-use Rattle.meaning.specs.Effect.{State, Reply, Gives, Stops, Action, Round, ◌>>=◌, and_then, give, stop, require, use_turn, another, looping, looped, is_in}
-use Rattle.meaning.specs.Meaning.{Execution, effect_of, for_round, for_rounds, for_between}
-use Rattle.meaning.specs.Pending.{bound_tested, both_bounds, bounds_tested, value_before, counting}
+use Rattle.meaning.specs.Effect.{State, Reply, Gives, Stops, Action, ◌>>=◌, and_then, give, stop, require, use_turn, another, looping, looped, is_in}
+use Rattle.meaning.specs.Meaning.{Execution, effect_of, for_round, for_between}
+use Rattle.meaning.specs.Pending.{both_bounds, bounds_tested, value_before, counting}
 use Rattle.meaning.proofs.Resuming.{and_then-same}
 
 -- none follows, or the same one does, which hasn't passed the last

@@ -1,6 +1,6 @@
 -- A loop's bound: each round behind which another follows uses a turn, so a loop is the same under every bound that is no
 -- less than the turns that are left, and its rounds follow one another as if there were none.
-use Rattle.std.proofs.Common.{◌≡◌, ℕ, ℤ, zero, suc, ◌≤◌, ◌<◌, Bool, true, false, Option, Some, None, arith, sym, ◌∙◌, ap, refl, if◌then◌else◌}
+use Rattle.std.proofs.Common.{◌≡◌, ℕ, ℤ, zero, suc, ◌≤◌, ◌<◌, Bool, true, false, Option, Some, None, arith, refl, if◌then◌else◌}
 use Rattle.typed_tree.specs.declared.tree.Direction.{Direction}
 use Rattle.meaning.specs.declared.outcome.Ending.TheVariants.{More}
 use Rattle.meaning.specs.declared.store.Value.{Value}

@@ -21,7 +21,7 @@ use Rattle.meaning.specs.declared.store.Value.TheVariants.{Number}
 use Rattle.meaning.specs.declared.work.Work.{Work}
 use Rattle.meaning.specs.declared.work.Work.TheVariants as work
 use Rattle.meaning.specs.Store.{Environment, kept}
-use Rattle.meaning.specs.Effect.{State, Reply, Gives, Stops, Action, ◌>>=◌, and_then, give, require, enter, use_turn, another, looped}
+use Rattle.meaning.specs.Effect.{State, Reply, Action, ◌>>=◌, and_then, give, require, enter, use_turn, another, looped}
 use Rattle.meaning.specs.Effect.{fetch, store, undefine, write, is_in, text_of}
 use Rattle.meaning.specs.Meaning.{Evaluation, Combination, Execution, value_step, link_step, effect_step, operated, combined, in_turn, all_of}
 use Rattle.meaning.specs.Meaning.{width_of, parameter_of, line_ended, is_so, turn_if, for_between, value_of, link_of, effect_of}

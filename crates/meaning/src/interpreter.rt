@@ -17,7 +17,8 @@ use crate::work::{Work, put};
 use std::alloc::{AllocError, Global};
 use std::collections::BTreeMap;
 use typed_tree::tree::{
-    Direction, Dyadic, Expr, Link, Monadic, RangeTest, Representation, Stmt, Tree, Variable, WriteParameter,
+    Direction, Dyadic, Expr, Link, Monadic, RangeTest, Representation, Stmt, Tree, Variable,
+    WriteParameter,
 };
 
 /// What a program writes and how it ends, from an input and for a number of turns: each start of a

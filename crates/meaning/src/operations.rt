@@ -132,9 +132,7 @@ fn tested_bound(fits: RangeTest, bound: Ordinal) -> Result<i32, u32>
     ensures { result ≡ bound_tested fits bound }
 {
     match i32::try_from(bound.number()) {
-        Ok(number)
-            if bound.is_integer() && bound.is_within(fits.range.first, fits.range.last) =>
-        {
+        Ok(number) if bound.is_integer() && bound.is_within(fits.range.first, fits.range.last) => {
             Ok(number)
         }
         _ => Err(fits.site),

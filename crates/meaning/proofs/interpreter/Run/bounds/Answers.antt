@@ -1,10 +1,12 @@
-use Rattle.std.proofs.Common.{◌≡◌, ℕ, ℤ, Option, Some, None, Result, Ok, reverse, sym, ◌∙◌, ap}
+use mir.Syntax.{w32}
+use mir.Val.{SFits}
+use Rattle.std.proofs.Common.{◌≡◌, ℕ, ℤ, rules, Option, Some, None, Result, Ok, reverse, sym, ◌∙◌, ap}
 use Rattle.meaning.specs.declared.interpreter.Run.{Run}
 use Rattle.meaning.specs.declared.store.Value.{Value}
 use Rattle.meaning.specs.Effect.{Reply, and_then}
-use Rattle.meaning.specs.Pending.{bounds_tested, forgetting, pending_of, top_of, below_top}
+use Rattle.meaning.specs.Pending.{Does, bounds_tested, forgetting, pending_of, top_of, below_top}
 use Rattle.meaning.proofs.Counts.{bounds-leave, looped-counting}
-use Rattle.meaning.proofs.Resuming.{goes_on_below}
+use Rattle.meaning.proofs.Resuming.{goes_on_below, passed}
 use Rattle.meaning.proofs.Unrolling.{counting_on, does-bounds}
 use Rattle.meaning.proofs.interpreter.Run.bounds.Goals as goal
 
@@ -17,6 +19,9 @@ returns-in-Ok-Some-clause-does c = λ env s agrees.
     let body = c.args.body.now in
     let value = c.in-Ok-Some.value in
     let final = c.in-Ok-Some.last in
+    let value_fits : SFits w32 value = search rules in
+    let final_fits : SFits w32 final = search rules in
+    let does : ℤ → ℤ → Type 0 = λ n m. Does (λ env. counting_on env control direction n m body) taken c.do_next.result c.do_next.new.self in
     let operands = reverse old.values.items in
     let below = below_top (below_top operands) in
     let last = c.popped-last.ensures in
@@ -32,7 +37,7 @@ returns-in-Ok-Some-clause-does c = λ env s agrees.
     (does-bounds env control c.args.first_fits direction c.args.last_fits body (reverse old.pending.items) operands s (Ok (Some (value, final))) tested
     ∙ ap (λ (r : Reply (Unit {0})). and_then r (λ _. forgetting (env control) (pending_of env (reverse old.pending.items)) below))
     (looped-counting env control direction value final body s left))
-    agrees c.do_next.ensures.does
+    agrees (passed does value final value_fits final_fits c.do_next.ensures.does)
 
 pub returns-in-Ok-None-clause-does : goal.returns-in-Ok-None-clause-does
 returns-in-Ok-None-clause-does c = λ env s agrees.

@@ -1,18 +1,10 @@
-use Rattle.std.proofs.Common.{◌≡◌, ℤ, rules, arith, subst}
-use Rattle.std.proofs.lemmas.Int.{ints}
+use Rattle.std.proofs.Common.{ℤ, rules}
 use mir.Syntax.{w32}
-use mir.Val.{SFits, to_z, of_z}
+use mir.Val.{SFits}
 use Rattle.meaning.specs.declared.work.Work.TheVariants as work
 use Rattle.meaning.specs.Pending.{Does, resumed}
-use Rattle.meaning.proofs.Resuming.{does_as}
+use Rattle.meaning.proofs.Resuming.{does_as, passed}
 use Rattle.meaning.proofs.interpreter.Run.step.Goals as goal
-
--- what holds of two numbers that were passed holds of them
-passed : (P : ℤ → ℤ → Type 0) (a b : ℤ) → SFits w32 a → SFits w32 b → P (to_z w32 (of_z w32 a)) (to_z w32 (of_z w32 b)) → P a b
-passed P a b fits too holds =
-    let one : to_z w32 (of_z w32 a) ≡ a = omega (arith, ints, fits) in
-    let other : to_z w32 (of_z w32 b) ≡ b = omega (arith, ints, too) in
-    subst (λ n. P n b) one (subst (λ n. P (to_z w32 (of_z w32 a)) n) other holds)
 
 pub returns-in-Statements-clause-does : goal.returns-in-Statements-clause-does
 returns-in-Statements-clause-does c =
@@ -49,7 +41,8 @@ returns-in-For-clause-does c =
     let new = c.for_round.new.self in
     let fits : SFits w32 given.value = search rules in
     let last_fits : SFits w32 given.last = search rules in
-    let does : ℤ → ℤ → Type 0 = λ value last. Does (λ env. resumed env (work.For given.control given.direction value last given.body)) old c.for_round.result new in
+    let does : ℤ → ℤ → Type 0 = λ value last.
+    Does (λ env. resumed env (work.For given.control given.direction value last given.body)) old c.for_round.result new in
     does_as old new c.args.work _ c.for_round.result given.is
     (passed does given.value given.last fits last_fits c.for_round.ensures.does)
 
@@ -60,7 +53,8 @@ returns-in-Next-clause-does c =
     let new = c.next_round.new.self in
     let fits : SFits w32 given.value = search rules in
     let last_fits : SFits w32 given.last = search rules in
-    let does : ℤ → ℤ → Type 0 = λ value last. Does (λ env. resumed env (work.Next given.control given.direction value last given.body)) old c.next_round.result new in
+    let does : ℤ → ℤ → Type 0 = λ value last.
+    Does (λ env. resumed env (work.Next given.control given.direction value last given.body)) old c.next_round.result new in
     does_as old new c.args.work _ c.next_round.result given.is
     (passed does given.value given.last fits last_fits c.next_round.ensures.does)
 
