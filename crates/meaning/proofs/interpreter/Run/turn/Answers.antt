@@ -1,4 +1,4 @@
-use Rattle.std.proofs.Common.{◌≡◌, ℕ, suc, ◌-◌, reverse, arith, refl, sym, ap, ◌∙◌}
+use Rattle.std.proofs.Common.{◌≡◌, suc, ◌-◌, reverse, arith, refl, sym, ap, ◌∙◌}
 use Rattle.meaning.specs.Effect.{State, and_then, take_turn}
 use Rattle.meaning.specs.Pending.{Agrees, pending_of, resumed}
 use Rattle.meaning.proofs.Resuming.{continues_as}
