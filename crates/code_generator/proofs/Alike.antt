@@ -7,7 +7,7 @@ use Rattle.std.proofs.lemmas.List.{length-set}
 use Rattle.std.proofs.lemmas.Option.{slice_get_within}
 use Rattle.meaning.specs.declared.store.Value.{Value}
 use Rattle.meaning.specs.declared.store.Value.TheVariants as value
-use Rattle.meaning.specs.Store.{Step, Place, Store, Environment, place_eq, stored, written}
+use Rattle.meaning.specs.Store.{Step, Place, Store, Environment, place_eq, stored, written, undefined}
 use Rattle.stack_machine.specs.declared.cell.Cell.{Cell}
 use Rattle.stack_machine.specs.declared.cell.Cell.TheVariants.{Undefined, Number}
 use Rattle.stack_machine.specs.declared.stop.MachineFault.TheVariants.{OutOfBounds}
@@ -85,12 +85,14 @@ pub record Alike (world : World) (store : Store) (cells : List Cell) : Type 0 wh
   pub linked : (a : Activation) → Contains world a → a.frame + 4 ≤ length cells
   -- the first of them leads to the frame that it is to lead to
   pub links : (a : Activation) (outer : ℕ) → Contains world a → a.outer ≡ Some outer → slice_get cells a.frame ≡ Some (Number (pos outer))
+  -- the program's frame has no return: the cell of that is undefined
+  pub blank : (a : Activation) → Contains world a → a.outer ≡ None → slice_get cells (a.frame + 2) ≡ Some Undefined
   -- the cell of each variable parameter holds the address of the cell of its place
   pub references : (a : Activation) (root offset : ℕ) (p : Place) (c : ℕ) → Contains world a → a.refers root ≡ Some (offset, p) → LiesIn world p c
       → slice_get cells (a.frame + offset) ≡ Some (Number (pos c))
 
 -- cells that were there before others came above them
-slice_get-front : {A : Type 0} (xs ys : List A) (i : ℕ) (x : A) → slice_get xs i ≡ Some x → slice_get (xs ++ ys) i ≡ Some x
+pub slice_get-front : {A : Type 0} (xs ys : List A) (i : ℕ) (x : A) → slice_get xs i ≡ Some x → slice_get (xs ++ ys) i ≡ Some x
 slice_get-front [] ys i x e = cc
 slice_get-front (z ∷ xs) ys zero x e = e
 slice_get-front (z ∷ xs) ys (suc i) x e = slice_get-front xs ys i x e
@@ -119,31 +121,32 @@ alike_above world store cells more alike = record {
   fits = alike.fits;
   linked = λ a lives. let h = alike.linked a lives in omega (arith, length-append cells more);
   links = λ a outer lives e. slice_get-front cells more a.frame _ (alike.links a outer lives e);
+  blank = λ a lives e. slice_get-front cells more (a.frame + 2) _ (alike.blank a lives e);
   references = λ a root offset p c lives e l. slice_get-front cells more (a.frame + offset) _ (alike.references a root offset p c lives e l);
 }
 
--- an assignment of an integer to a scalar
-module _ (world : World) (store : Store) (cells : List Cell) (p : Place) (c : ℕ) (n : ℤ) (apart : IsApart world) (at : LiesIn world p c) (fit : Fits n)
-    (alike : Alike world store cells) where
+-- a scalar gets a value, or becomes undefined
+module _ (world : World) (store : Store) (cells : List Cell) (p : Place) (c : ℕ) (new : Option Value) (apart : IsApart world) (at : LiesIn world p c)
+    (fit : HasFit new) (alike : Alike world store cells) where
   abbrev after : Store
-  after = written store p (value.Number n)
+  after = (p, new) ∷ store
 
   abbrev set_cells : List Cell
-  set_cells = slice_set cells c (Number n)
+  set_cells = slice_set cells c (cell_of new)
 
   -- what a place holds afterwards, by whether it is the one that was written
-  stored_by : (q : Place) (same : Bool) → place_eq p q ≡ same → stored after q ≡ (if same then Some (value.Number n) else stored store q)
-  stored_by q same e = ap (λ b. if b then Some (value.Number n) else stored store q) e
+  stored_by : (q : Place) (same : Bool) → place_eq p q ≡ same → stored after q ≡ (if same then new else stored store q)
+  stored_by q same e = ap (λ b. if b then new else stored store q) e
 
   scalar_after : (q : Place) (d : ℕ) → LiesIn world q d → slice_get set_cells d ≡ Some (cell_of (stored after q))
   scalar_after q d l =
       ⊎_elim
       (λ same.
       ap (slice_get set_cells) (sym same.0)
-      ∙ set_same cells c (Number n) (cell_within world store cells p c alike at)
+      ∙ set_same cells c (cell_of new) (cell_within world store cells p c alike at)
       ∙ ap (λ o. Some (cell_of o)) (sym (stored_by q true same.1)))
       (λ other.
-      set_other cells c d (Number n) other.0
+      set_other cells c d (cell_of new) other.0
       ∙ alike.scalars q d l
       ∙ ap (λ o. Some (cell_of o)) (sym (stored_by q false other.1)))
       (apart.scalars p q c d at l)
@@ -157,22 +160,38 @@ module _ (world : World) (store : Store) (cells : List Cell) (p : Place) (c : �
 
   link_kept : (a : Activation) → Contains world a → slice_get set_cells a.frame ≡ slice_get cells a.frame
   link_kept a lives =
-      set_other cells c a.frame (Number n) (λ e. ⊎_elim (λ (below : c < a.frame). omega arith) (λ (above : a.frame + 4 ≤ c). omega arith) (apart.links p c a
+      set_other cells c a.frame (cell_of new) (λ e. ⊎_elim (λ (below : c < a.frame). omega arith) (λ (above : a.frame + 4 ≤ c). omega arith) (apart.links p c a
       at lives))
 
   reference_kept : (a : Activation) (root offset : ℕ) (q : Place) → Contains world a → a.refers root ≡ Some (offset, q)
       → slice_get set_cells (a.frame + offset) ≡ slice_get cells (a.frame + offset)
   reference_kept a root offset q lives e =
-      set_other cells c (a.frame + offset) (Number n) (apart.references p q c a root offset at lives e)
+      set_other cells c (a.frame + offset) (cell_of new) (apart.references p q c a root offset at lives e)
 
-  pub alike_written : Alike world after set_cells
-  alike_written = record {
+  blank_kept : (a : Activation) → Contains world a → slice_get set_cells (a.frame + 2) ≡ slice_get cells (a.frame + 2)
+  blank_kept a lives =
+      set_other cells c (a.frame + 2) (cell_of new) (λ e. ⊎_elim (λ (below : c < a.frame). omega arith) (λ (above : a.frame + 4 ≤ c). omega arith)
+      (apart.links p c a at lives))
+
+  pub alike_set : Alike world after set_cells
+  alike_set = record {
     scalars = scalar_after;
     fits = fit_after;
-    linked = λ a lives. let h = alike.linked a lives in omega (arith, length-set cells c (Number n));
+    linked = λ a lives. let h = alike.linked a lives in omega (arith, length-set cells c (cell_of new));
     links = λ a outer lives e. link_kept a lives ∙ alike.links a outer lives e;
+    blank = λ a lives e. blank_kept a lives ∙ alike.blank a lives e;
     references = λ a root offset q d lives e l. reference_kept a root offset q lives e ∙ alike.references a root offset q d lives e l;
   }
+
+-- an assignment of an integer to a scalar
+pub alike_written : (world : World) (store : Store) (cells : List Cell) (p : Place) (c : ℕ) (n : ℤ) → IsApart world → LiesIn world p c → Fits n
+    → Alike world store cells → Alike world (written store p (value.Number n)) (slice_set cells c (Number n))
+alike_written world store cells p c n apart at fit alike = alike_set world store cells p c (Some (value.Number n)) apart at fit alike
+
+-- a scalar becomes undefined
+pub alike_undefined : (world : World) (store : Store) (cells : List Cell) (p : Place) (c : ℕ) → IsApart world → LiesIn world p c → Alike world store cells
+    → Alike world (undefined store p) (slice_set cells c Undefined)
+alike_undefined world store cells p c apart at alike = alike_set world store cells p c None apart at tt alike
 
 -- so many static links lead from one living activation to another
 abbrev pub Leads : World → ℕ → Activation → Activation → Type 0

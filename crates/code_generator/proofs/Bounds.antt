@@ -1,6 +1,6 @@
 -- Each instruction of a program's code is in bounds.
 use Rattle.std.proofs.Common.{◌≡◌, ℕ, ◌+◌, min, Bool, true, false, ◌&&◌, nat_le, List, [], ◌∷◌, ◌++◌, length, map, Option, Some, None, refl, ap, sym, subst, ◌∙◌}
-use Rattle.std.specs.Prelude.{slice_get}
+use Rattle.std.specs.Prelude.{slice_get, pos}
 use Rattle.std.specs.List.{list_all, flat_map}
 use Rattle.std.proofs.Math.Nat.{min-le_right}
 use Rattle.std.proofs.lemmas.Bool.{le-leb}
@@ -16,6 +16,9 @@ use Rattle.typed_tree.specs.declared.tree.Dyadic.{Dyadic}
 use Rattle.typed_tree.specs.declared.tree.Dyadic.TheVariants as dyadic
 use Rattle.typed_tree.specs.declared.tree.Relation.{Relation}
 use Rattle.typed_tree.specs.declared.tree.Relation.TheVariants as relation
+use Rattle.typed_tree.specs.declared.tree.RangeTest.{RangeTest}
+use Rattle.typed_tree.specs.declared.tree.Direction.{Direction}
+use Rattle.typed_tree.specs.declared.tree.Direction.TheVariants as direction
 use Rattle.typed_tree.specs.declared.tree.Representation.{Representation}
 use Rattle.typed_tree.specs.declared.tree.Representation.TheVariants as representation
 use Rattle.typed_tree.specs.declared.tree.Width.{Width}
@@ -28,11 +31,11 @@ use Rattle.typed_tree.specs.declared.tree.Expr.TheViews.{roll-Expr, roll-Link}
 use Rattle.typed_tree.specs.declared.tree.Expr.TheFolds.{map-Expr, map-Link, fold-roll-Expr, fold-roll-Link, ind-Expr}
 use Rattle.typed_tree.specs.declared.tree.Stmt.{Stmt}
 use Rattle.typed_tree.specs.declared.tree.Stmt.TheOpen.{Stmt-F}
-use Rattle.typed_tree.specs.declared.tree.Stmt.TheOpen.Stmt-F.{Empty, Assign, Write, Compound, If, While, Repeat}
+use Rattle.typed_tree.specs.declared.tree.Stmt.TheOpen.Stmt-F.{Empty, Assign, Write, Compound, If, While, Repeat, For}
 use Rattle.typed_tree.specs.declared.tree.Stmt.TheViews.{roll-Stmt}
 use Rattle.typed_tree.specs.declared.tree.Stmt.TheFolds.{map-Stmt, fold-roll-Stmt, ind-Stmt}
 use Rattle.code_generator.specs.declared.scope.Scope.{Scope}
-use Rattle.code_generator.specs.Code.{joined, placed, Placed, count, monadic_code, relation_instr, dyadic_code, expr_code, link_code, expr_step, link_step, width_code, parameter_code, write_instr, line_end_code, stmt_code, stmt_step, stmt_depth, program_scope, body_code, program_code}
+use Rattle.code_generator.specs.Code.{joined, placed, Placed, count, monadic_code, relation_instr, dyadic_code, expr_code, link_code, expr_step, link_step, width_code, parameter_code, write_instr, line_end_code, stmt_code, stmt_step, stmt_depth, holding, held_offset, variable_offset, range_check, order_instr, next_instr, for_entry, for_begin, for_next, for_end, program_scope, body_code, program_code}
 
 -- each instruction of some code is in bounds
 abbrev InBounds : List Instr → Type 0
@@ -169,6 +172,63 @@ rolled_stmt : (x : Stmt-F Stmt) → ((scope : Scope) (place : ℕ) → InBounds 
     → StmtInBounds (roll-Stmt x)
 rolled_stmt x in_bounds scope place = subst (λ code. InBounds (code scope place)) (sym (fold-roll-Stmt Placed stmt_step x)) (in_bounds scope place)
 
+-- the instructions of a for statement
+way_in_bounds : (way : Direction) → (in_bounds (order_instr way) ≡ true) × (in_bounds (next_instr way) ≡ true)
+way_in_bounds direction.To = (refl, refl)
+way_in_bounds direction.DownTo = (refl, refl)
+
+-- instructions that are in bounds, one after another
+record AreInBounds (is : List Instr) : Type 0 where
+  all : InBounds is
+
+no_more : AreInBounds []
+no_more = record { all = refl }
+
+one_more : (i : Instr) (is : List Instr) → in_bounds i ≡ true → AreInBounds is → AreInBounds (i ∷ is)
+one_more i is first rest = record { all = ap (λ b. b && list_all in_bounds is) first ∙ rest.all }
+
+held_in_bounds : (scope : Scope) (n : ℕ) → nat_le (held_offset scope n) 16777215 ≡ true
+held_in_bounds scope n = cut_at (scope.above + scope.height + n) 16777215
+
+variable_in_bounds : (scope : Scope) (root : ℕ) → nat_le (variable_offset scope root) 16777215 ≡ true
+variable_in_bounds scope root = cut_at (scope.variables + root) 16777215
+
+entry_in_bounds : (scope : Scope) (first_fits : RangeTest) (way : Direction) (last_fits : RangeTest) (out : ℕ)
+    → InBounds (for_entry scope first_fits way last_fits out)
+entry_in_bounds scope first_fits way last_fits out =
+    (one_more (instr.Load 0 (held_offset scope 0)) _ (held_in_bounds scope 0)
+    (one_more (instr.Load 0 (held_offset scope 1)) _ (held_in_bounds scope 1)
+    (one_more (order_instr way) _ (way_in_bounds way).0
+    (one_more (instr.JumpIfFalse out) _ refl
+    (one_more (instr.Load 0 (held_offset scope 0)) _ (held_in_bounds scope 0)
+    (one_more (range_check first_fits) _ refl
+    (one_more (instr.Store 0 (held_offset scope 0)) _ (held_in_bounds scope 0)
+    (one_more (range_check last_fits) _ refl no_more)))))))).all
+
+begin_in_bounds : (scope : Scope) (control : ℕ) → InBounds (for_begin scope control)
+begin_in_bounds scope control =
+    (one_more (instr.Load 0 (held_offset scope 0)) _ (held_in_bounds scope 0)
+    (one_more (instr.Store 0 (variable_offset scope control)) _ (variable_in_bounds scope control) no_more)).all
+
+next_in_bounds : (scope : Scope) (way : Direction) (head out : ℕ) → InBounds (for_next scope way head out)
+next_in_bounds scope way head out =
+    (one_more (instr.Load 0 (held_offset scope 0)) _ (held_in_bounds scope 0)
+    (one_more (instr.Load 0 (held_offset scope 1)) _ (held_in_bounds scope 1)
+    (one_more instr.NotEqual _ refl
+    (one_more (instr.JumpIfFalse out) _ refl
+    (one_more (instr.Load 0 (held_offset scope 0)) _ (held_in_bounds scope 0)
+    (one_more (instr.LoadConstant (pos 1)) _ refl
+    (one_more (next_instr way) _ (way_in_bounds way).1
+    (one_more (instr.Store 0 (held_offset scope 0)) _ (held_in_bounds scope 0)
+    (one_more (instr.Jump head) _ refl no_more))))))))).all
+
+end_in_bounds : (scope : Scope) (control : ℕ) → InBounds (for_end scope control)
+end_in_bounds scope control =
+    (one_more (instr.Store 0 (variable_offset scope control)) _ (variable_in_bounds scope control)
+    (one_more (instr.Store 0 (variable_offset scope control)) _ (variable_in_bounds scope control)
+    (one_more (instr.Load 0 2) _ refl
+    (one_more (instr.Store 0 (variable_offset scope control)) _ (variable_in_bounds scope control) no_more)))).all
+
 stmt_layer : (y : Stmt-F ProvedStmt) → StmtInBounds (roll-Stmt (bare_stmt y))
 stmt_layer (Empty number) = rolled_stmt (Empty number) (λ scope place. refl)
 stmt_layer (Assign number becomes target fits value) =
@@ -200,6 +260,19 @@ stmt_layer (Repeat number loop_number word statements condition) =
     append_in_bounds (placed (map (λ c. c scope) (map stmt_code (map (λ s. s.0) statements.items))) place) _
     (stmts_in_bounds scope statements.items place)
     (append_in_bounds (expr_code scope condition) (instr.JumpIfFalse place ∷ []) (expr_in_bounds scope condition) refl))
+stmt_layer (For number loop_number word control first first_fits way last last_fits body) =
+    rolled_stmt (bare_stmt (For number loop_number word control first first_fits way last last_fits body)) (λ scope place.
+    let head = place + length (expr_code scope first) + length (expr_code scope last) + 8 in
+    let inside = stmt_code body.value.0 (holding 2 scope) (head + 2) in
+    let out = head + 2 + length inside + 9 in
+    let behind = for_next scope way head out ++ for_end scope control in
+    let round = for_begin scope control ++ (inside ++ behind) in
+    append_in_bounds (expr_code scope first) _ (expr_in_bounds scope first)
+    (append_in_bounds (expr_code scope last) _ (expr_in_bounds scope last)
+    (append_in_bounds (for_entry scope first_fits way last_fits out) round (entry_in_bounds scope first_fits way last_fits out)
+    (append_in_bounds (for_begin scope control) (inside ++ behind) (begin_in_bounds scope control)
+    (append_in_bounds inside behind (body.value.1 (holding 2 scope) (head + 2))
+    (append_in_bounds (for_next scope way head out) (for_end scope control) (next_in_bounds scope way head out) (end_in_bounds scope control)))))))
 
 stmt_in_bounds : (s : Stmt) → StmtInBounds s
 stmt_in_bounds = ind-Stmt StmtInBounds (λ x y is. subst (λ z. StmtInBounds (roll-Stmt z)) is (stmt_layer y))
@@ -211,8 +284,8 @@ frame_in_bounds variables cells = ap (λ b. b && nat_le (count cells) 16777216) 
 body_in_bounds : (variables : ℕ) (block : Option Block) → InBounds (body_code (count variables) block)
 body_in_bounds variables None = ap (λ b. b && true) (frame_in_bounds variables 0)
 body_in_bounds variables (Some block) =
-    ap (λ b. b && list_all in_bounds (stmt_code block.body program_scope 1)) (frame_in_bounds variables (stmt_depth block.body))
-    ∙ stmt_in_bounds block.body program_scope 1
+    ap (λ b. b && list_all in_bounds (stmt_code block.body (program_scope (count variables)) 1)) (frame_in_bounds variables (stmt_depth block.body))
+    ∙ stmt_in_bounds block.body (program_scope (count variables)) 1
 
 pub program_in_bounds : (tree : Tree) → list_all in_bounds (program_code tree) ≡ true
 program_in_bounds tree =

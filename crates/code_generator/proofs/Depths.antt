@@ -19,11 +19,12 @@ use Rattle.typed_tree.specs.declared.tree.Expr.TheViews.{roll-Expr, roll-Link}
 use Rattle.typed_tree.specs.declared.tree.Expr.TheFolds.{fold-Link, map-Expr, map-Link, fold-roll-Expr, fold-roll-Link, ind-Expr}
 use Rattle.typed_tree.specs.declared.tree.Stmt.{Stmt}
 use Rattle.typed_tree.specs.declared.tree.Stmt.TheOpen.{Stmt-F}
-use Rattle.typed_tree.specs.declared.tree.Stmt.TheOpen.Stmt-F.{Empty, Assign, Write, Compound, If, While, Repeat}
+use Rattle.typed_tree.specs.declared.tree.Stmt.TheOpen.Stmt-F.{Empty, Assign, Write, Compound, If, While, Repeat, For}
 use Rattle.typed_tree.specs.declared.tree.Stmt.TheViews.{roll-Stmt}
 use Rattle.typed_tree.specs.declared.tree.Stmt.TheFolds.{map-Stmt, fold-roll-Stmt, ind-Stmt}
 use Rattle.code_generator.specs.declared.scope.Scope.{Scope}
-use Rattle.code_generator.specs.Code.{joined, placed, Placed, monadic_code, dyadic_code, expr_code, link_code, expr_step, link_step, expr_depth, link_depth, expr_depth_step, link_depth_step, width_depth, width_code, parameter_depth, parameter_code, write_instr, line_end_code, stmt_code, stmt_step, stmt_depth, stmt_depth_step}
+use Rattle.code_generator.specs.Code.{joined, placed, Placed, monadic_code, dyadic_code, expr_code, link_code, expr_step, link_step, expr_depth, link_depth, expr_depth_step, link_depth_step, width_depth, width_code, parameter_depth, parameter_code, write_instr, line_end_code, stmt_code, stmt_step, stmt_depth, stmt_depth_step, holding}
+use Rattle.code_generator.proofs.Pieces.{length-For}
 use Rattle.code_generator.specs.Need.{expr_need, expr_need_step, link_need_step, width_need, parameter_need, stmt_need, stmt_need_step}
 
 -- a depth is within the length of some code and within a need
@@ -307,6 +308,18 @@ stmt_layer (Repeat number loop_number word statements condition) =
       );
       need_is = omega arith;
     })
+stmt_layer (For number loop_number word control first first_fits way last last_fits body) =
+    rolled_stmt (map-Stmt ((s : Stmt) × StmtWithin s) Stmt (λ s. s.0) (For number loop_number word control first first_fits way last last_fits body))
+    (λ scope place.
+    let a = expr_within scope first in
+    let a' = a.code_is in let a'' = a.need_is in
+    let b = expr_within scope last in
+    let b' = b.code_is in let b'' = b.need_is in
+    let head = place + length (expr_code scope first) + length (expr_code scope last) + 8 in
+    let c = body.value.1 (holding 2 scope) (head + 2) in
+    let c' = c.code_is in let c'' = c.need_is in
+    let long = length-For control (expr_code scope first) first_fits way (expr_code scope last) last_fits (stmt_code body.value.0) scope place in
+    record { code_is = omega (arith, long); need_is = omega arith })
 
 -- the same of a statement
 pub stmt_within : (s : Stmt) → StmtWithin s

@@ -11,18 +11,19 @@ use Rattle.pcode_assembler.specs.declared.instr.Instr.{Instr}
 use Rattle.pcode_assembler.specs.declared.instr.Instr.TheVariants as instr
 use Rattle.place.specs.declared.Place.{Place as SourcePlace}
 use Rattle.typed_tree.specs.declared.tree.Access.{Access}
+use Rattle.typed_tree.specs.declared.tree.Direction.{Direction}
 use Rattle.typed_tree.specs.declared.tree.RangeTest.{RangeTest}
 use Rattle.typed_tree.specs.declared.tree.Expr.{Expr}
 use Rattle.typed_tree.specs.declared.tree.Stmt.{Stmt}
-use Rattle.typed_tree.specs.declared.tree.Stmt.TheVariants.{Assign, rolls-Assign, Compound, rolls-Compound, If, rolls-If, While, rolls-While, Repeat, rolls-Repeat}
-use Rattle.typed_tree.specs.declared.tree.Stmt.TheOpen.Stmt-F.{Assign as Assign-layer, Compound as Compound-layer, If as If-layer, While as While-layer, Repeat as Repeat-layer}
+use Rattle.typed_tree.specs.declared.tree.Stmt.TheVariants.{Assign, rolls-Assign, Compound, rolls-Compound, If, rolls-If, While, rolls-While, Repeat, rolls-Repeat, For, rolls-For}
+use Rattle.typed_tree.specs.declared.tree.Stmt.TheOpen.Stmt-F.{Assign as Assign-layer, Compound as Compound-layer, If as If-layer, While as While-layer, Repeat as Repeat-layer, For as For-layer}
 use Rattle.typed_tree.specs.declared.tree.Stmt.TheFolds.{fold-roll-Stmt}
 use Rattle.code_generator.specs.declared.scope.Scope.{Scope}
-use Rattle.code_generator.specs.Code.{Placed, assign_code, expr_code, stmt_code, if_code, if_else_code, while_code, repeat_code}
+use Rattle.code_generator.specs.Code.{Placed, assign_code, expr_code, stmt_code, if_code, if_else_code, while_code, repeat_code, for_code, for_entry, for_begin, for_next, for_end, holding}
 use Rattle.code_generator.specs.Emitted.{Emits}
 use Rattle.code_generator.specs.Sizes.{capped, first_of, rest_of, Measured, measured, measured_step, table_of, all_sizes, all_tables}
 use Rattle.code_generator.proofs.Measures.{is_measured}
-use Rattle.code_generator.proofs.Pieces.{stmts_code, length-If, length-If-else, length-While, length-Repeat}
+use Rattle.code_generator.proofs.Pieces.{stmts_code, length-If, length-If-else, length-While, length-Repeat, length-For}
 
 -- what is told of a compound statement, and of an if statement
 pub measured-Compound : (scope : Scope) (number : ℕ) (statements : Vec Stmt)
@@ -74,6 +75,17 @@ measured-Repeat scope number loop_number word statements condition =
     ∙ ap (λ m. m scope) (fold-roll-Stmt (Scope → Measured) measured_step (Repeat-layer number loop_number word statements condition))
     ∙ ap (λ ms. repeat_measured ms (expr_code scope condition)) (map-map (λ (measure : Scope → Measured). measure scope) measured statements.items)
 
+abbrev pub for_measured : List Instr → List Instr → Measured → Measured
+for_measured first last inside = record { size = length first + length last + 10 + inside.size + 13; inner = table_of inside }
+
+pub measured-For : (scope : Scope) (number loop_number : ℕ) (word : SourcePlace) (control : ℕ) (first : Expr) (first_fits : RangeTest) (way : Direction)
+    (last : Expr) (last_fits : RangeTest) (body : Box Stmt)
+    → measured (For number loop_number word control first first_fits way last last_fits body) scope ≡ for_measured (expr_code scope first)
+    (expr_code scope last) (measured body.value (holding 2 scope))
+measured-For scope number loop_number word control first first_fits way last last_fits body =
+    ap (λ s. measured s scope) (sym (rolls-For number loop_number word control first first_fits way last last_fits body))
+    ∙ ap (λ m. m scope) (fold-roll-Stmt (Scope → Measured) measured_step (For-layer number loop_number word control first first_fits way last last_fits body))
+
 pub measured-Assign : (scope : Scope) (number : ℕ) (becomes : SourcePlace) (target : Access) (fits : RangeTest) (value : Expr)
     → measured (Assign number becomes target fits value) scope ≡ record { size = length (assign_code scope target.root fits value); inner = [] }
 measured-Assign scope number becomes target fits value =
@@ -118,7 +130,8 @@ same_emitted answer before after sizes left table table' code code' p q h =
     subst (λ c. Emits answer before after sizes left c table') (sym p) (subst (Emits answer before after sizes left code) (sym q) h)
 
 -- behind the passed size of the statement that they are in
-pub passed_emitted : (answer : Result (Unit {0}) AllocError) (before after : List Instr) (sizes now left : List ℕ) (own : ℕ) (inner : List ℕ) (code : List Instr)
+pub passed_emitted : (answer : Result (Unit {0}) AllocError) (before after : List Instr) (sizes now left : List ℕ) (own : ℕ) (inner : List ℕ) (code : List
+    Instr)
     → now ≡ rest_of sizes → Emits answer before after now left code inner → Emits answer before after sizes left code
     (own ∷ inner)
 passed_emitted answer before after sizes now left own inner code is h rest e few =
@@ -261,10 +274,58 @@ while_emitted answer test body scope before jumping done after sizes left head p
       first.1,
     ))
 
+-- a for statement: its bounds, what comes before the body, the body, and what comes behind it
+pub for_emitted : (answer : Result (Unit {0}) AllocError) (control : ℕ) (first : List Instr) (first_fits : RangeTest) (way : Direction) (last : List Instr)
+    (last_fits : RangeTest) (body : Stmt) (scope : Scope) (before bounds begun done after : List Instr) (sizes left : List ℕ) (head out : ℕ)
+    → bounds ≡ (before ++ first) ++ last → head ≡ capped (capped (length bounds) + 8) → out ≡ capped (capped (head + 11) + first_of sizes)
+    → begun ≡ (bounds ++ for_entry scope first_fits way last_fits out) ++ for_begin scope control
+    → Emits (Ok tt) begun done sizes left (stmt_code body (holding 2 scope) (length begun)) (table_of (measured body (holding 2 scope)))
+    → OnOk answer (after ≡ (done ++ for_next scope way head out) ++ for_end scope control)
+    → Emits answer before after sizes left (for_code control first first_fits way last last_fits (stmt_code body) scope (length before))
+    (table_of (measured body (holding 2 scope)))
+for_emitted answer control first first_fits way last last_fits body scope before bounds begun done after sizes left head out is begins ends put emits end rest
+    told few =
+    let place = length before in
+    let inner = holding 2 scope in
+    let there = place + length first + length last + 8 in
+    let inside = stmt_code body inner (there + 2) in
+    let behind = there + 2 + length inside + 9 in
+    let entry = for_entry scope first_fits way last_fits behind in
+    let begin = for_begin scope control in
+    let next = for_next scope way there behind in
+    let done' = for_end scope control in
+    let all = length-For control first first_fits way last last_fits (stmt_code body) scope place in
+    let long : length bounds ≡ place + length first + length last = ap length is ∙ length-append (before ++ first) last
+    ∙ ap (λ n. n + length last) (length-append before first) in
+    let head_is : head ≡ there = omega (arith, begins, long, all) in
+    let at : length begun ≡ there + 2 = ap length put ∙ length-append (bounds ++ for_entry scope first_fits way last_fits out) begin
+    ∙ ap (λ n. n + 2) (length-append bounds (for_entry scope first_fits way last_fits out)) ∙ (omega (arith, long)) in
+    let size : first_of sizes ≡ length inside = target_is body inner (there + 2) sizes rest told (omega (arith, all)) in
+    let out_is : out ≡ behind = omega (arith, ends, head_is, size, all) in
+    let few' : length begun + length (stmt_code body inner (length begun)) ≤ 4294967295 =
+    subst (λ n. n + length (stmt_code body inner n) ≤ 4294967295) (sym at) (omega (arith, all)) in
+    let emitted = emits rest told few' in
+    on_ok answer end (λ e. (
+      e
+          ∙ ap (λ n. (done ++ for_next scope way n out) ++ done') head_is
+          ∙ ap (λ n. (done ++ for_next scope way there n) ++ done') out_is
+          ∙ append_assoc done next done'
+          ∙ ap (λ c. c ++ (next ++ done')) (emitted.0 ∙ ap (λ n. begun ++ stmt_code body inner n) at)
+          ∙ append_assoc begun inside (next ++ done')
+          ∙ ap (λ c. c ++ (inside ++ (next ++ done'))) (put ∙ ap (λ n. (bounds ++ for_entry scope first_fits way last_fits n) ++ begin) out_is)
+          ∙ append_assoc (bounds ++ entry) begin (inside ++ (next ++ done'))
+          ∙ append_assoc bounds entry (begin ++ (inside ++ (next ++ done')))
+          ∙ ap (λ c. c ++ (entry ++ (begin ++ (inside ++ (next ++ done'))))) is
+          ∙ append_assoc (before ++ first) last (entry ++ (begin ++ (inside ++ (next ++ done'))))
+          ∙ append_assoc before first (last ++ (entry ++ (begin ++ (inside ++ (next ++ done'))))),
+      emitted.1,
+    ))
+
 -- a repeat statement
 pub repeat_emitted : (answer : Result (Unit {0}) AllocError) (statements : ℕ → List Instr) (test : List Instr) (before done after : List Instr)
     (sizes left table : List ℕ) (head : ℕ) → Emits (Ok tt) before done sizes left (statements (length before)) table → head ≡ capped (length before)
-    → OnOk answer (after ≡ (done ++ test) ++ instr.JumpIfFalse head ∷ []) → Emits answer before after sizes left (repeat_code statements test (length before)) table
+    → OnOk answer (after ≡ (done ++ test) ++ instr.JumpIfFalse head ∷ []) → Emits answer before after sizes left (repeat_code statements test (length
+    before)) table
 repeat_emitted answer statements test before done after sizes left table head emits begins last rest told few =
     let place = length before in
     let code = statements place in

@@ -56,9 +56,12 @@ here place = instr.Jump place
 pieces : placed ((λ n. here n ∷ []) ∷ (λ n. here n ∷ here (n + 1) ∷ []) ∷ (λ n. []) ∷ (λ n. here n ∷ []) ∷ []) 7 ≡ here 7 ∷ here 8 ∷ here 9 ∷ here 10 ∷ []
 pieces = refl
 
--- a scope other than the program's
+-- that of a program with two variables, and another one
+abbrev two : Scope
+two = program_scope 2
+
 abbrev inner : Scope
-inner = record { variables = 9; height = 2 }
+inner = record { variables = 9; above = 12; height = 2 }
 
 -- the number 7, and the second variable
 abbrev seven : Expr
@@ -76,8 +79,8 @@ seven_need = fold-roll-Expr ℕ ℕ expr_need_step link_need_step (Constant 4 (p
 abbrev b : Expr
 b = roll-Expr (Variable (record { number = 6; root = 1 }) 1)
 
-b_code : expr_code program_scope b ≡ instr.Load 0 5 ∷ instr.CheckDefined 1 1 ∷ []
-b_code = fold-roll-Expr (List Instr) (List Instr) (expr_step program_scope) link_step (Variable (record { number = 6; root = 1 }) 1)
+b_code : expr_code two b ≡ instr.Load 0 5 ∷ instr.CheckDefined 1 1 ∷ []
+b_code = fold-roll-Expr (List Instr) (List Instr) (expr_step two) link_step (Variable (record { number = 6; root = 1 }) 1)
 
 inner_b_code : expr_code inner b ≡ instr.Load 0 10 ∷ instr.CheckDefined 1 1 ∷ []
 inner_b_code = fold-roll-Expr (List Instr) (List Instr) (expr_step inner) link_step (Variable (record { number = 6; root = 1 }) 1)
@@ -115,21 +118,21 @@ module _ (becomes name : Place) (parameters : Vec WriteParameter) (writes : para
       instr.Load 0 5 ∷ instr.CheckDefined 1 1 ∷ instr.LoadConstant (pos 7) ∷ instr.CheckRange 2 (pos 1) (pos 2147483647)
       ∷ instr.WriteInteger ∷ instr.WriteLine ∷ []
 
-  assign_code_is : (place : ℕ) → stmt_code assign program_scope place ≡ assigned
+  assign_code_is : (place : ℕ) → stmt_code assign two place ≡ assigned
   assign_code_is place =
-      ap (λ code. code program_scope place) (fold-roll-Stmt Placed stmt_step assign_layer)
-      ∙ ap (λ value. value ++ (instr.CheckRange 0 (negsuc 0) (pos 8) ∷ instr.Store 0 4 ∷ [])) (seven_code program_scope)
+      ap (λ code. code two place) (fold-roll-Stmt Placed stmt_step assign_layer)
+      ∙ ap (λ value. value ++ (instr.CheckRange 0 (negsuc 0) (pos 8) ∷ instr.Store 0 4 ∷ [])) (seven_code two)
 
   -- of the codes of its value and of its width
   abbrev made : List Instr → List Instr → List Instr
   made value width = ((value ++ ((width ++ (check_positive 2 ∷ [])) ++ (instr.WriteInteger ∷ []))) ++ []) ++ (instr.WriteLine ∷ [])
 
-  write_code_is : (place : ℕ) → stmt_code write program_scope place ≡ written
+  write_code_is : (place : ℕ) → stmt_code write two place ≡ written
   write_code_is place =
-      ap (λ code. code program_scope place) (fold-roll-Stmt Placed stmt_step write_layer)
-      ∙ ap (λ ps. write_code program_scope ps true) writes
-      ∙ ap (λ value. made value (expr_code program_scope seven)) b_code
-      ∙ ap (made (instr.Load 0 5 ∷ instr.CheckDefined 1 1 ∷ [])) (seven_code program_scope)
+      ap (λ code. code two place) (fold-roll-Stmt Placed stmt_step write_layer)
+      ∙ ap (λ ps. write_code two ps true) writes
+      ∙ ap (λ value. made value (expr_code two seven)) b_code
+      ∙ ap (made (instr.Load 0 5 ∷ instr.CheckDefined 1 1 ∷ [])) (seven_code two)
 
   assign_depth : stmt_depth assign ≡ 1
   assign_depth =
@@ -155,11 +158,11 @@ module _ (becomes name : Place) (parameters : Vec WriteParameter) (writes : para
     body = roll-Stmt (Compound 1 statements)
 
     -- wherever it stands
-    body_code_is : (place : ℕ) → stmt_code body program_scope place ≡ assigned ++ written
+    body_code_is : (place : ℕ) → stmt_code body two place ≡ assigned ++ written
     body_code_is place =
-        ap (λ code. code program_scope place) (fold-roll-Stmt Placed stmt_step (Compound 1 statements))
-        ∙ ap (λ ss. placed (map (λ code. code program_scope) (map stmt_code ss)) place) are
-        ∙ ap (λ first. first ++ placed ((λ n. stmt_code write program_scope n) ∷ []) (place + length first)) (assign_code_is place)
+        ap (λ code. code two place) (fold-roll-Stmt Placed stmt_step (Compound 1 statements))
+        ∙ ap (λ ss. placed (map (λ code. code two) (map stmt_code ss)) place) are
+        ∙ ap (λ first. first ++ placed ((λ n. stmt_code write two n) ∷ []) (place + length first)) (assign_code_is place)
         ∙ ap (λ last. assigned ++ (last ++ [])) (write_code_is (place + 3))
 
     body_depth : stmt_depth body ≡ 2
@@ -179,7 +182,7 @@ module _ (becomes name : Place) (parameters : Vec WriteParameter) (writes : para
       program_code_is =
           ap (λ vs. body_code (count (length vs)) (slice_get tree.blocks.items 0) ++ (instr.Stop ∷ [])) declares
           ∙ ap (λ bs. body_code 2 (slice_get bs 0) ++ (instr.Stop ∷ [])) does
-          ∙ ap (λ n. instr.Enter 2 (count n) ∷ (stmt_code body program_scope 1 ++ (instr.Stop ∷ []))) body_depth
+          ∙ ap (λ n. instr.Enter 2 (count n) ∷ (stmt_code body two 1 ++ (instr.Stop ∷ []))) body_depth
           ∙ ap (λ code. instr.Enter 2 2 ∷ (code ++ (instr.Stop ∷ []))) (body_code_is 1)
 
       program_need_is : program_need tree ≡ 70

@@ -4,13 +4,13 @@ use Rattle.std.specs.List.{flat_map}
 use Rattle.std.proofs.lemmas.List.Sums.{sum_by-cons}
 use Rattle.typed_tree.specs.declared.tree.Stmt.{Stmt}
 use Rattle.typed_tree.specs.declared.tree.Stmt.TheOpen.{Stmt-F}
-use Rattle.typed_tree.specs.declared.tree.Stmt.TheOpen.Stmt-F.{Empty, Assign, Write, Compound, If, While, Repeat}
+use Rattle.typed_tree.specs.declared.tree.Stmt.TheOpen.Stmt-F.{Empty, Assign, Write, Compound, If, While, Repeat, For}
 use Rattle.typed_tree.specs.declared.tree.Stmt.TheViews.{roll-Stmt}
 use Rattle.typed_tree.specs.declared.tree.Stmt.TheFolds.{map-Stmt, fold-roll-Stmt, ind-Stmt}
 use Rattle.code_generator.specs.declared.scope.Scope.{Scope}
-use Rattle.code_generator.specs.Code.{Placed, placed, expr_code, stmt_code, stmt_step}
+use Rattle.code_generator.specs.Code.{Placed, placed, holding, expr_code, stmt_code, stmt_step}
 use Rattle.code_generator.specs.Sizes.{Measured, measured, measured_step, all_sizes}
-use Rattle.code_generator.proofs.Pieces.{length-If, length-If-else, length-While, length-Repeat}
+use Rattle.code_generator.proofs.Pieces.{length-If, length-If-else, length-While, length-Repeat, length-For}
 
 abbrev pub IsMeasured : Stmt → Type 0
 IsMeasured s = (scope : Scope) (place : ℕ) → length (stmt_code s scope place) ≡ (measured s scope).size
@@ -67,6 +67,12 @@ layer (Repeat number loop_number word statements condition) =
     let test = expr_code scope condition in
     length-Repeat (placed (map (λ code. code scope) (map stmt_code (map (λ s. s.0) statements.items)))) test place
     ∙ ap (λ n. n + (length test + 1)) (all_measured scope statements.items place))
+layer (For number loop_number word control first first_fits way last last_fits body) =
+    rolled (bare (For number loop_number word control first first_fits way last last_fits body)) (λ scope place.
+    let a = expr_code scope first in
+    let b = expr_code scope last in
+    length-For control a first_fits way b last_fits (stmt_code body.value.0) scope place
+    ∙ ap (λ n. length a + length b + 10 + n + 13) (body.value.1 (holding 2 scope) (place + length a + length b + 8 + 2)))
 
 -- the size of a statement is the length of its code, wherever that stands
 pub is_measured : (s : Stmt) → IsMeasured s

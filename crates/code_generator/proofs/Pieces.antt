@@ -11,6 +11,7 @@ use Rattle.pcode_assembler.specs.declared.instr.Instr.{Instr}
 use Rattle.pcode_assembler.specs.declared.instr.Instr.TheVariants as instr
 use Rattle.place.specs.declared.Place.{Place as SourcePlace}
 use Rattle.typed_tree.specs.declared.tree.Access.{Access}
+use Rattle.typed_tree.specs.declared.tree.Direction.{Direction}
 use Rattle.typed_tree.specs.declared.tree.RangeTest.{RangeTest}
 use Rattle.typed_tree.specs.declared.tree.WriteParameter.{WriteParameter}
 use Rattle.typed_tree.specs.declared.tree.Expr.{Expr}
@@ -20,11 +21,11 @@ use Rattle.typed_tree.specs.declared.tree.Monadic.{Monadic}
 use Rattle.typed_tree.specs.declared.tree.Expr.TheOpen.Expr-F.{Variable as Variable-layer, Chain as Chain-layer, Monadic as Monadic-layer}
 use Rattle.typed_tree.specs.declared.tree.Expr.TheFolds.{fold-roll-Expr, fold_out-Link}
 use Rattle.typed_tree.specs.declared.tree.Stmt.{Stmt}
-use Rattle.typed_tree.specs.declared.tree.Stmt.TheVariants.{Empty, rolls-Empty, Assign, rolls-Assign, Write, rolls-Write, Compound, rolls-Compound, If, rolls-If, While, rolls-While, Repeat, rolls-Repeat}
-use Rattle.typed_tree.specs.declared.tree.Stmt.TheOpen.Stmt-F.{Empty as Empty-layer, Assign as Assign-layer, Write as Write-layer, Compound as Compound-layer, If as If-layer, While as While-layer, Repeat as Repeat-layer}
+use Rattle.typed_tree.specs.declared.tree.Stmt.TheVariants.{Empty, rolls-Empty, Assign, rolls-Assign, Write, rolls-Write, Compound, rolls-Compound, If, rolls-If, While, rolls-While, Repeat, rolls-Repeat, For, rolls-For}
+use Rattle.typed_tree.specs.declared.tree.Stmt.TheOpen.Stmt-F.{Empty as Empty-layer, Assign as Assign-layer, Write as Write-layer, Compound as Compound-layer, If as If-layer, While as While-layer, Repeat as Repeat-layer, For as For-layer}
 use Rattle.typed_tree.specs.declared.tree.Stmt.TheFolds.{fold-roll-Stmt}
 use Rattle.code_generator.specs.declared.scope.Scope.{Scope}
-use Rattle.code_generator.specs.Code.{joined, placed, Placed, if_code, if_else_code, while_code, repeat_code, dyadic_code, monadic_code, expr_step, link_step, expr_code, link_code, variable_code, variable_offset, assign_code, write_code, parameter_code, line_end_code, stmt_step, stmt_code, greatest, expr_depth, parameter_depth, stmt_depth, stmt_depth_step}
+use Rattle.code_generator.specs.Code.{joined, placed, Placed, if_code, if_else_code, while_code, repeat_code, for_code, for_entry, for_begin, for_next, for_end, holding, dyadic_code, monadic_code, expr_step, link_step, expr_code, link_code, variable_code, variable_offset, assign_code, write_code, parameter_code, line_end_code, stmt_step, stmt_code, greatest, expr_depth, parameter_depth, stmt_depth, stmt_depth_step}
 
 -- the pieces of a list, one for each element
 pub joined-map : {X : Type 0} (piece_of : X → List Instr) (xs : List X) → joined (map piece_of xs) ≡ flat_map piece_of xs
@@ -120,6 +121,37 @@ length-Repeat statements test place =
       length-append test (instr.JumpIfFalse place ∷ []),
     )
 
+-- a for statement
+pub stmt_code-For : (scope : Scope) (place number loop_number : ℕ) (word : SourcePlace) (control : ℕ) (first : Expr) (first_fits : RangeTest) (way : Direction)
+    (last : Expr) (last_fits : RangeTest) (body : Box Stmt)
+    → stmt_code (For number loop_number word control first first_fits way last last_fits body) scope place ≡ for_code control (expr_code scope first)
+    first_fits way (expr_code scope last) last_fits (stmt_code body.value) scope place
+stmt_code-For scope place number loop_number word control first first_fits way last last_fits body =
+    ap (λ s. stmt_code s scope place) (sym (rolls-For number loop_number word control first first_fits way last last_fits body))
+    ∙ ap (λ code. code scope place)
+    (fold-roll-Stmt Placed stmt_step (For-layer number loop_number word control first first_fits way last last_fits body))
+
+pub length-For : (control : ℕ) (first : List Instr) (first_fits : RangeTest) (way : Direction) (last : List Instr) (last_fits : RangeTest) (body : Placed)
+    (scope : Scope) (place : ℕ) → length (for_code control first first_fits way last last_fits body scope place) ≡ length first + length last + 10 + length
+    (body (holding 2 scope) (place + length first + length last + 8 + 2)) + 13
+length-For control first first_fits way last last_fits body scope place =
+    let head = place + length first + length last + 8 in
+    let inside = body (holding 2 scope) (head + 2) in
+    let out = head + 2 + length inside + 9 in
+    let entry = for_entry scope first_fits way last_fits out in
+    let begin = for_begin scope control in
+    let next = for_next scope way head out in
+    let done = for_end scope control in
+    omega (
+      arith,
+      length-append first (last ++ (entry ++ (begin ++ (inside ++ (next ++ done))))),
+      length-append last (entry ++ (begin ++ (inside ++ (next ++ done)))),
+      length-append entry (begin ++ (inside ++ (next ++ done))),
+      length-append begin (inside ++ (next ++ done)),
+      length-append inside (next ++ done),
+      length-append next done,
+    )
+
 -- how many instructions they have
 pub length-If : (test : List Instr) (consequence : Placed) (scope : Scope) (place : ℕ)
     → length (if_code test consequence scope place) ≡ length test + 1 + length (consequence scope (place + length test + 1))
@@ -190,6 +222,13 @@ pub stmt_depth-Repeat : (number loop_number : ℕ) (word : SourcePlace) (stateme
 stmt_depth-Repeat number loop_number word statements condition =
     ap stmt_depth (sym (rolls-Repeat number loop_number word statements condition))
     ∙ fold-roll-Stmt ℕ stmt_depth_step (Repeat-layer number loop_number word statements condition)
+
+pub stmt_depth-For : (number loop_number : ℕ) (word : SourcePlace) (control : ℕ) (first : Expr) (first_fits : RangeTest) (way : Direction) (last : Expr)
+    (last_fits : RangeTest) (body : Box Stmt) → stmt_depth (For number loop_number word control first first_fits way last last_fits body) ≡ max
+    (max (expr_depth first) (expr_depth last + 1)) (max 4 (stmt_depth body.value + 2))
+stmt_depth-For number loop_number word control first first_fits way last last_fits body =
+    ap stmt_depth (sym (rolls-For number loop_number word control first first_fits way last last_fits body))
+    ∙ fold-roll-Stmt ℕ stmt_depth_step (For-layer number loop_number word control first first_fits way last last_fits body)
 
 -- a loop over pieces, at its end
 pub joined_at_end : {X : Type 0} (piece_of : X → List Instr) (code start : List Instr) (xs ys : List X) (i : ℕ)

@@ -43,9 +43,9 @@ use Rattle.code_generator.proofs.ProgramWorld.{program_activation, program_world
 use Rattle.code_generator.proofs.Stmts.{repeats, stmt_runs}
 
 -- the instructions of a block's statement, and its depth
-abbrev body_instructions : Option Block → List Instr
-body_instructions None = []
-body_instructions (Some block) = stmt_code block.body program_scope 1
+abbrev body_instructions : ℕ → Option Block → List Instr
+body_instructions variables None = []
+body_instructions variables (Some block) = stmt_code block.body (program_scope variables) 1
 
 abbrev body_depth : Option Block → ℕ
 body_depth None = 0
@@ -55,11 +55,11 @@ abbrev body_repeats : Option Block → ℕ
 body_repeats None = 0
 body_repeats (Some block) = repeats block.body
 
-body_within : (o : Option Block) → Within (body_depth o) (body_instructions o) (body_need o)
-body_within None = record { code_is = omega arith; need_is = omega arith }
-body_within (Some block) = stmt_within block.body program_scope 1
+body_within : (variables : ℕ) (o : Option Block) → Within (body_depth o) (body_instructions variables o) (body_need o)
+body_within variables None = record { code_is = omega arith; need_is = omega arith }
+body_within variables (Some block) = stmt_within block.body (program_scope variables) 1
 
-body_code_is : (variables : ℕ) (o : Option Block) → body_code variables o ≡ instr.Enter variables (count (body_depth o)) ∷ body_instructions o
+body_code_is : (variables : ℕ) (o : Option Block) → body_code variables o ≡ instr.Enter variables (count (body_depth o)) ∷ body_instructions variables o
 body_code_is variables None = refl
 body_code_is variables (Some block) = refl
 
@@ -225,7 +225,7 @@ module _ (tree : Tree) (well : IsWellFormed tree) (short : length (program_code 
   first = slice_get tree.blocks.items 0
 
   abbrev body : List Instr
-  body = body_instructions first
+  body = body_instructions variables first
 
   abbrev depth : ℕ
   depth = body_depth first
@@ -237,11 +237,14 @@ module _ (tree : Tree) (well : IsWellFormed tree) (short : length (program_code 
   few : variables ≤ 65536
   few = well.few_variables
 
-  shallow : depth ≤ 16777216
-  shallow =
-      let w = (body_within first).code_is in
+  short_depth : depth ≤ 1000000
+  short_depth =
+      let w = (body_within (count variables) first).code_is in
       let e = ap length (body_code_is (count variables) first) in
       omega (arith, length-append (body_code (count variables) first) (instr.Stop ∷ []))
+
+  shallow : depth ≤ 16777216
+  shallow = let h = short_depth in omega arith
 
   count_is : (n : ℕ) → n ≤ 16777216 → count n ≡ n
   count_is n h = omega arith
@@ -250,7 +253,7 @@ module _ (tree : Tree) (well : IsWellFormed tree) (short : length (program_code 
   whole_is =
       let fits = few in
       ap (λ c. c ++ (instr.Stop ∷ [])) (body_code_is (count variables) first)
-      ∙ ap (λ n. instr.Enter n (count depth) ∷ (body ++ instr.Stop ∷ [])) (count_is variables (omega arith))
+      ∙ ap (λ n. instr.Enter n (count depth) ∷ (body_instructions n first ++ instr.Stop ∷ [])) (count_is variables (omega arith))
       ∙ ap (λ n. instr.Enter variables n ∷ (body ++ instr.Stop ∷ [])) (count_is depth shallow)
 
   whole_stands : Stands target 0 whole
@@ -265,10 +268,10 @@ module _ (tree : Tree) (well : IsWellFormed tree) (short : length (program_code 
 
   -- where the code finds a variable
   shown_at : (root : ℕ) → root < variables → Shown (program_environment tree) (program_world variables) (program_activation variables) root
-      (Direct 0 (variable_offset program_scope root))
+      (Direct 0 (variable_offset (program_scope variables) root))
   shown_at root h =
       let fits = few in
-      let e : root + 4 ≡ variable_offset program_scope root = omega arith in
+      let e : root + 4 ≡ variable_offset (program_scope variables) root = omega arith in
       let way = ap (λ b. if b then Some (Direct 0 (root + 4)) else None) (lt-ltb root variables h) in
       subst (λ offset. Shown (program_environment tree) (program_world variables) (program_activation variables) root (Direct 0 offset)) e
       ((shown_in tree well).each root (Direct 0 (root + 4)) way)
@@ -289,8 +292,11 @@ module _ (tree : Tree) (well : IsWellFormed tree) (short : length (program_code 
       apart = program_apart variables;
       below = 4 + variables;
       slack = slack;
-      scope = program_scope;
+      scope = program_scope variables;
       environment = program_environment tree;
+      above_is = omega arith;
+      far = (let fits = few in let low = short_depth in omega arith);
+      outermost = refl;
       shows = shown_at;
     }
 
@@ -328,13 +334,14 @@ module _ (tree : Tree) (well : IsWellFormed tree) (short : length (program_code 
         ap (λ o. runs.outcome_of (machines.taken target.sites o start) [] (steps target.sites target.code 0)) entry
         ∙ ap (λ b. runs.outcome_of (entered_by b) [] (steps target.sites target.code 0)) (lt-leb needed_cells cells h)
 
-    body_runs : (o : Option Block) (s : effect.State) → body_repeats o ≤ slack → Stands target 1 (body_instructions o)
+    body_runs : (o : Option Block) (s : effect.State) → body_repeats o ≤ slack → Stands target 1 (body_instructions variables o)
         → is_well_formed_body variables (length tree.sites.items) o ≡ true → Based setting s.store (entered_cells variables)
         → 4 + variables + body_depth o ≤ needed_cells
-        → Executes setting s.turns (on setting (entered_cells variables ++ []) 1 s.output) [] (1 + length (body_instructions o))
+        → Executes setting s.turns (on setting (entered_cells variables ++ []) 1 s.output) [] (1 + length (body_instructions variables o))
         (meant.run_of o (program_environment tree) s)
     body_runs None s apart stands good based deep = done setting 0 _ (entered_cells variables) [] 1 s based (stays_here target _)
-    body_runs (Some block) s apart stands good based deep = stmt_runs block.body setting apart 1 (entered_cells variables) [] s stands good based refl (omega arith)
+    body_runs (Some block) s apart stands good based deep = stmt_runs block.body setting apart 1 (entered_cells variables) [] s stands good based refl (omega
+        arith)
 
     -- what a run of the machine comes to for so many turns: it stops as the program ends, or the turns were used up, and
     -- it goes on by as many instructions at least, but for the slack
@@ -381,7 +388,7 @@ module _ (tree : Tree) (well : IsWellFormed tree) (short : length (program_code 
         (never input turns)
 
     needed : cells < needed_cells → cells < program_need tree
-    needed h = let w = (body_within first).need_is in omega arith
+    needed h = let w = (body_within variables first).need_is in omega arith
 
     -- a run of so many instructions
     abbrev made : ℕ → Outcome

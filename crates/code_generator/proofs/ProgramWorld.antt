@@ -147,6 +147,10 @@ program_begins n = record {
       omega arith;
   links = λ a outer lives e.
       absurd (none-some outer (ap (λ (x : Activation). x.outer) (only (program_activation n) a lives) ∙ e));
+  blank = λ a lives e.
+      let first : 0 ≡ a.frame = ap (λ (x : Activation). x.frame) (only (program_activation n) a lives) in
+      let at : 2 ≡ a.frame + 2 = omega arith in
+      ap (slice_get (entered_cells n)) (sym at);
   references = λ a root offset p c lives e l.
       absurd (none-some (offset, p) (ap (λ (x : Activation). x.refers root) (only (program_activation n) a lives) ∙ e));
 }

@@ -52,6 +52,12 @@ pub record Setting : Type 0 where
   -- where the code finds the variables, and where they are
   pub scope : Scope
   pub environment : Environment
+  -- where the cells begin that are held
+  pub above_is : below ≡ running.frame + scope.above
+  -- an offset reaches each cell
+  pub far : limit ≤ 16777216
+  -- until routines come, it is the program's block
+  pub outermost : running.outer ≡ None
   pub shows : (root : ℕ) → root < length tree.variables.items → Shown environment world running root (Direct 0 (variable_offset scope root))
 
 -- an element of a table, and of the table that was made from it
@@ -62,7 +68,7 @@ found_at f (x ∷ xs) (suc i) h = found_at f xs i (omega arith)
 
 module _ (g : Setting) where
   -- the machine in the running frame, at an instruction of its code
-  abbrev running_at : List Cell → ℕ → List ℕ → State
+  abbrev pub running_at : List Cell → ℕ → List ℕ → State
   running_at cells index output =
       record { frames = framed g.running.frame g.limit g.size cells; place = index; input = g.input; output = output }
 
@@ -277,6 +283,14 @@ module _ (g : Setting) where
   then_executes turns m held place place' (Gives done s) next e h =
       executes_on turns s.turns m _ held place' (next tt s) e.3 e.2 (h e.0 s e.1)
   then_executes turns m held place place' (effect.Stops end s) next e h = e
+
+  -- what comes behind a statement that leaves other cells held
+  pub then_leaves : (turns : ℕ) (m : State) (held held' : List Cell) (place place' : ℕ) (r : Reply (Unit {0})) (next : Unit {0} → Action (Unit {0}))
+      → Executes turns m held place r → ((base : List Cell) (s : effect.State) → Based s.store base → Executes s.turns (on (base ++ held) place s.output) held'
+      place' (next tt s)) → Executes turns m held' place' (effect.and_then r next)
+  then_leaves turns m held held' place place' (Gives done s) next e h =
+      executes_on turns s.turns m _ held' place' (next tt s) e.3 e.2 (h e.0 s e.1)
+  then_leaves turns m held held' place place' (effect.Stops end s) next e h = e
 
   -- what the machine does behind a statement that gives
   pub behind_executes : (turns : ℕ) (m : State) (held held' : List Cell) (place place' : ℕ) (r : Reply (Unit {0})) → Executes turns m held place r

@@ -1,7 +1,9 @@
 -- The code of a statement keeps the program's store and the cells of its frame alike, or stops as the statement does.
-use Rattle.std.proofs.Common.{◌≡◌, ℕ, zero, suc, ◌+◌, ◌<◌, ◌≤◌, max, Option, List, [], ◌∷◌, ◌++◌, length, map, Some, None, Ok, refl, sym, ap, ◌∙◌, subst, arith, length-append, append_assoc, Bool, true, false}
-use Rattle.std.specs.Prelude.{slice_set, ℤ, pos, negsuc, int_le, ◌-◌, ◌&&◌, replicate, take, codes, if◌then◌else◌, fold}
+use Rattle.std.proofs.Common.{◌≡◌, ℕ, zero, suc, ◌+◌, ◌<◌, ◌≤◌, max, Option, List, [], ◌∷◌, ◌++◌, length, map, Some, None, Ok, refl, sym, ap, ◌∙◌, subst, arith, length-append, append_assoc, append-nil, Bool, true, false}
+use Rattle.std.specs.Prelude.{slice_set, ℤ, pos, negsuc, ◌+ℤ◌, ◌-ℤ◌, int_le, not, nat_lt, ◌-◌, ◌&&◌, replicate, take, codes, if◌then◌else◌, fold}
 use Rattle.std.specs.List.{flat_map}
+use Rattle.std.specs.Ordering.{int_eq}
+use Rattle.check_remover.specs.Strip.{stays}
 use Rattle.std.specs.Fmt.{signed_decimal}
 use Rattle.std.proofs.lemmas.Bool.{ltb-true, and_parts}
 use Rattle.std.proofs.lemmas.List.{length-set}
@@ -12,36 +14,42 @@ use Rattle.std.specs.declared.alloc.Global.{Global}
 use Rattle.std.specs.declared.boxed.Box.{Box}
 use Rattle.typed_tree.specs.declared.tree.Access.{Access}
 use Rattle.typed_tree.specs.declared.tree.RangeTest.{RangeTest}
+use Rattle.typed_tree.specs.declared.tree.Direction.{Direction}
+use Rattle.typed_tree.specs.declared.tree.Direction.TheVariants as direction
 use Rattle.typed_tree.specs.declared.tree.Representation.{Representation}
 use Rattle.typed_tree.specs.declared.tree.Representation.TheVariants as representation
 use Rattle.typed_tree.specs.declared.tree.WriteParameter.{WriteParameter}
 use Rattle.typed_tree.specs.declared.tree.Expr.{Expr}
 use Rattle.typed_tree.specs.declared.tree.Stmt.{Stmt}
 use Rattle.typed_tree.specs.declared.tree.Stmt.TheOpen.{Stmt-F}
-use Rattle.typed_tree.specs.declared.tree.Stmt.TheOpen.Stmt-F.{Empty, Assign, Write, Compound, If, While, Repeat}
+use Rattle.typed_tree.specs.declared.tree.Stmt.TheOpen.Stmt-F.{Empty, Assign, Write, Compound, If, While, Repeat, For}
 use Rattle.typed_tree.specs.declared.tree.Stmt.TheViews.{roll-Stmt}
 use Rattle.typed_tree.specs.declared.tree.Stmt.TheFolds.{fold-Stmt, map-Stmt, fold-roll-Stmt, ind-Stmt}
 use Rattle.meaning.specs.declared.store.Value.{Value}
 use Rattle.meaning.specs.declared.store.Value.TheVariants as value
-use Rattle.meaning.specs.Store.{kept}
+use Rattle.meaning.specs.Store.{kept, forgotten}
+use Rattle.meaning.specs.Counting.{has_values, next_value, value_behind}
 use Rattle.meaning.specs.Effect as effect
 use Rattle.meaning.specs.Effect.{Reply, Gives, Action, Round, ◌>>=◌, require, give}
-use Rattle.meaning.specs.Meaning.{Execution, is_so, turn_if, while_round, repeat_round, alternative_of, value_of, width_of, effect_of, effect_step, parameter_of, all_of, line_ended}
+use Rattle.meaning.specs.Meaning.{Execution, is_so, turn_if, while_round, repeat_round, for_round, for_rounds, for_between, alternative_of, value_of, width_of, effect_of, effect_step, parameter_of, all_of, line_ended}
 use Rattle.stack_machine.specs.declared.cell.Cell.{Cell}
-use Rattle.stack_machine.specs.declared.cell.Cell.TheVariants.{Number}
+use Rattle.stack_machine.specs.declared.cell.Cell.TheVariants.{Undefined, Number}
+use Rattle.stack_machine.specs.declared.arithmetic.Dyadic.TheVariants as dyadic
 use Rattle.stack_machine.specs.Frames as frames
 use Rattle.stack_machine.specs.Frames.{Attempt}
 use Rattle.stack_machine.specs.Machine as machine
 use Rattle.stack_machine.specs.Machine.{State, with_text}
 use Rattle.stack_machine.specs.Texts as texts
 use Rattle.code_generator.specs.declared.scope.Scope.{Scope}
-use Rattle.code_generator.specs.Code.{Placed, placed, if_code, if_else_code, while_code, repeat_code, greatest, variable_offset, expr_code, width_code, write_instr, parameter_code, line_end_code, write_code, stmt_code, stmt_step, stmt_depth, stmt_depth_step, expr_depth, parameter_depth}
-use Rattle.typed_tree.specs.WellFormed.{all_hold, is_well_formed_expr, is_well_formed_width, is_well_formed_parameter, is_well_formed_stmt, stmt_is_well_formed}
-use Rattle.code_generator.proofs.Reach.{Stands, stands_front, stands_back, Comes, comes_less, stays_here}
-use Rattle.code_generator.proofs.Setting.{Setting, on, Based, linked, Here, goes_on, acts, jumps, branches_on, behind_executes, passes, fails, Executes, done, executes_from, then_executes, after_value}
-use Rattle.code_generator.proofs.Loops.{Rounds, RoundRuns, rounds_on, then_rounds, value_rounds, turned, loops, reset, rounds_from_reset}
+use Rattle.code_generator.specs.Code.{Placed, placed, if_code, if_else_code, while_code, repeat_code, for_code, for_entry, for_begin, for_next, for_end, holding, held_offset, order_instr, next_instr, count, greatest, variable_offset, expr_code, width_code, write_instr, parameter_code, line_end_code, write_code, stmt_code, stmt_step, stmt_depth, stmt_depth_step, expr_depth, parameter_depth}
+use Rattle.typed_tree.specs.WellFormed.{all_hold, is_well_formed_expr, is_well_formed_width, is_well_formed_parameter, is_well_formed_test, is_well_formed_stmt, stmt_is_well_formed}
+use Rattle.code_generator.proofs.Reach.{Stands, StandsAt, stands_front, stands_back, Comes, comes_less, comes_on, stays_here}
+use Rattle.code_generator.proofs.Setting.{Setting, on, Based, linked, Here, goes_on, acts, jumps, branches_on, behind_executes, passes, fails, Executes, done, executes_from, then_executes, then_leaves, after_value}
+use Rattle.code_generator.proofs.Loops.{Rounds, RoundRuns, rounds_on, then_rounds, value_rounds, turned, loops, reset, rounds_from_reset, executes_from_reset}
+use Rattle.code_generator.proofs.Held.{slot, stores_variable, variable_kept, variable_forgotten, loads_held, stores_held, decides, begins, steps, leaves, tests, last_is, NextFits, next_fits, one_fits}
+use Rattle.code_generator.proofs.Pieces.{length-For}
 use Rattle.code_generator.proofs.Acts.{framed, length_one, stores, is_in_range, writes}
-use Rattle.code_generator.proofs.Numbers.{Fits, same_range}
+use Rattle.code_generator.proofs.Numbers.{Fits, same_range, sum_is, difference_is}
 use Rattle.code_generator.proofs.Exprs.{start_within, expr_runs, width_runs, one_held}
 use Rattle.code_generator.proofs.Alike.{Activation, Alike, Leads, HasCell, alike_written, alike_above, base_is, cell_within, direct_lies}
 
@@ -57,12 +65,6 @@ same_string_text text (pos w) = refl
 same_string_text text (negsuc w) =
     let none : 0 ≡ 0 - length text = omega arith in
     ap (λ blanks. replicate blanks 32 ++ take 0 text) none
-
--- an element that is set below others
-set_front : {A : Type 0} (xs ys : List A) (i : ℕ) (a : A) → i < length xs → slice_set (xs ++ ys) i a ≡ slice_set xs i a ++ ys
-set_front [] ys i a h = absurd (omega arith)
-set_front (x ∷ xs) ys zero a h = refl
-set_front (x ∷ xs) ys (suc i) a h = ap (λ l. x ∷ l) (set_front xs ys i a (omega arith))
 
 -- what holds of each element
 abbrev Each : {X : Type 0} → (X → Type 0) → List X → Type 0
@@ -98,43 +100,6 @@ module _ (g : Setting) where
       → Executes g s.turns (on g (base ++ held) place s.output) held (place + length (c g.scope place)) (execution g.environment s)
 
   -- a value that is checked and stored
-  module _ (root : ℕ) (fits : RangeTest) (place : ℕ) (base held : List Cell) (n : ℤ) (s : effect.State) (within : root < variables) (fit : Fits n)
-      (based : Based g s.store base) where
-    abbrev slot_offset : ℕ
-    slot_offset = variable_offset g.scope root
-
-    abbrev way : (b : Activation) × Leads g.world 0 g.running b × HasCell g.environment g.world root (b.frame + slot_offset)
-    way = direct_lies g.environment g.world g.running root 0 slot_offset (g.shows root within)
-
-    abbrev slot : ℕ
-    slot = way.0.frame + slot_offset
-
-    abbrev range_check : Instr
-    range_check = instr.CheckRange fits.site fits.range.first fits.range.last
-
-    inside : slot < length base
-    inside = cell_within g.world s.store base way.2.0 slot based.alike way.2.2
-
-    written_base : Based g (kept s.store (g.environment root) (value.Number n)) (slice_set base slot (Number n))
-    written_base = record {
-      full = length-set base slot (Number n) ∙ based.full;
-      alike = subst (λ home. Alike g.world (kept s.store home (value.Number n)) (slice_set base slot (Number n))) (sym way.2.1)
-          (alike_written g.world s.store base way.2.0 slot n g.apart way.2.2 fit based.alike);
-    }
-
-    stored_there : Here g place (instr.Store 0 slot_offset) → Executes g s.turns (on g ((base ++ held) ++ Number n ∷ []) place s.output) held (place + 1)
-        (effect.store (g.environment root) (value.Number n) s)
-    stored_there here =
-        let cells = base ++ held in
-        let low = inside in
-        let at = length-append base held in
-        let leads = base_is g.world s.store cells 0 g.running way.0 (alike_above g.world s.store base held based.alike) way.1 in
-        let does = stores g.running.frame g.limit g.size cells (linked g s.store base held based) (Number n) 0 slot_offset way.0.frame leads (omega arith)
-        ∙ ap (λ cs. Ok (frames_of cs)) (set_front base held slot (Number n) inside) in
-        done g 1 _ (slice_set base slot (Number n)) held (place + 1) (record s { store = kept s.store (g.environment root) (value.Number n) })
-        (record { full = written_base.full; alike = written_base.alike })
-        (acts g (instr.Store 0 slot_offset) (cells ++ Number n ∷ []) (slice_set base slot (Number n) ++ held) place s.output _ here refl does)
-
   stored_by : (root : ℕ) (fits : RangeTest) (place : ℕ) (base held : List Cell) (n : ℤ) (s : effect.State) (good : Bool)
       → (int_le fits.range.first n && int_le n fits.range.last) ≡ good → Stands g.target place
       (instr.CheckRange fits.site fits.range.first fits.range.last ∷ instr.Store 0 (variable_offset g.scope root) ∷ []) → fits.site < sites → root < variables
@@ -148,7 +113,11 @@ module _ (g : Setting) where
       ∙ ap Ok holds in
       let passed = passes g check cells place fits.site s.output _ refl refl stands.0 tested in
       let e : place + 1 + 1 ≡ place + 2 = omega arith in
-      let kept_there = stored_there root fits (place + 1) base held n s within fit based stands.1.0 in
+      let kept_base = variable_kept g root within s.store base n based fit in
+      let kept_there = done g 1 _ (slice_set base (slot g root within) (Number n)) held (place + 1 + 1)
+      (record s { store = kept s.store (g.environment root) (value.Number n) })
+      (record { full = kept_base.full; alike = kept_base.alike })
+      (stores_variable g root within s.store base held cells (Number n) (place + 1) s.output based refl stands.1.0) in
       subst (λ p. Executes g s.turns (on g cells place s.output) held p (effect.store (g.environment root) (value.Number n) s)) e
       (executes_from g 0 s.turns _ _ held (place + 1 + 1) (effect.store (g.environment root) (value.Number n) s) passed kept_there)
   stored_by root fits place base held n s false holds stands h within fit based =
@@ -334,13 +303,15 @@ repeats_step (Compound number statements) = greatest statements.items
 repeats_step (If number condition consequence alternative) = max consequence.value (alternative_repeats alternative)
 repeats_step (While number loop_number word condition body) = body.value
 repeats_step (Repeat number loop_number word statements condition) = greatest statements.items + 1
+repeats_step (For number loop_number word control first first_fits way last last_fits body) = body.value
 
 abbrev pub repeats : Stmt → ℕ
 repeats = fold-Stmt ℕ repeats_step
 
 -- what is shown of a statement, in each setting
 abbrev pub StmtRuns : Stmt → Type 0
-StmtRuns s = (g : Setting) → repeats s ≤ g.slack → ExecutesAs g (stmt_code s) (stmt_depth s) (is_well_formed_stmt (length g.tree.variables.items) (length g.tree.sites.items) s)
+StmtRuns s = (g : Setting) → repeats s ≤ g.slack → ExecutesAs g (stmt_code s) (stmt_depth s) (is_well_formed_stmt (length g.tree.variables.items) (length
+    g.tree.sites.items) s)
     (effect_of s)
 
 each_statement : (g : Setting) (ss : List ((s : Stmt) × StmtRuns s)) (before : ℕ) → fold max before (map repeats (map (λ x. x.0) ss)) ≤ g.slack → Each
@@ -456,17 +427,22 @@ while_runs g number condition body few place base held s stands good based high 
     let hold : Unit {0} → List Cell = λ _. held in
     let round : Round (Unit {0}) = while_round (value_of condition) (effect_of body.0) g.environment in
     let turns_on : (bound : ℕ) (holds : Bool) (base2 : List Cell) (t : effect.State) → Based g t.store base2 → t.turns ≤ bound → (m : State)
-    → m.output ≡ t.output → Comes g.target 1 m (on g (base2 ++ held) (if holds then inside else end) t.output) → Rounds g hold place end held 0 bound t.turns m
+    → m.output ≡ t.output → Comes g.target 1 m (on g (base2 ++ held) (if holds then inside else end) t.output)
+    → Rounds g (λ _. Unit {0}) hold place end held 0 bound t.turns m
     (turn_if holds (effect_of body.0 g.environment) t) =
     λ bound holds. elim holds as (λ h. (base2 : List Cell) (t : effect.State) → Based g t.store base2 → t.turns ≤ bound → (m : State)
-    → m.output ≡ t.output → Comes g.target 1 m (on g (base2 ++ held) (if h then inside else end) t.output) → Rounds g hold place end held 0 bound t.turns m
+    → m.output ≡ t.output → Comes g.target 1 m (on g (base2 ++ held) (if h then inside else end) t.output)
+    → Rounds g (λ _. Unit {0}) hold place end held 0 bound t.turns m
     (turn_if h (effect_of body.0 g.environment) t)) [
       | true ↦ λ base2 t based2 few' m same came.
-          turned g hold place end held bound t.turns t m (λ _. effect_of body.0 g.environment >>= λ _. give (Some tt)) same (λ left is.
-          rounds_on g hold place end held 0 bound t.turns left m (on g (base2 ++ held) inside t.output)
+          turned g (λ _. Unit {0}) hold place end held bound t.turns t m (λ _. effect_of body.0 g.environment >>= λ _. give (Some tt)) same (λ left is.
+          rounds_on g (λ _. Unit {0}) hold place end held 0 bound t.turns left m (on g (base2 ++ held) inside t.output)
           ((effect_of body.0 g.environment >>= λ _. give (Some tt)) (record t { turns = left })) (omega arith)
           (comes_less g.target (t.turns - left) 1 m _ (omega arith) came)
-          (then_rounds g hold place end held 0 bound left _ held (inside + length code) (effect_of body.0 g.environment (record t { turns = left }))
+          (then_rounds g (λ _. Unit {0}) hold place end held 0 bound left _ held (inside + length code) (effect_of body.0 g.environment (record t {
+            turns =
+                left;
+          }))
           (λ _. give (Some tt))
           (body.1 g few inside base2 held (record t { turns = left }) (stands_front g.target inside code back within) parts.1
           (record { full = based2.full; alike = based2.alike }) high (omega arith))
@@ -475,19 +451,20 @@ while_runs g number condition body few place base held s stands good based high 
             based3,
             comes_less g.target (u.turns - u.turns + 0) 1 _ _ (omega arith) (jumps g place (base3 ++ held) (inside + length code) u.output jump.0),
             omega arith,
+            tt,
           ))))
       | false ↦ λ base2 t based2 few' m same came. (base2, based2, comes_less g.target (t.turns - t.turns + 0) 1 m _ (omega arith) came, omega arith)
     ] in
-    let runs : RoundRuns g hold place end held round =
-    λ start base2 t based2.
-    value_rounds g hold place end held 0 t.turns t.turns _ held (place + length test) (value_of condition g.environment t)
+    let runs : RoundRuns g (λ _. Unit {0}) hold place end held round =
+    λ start base2 t fits based2.
+    value_rounds g (λ _. Unit {0}) hold place end held 0 t.turns t.turns _ held (place + length test) (value_of condition g.environment t)
     (λ v. turn_if (is_so v) (effect_of body.0 g.environment))
     (expr_runs g condition place base2 held t front parts.0 based2 (omega arith))
     (λ base3 n u based3 fit fewer.
     turns_on t.turns (frames.is_true n) base3 u based3 fewer _ refl
     (branches_on g end (base3 ++ held) n (place + length test) u.output here.0 (linked g u.store base3 held based3))) in
     subst (λ p. Executes g s.turns (on g (base ++ held) place s.output) held p (effect.looped round tt s1)) e
-    (loops g hold place end held round runs tt base s1 (record { full = based.full; alike = based.alike }))
+    (loops g (λ _. Unit {0}) hold place end held round runs tt base s1 tt (record { full = based.full; alike = based.alike }))
 
 -- a repeat statement
 repeat_runs : (g : Setting) (number : ℕ) (condition : Expr) (ss : List ((s : Stmt) × StmtRuns s)) → greatest (map repeats (map (λ x. x.0) ss)) + 1 ≤ g.slack
@@ -511,40 +488,289 @@ repeat_runs g number condition ss few place base held s stands good based high d
     let hold : Unit {0} → List Cell = λ _. held in
     let statements = all_of (map effect_of (map (λ x. x.0) ss)) in
     let round : Round (Unit {0}) = repeat_round statements (value_of condition) g.environment in
-    let decides : (bound : ℕ) (n : ℤ) (base2 : List Cell) (t : effect.State) → Based h t.store base2 → t.turns < bound → Rounds h hold place end held 1 bound
+    let decides : (bound : ℕ) (n : ℤ) (base2 : List Cell) (t : effect.State) → Based h t.store base2 → t.turns < bound
+    → Rounds h (λ _. Unit {0}) hold place end held 1 bound
     t.turns (on g ((base2 ++ held) ++ Number n ∷ []) (last + length test) t.output) (give (if frames.is_true n then None else Some tt) t) =
     λ bound n base2 t based2 fewer.
     (elim (frames.is_true n) as (λ b. Comes g.target 1 (on g ((base2 ++ held) ++ Number n ∷ []) (last + length test) t.output)
-    (on g (base2 ++ held) (if b then last + length test + 1 else place) t.output) → Rounds h hold place end held 1 bound
+    (on g (base2 ++ held) (if b then last + length test + 1 else place) t.output) → Rounds h (λ _. Unit {0}) hold place end held 1 bound
     t.turns (on g ((base2 ++ held) ++ Number n ∷ []) (last + length test) t.output) (give (if b then None else Some tt) t)) [
       | true ↦ λ came. (base2, based2, comes_less g.target (t.turns - t.turns + 1) 1 _ _ (omega arith) came, omega arith)
-      | false ↦ λ came. (base2, based2, comes_less g.target (t.turns - t.turns + 1) 1 _ _ (omega arith) came, fewer)
+      | false ↦ λ came. (base2, based2, comes_less g.target (t.turns - t.turns + 1) 1 _ _ (omega arith) came, fewer, tt)
     ]) (branches_on g place (base2 ++ held) n (last + length test) t.output jump.0 (linked h t.store base2 held based2)) in
-    let inside : (left : ℕ) (base2 : List Cell) (t : effect.State) → t.turns ≡ left → Based h t.store base2 → Rounds h hold place end held 1 (suc left) left
+    let inside : (left : ℕ) (base2 : List Cell) (t : effect.State) → t.turns ≡ left → Based h t.store base2
+    → Rounds h (λ _. Unit {0}) hold place end held 1 (suc left) left
     (on g (base2 ++ held) place t.output)
     ((statements g.environment >>= λ _. value_of condition g.environment >>= λ v. give (if is_so v then None else Some tt)) t) =
     λ left base2 t is based2.
-    then_rounds h hold place end held 1 (suc left) left _ held last (statements g.environment t)
+    then_rounds h (λ _. Unit {0}) hold place end held 1 (suc left) left _ held last (statements g.environment t)
     (λ _. value_of condition g.environment >>= λ v. give (if is_so v then None else Some tt))
     (subst (λ n. Executes h n (on g (base2 ++ held) place t.output) held last (statements g.environment t)) is
     (all_run h stmt_code stmt_depth (is_well_formed_stmt (variables g) (sites g)) effect_of (map (λ x. x.0) ss)
     (each_statement h ss 0 (omega arith)) 0 place base2 held t (stands_front g.target place code (test ++ back) stands) parts.0 based2 high (omega arith)))
     (λ base3 u based3 fewer.
-    value_rounds h hold place end held 1 (suc left) u.turns _ held (last + length test) (value_of condition g.environment u)
+    value_rounds h (λ _. Unit {0}) hold place end held 1 (suc left) u.turns _ held (last + length test) (value_of condition g.environment u)
     (λ v. give (if is_so v then None else Some tt))
     (expr_runs h condition last base3 held u (stands_front g.target last test back behind) parts.1 based3 (omega arith))
     (λ base4 n w based4 fit fewest. decides (suc left) n base4 w based4 (omega arith))) in
-    let runs : RoundRuns g hold place end held round =
-    λ start base2 t based2.
-    turned g hold place end held t.turns t.turns t _ (λ _. statements g.environment >>= λ _. value_of condition g.environment >>= λ v. give
+    let runs : RoundRuns g (λ _. Unit {0}) hold place end held round =
+    λ start base2 t fits based2.
+    turned g (λ _. Unit {0}) hold place end held t.turns t.turns t _ (λ _. statements g.environment >>= λ _. value_of condition g.environment >>= λ v. give
     (if is_so v then None else Some tt)) refl (λ left is.
-    subst (λ n. Rounds g hold place end held 0 n n (on g (base2 ++ held) place t.output)
+    subst (λ n. Rounds g (λ _. Unit {0}) hold place end held 0 n n (on g (base2 ++ held) place t.output)
     ((statements g.environment >>= λ _. value_of condition g.environment >>= λ v. give (if is_so v then None else Some tt)) (record t { turns = left })))
     (sym is)
-    (rounds_from_reset g (g.slack - 1) g.scope.height hold place end held left _ _ (omega arith)
+    (rounds_from_reset g (g.slack - 1) g.scope.height (λ _. Unit {0}) hold place end held left _ _ (omega arith)
     (inside left base2 (record t { turns = left }) refl (record { full = based2.full; alike = based2.alike })))) in
     subst (λ p. Executes g s.turns (on g (base ++ held) place s.output) held p (effect.looped round tt s1)) e
-    (loops g hold place end held round runs tt base s1 (record { full = based.full; alike = based.alike }))
+    (loops g (λ _. Unit {0}) hold place end held round runs tt base s1 tt (record { full = based.full; alike = based.alike }))
+
+-- ---- a for statement
+
+-- the bounds that are held are compared as the direction says, and a jump is taken where they leave no value
+ordered : (g : Setting) (store : _) (base held : List Cell) (n l : ℤ) (output : List ℕ) (way : Direction) (place out : ℕ) → Based g store base
+    → length held ≡ g.scope.height → g.below + length held + 4 ≤ g.limit → Here g place (instr.Load 0 (held_offset g.scope 0))
+    → Here g (place + 1) (instr.Load 0 (held_offset g.scope 1))
+    → StandsAt g.target (place + 1 + 1) (order_instr way) (stays g.target.is_open (order_instr way))
+    → StandsAt g.target (place + 1 + 1 + 1) (instr.JumpIfFalse out) true
+    → Comes g.target 4 (on g (base ++ (held ++ Number n ∷ Number l ∷ [])) place output)
+    (on g (base ++ (held ++ Number n ∷ Number l ∷ [])) (if has_values way n l then place + 4 else out) output)
+ordered g store base held n l output direction.To place out based high room at1 at2 at3 at4 =
+    decides g store base held n l output based high room instr.LessOrEqual (frames.of_two dyadic.LessOrEqual) (int_le n l) place out at1 at2 at3 at4
+    (λ s. refl) refl
+ordered g store base held n l output direction.DownTo place out based high room at1 at2 at3 at4 =
+    decides g store base held n l output based high room instr.GreaterOrEqual (frames.of_two dyadic.GreaterOrEqual) (int_le l n) place out at1 at2 at3 at4
+    (λ s. refl) refl
+
+-- the next value is held, and the next round begins
+stepped : (g : Setting) (store : _) (base held : List Cell) (n l : ℤ) (output : List ℕ) (way : Direction) (place head : ℕ) → Based g store base
+    → length held ≡ g.scope.height → g.below + length held + 4 ≤ g.limit → Fits n → Fits (next_value way n)
+    → Here g place (instr.Load 0 (held_offset g.scope 0)) → Here g (place + 1) (instr.LoadConstant (pos 1))
+    → StandsAt g.target (place + 1 + 1) (next_instr way) (stays g.target.is_open (next_instr way))
+    → Here g (place + 1 + 1 + 1) (instr.Store 0 (held_offset g.scope 0)) → StandsAt g.target (place + 1 + 1 + 1 + 1) (instr.Jump head) true
+    → Comes g.target 1 (on g (base ++ (held ++ Number n ∷ Number l ∷ [])) place output)
+    (on g (base ++ (held ++ Number (next_value way n) ∷ Number l ∷ [])) head output)
+stepped g store base held n l output direction.To place head based high room fit fit' at1 at2 at3 at4 at5 =
+    steps g store base held n l output based high room instr.Add (frames.of_two dyadic.Add) (n +ℤ pos 1) place head at1 at2 at3 at4 at5 (λ s. refl)
+    (sum_is n (pos 1) fit one_fits fit')
+stepped g store base held n l output direction.DownTo place head based high room fit fit' at1 at2 at3 at4 at5 =
+    steps g store base held n l output based high room instr.Subtract (frames.of_two dyadic.Subtract) (n -ℤ pos 1) place head at1 at2 at3 at4 at5 (λ s. refl)
+    (difference_is n (pos 1) fit one_fits fit')
+
+module _ (g : Setting) (control : ℕ) (within : control < length g.tree.variables.items) (way : Direction) (body : (s : Stmt) × StmtRuns s)
+    (few : repeats body.0 ≤ g.slack)
+    (good : is_well_formed_stmt (length g.tree.variables.items) (length g.tree.sites.items) body.0 ≡ true) (head : ℕ) (held : List Cell)
+    (high : length held ≡ g.scope.height) (room : g.below + length held + max 4 (stmt_depth body.0 + 2) ≤ g.limit) (l : ℤ) (fit_last : Fits l) where
+  abbrev inner : Setting
+  inner = reset g g.slack (count (g.scope.height + 2))
+
+  abbrev body_code : List Instr
+  body_code = stmt_code body.0 (holding 2 g.scope) (head + 2)
+
+  abbrev behind : ℕ
+  behind = head + 2 + length body_code
+
+  abbrev out : ℕ
+  out = behind + 9
+
+  abbrev hold : ℤ → List Cell
+  hold n = held ++ Number n ∷ Number l ∷ []
+
+  abbrev fit : ℤ → Type 0
+  fit n = Fits n × (has_values way n l ≡ true)
+
+  abbrev round : Round ℤ
+  round = for_round control way l (effect_of body.0) g.environment
+
+  enough : g.below + length held + 4 ≤ g.limit
+  enough = omega arith
+
+  -- behind the body
+  turns_back : (n : ℤ) (base : List Cell) (s : effect.State) (bound : ℕ) (same : Bool) → int_eq n l ≡ same → fit n → s.turns < bound → Based g s.store base
+      → Stands g.target behind (for_next g.scope way head out)
+      → Comes g.target 4 (on g (base ++ hold n) behind s.output) (on g (base ++ hold n) (if not same then behind + 4 else out) s.output)
+      → Rounds g fit hold head out (hold l) 0 bound s.turns (on g (base ++ hold n) behind s.output)
+      (give (if same then None else Some (next_value way n)) s)
+  turns_back n base s bound true is fits fewer based stands came = (
+    base,
+    based,
+    comes_less g.target (s.turns - s.turns + 0) 4 _ _ (omega arith)
+        (subst (λ m. Comes g.target 4 (on g (base ++ hold n) behind s.output) (on g (base ++ hold m) out s.output)) (last_is n l is) came),
+    omega arith,
+  )
+  turns_back n base s bound false is fits fewer based stands came =
+      let next = next_fits way n l fits.0 fit_last fits.1 is in
+      let p : behind + 1 + 1 + 1 + 1 ≡ behind + 4 = omega arith in
+      let rest = stands.1.1.1.1 in
+      let again = stepped g s.store base held n l s.output way (behind + 1 + 1 + 1 + 1) head based high enough fits.0 next.fits rest.0 rest.1.0 rest.1.1.0
+      rest.1.1.1.0 rest.1.1.1.1.0 in
+      let from = subst (λ q. Comes g.target 1 (on g (base ++ hold n) q s.output) (on g (base ++ hold (next_value way n)) head s.output)) p again in (
+        base,
+        based,
+        comes_less g.target (s.turns - s.turns + 0) 5 _ _ (omega arith) (comes_on g.target 4 1 _ _ _ came from),
+        fewer,
+        (next.fits, next.has),
+      )
+
+  for_round_runs : Stands g.target head (for_begin g.scope control) → Stands g.target (head + 2) body_code
+      → Stands g.target behind (for_next g.scope way head out) → RoundRuns g fit hold head out (hold l) round
+  for_round_runs beginning inside next n base s fits based =
+      let s1 : effect.State = record s { store = kept s.store (g.environment control) (value.Number n) } in
+      let base1 = slice_set base (slot g control within) (Number n) in
+      let based1 = variable_kept g control within s.store base n based fits.0 in
+      let came = begins g s.store base held n l s.output based high enough control head within fits.0 beginning.0 beginning.1.0 in
+      let long : length (hold n) ≡ length held + 2 = length-append held (Number n ∷ Number l ∷ []) in
+      let reach = g.far in
+      turned g fit hold head out (hold l) s.turns s.turns s1 _ (λ _. effect_of body.0 g.environment >>= λ _. give (value_behind way l n)) refl (λ left is.
+      rounds_on g fit hold head out (hold l) 0 s.turns s.turns left _ (on g (base1 ++ hold n) (head + 2) s.output)
+      ((effect_of body.0 g.environment >>= λ _. give (value_behind way l n)) (record s1 { turns = left })) (omega arith)
+      (comes_less g.target (s.turns - left) 2 _ _ (omega arith) came)
+      (then_rounds g fit hold head out (hold l) 0 s.turns left _ (hold n) behind (effect_of body.0 g.environment (record s1 { turns = left }))
+      (λ _. give (value_behind way l n))
+      (executes_from_reset g g.slack (count (g.scope.height + 2)) left _ (hold n) behind (effect_of body.0 g.environment (record s1 { turns = left })) refl
+      (body.1 inner few (head + 2) base1 (hold n) (record s1 { turns = left }) inside good (record { full = based1.full; alike = based1.alike })
+      (omega (arith, long, high, reach, room)) (omega (arith, long, room))))
+      (λ base2 u based2 fewer.
+      turns_back n base2 u s.turns (int_eq n l) refl fits (omega (arith, is, fewer)) based2 next
+      (decides g u.store base2 held n l u.output based2 high enough instr.NotEqual (frames.of_two dyadic.NotEqual) (not (int_eq n l)) behind out
+      next.0 next.1.0 next.1.1.0 next.1.1.1.0 (λ s. refl) refl))))
+
+  -- behind the loop
+  module _ (ending : Stands g.target out (for_end g.scope control)) where
+    leaves_it : (n : ℤ) (base : List Cell) (s : effect.State) → Fits n → Based g s.store base
+        → Executes g s.turns (on g (base ++ hold n) out s.output) held (out + 4) (effect.undefine (g.environment control) s)
+    leaves_it n base s fits based =
+        let c = slot g control within in
+        let based' = variable_forgotten g control within s.store base based in
+        done g 4 _ (slice_set base c Undefined) held (out + 4) (record s { store = forgotten s.store (g.environment control) })
+        (record { full = based'.full; alike = based'.alike })
+        (leaves g s.store base held n l s.output based high enough control out within fits fit_last ending.0 ending.1.0 ending.1.1.0 ending.1.1.1.0)
+
+    module _ (first_fits last_fits : RangeTest) (site_first : first_fits.site < length g.tree.sites.items) (site_last : last_fits.site < length
+        g.tree.sites.items) (place : ℕ) (at : place + 8 ≡ head) (entry : Stands g.target place (for_entry g.scope first_fits way last_fits out))
+        (beginning : Stands g.target head (for_begin g.scope control)) (inside : Stands g.target (head + 2) body_code)
+        (next : Stands g.target behind (for_next g.scope way head out)) where
+      -- the tests of the bounds, and the rounds
+      tested : (n : ℤ) (base : List Cell) (s : effect.State) → Fits n → has_values way n l ≡ true → Based g s.store base
+          → Executes g s.turns (on g (base ++ hold n) (place + 4) s.output) (hold l) out
+          (for_rounds control first_fits way last_fits (effect_of body.0) g.environment n l s)
+      tested n base s fits has based =
+          let here = base ++ hold n in
+          let one = held ++ Number n ∷ [] in
+          let rest = entry.1.1.1.1 in
+          let in_frame = linked g s.store base (hold n) based in
+          let full = based.full in
+          let long : length here ≡ g.below + length held + 2 = omega (arith, length-append base (hold n), length-append held (Number n ∷ Number l ∷ [])) in
+          let p : place + 1 + 1 + 1 + 1 ≡ place + 4 = omega arith in
+          let q : place + 1 + 1 + 1 + 1 + 1 + 1 + 1 + 1 ≡ head = omega (arith, at) in
+          let a = loads_held g s.store base held (Number n ∷ Number l ∷ []) [] here 0 (Number n) (place + 1 + 1 + 1 + 1) s.output based high
+          (sym (append-nil here)) refl (omega arith) rest.0 in
+          let b = stores_held g s.store base held (Number n ∷ Number l ∷ []) (here ++ Number n ∷ []) 0 (Number n) (place + 1 + 1 + 1 + 1 + 1 + 1) s.output based
+          high refl (omega arith) (omega arith) rest.1.1.0 in
+          let split : here ≡ (base ++ one) ++ Number l ∷ [] = ap (λ cs. base ++ cs) (sym (append_assoc held (Number n ∷ []) (Number l ∷ [])))
+          ∙ sym (append_assoc base one (Number l ∷ [])) in
+          let in_frame' = linked g s.store base one based in
+          let loop = subst (λ m. Executes g s.turns (on g here m s.output) (hold l) out (effect.looped round n s)) (sym q)
+          (loops g fit hold head out (hold l) round (for_round_runs beginning inside next) n base s (fits, has) based) in
+          let last' = tests g last_fits (base ++ one) (hold l) l (place + 1 + 1 + 1 + 1 + 1 + 1 + 1) out s (effect.looped round n) fit_last rest.1.1.1.0
+          site_last
+          in_frame' (subst (λ cs. Executes g s.turns (on g cs (place + 1 + 1 + 1 + 1 + 1 + 1 + 1 + 1) s.output) (hold l) out (effect.looped round n s)) split
+          loop) in
+          let last_here = subst (λ cs. Executes g s.turns (on g cs (place + 1 + 1 + 1 + 1 + 1 + 1 + 1) s.output) (hold l) out
+          (effect.and_then (require (effect.is_in last_fits.range (value.Number l)) last_fits.site s) (λ _. effect.looped round n))) (sym split) last' in
+          subst (λ m. Executes g s.turns (on g here m s.output) (hold l) out
+          (for_rounds control first_fits way last_fits (effect_of body.0) g.environment n l s)) p
+          (executes_from g 1 s.turns _ _ (hold l) out (for_rounds control first_fits way last_fits (effect_of body.0) g.environment n l s) a
+          (tests g first_fits here (hold l) n (place + 1 + 1 + 1 + 1 + 1) out s
+          (require (effect.is_in last_fits.range (value.Number l)) last_fits.site >>= λ _. effect.looped round n) fits rest.1.0 site_first in_frame
+          (executes_from g 1 s.turns _ _ (hold l) out
+          (effect.and_then (require (effect.is_in last_fits.range (value.Number l)) last_fits.site s) (λ _. effect.looped round n)) b last_here)))
+
+      -- from the values of the bounds on
+      from_bounds : (n : ℤ) (base : List Cell) (s : effect.State) (has : Bool) → has_values way n l ≡ has → Fits n → Based g s.store base
+          → Comes g.target 4 (on g (base ++ hold n) place s.output) (on g (base ++ hold n) (if has then place + 4 else out) s.output)
+          → Executes g s.turns (on g (base ++ hold n) place s.output) held (out + 4)
+          (((if has then for_rounds control first_fits way last_fits (effect_of body.0) g.environment n l else give tt) >>= λ _. effect.undefine
+          (g.environment control)) s)
+      from_bounds n base s true has fits based came =
+          executes_from g 4 s.turns _ _ held (out + 4)
+          ((for_rounds control first_fits way last_fits (effect_of body.0) g.environment n l >>= λ _. effect.undefine (g.environment control)) s) came
+          (then_leaves g s.turns _ (hold l) held out (out + 4) (for_rounds control first_fits way last_fits (effect_of body.0) g.environment n l s)
+          (λ _. effect.undefine (g.environment control)) (tested n base s fits has based)
+          (λ base2 t based2. leaves_it l base2 t fit_last based2))
+      from_bounds n base s false has fits based came =
+          executes_from g 4 s.turns _ _ held (out + 4) (effect.undefine (g.environment control) s) came (leaves_it n base s fits based)
+
+      for_between_runs : (n : ℤ) (base : List Cell) (s : effect.State) → Fits n → Based g s.store base
+          → Executes g s.turns (on g (base ++ hold n) place s.output) held (out + 4)
+          ((for_between control first_fits way last_fits (effect_of body.0) g.environment (value.Number n) (value.Number l) >>= λ _. effect.undefine
+          (g.environment control)) s)
+      for_between_runs n base s fits based =
+          from_bounds n base s (has_values way n l) refl fits based
+          (ordered g s.store base held n l s.output way place out based high enough entry.0 entry.1.0 entry.1.1.0 entry.1.1.1.0)
+
+for_runs : (g : Setting) (number control : ℕ) (first : Expr) (first_fits : RangeTest) (way : Direction) (last : Expr) (last_fits : RangeTest)
+    (body : (s : Stmt) × StmtRuns s) → repeats body.0 ≤ g.slack
+    → ExecutesAs g (λ scope. for_code control (expr_code scope first) first_fits way (expr_code scope last) last_fits (stmt_code body.0) scope)
+    (max (max (expr_depth first) (expr_depth last + 1)) (max 4 (stmt_depth body.0 + 2)))
+    (nat_lt control (variables g) && (is_well_formed_expr (variables g) (sites g) first && (is_well_formed_test (variables g) (sites g) first_fits &&
+    (is_well_formed_expr (variables g) (sites g) last && (is_well_formed_test (variables g) (sites g) last_fits && is_well_formed_stmt (variables g) (sites g)
+    body.0)))))
+    (λ e. effect.enter number e >>= λ _. value_of first e >>= λ a. value_of last e >>= λ b. for_between control first_fits way last_fits (effect_of body.0) e
+    a b
+    >>= λ _. effect.undefine (e control))
+for_runs g number control first first_fits way last last_fits body few place base held s stands good based high deep =
+    let s1 : effect.State = record s { visited = s.visited ++ record { number = number; environment = g.environment; store = s.store } ∷ [] } in
+    let a = expr_code g.scope first in
+    let b = expr_code g.scope last in
+    let head = place + length a + length b + 8 in
+    let inside = stmt_code body.0 (holding 2 g.scope) (head + 2) in
+    let out' = head + 2 + length inside + 9 in
+    let entry = for_entry g.scope first_fits way last_fits out' in
+    let begin = for_begin g.scope control in
+    let next = for_next g.scope way head out' in
+    let end = for_end g.scope control in
+    let at_a = stands_front g.target place a (b ++ (entry ++ (begin ++ (inside ++ (next ++ end))))) stands in
+    let from_b = stands_back g.target place a (b ++ (entry ++ (begin ++ (inside ++ (next ++ end))))) stands in
+    let at_b = stands_front g.target (place + length a) b (entry ++ (begin ++ (inside ++ (next ++ end)))) from_b in
+    let from_entry = stands_back g.target (place + length a) b (entry ++ (begin ++ (inside ++ (next ++ end)))) from_b in
+    let test = place + length a + length b in
+    let at_entry = stands_front g.target test entry (begin ++ (inside ++ (next ++ end))) from_entry in
+    let from_begin = stands_back g.target test entry (begin ++ (inside ++ (next ++ end))) from_entry in
+    let at_begin = stands_front g.target head begin (inside ++ (next ++ end)) from_begin in
+    let from_inside = stands_back g.target head begin (inside ++ (next ++ end)) from_begin in
+    let at_inside = stands_front g.target (head + 2) inside (next ++ end) from_inside in
+    let from_next = stands_back g.target (head + 2) inside (next ++ end) from_inside in
+    let at_next = stands_front g.target (head + 2 + length inside) next end from_next in
+    let at_end = stands_back g.target (head + 2 + length inside) next end from_next in
+    let e : out' + 4 ≡ place + length (for_code control a first_fits way b last_fits (stmt_code body.0) g.scope place) =
+    omega (arith, length-For control a first_fits way b last_fits (stmt_code body.0) g.scope place) in
+    let p1 = and_parts (nat_lt control (variables g)) _ good in
+    let p2 = and_parts (is_well_formed_expr (variables g) (sites g) first) _ p1.1 in
+    let p3 = and_parts (is_well_formed_test (variables g) (sites g) first_fits) _ p2.1 in
+    let p4 = and_parts (is_well_formed_expr (variables g) (sites g) last) _ p3.1 in
+    let p5 = and_parts (is_well_formed_test (variables g) (sites g) last_fits) (is_well_formed_stmt (variables g) (sites g) body.0) p4.1 in
+    let site_first = ltb-true first_fits.site (sites g) (and_parts (nat_lt first_fits.site (sites g)) _ p3.0).0 in
+    let site_last = ltb-true last_fits.site (sites g) (and_parts (nat_lt last_fits.site (sites g)) _ p5.0).0 in
+    let within = ltb-true control (variables g) p1.0 in
+    let rest : Value → Value → Action (Unit {0}) = λ v w. for_between control first_fits way last_fits (effect_of body.0) g.environment v w >>= λ _.
+    effect.undefine (g.environment control) in
+    subst (λ q. Executes g s.turns (on g (base ++ held) place s.output) held q
+    (effect.and_then (value_of first g.environment s1) (λ v. value_of last g.environment >>= λ w. rest v w))) e
+    (after_value g s.turns _ held held (place + length a) (out' + 4) (value_of first g.environment s1) (λ v. value_of last g.environment >>= λ w. rest v w)
+    (expr_runs g first place base held s1 at_a p2.0 (record { full = based.full; alike = based.alike }) (omega arith))
+    (λ base2 n t based2 fit.
+    let more : length (held ++ Number n ∷ []) ≡ length held + 1 = length_one held (Number n) in
+    subst (λ cells. Executes g t.turns (on g cells (place + length a) t.output) held (out' + 4)
+    (effect.and_then (value_of last g.environment t) (rest (value.Number n)))) (one_held g base2 held n)
+    (after_value g t.turns _ (held ++ Number n ∷ []) held test (out' + 4) (value_of last g.environment t) (rest (value.Number n))
+    (expr_runs g last (place + length a) base2 (held ++ Number n ∷ []) t at_b p4.0 based2 (omega (arith, more)))
+    (λ base3 l u based3 fit'.
+    let two : (base3 ++ (held ++ Number n ∷ [])) ++ Number l ∷ [] ≡ base3 ++ (held ++ Number n ∷ Number l ∷ []) =
+    append_assoc base3 (held ++ Number n ∷ []) (Number l ∷ []) ∙ ap (λ cs. base3 ++ cs) (append_assoc held (Number n ∷ []) (Number l ∷ [])) in
+    subst (λ cells. Executes g u.turns (on g cells test u.output) held (out' + 4) (rest (value.Number n) (value.Number l) u)) (sym two)
+    (for_between_runs g control within way body few p5.1 head held high (omega arith) l fit' at_end first_fits last_fits site_first site_last test refl at_entry
+    at_begin at_inside at_next n base3 u fit based3)))))
 
 same_executes : (g : Setting) (c c' : Placed) (d d' : ℕ) (w w' : Bool) (v v' : Execution) → c ≡ c' → d ≡ d' → w ≡ w' → v ≡ v' → ExecutesAs g c' d' w' v'
     → ExecutesAs g c d w v
@@ -556,7 +782,8 @@ module _ (x : Stmt-F Stmt) where
   abbrev is_step : Setting → Stmt-F Bool → Bool
   is_step g = stmt_is_well_formed (length g.tree.variables.items) (length g.tree.sites.items)
 
-  rolled_stmt : ((g : Setting) → repeats_step (map-Stmt Stmt ℕ repeats x) ≤ g.slack → ExecutesAs g (stmt_step (map-Stmt Stmt Placed stmt_code x)) (stmt_depth_step (map-Stmt Stmt ℕ stmt_depth x))
+  rolled_stmt : ((g : Setting) → repeats_step (map-Stmt Stmt ℕ repeats x) ≤ g.slack → ExecutesAs g (stmt_step (map-Stmt Stmt Placed stmt_code x))
+      (stmt_depth_step (map-Stmt Stmt ℕ stmt_depth x))
       (is_step g (map-Stmt Stmt Bool (fold-Stmt Bool (is_step g)) x)) (effect_step (map-Stmt Stmt Execution effect_of x))) → StmtRuns (roll-Stmt x)
   rolled_stmt runs g few =
       same_executes g _ _ _ _ _ _ _ _ (fold-roll-Stmt Placed stmt_step x) (fold-roll-Stmt ℕ stmt_depth_step x) (fold-roll-Stmt Bool (is_step g) x)
@@ -581,6 +808,9 @@ stmt_layer (While number loop_number word condition body) =
 stmt_layer (Repeat number loop_number word statements condition) =
     rolled_stmt (map-Stmt ((s : Stmt) × StmtRuns s) Stmt (λ s. s.0) (Repeat number loop_number word statements condition))
     (λ g few. repeat_runs g number condition statements.items few)
+stmt_layer (For number loop_number word control first first_fits way last last_fits body) =
+    rolled_stmt (map-Stmt ((s : Stmt) × StmtRuns s) Stmt (λ s. s.0) (For number loop_number word control first first_fits way last last_fits body))
+    (λ g few. for_runs g number control first first_fits way last last_fits body.value few)
 
 -- the code of a statement keeps store and cells alike, or stops as the statement does
 pub stmt_runs : (s : Stmt) → StmtRuns s

@@ -180,6 +180,8 @@ alike = record {
       (λ e. ap (λ n. Some (Number (pos n))) (same_Some 0 outer e))
       (λ e. absurd (none-some outer e))
       a lives e;
+  blank = λ a lives e.
+      for_both (λ a. a.outer ≡ None → slice_get cells (a.frame + 2) ≡ Some Undefined) (λ e. absurd (none-some 0 (sym e))) (λ e. refl) a lives e;
   references = λ a root offset p c lives e l.
       for_both (λ a. a.refers root ≡ Some (offset, p) → slice_get cells (a.frame + offset) ≡ Some (Number (pos c)))
       (λ e.

@@ -17,6 +17,8 @@ use Rattle.typed_tree.specs.declared.tree.Dyadic.TheVariants as dyadic
 use Rattle.typed_tree.specs.declared.tree.Relation.{Relation}
 use Rattle.typed_tree.specs.declared.tree.Relation.TheVariants as relation
 use Rattle.typed_tree.specs.declared.tree.RangeTest.{RangeTest}
+use Rattle.typed_tree.specs.declared.tree.Direction.{Direction}
+use Rattle.typed_tree.specs.declared.tree.Direction.TheVariants as direction
 use Rattle.typed_tree.specs.declared.tree.Representation.{Representation}
 use Rattle.typed_tree.specs.declared.tree.Representation.TheVariants as representation
 use Rattle.typed_tree.specs.declared.tree.Width.{Width}
@@ -28,7 +30,7 @@ use Rattle.typed_tree.specs.declared.tree.Expr.TheOpen.Expr-F.{Constant, Variabl
 use Rattle.typed_tree.specs.declared.tree.Expr.TheFolds.{fold-Expr, fold-Link}
 use Rattle.typed_tree.specs.declared.tree.Stmt.{Stmt}
 use Rattle.typed_tree.specs.declared.tree.Stmt.TheOpen.{Stmt-F}
-use Rattle.typed_tree.specs.declared.tree.Stmt.TheOpen.Stmt-F.{Empty, Assign, Write, Compound, If, While, Repeat}
+use Rattle.typed_tree.specs.declared.tree.Stmt.TheOpen.Stmt-F.{Empty, Assign, Write, Compound, If, While, Repeat, For}
 use Rattle.typed_tree.specs.declared.tree.Stmt.TheFolds.{fold-Stmt}
 
 -- the pieces one after another
@@ -165,8 +167,8 @@ if_else_code test consequence alternative scope place =
     test ++ (instr.JumpIfFalse no ∷ (consequence scope yes
     ++ (instr.Jump (no + length (alternative scope no)) ∷ alternative scope no)))
 
--- the code of a while statement (6.8.3.8): where the condition is false, a jump behind the loop; and behind the body
--- one back to the condition
+-- the code of a while statement (6.8.3.8): where the condition is false, a jump behind the loop; behind the body one
+-- back to the condition
 abbrev pub while_code : List Instr → Placed → Placed
 while_code test body scope place =
     let inside = place + length test + 1 in
@@ -176,6 +178,63 @@ while_code test body scope place =
 -- the code of a repeat statement (6.8.3.7): where the condition is false, a jump back to the first statement
 abbrev pub repeat_code : (ℕ → List Instr) → List Instr → ℕ → List Instr
 repeat_code statements test place = statements place ++ (test ++ (instr.JumpIfFalse place ∷ []))
+
+-- where the n-th cell lies in the frame that is held above the variables and above those that are held already
+abbrev pub held_offset : Scope → ℕ → ℕ
+held_offset scope n = offset (scope.above + scope.height + n)
+
+-- the scope of code that runs while so many cells more are held
+abbrev pub holding : ℕ → Scope → Scope
+holding cells scope = record scope { height = count (scope.height + cells) }
+
+-- the test of a value
+abbrev pub range_check : RangeTest → Instr
+range_check fits = instr.CheckRange fits.site fits.range.first fits.range.last
+
+-- whether there is a value from the first bound of a for statement to the last, and the next value
+abbrev pub order_instr : Direction → Instr
+order_instr direction.To = instr.LessOrEqual
+order_instr direction.DownTo = instr.GreaterOrEqual
+
+abbrev pub next_instr : Direction → Instr
+next_instr direction.To = instr.Add
+next_instr direction.DownTo = instr.Subtract
+
+-- The code behind both bounds, whose values are held from then on: a jump out of the loop where they leave no value, and
+-- the tests of the first and of the last.
+abbrev pub for_entry : Scope → RangeTest → Direction → RangeTest → ℕ → List Instr
+for_entry scope first_fits way last_fits out =
+    instr.Load 0 (held_offset scope 0) ∷ instr.Load 0 (held_offset scope 1) ∷ order_instr way ∷ instr.JumpIfFalse out
+    ∷ instr.Load 0 (held_offset scope 0) ∷ range_check first_fits ∷ instr.Store 0 (held_offset scope 0)
+    ∷ range_check last_fits ∷ []
+
+-- at the head of a round the control variable gets the value that is held
+abbrev pub for_begin : Scope → ℕ → List Instr
+for_begin scope control =
+    instr.Load 0 (held_offset scope 0) ∷ instr.Store 0 (variable_offset scope control) ∷ []
+
+-- behind the body: out of the loop with the last value, or else to the head with the next one
+abbrev pub for_next : Scope → Direction → ℕ → ℕ → List Instr
+for_next scope way head out =
+    instr.Load 0 (held_offset scope 0) ∷ instr.Load 0 (held_offset scope 1) ∷ instr.NotEqual ∷ instr.JumpIfFalse out
+    ∷ instr.Load 0 (held_offset scope 0) ∷ instr.LoadConstant (pos 1) ∷ next_instr way
+    ∷ instr.Store 0 (held_offset scope 0) ∷ instr.Jump head ∷ []
+
+-- Behind the loop nothing more is held, and the control variable is undefined. The program's frame has no return, so
+-- its third cell never gets a value.
+abbrev pub for_end : Scope → ℕ → List Instr
+for_end scope control =
+    instr.Store 0 (variable_offset scope control) ∷ instr.Store 0 (variable_offset scope control)
+    ∷ instr.Load 0 2 ∷ instr.Store 0 (variable_offset scope control) ∷ []
+
+-- the code of a for statement (6.8.3.9)
+abbrev pub for_code : ℕ → List Instr → RangeTest → Direction → List Instr → RangeTest → Placed → Placed
+for_code control first first_fits way last last_fits body scope place =
+    let head = place + length first + length last + 8 in
+    let inside = body (holding 2 scope) (head + 2) in
+    let out = head + 2 + length inside + 9 in
+    first ++ (last ++ (for_entry scope first_fits way last_fits out
+    ++ (for_begin scope control ++ (inside ++ (for_next scope way head out ++ for_end scope control)))))
 
 abbrev pub stmt_step : Stmt-F Placed → Placed
 stmt_step (Empty number) scope place = []
@@ -190,6 +249,8 @@ stmt_step (While number loop_number word condition body) scope place =
     while_code (expr_code scope condition) body.value scope place
 stmt_step (Repeat number loop_number word statements condition) scope place =
     repeat_code (placed (map (λ code. code scope) statements.items)) (expr_code scope condition) place
+stmt_step (For number loop_number word control first first_fits way last last_fits body) scope place =
+    for_code control (expr_code scope first) first_fits way (expr_code scope last) last_fits body.value scope place
 
 -- the code of a statement at a place
 abbrev pub stmt_code : Stmt → Placed
@@ -236,14 +297,17 @@ stmt_depth_step (If number condition consequence alternative) =
 stmt_depth_step (While number loop_number word condition body) = max (expr_depth condition) body.value
 stmt_depth_step (Repeat number loop_number word statements condition) =
     max (greatest statements.items) (expr_depth condition)
+stmt_depth_step (For number loop_number word control first first_fits way last last_fits body) =
+    max (max (expr_depth first) (expr_depth last + 1)) (max 4 (body.value + 2))
 
 -- how many cells the evaluation of a statement needs at once
 abbrev pub stmt_depth : Stmt → ℕ
 stmt_depth = fold-Stmt ℕ stmt_depth_step
 
--- the scope of the program's block: its variables lie behind the four links of the frame, and nothing is held above
-abbrev pub program_scope : Scope
-program_scope = record { variables = 4; height = 0 }
+-- the scope of a program's block with so many variables: they lie behind the four links of the frame, and nothing is
+-- held above
+abbrev pub program_scope : ℕ → Scope
+program_scope variables = record { variables = 4; above = 4 + variables; height = 0 }
 
 -- the code of a block with so many variables, at a place
 abbrev pub block_code : ℕ → Stmt → Placed
@@ -253,7 +317,7 @@ block_code variables body scope place =
 -- the code of the program's block; a tree that has none does nothing
 abbrev pub body_code : ℕ → Option Block → List Instr
 body_code variables None = instr.Enter variables 0 ∷ []
-body_code variables (Some block) = block_code variables block.body program_scope 0
+body_code variables (Some block) = block_code variables block.body (program_scope variables) 0
 
 -- the code of a program: its block, and the end of the run
 abbrev pub program_code : Tree → List Instr

@@ -5,10 +5,10 @@ use Rattle.std.specs.List.{flat_map}
 use Rattle.std.specs.declared.alloc.AllocError.{AllocError}
 use Rattle.typed_tree.specs.declared.tree.Stmt.{Stmt}
 use Rattle.typed_tree.specs.declared.tree.Stmt.TheOpen.{Stmt-F}
-use Rattle.typed_tree.specs.declared.tree.Stmt.TheOpen.Stmt-F.{Empty, Assign, Write, Compound, If, While, Repeat}
+use Rattle.typed_tree.specs.declared.tree.Stmt.TheOpen.Stmt-F.{Empty, Assign, Write, Compound, If, While, Repeat, For}
 use Rattle.typed_tree.specs.declared.tree.Stmt.TheFolds.{fold-Stmt}
 use Rattle.code_generator.specs.declared.scope.Scope.{Scope}
-use Rattle.code_generator.specs.Code.{assign_code, expr_code, write_code}
+use Rattle.code_generator.specs.Code.{assign_code, expr_code, holding, write_code}
 
 -- a number, or the greatest number of 32 bits
 abbrev pub capped : ℕ → ℕ
@@ -66,6 +66,12 @@ measured_step (While number loop_number word condition body) scope =
 measured_step (Repeat number loop_number word statements condition) scope =
     let parts = map (λ (measure : Scope → Measured). measure scope) statements.items in
     record { size = all_sizes parts + (length (expr_code scope condition) + 1); inner = all_tables parts }
+measured_step (For number loop_number word control first first_fits way last last_fits body) scope =
+    let inside = body.value (holding 2 scope) in
+    record {
+      size = length (expr_code scope first) + length (expr_code scope last) + 10 + inside.size + 13;
+      inner = table_of inside;
+    }
 
 -- how many instructions a statement has, and those in it
 abbrev pub measured : Stmt → Scope → Measured

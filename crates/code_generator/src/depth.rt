@@ -36,6 +36,15 @@ pub fn needed_by(stmt: &Stmt) -> u32
             condition,
             ..
         } => needed_by_statements(statements).max(needed_by_expr(condition)),
+        Stmt::For {
+            first,
+            last,
+            body,
+            ..
+        } => {
+            let bounds = needed_by_expr(first).max(needed_by_expr(last).saturating_add(1));
+            bounds.max(needed_by(body).saturating_add(2).max(4))
+        }
     }
 }
 

@@ -1,5 +1,5 @@
 ghost use Rattle.std.specs.Prelude.{◌≡◌, ◌≤◌, ◌+◌, ℕ, List, [], ◌∷◌, ◌++◌, OnOk, length, vec_len};
-ghost use Rattle.code_generator.specs.Code.{assign_code, check_positive, default_width, dyadic_code, expr_code, line_end_code, link_code, monadic_code, parameter_code, relation_instr, stmt_code, variable_code, variable_offset, width_code, write_code, write_instr};
+ghost use Rattle.code_generator.specs.Code.{assign_code, check_positive, default_width, dyadic_code, expr_code, for_begin, for_end, for_entry, for_next, held_offset as offset_of_held, holding, line_end_code, next_instr, order_instr, range_check, link_code, monadic_code, parameter_code, relation_instr, stmt_code, variable_code, variable_offset, width_code, write_code, write_instr};
 ghost use Rattle.code_generator.specs.Emitted.{Emits, statements_code, statements_table};
 ghost use Rattle.pcode_assembler.specs.declared.instr.Instr.TheVariants.{Jump, JumpIfFalse};
 ghost use Rattle.code_generator.specs.Sizes.{capped, measured, table_of};
@@ -9,7 +9,8 @@ use crate::sizes::Sizes;
 use pcode_assembler::instr::Instr;
 use std::alloc::AllocError;
 use typed_tree::tree::{
-    Access, Dyadic, Expr, Link, Monadic, RangeTest, Relation, Representation, Stmt, WriteParameter,
+    Access, Direction, Dyadic, Expr, Link, Monadic, RangeTest, Relation, Representation, Stmt,
+    WriteParameter,
 };
 
 /// The greatest value of the type integer (ISO 7185:1990, 6.4.2.2).
@@ -23,6 +24,12 @@ const BOOLEAN_WIDTH: i32 = 5;
 
 /// The greatest offset that an instruction may have.
 const GREATEST_OFFSET: u32 = 16777215;
+
+/// The most cells that may be held.
+const MOST_CELLS: u32 = 16777216;
+
+/// The return of the program's frame, which never gets a value.
+const UNDEFINED: u32 = 2;
 
 /// The instructions of a statement, where the sizes are those of it, of the statements in it and of what comes after.
 #[cycle(emit_stmt)]
@@ -87,6 +94,25 @@ pub fn emit_stmt(
             emit_expr(code, scope, condition)?;
             put(code, Instr::JumpIfFalse { target: head })
         }
+        Stmt::For {
+            control,
+            first,
+            first_fits,
+            direction,
+            last,
+            last_fits,
+            body,
+            ..
+        } => {
+            emit_bounds(code, scope, first, last)?;
+            let head = place_of(code).saturating_add(8);
+            let out = head.saturating_add(11).saturating_add(sizes.next());
+            emit_entry(code, scope, *first_fits, *direction, *last_fits, out)?;
+            emit_begin(code, scope, *control)?;
+            emit_stmt(code, holding_two(scope), sizes, body)?;
+            emit_next(code, scope, *direction, head, out)?;
+            emit_end(code, scope, *control)
+        }
     }
 }
 
@@ -132,6 +158,191 @@ fn emit_jump(code: &mut Vec<Instr>, past: u32) -> Result<(), AllocError>
     put(code, Instr::Jump { target })
 }
 
+/// The bounds of a for statement.
+fn emit_bounds(
+    code: &mut Vec<Instr>,
+    scope: Scope,
+    from: &Expr,
+    to: &Expr,
+) -> Result<(), AllocError>
+    ensures { OnOk result (
+        code.new.items ≡ (code.old.items ++ expr_code scope from.now) ++ expr_code scope to.now) }
+{
+    emit_expr(code, scope, from)?;
+    emit_expr(code, scope, to)
+}
+
+/// Behind both bounds: a jump out of the loop where they leave no value, and their tests.
+fn emit_entry(
+    code: &mut Vec<Instr>,
+    scope: Scope,
+    first_fits: RangeTest,
+    direction: Direction,
+    last_fits: RangeTest,
+    out: u32,
+) -> Result<(), AllocError>
+    ensures { OnOk result (
+        code.new.items ≡ code.old.items ++ for_entry scope first_fits direction last_fits out) }
+{
+    let value = held_offset(scope, 0);
+    let last = held_offset(scope, 1);
+    let level = 0;
+    code.extend_from_slice(&[
+        Instr::Load {
+            level,
+            offset: value,
+        },
+        Instr::Load {
+            level,
+            offset: last,
+        },
+        order_of(direction),
+        Instr::JumpIfFalse { target: out },
+        Instr::Load {
+            level,
+            offset: value,
+        },
+        check_of(first_fits),
+        Instr::Store {
+            level,
+            offset: value,
+        },
+        check_of(last_fits),
+    ])
+}
+
+/// The control variable gets the value that is held.
+fn emit_begin(code: &mut Vec<Instr>, scope: Scope, control: u32) -> Result<(), AllocError>
+    ensures { OnOk result (code.new.items ≡ code.old.items ++ for_begin scope control) }
+{
+    let value = held_offset(scope, 0);
+    let variable = offset_of(scope, control);
+    let level = 0;
+    code.extend_from_slice(&[
+        Instr::Load {
+            level,
+            offset: value,
+        },
+        Instr::Store {
+            level,
+            offset: variable,
+        },
+    ])
+}
+
+/// Behind the body: out of the loop with the last value, else to its head with the next one.
+fn emit_next(
+    code: &mut Vec<Instr>,
+    scope: Scope,
+    direction: Direction,
+    head: u32,
+    out: u32,
+) -> Result<(), AllocError>
+    ensures { OnOk result (code.new.items ≡ code.old.items ++ for_next scope direction head out) }
+{
+    let value = held_offset(scope, 0);
+    let last = held_offset(scope, 1);
+    let level = 0;
+    code.extend_from_slice(&[
+        Instr::Load {
+            level,
+            offset: value,
+        },
+        Instr::Load {
+            level,
+            offset: last,
+        },
+        Instr::NotEqual,
+        Instr::JumpIfFalse { target: out },
+        Instr::Load {
+            level,
+            offset: value,
+        },
+        Instr::LoadConstant { value: 1 },
+        step_of(direction),
+        Instr::Store {
+            level,
+            offset: value,
+        },
+        Instr::Jump { target: head },
+    ])
+}
+
+/// Behind the loop nothing more is held, and the control variable is undefined.
+fn emit_end(code: &mut Vec<Instr>, scope: Scope, control: u32) -> Result<(), AllocError>
+    ensures { OnOk result (code.new.items ≡ code.old.items ++ for_end scope control) }
+{
+    let variable = offset_of(scope, control);
+    let level = 0;
+    code.extend_from_slice(&[
+        Instr::Store {
+            level,
+            offset: variable,
+        },
+        Instr::Store {
+            level,
+            offset: variable,
+        },
+        Instr::Load {
+            level,
+            offset: UNDEFINED,
+        },
+        Instr::Store {
+            level,
+            offset: variable,
+        },
+    ])
+}
+
+/// What compares the bounds of a for statement.
+fn order_of(direction: Direction) -> Instr
+    ensures { result ≡ order_instr direction }
+{
+    match direction {
+        Direction::To => Instr::LessOrEqual,
+        Direction::DownTo => Instr::GreaterOrEqual,
+    }
+}
+
+/// What makes the next value of a control variable, with 1 on top.
+fn step_of(direction: Direction) -> Instr
+    ensures { result ≡ next_instr direction }
+{
+    match direction {
+        Direction::To => Instr::Add,
+        Direction::DownTo => Instr::Subtract,
+    }
+}
+
+/// The test of a value.
+fn check_of(fits: RangeTest) -> Instr
+    ensures { result ≡ range_check fits }
+{
+    Instr::CheckRange {
+        site: fits.site,
+        low: fits.range.first,
+        high: fits.range.last,
+    }
+}
+
+/// Where the n-th cell lies that is held above those that are held already, or the greatest offset.
+fn held_offset(scope: Scope, n: u32) -> u32
+    ensures { result ≡ offset_of_held scope n }
+{
+    let offset = scope.above.saturating_add(scope.height).saturating_add(n);
+    offset.min(GREATEST_OFFSET)
+}
+
+/// The scope of code that runs while two cells more are held.
+fn holding_two(scope: Scope) -> Scope
+    ensures { result ≡ holding 2 scope }
+{
+    Scope {
+        height: scope.height.saturating_add(2).min(MOST_CELLS),
+        ..scope
+    }
+}
+
 /// The place behind the next instruction and so many more.
 fn place_behind(code: &Vec<Instr>, more: u32) -> u32
     ensures { result ≡ capped (vec_len code.now + 1 + more) }
@@ -156,16 +367,9 @@ fn emit_assign(
 ) -> Result<(), AllocError>
     ensures { OnOk result (code.new.items ≡ code.old.items ++ assign_code scope target.root fits value.now) }
 {
-    let offset = offset_of(scope, target);
+    let offset = offset_of(scope, target.root);
     emit_expr(code, scope, value)?;
-    put(
-        code,
-        Instr::CheckRange {
-            site: fits.site,
-            low: fits.range.first,
-            high: fits.range.last,
-        },
-    )?;
+    put(code, check_of(fits))?;
     put(code, Instr::Store { level: 0, offset })
 }
 
@@ -293,7 +497,7 @@ fn emit_variable(
 ) -> Result<(), AllocError>
     ensures { OnOk result (code.new.items ≡ code.old.items ++ variable_code scope access.root defined) }
 {
-    let offset = offset_of(scope, access);
+    let offset = offset_of(scope, access.root);
     put(code, Instr::Load { level: 0, offset })?;
     put(
         code,
@@ -378,10 +582,10 @@ fn positive_at(site: u32) -> Instr
 }
 
 /// Where a variable lies in its block's frame, or the greatest offset.
-fn offset_of(scope: Scope, access: Access) -> u32
-    ensures { result ≡ variable_offset scope access.root }
+fn offset_of(scope: Scope, root: u32) -> u32
+    ensures { result ≡ variable_offset scope root }
 {
-    let offset = scope.variables.saturating_add(access.root);
+    let offset = scope.variables.saturating_add(root);
     offset.min(GREATEST_OFFSET)
 }
 

@@ -23,14 +23,11 @@ use typed_tree::tree::{Stmt, Tree};
 /// The most instructions that a code may have.
 const MOST: u32 = 1000000;
 
+/// How many cells a frame has before its variables.
+const LINKS: u32 = 4;
+
 /// The most cells that a frame or an evaluation is given.
 const MOST_CELLS: u32 = 16777216;
-
-/// The program's block: its variables lie behind the four links of the frame.
-const PROGRAM: Scope = Scope {
-    variables: 4,
-    height: 0,
-};
 
 /// The code of the program: its frame with its variables and as many cells further as its evaluation needs,
 /// its body, and the end of the run. Each check has its site, and the text of a code has room for each operand.
@@ -82,16 +79,18 @@ fn emit_program(
     variables: u32,
     body: &Stmt,
 ) -> Result<(), AllocError>
-    ensures { length code.old.items + length (block_code variables body.now program_scope (length code.old.items))
+    requires { variables ≤ 16777216 }
+    ensures { length code.old.items
+        + length (block_code variables body.now (program_scope variables) (length code.old.items))
         ≤ 4294967295 → OnOk result (code.new.items
-        ≡ code.old.items ++ block_code variables body.now program_scope (length code.old.items)) }
+        ≡ code.old.items ++ block_code variables body.now (program_scope variables) (length code.old.items)) }
 {
     let mut sizes = Vec::new(alloc);
     measure(&mut sizes, body)?;
     emit_block(
         code,
         variables,
-        PROGRAM,
+        scope_of_program(variables),
         &mut Sizes::new(sizes.as_slice()),
         body,
     )
@@ -117,6 +116,18 @@ fn emit_block(
         },
     )?;
     emit_stmt(code, scope, sizes, body)
+}
+
+/// The scope of the program's block: its variables lie behind the four links of the frame, and nothing is held above.
+fn scope_of_program(variables: u32) -> Scope
+    requires { variables ≤ 16777216 }
+    ensures { result ≡ program_scope variables }
+{
+    Scope {
+        variables: LINKS,
+        above: LINKS + variables,
+        height: 0,
+    }
 }
 
 /// How many variables the program has, or the most cells of a frame.

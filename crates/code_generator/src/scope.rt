@@ -3,6 +3,8 @@
 pub struct Scope {
     /// Where the variables of its block begin in the block's frame, in cells.
     pub variables: u32,
-    /// How many cells are held above them while it runs.
+    /// Where the cells that are held above them begin, in cells.
+    pub above: u32,
+    /// How many cells are held above them while it runs, at most 16,777,216.
     pub height: u32,
 }

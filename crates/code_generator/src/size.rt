@@ -54,6 +54,12 @@ fn stmt_size(stmt: &Stmt) -> u32
             condition,
             ..
         } => repeat_size(statements_size(statements), condition),
+        Stmt::For {
+            first,
+            last,
+            body,
+            ..
+        } => for_size(first, last, stmt_size(body)),
     }
 }
 
@@ -120,6 +126,12 @@ fn measure_parts(sizes: &mut Vec<u32>, stmt: &Stmt) -> Result<u32, AllocError>
             condition,
             ..
         } => Ok(repeat_size(measure_statements(sizes, statements)?, condition)),
+        Stmt::For {
+            first,
+            last,
+            body,
+            ..
+        } => Ok(for_size(first, last, measure(sizes, body)?)),
     }
 }
 
@@ -178,6 +190,18 @@ fn repeat_size(statements: u32, condition: &Expr) -> u32
     ensures { (scope : Scope) → result ≡ capped (statements + (length (expr_code scope condition.now) + 1)) }
 {
     statements.saturating_add(expr_size(condition).saturating_add(1))
+}
+
+/// The same of a for statement, whose body has so many.
+fn for_size(first: &Expr, last: &Expr, body: u32) -> u32
+    ensures { (scope : Scope) →
+        result ≡ capped (length (expr_code scope first.now) + length (expr_code scope last.now) + 10 + body + 13) }
+{
+    expr_size(first)
+        .saturating_add(expr_size(last))
+        .saturating_add(10)
+        .saturating_add(body)
+        .saturating_add(13)
 }
 
 /// The same of the values of a write or writeln.

@@ -9,6 +9,8 @@ use Rattle.lexer.specs.declared.token.Kind.TheVariants as kind
 use Rattle.lexer.specs.declared.token.Symbol.TheVariants as symbol
 use Rattle.lexer.specs.declared.token.Word.TheVariants as word
 use Rattle.lexer.specs.declared.token.Token.{Token}
+use Rattle.syntax_tree.specs.declared.Direction.{Direction}
+use Rattle.syntax_tree.specs.declared.Direction.TheVariants.{To, DownTo}
 use Rattle.syntax_tree.specs.declared.Operator.{Operator}
 use Rattle.syntax_tree.specs.declared.Operator.TheVariants as op
 use Rattle.syntax_tree.specs.declared.Expr.{Expr}
@@ -17,7 +19,7 @@ use Rattle.syntax_tree.specs.declared.Link.{Link}
 use Rattle.syntax_tree.specs.declared.Expr.TheOpen as expr
 use Rattle.syntax_tree.specs.declared.Expr.TheViews.{out-Expr, roll-out-Expr, out-Link, roll-out-Link}
 use Rattle.syntax_tree.specs.declared.Expr.TheFolds.{map-Expr}
-use Rattle.grammar.specs.Spelling.{Spelling, Reads, expr_spelling, actual_spelling, link_spelling, joined, operator_kind, operator}
+use Rattle.grammar.specs.Spelling.{Spelling, Reads, expr_spelling, actual_spelling, link_spelling, joined, operator_kind, operator, direction_word}
 use Rattle.grammar.specs.Spelling as spell
 use Rattle.grammar.specs.WellFormed.{Form, LinkForm, expr_form, is_actual, link_form, chain_form, fits, is_link, operator_level, first_level, operand_level, relation_level, sum_level, product_level}
 use Rattle.grammar.specs.WellFormed as form
@@ -146,6 +148,18 @@ then_ends a h = ends_before (kind.Word word.Then) relation_level a h (omega arit
 pub do_ends : EndsEach word.Do
 unfolding binds
 do_ends a h = ends_before (kind.Word word.Do) relation_level a h (omega arith) (omega arith)
+
+to_ends : EndsEach word.To
+unfolding binds
+to_ends a h = ends_before (kind.Word word.To) relation_level a h (omega arith) (omega arith)
+
+downto_ends : EndsEach word.Downto
+unfolding binds
+downto_ends a h = ends_before (kind.Word word.Downto) relation_level a h (omega arith) (omega arith)
+
+pub direction_ends : (d : Direction) → EndsEach (direction_word d)
+direction_ends To = to_ends
+direction_ends DownTo = downto_ends
 
 pub until_ends : EndsEach word.Until
 unfolding binds

@@ -10,6 +10,7 @@ use Rattle.lexer.specs.declared.token.Symbol.TheVariants as symbol
 use Rattle.lexer.specs.declared.token.Word.TheVariants as word
 use Rattle.syntax_tree.specs.declared.Name.{Name}
 use Rattle.syntax_tree.specs.declared.Sign.{Sign}
+use Rattle.syntax_tree.specs.declared.Direction.{Direction}
 use Rattle.syntax_tree.specs.declared.Expr.{Expr}
 use Rattle.syntax_tree.specs.declared.Actual.{Actual}
 use Rattle.syntax_tree.specs.declared.Link.{Link}
@@ -290,3 +291,22 @@ closed-Repeat p v e = ap form.ends_open (sym (statement.rolls-Repeat p v e)) ∙
 pub levels-Repeat : (p : Place) (v : Vec Stmt Global) (e : Expr)
     → nest.stmt_levels (statement.Repeat p v e) ≡ 1 + max (nest.deepest (map nest.stmt_levels v.items)) (nest.expr_levels e)
 levels-Repeat p v e = ap nest.stmt_levels (sym (statement.rolls-Repeat p v e)) ∙ fold-roll-Stmt ℕ nest.stmt_step (stmt.Repeat p v e)
+
+-- a for statement
+pub spelling-For : (p : Place) (n : Name) (e : Expr) (d : Direction) (f : Expr) (b : Box Stmt Global)
+    → spell.stmt_spelling (statement.For p n e d f b)
+    ≡ spell.of_kind_at (kind.Word word.For) p ∷ spell.identifier n ∷ spell.mark symbol.Becomes ∷ spell.expr_spelling e
+    ++ (spell.word_symbol (spell.direction_word d) ∷ spell.expr_spelling f ++ (spell.word_symbol word.Do ∷ spell.stmt_spelling b.value))
+spelling-For p n e d f b = ap spell.stmt_spelling (sym (statement.rolls-For p n e d f b)) ∙ fold-roll-Stmt spell.Spelling spell.stmt_step (stmt.For p n e d f b)
+
+pub form-For : (p : Place) (n : Name) (e : Expr) (d : Direction) (f : Expr) (b : Box Stmt Global)
+    → form.is_statement (statement.For p n e d f b) ≡ form.is_expression e && (form.is_expression f && form.is_statement b.value)
+form-For p n e d f b = ap form.is_statement (sym (statement.rolls-For p n e d f b)) ∙ stmt_well_of (stmt.For p n e d f b)
+
+pub open-For : (p : Place) (n : Name) (e : Expr) (d : Direction) (f : Expr) (b : Box Stmt Global)
+    → form.ends_open (statement.For p n e d f b) ≡ form.ends_open b.value
+open-For p n e d f b = ap form.ends_open (sym (statement.rolls-For p n e d f b)) ∙ stmt_open_of (stmt.For p n e d f b)
+
+pub levels-For : (p : Place) (n : Name) (e : Expr) (d : Direction) (f : Expr) (b : Box Stmt Global)
+    → nest.stmt_levels (statement.For p n e d f b) ≡ 1 + max (nest.expr_levels e) (max (nest.expr_levels f) (nest.stmt_levels b.value))
+levels-For p n e d f b = ap nest.stmt_levels (sym (statement.rolls-For p n e d f b)) ∙ fold-roll-Stmt ℕ nest.stmt_step (stmt.For p n e d f b)

@@ -5,31 +5,34 @@ use Rattle.std.specs.declared.alloc.Global.{Global}
 use Rattle.std.specs.declared.boxed.Box.{Box}
 use Rattle.std.specs.declared.vec.Vec.{Vec}
 use Rattle.place.specs.declared.Place.{Place}
+use Rattle.lexer.specs.declared.token.Kind.{Kind}
 use Rattle.lexer.specs.declared.token.Kind.TheVariants as kind
 use Rattle.lexer.specs.declared.token.Symbol.TheVariants as symbol
 use Rattle.lexer.specs.declared.token.Word.{Word}
 use Rattle.lexer.specs.declared.token.Word.TheVariants as word
 use Rattle.lexer.specs.declared.token.Token.{Token}
 use Rattle.syntax_tree.specs.declared.Actual.{Actual}
+use Rattle.syntax_tree.specs.declared.Direction.{Direction}
+use Rattle.syntax_tree.specs.declared.Name.{Name}
 use Rattle.syntax_tree.specs.declared.Expr.{Expr}
 use Rattle.syntax_tree.specs.declared.Stmt.{Stmt}
 use Rattle.syntax_tree.specs.declared.Stmt.TheOpen as stmt
 use Rattle.syntax_tree.specs.declared.Stmt.TheViews.{out-Stmt, roll-out-Stmt}
 use Rattle.syntax_tree.specs.declared.Stmt.TheFolds.{map-Stmt, fold-roll-Stmt}
-use Rattle.grammar.specs.Spelling.{Spelling, Reads, expr_spelling, actual_spelling, stmt_spelling, of_kind_at, word_symbol, identifier, separated, in_parentheses}
+use Rattle.grammar.specs.Spelling.{Spelling, Reads, expr_spelling, actual_spelling, stmt_spelling, of_kind_at, word_symbol, identifier, separated, in_parentheses, Lexeme, IsSpelledBy, of_kind, mark, direction_word}
 use Rattle.grammar.specs.WellFormed.{StmtForm, stmt_form, is_statement, has_items}
 use Rattle.grammar.specs.Nesting.{stmt_levels}
 use Rattle.grammar.specs.Following.{next_kind, NoNext, Next, EndsEach, EndsStatements, compound, repeated, EndsStmt, semicolon, end, until}
-use Rattle.grammar.specs.Begins.{BeginsGuard, BeginsStmt, BeginsAlternative}
+use Rattle.grammar.specs.Begins.{BeginsGuard, BeginsStmt, BeginsAlternative, BeginsInitial}
 use Rattle.grammar.specs.Notation.{Notation, bracketed, token, row, expr_notation, actual_notation, stmt_notation}
 use Rattle.grammar.specs.Notation as note
 use Rattle.grammar.proofs.Lists.{and_left, and_right, all_computed, length_map}
 use Rattle.grammar.proofs.Reading.{reads_no_more, reads_fewer}
 use Rattle.grammar.proofs.Rows.{parted, begins}
-use Rattle.grammar.proofs.Chains.{then_ends, do_ends}
+use Rattle.grammar.proofs.Chains.{then_ends, do_ends, direction_ends}
 use Rattle.grammar.proofs.Starts.{not_behind, first_of, begins_so, start_is_one, Layer, layer}
 use Rattle.grammar.proofs.Conditionals.{Branches, Conditional, behind_if, conditional_parts}
-use Rattle.grammar.proofs.Loops.{behind_while, while_parts, RepeatLoop, behind_repeat, repeat_parts}
+use Rattle.grammar.proofs.Loops.{behind_while, while_parts, RepeatLoop, behind_repeat, repeat_parts, ForLoop, behind_control, for_parts}
 use Rattle.grammar.proofs.Statements.{ends_value}
 use Rattle.grammar.proofs.Programs.{some_items}
 use Rattle.grammar.proofs.OneTree.{Alike, first_is_one, last_is_one, at_is_one, name_is_one}
@@ -244,6 +247,74 @@ repeats_alike n l m a c d p r v w e f one few h k =
       left = g.left;
     }
 
+-- the first bounds of two for statements
+record InitialAlike (e f : Expr) (x y : Direction) (c d : List Token) : Type 0 where
+  pub written : expr_notation e ≡ expr_notation f
+  pub directed : word_symbol (direction_word x) ≡ word_symbol (direction_word y)
+  pub left : c ≡ d
+
+kind_is_one : (k j : Kind) (t : Token) → IsSpelledBy (of_kind k) t → IsSpelledBy (of_kind j) t → of_kind k ≡ of_kind j
+kind_is_one k j t h i = let kinds : k ≡ j = sym h.kind ∙ i.kind in cc
+
+initial_alike : (n l m : ℕ) (a c d : List Token) (e f : Expr) (x y : Direction) → length a < n → BeginsInitial l a c (e, x) → BeginsInitial m a d (f, y)
+    → InitialAlike e f x y c d
+initial_alike n l m a c d e f x y few h k =
+    let v = direction_word x in
+    let w = direction_word y in
+    let r = one_expression n a h.middle k.middle e f few (record { spelled = h.expression.spelled; formed = h.expression.formed })
+    (record { spelled = k.expression.spelled; formed = k.expression.formed }) (direction_ends x h.middle (begins (word_symbol v) [] h.middle c h.closed))
+    (direction_ends y k.middle (begins (word_symbol w) [] k.middle d k.closed)) in
+    let b = first_is_one (word_symbol v) (word_symbol w) [] [] h.middle c d h.closed (subst (λ u. Reads u (word_symbol w ∷ []) d) (sym r.left) k.closed) in
+    record { written = r.written; directed = kind_is_one (kind.Word v) (kind.Word w) b.first b.one b.two; left = sym b.one_behind ∙ b.two_behind }
+
+for_written : (p r : Lexeme) (n o : Lexeme) (e f : Notation) (x y : Lexeme) (g h : Notation) (s t : Notation) → p ≡ r → n ≡ o → e ≡ f → x ≡ y → g ≡ h → s ≡ t
+    → bracketed note.for_loop (token p ∷ token n ∷ e ++ (token x ∷ g ++ s)) ≡ bracketed note.for_loop (token r ∷ token o ∷ f ++ (token y ∷ h ++ t))
+for_written p r n o e f x y g h s t i j k l m q = cc
+
+-- what stands behind the `:=` of a for statement is written alike
+record ForAlike (e f : Expr) (x y : Direction) (g i : Expr) (s t : Stmt) (c d : List Token) : Type 0 where
+  pub first : expr_notation e ≡ expr_notation f
+  pub directed : word_symbol (direction_word x) ≡ word_symbol (direction_word y)
+  pub final : expr_notation g ≡ expr_notation i
+  pub body : stmt_notation s ≡ stmt_notation t
+  pub left : c ≡ d
+
+for_loops_alike : (n l m : ℕ) (a c d : List Token) (e f : Expr) (x y : Direction) (g i : Expr) (s t : Stmt) → OneStatement n → length a < n
+    → ForLoop l a c e x g s → ForLoop m a d f y i t → EndsStmt c → EndsStmt d → ForAlike e f x y g i s t c d
+for_loops_alike n l m a c d e f x y g i s t one few h k ends_one ends_two =
+    let first = initial_alike n h.below k.below a h.middle k.middle e f x y few h.initial k.initial in
+    let fewer = guard_fewer (direction_word x) h.below a h.middle e h.initial in
+    let final = guards_alike n word.Do h.below k.below h.middle h.behind k.behind g i do_ends (omega arith) h.final
+    (subst (λ u. BeginsGuard word.Do k.below u k.behind i) (sym first.left) k.final) in
+    let less = guard_fewer word.Do h.below h.middle h.behind g h.final in
+    let body = one h.behind c d h.below k.below s t (omega arith) h.begun (subst (λ u. BeginsStmt k.below u d t) (sym final.left) k.begun) ends_one ends_two in
+    record { first = first.written; directed = first.directed; final = final.written; body = body.written; left = body.left }
+
+-- a for statement of one layer
+fors_alike : (n l m : ℕ) (a c d : List Token) (p r : Place) (u v : Name) (e f : Expr) (x y : Direction) (g i : Expr) (s t : Box Stmt Global) → OneStatement n
+    → length a ≤ n → Layer l a c (stmt.For p u e x g s) → Layer m a d (stmt.For r v f y i t)
+    → Alike Notation (written_of (stmt.For p u e x g s)) (written_of (stmt.For r v f y i t)) c d
+fors_alike n l m a c d p r u v e f x y g i s t one few h k =
+    let behind_one = behind_control e x g s.value in
+    let behind_two = behind_control f y i t.value in
+    let b = first_is_one (of_kind_at (kind.Word word.For) p) (of_kind_at (kind.Word word.For) r) (identifier u ∷ mark symbol.Becomes ∷ behind_one)
+    (identifier v ∷ mark symbol.Becomes ∷ behind_two) a c d h.spelled k.spelled in
+    let w = first_is_one (identifier u) (identifier v) (mark symbol.Becomes ∷ behind_one) (mark symbol.Becomes ∷ behind_two) b.behind c d b.one_behind
+    b.two_behind in
+    let z = first_is_one (mark symbol.Becomes) (mark symbol.Becomes) behind_one behind_two w.behind c d w.one_behind w.two_behind in
+    let less = b.fewer in
+    let fewer = w.fewer in
+    let least = z.fewer in
+    let parts = for_loops_alike n l m z.behind c d e f x y g i s.value t.value one (omega arith) (for_parts l a z.behind c p u e x g s h z.one_behind)
+    (for_parts m a z.behind d r v f y i t k z.two_behind) h.ends k.ends in
+    record {
+      written = for_written (of_kind_at (kind.Word word.For) p) (of_kind_at (kind.Word word.For) r) (identifier u) (identifier v) (expr_notation e)
+          (expr_notation f) (word_symbol (direction_word x)) (word_symbol (direction_word y)) (expr_notation g) (expr_notation i) (stmt_notation s.value)
+          (stmt_notation t.value) (at_is_one (kind.Word word.For) (kind.Word word.For) p r b.first b.one b.two) (name_is_one u v w.first w.one w.two)
+          parts.first parts.directed parts.final parts.body;
+      left = parts.left;
+    }
+
 -- ---- layers
 
 layers_alike : (n l m : ℕ) (a c d : List Token) (x y : stmt.Stmt-F Stmt) → OneStatement n → length a ≤ n → Layer l a c x → Layer m a d y
@@ -312,6 +383,8 @@ layers_alike n l m a c d (stmt.If p e s (Some o)) (stmt.If r f t (Some q)) one f
     ifs_alike n l m a c d p r e f s t (Some o) (Some q) one few h k h.spelled k.spelled
 layers_alike n l m a c d (stmt.While p e s) (stmt.While r f t) one few h k same = whiles_alike n l m a c d p r e f s t one few h k
 layers_alike n l m a c d (stmt.Repeat p v e) (stmt.Repeat r w f) one few h k same = repeats_alike n l m a c d p r v w e f one few h k
+layers_alike n l m a c d (stmt.For p u e x g s) (stmt.For r v f y i t) one few h k same =
+    fors_alike n l m a c d p r u v e f x y g i s t one few h k
 layers_alike n l m a c d x y one few h k same = absurd (let no : first_of x ≡ first_of y = same in cc)
 
 written_so : (s : Stmt) → stmt_notation s ≡ written_of (out-Stmt s)

@@ -23,7 +23,7 @@ use Rattle.syntax_tree.specs.declared.Stmt.TheViews.{roll-Stmt}
 use Rattle.syntax_tree.specs.declared.Stmt.TheFolds.{map-Stmt, fold-roll-Stmt, ind-Stmt}
 use Rattle.syntax_tree.specs.Places.{Places, name_places, expr_places, actual_places, stmt_places, denoter_places, group_places, block_places, program_places}
 use Rattle.syntax_tree.specs.Places as place
-use Rattle.grammar.specs.Spelling.{Lexeme, Spelling, IsSpelledBy, Reads, Spells, joined, separated, in_parentheses, mark, word_symbol, of_kind_at, identifier, identifiers, expr_spelling, actual_spelling, stmt_spelling, denoter_spelling, group_spelling, variables_spelling, block_spelling, program_spelling}
+use Rattle.grammar.specs.Spelling.{Lexeme, Spelling, IsSpelledBy, Reads, Spells, joined, separated, in_parentheses, mark, word_symbol, of_kind_at, identifier, identifiers, direction_word, expr_spelling, actual_spelling, stmt_spelling, denoter_spelling, group_spelling, variables_spelling, block_spelling, program_spelling}
 use Rattle.grammar.specs.Spelling as spell
 use Rattle.grammar.proofs.TreePlaces.{kept, kept_places, kept_both, AllKept, each_kept, all_kept, joined_kept, separated_kept, parenthesized_kept, expr_kept, actual_kept}
 
@@ -76,6 +76,14 @@ stmt_layer (stmt.Repeat p v e) =
     ap (λ ps. p ∷ ps)
     ((λ i. statements i ++ condition i)
     ∙ sym (kept_both (separated symbol.Semicolon (map stmt_spelling (map (λ s. s.0) v.items))) (word_symbol word.Until ∷ expr_spelling e)))
+stmt_layer (stmt.For p n e d f b) =
+    let first = expr_kept e in
+    let last = expr_kept f in
+    let body = b.value.1 in
+    let behind : Spelling = word_symbol word.Do ∷ stmt_spelling b.value.0 in
+    ap (λ ps. p ∷ n.place ∷ ps)
+    ((λ i. first i ++ (last i ++ body i)) ∙ ap (λ ps. kept_places (expr_spelling e) ++ ps) (sym (kept_both (expr_spelling f) behind))
+    ∙ sym (kept_both (expr_spelling e) (word_symbol (direction_word d) ∷ expr_spelling f ++ behind)))
 
 stmt_rolled : (y : stmt.Stmt-F KeptStmt) → StmtKept (roll-Stmt (stmt_parts y))
 stmt_rolled y =

@@ -12,6 +12,7 @@ use Rattle.lexer.specs.declared.token.Symbol.TheVariants as symbol
 use Rattle.lexer.specs.declared.token.Token.{Token}
 use Rattle.lexer.specs.declared.token.Word.{Word}
 use Rattle.lexer.specs.declared.token.Word.TheVariants as word
+use Rattle.syntax_tree.specs.declared.Direction.{Direction}
 use Rattle.syntax_tree.specs.declared.Expr.{Expr}
 use Rattle.syntax_tree.specs.declared.Link.{Link}
 use Rattle.syntax_tree.specs.declared.Actual.{Actual}
@@ -20,7 +21,7 @@ use Rattle.syntax_tree.specs.declared.Name.{Name}
 use Rattle.syntax_tree.specs.declared.VariableGroup.{VariableGroup}
 use Rattle.syntax_tree.specs.declared.Block.{Block}
 use Rattle.syntax_tree.specs.declared.Program.{Program}
-use Rattle.grammar.specs.Spelling.{Spelling, Reads, expr_spelling, link_spelling, actual_spelling, stmt_spelling, joined, identifiers, group_spelling, variables_spelling, block_spelling, program_spelling, separated, in_parentheses, word_symbol, of_kind_at, mark}
+use Rattle.grammar.specs.Spelling.{Spelling, Reads, expr_spelling, link_spelling, actual_spelling, stmt_spelling, joined, identifiers, group_spelling, variables_spelling, block_spelling, program_spelling, separated, in_parentheses, word_symbol, identifier, direction_word, of_kind_at, mark}
 use Rattle.grammar.specs.WellFormed.{expr_form, link_form, fits, relation_level, is_link, is_actual, is_statement, is_group, is_block, is_program}
 use Rattle.grammar.specs.Following.{NoNext, LeavesNoElse}
 use Rattle.grammar.specs.Nesting.{expr_levels, link_levels, actual_levels, stmt_levels, deepest, nesting}
@@ -79,6 +80,15 @@ abbrev pub BeginsAlternative : ℕ → List Token → List Token → Option (Box
 BeginsAlternative levels tokens others None = (tokens ≡ others) × NoNext (kind.Word word.Else) others
 BeginsAlternative levels tokens others (Some s) =
     (middle : List Token) × Reads tokens (word_symbol word.Else ∷ []) middle × BeginsStmt levels middle others s.value
+
+-- the word symbol of a for statement with its place, the control variable, and `:=`
+abbrev pub BeginsControl : List Token → List Token → Place × Name → Type 0
+BeginsControl tokens others found =
+    Reads tokens (of_kind_at (kind.Word word.For) found.0 ∷ identifier found.1 ∷ mark symbol.Becomes ∷ []) others
+
+-- the first bound of a for statement, and its direction
+abbrev pub BeginsInitial : ℕ → List Token → List Token → Expr × Direction → Type 0
+BeginsInitial levels tokens others found = BeginsGuard (direction_word found.1) levels tokens others found.0
 
 -- one or more statements
 pub record BeginsStatements (levels : ℕ) (tokens others : List Token) (statements : List Stmt) : Type 0 where

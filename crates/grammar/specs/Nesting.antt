@@ -67,6 +67,8 @@ stmt_step (stmt.If place condition consequence alternative) =
     1 + max (expr_levels condition) (max consequence.value (alternative_levels alternative))
 stmt_step (stmt.While place condition body) = 1 + max (expr_levels condition) body.value
 stmt_step (stmt.Repeat place statements condition) = 1 + max (deepest statements.items) (expr_levels condition)
+stmt_step (stmt.For place variable first direction last body) =
+    1 + max (expr_levels first) (max (expr_levels last) body.value)
 
 -- the levels of a statement, its own among them
 abbrev pub stmt_levels : Stmt → ℕ

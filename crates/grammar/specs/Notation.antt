@@ -23,7 +23,7 @@ use Rattle.syntax_tree.specs.declared.Stmt.{Stmt}
 use Rattle.syntax_tree.specs.declared.Stmt.TheOpen.{Stmt-F}
 use Rattle.syntax_tree.specs.declared.Stmt.TheOpen as stmt
 use Rattle.syntax_tree.specs.declared.Stmt.TheFolds.{fold-Stmt}
-use Rattle.grammar.specs.Spelling.{Lexeme, of_kind_at, identifier, sign, operator}
+use Rattle.grammar.specs.Spelling.{Lexeme, of_kind_at, word_symbol, identifier, sign, operator, direction_word}
 
 -- the forms of expressions, of statements and of declarations
 pub data Shape : Type 0 where
@@ -42,6 +42,7 @@ pub data Shape : Type 0 where
   conditional : Shape
   while_loop : Shape
   repeat_loop : Shape
+  for_loop : Shape
   group : Shape
   parameters : Shape
   block : Shape
@@ -128,6 +129,10 @@ stmt_step (stmt.While place condition body) =
 stmt_step (stmt.Repeat place statements condition) =
     bracketed repeat_loop
     (token (of_kind_at (kind.Word word.Repeat) place) ∷ row statements.items ++ expr_notation condition)
+stmt_step (stmt.For place variable first direction last body) =
+    bracketed for_loop
+    (token (of_kind_at (kind.Word word.For) place) ∷ token (identifier variable) ∷ expr_notation first
+    ++ (token (word_symbol (direction_word direction)) ∷ expr_notation last ++ body.value))
 
 -- a statement
 abbrev pub stmt_notation : Stmt → Notation

@@ -15,6 +15,8 @@ use Rattle.lexer.specs.declared.token.Token.{Token}
 use Rattle.syntax_tree.specs.declared.Name.{Name}
 use Rattle.syntax_tree.specs.declared.Sign.{Sign}
 use Rattle.syntax_tree.specs.declared.Sign.TheVariants.{Plus, Minus}
+use Rattle.syntax_tree.specs.declared.Direction.{Direction}
+use Rattle.syntax_tree.specs.declared.Direction.TheVariants.{To, DownTo}
 use Rattle.syntax_tree.specs.declared.Operator.{Operator}
 use Rattle.syntax_tree.specs.declared.Operator.TheVariants as op
 use Rattle.syntax_tree.specs.declared.TypeDenoter.{TypeDenoter}
@@ -162,6 +164,11 @@ abbrev pub alternative_spelling : Option (Box Spelling Global) → Spelling
 alternative_spelling None = []
 alternative_spelling (Some alternative) = word_symbol word.Else ∷ alternative.value
 
+-- the word symbol of a direction (6.8.3.9)
+abbrev pub direction_word : Direction → Word
+direction_word To = word.To
+direction_word DownTo = word.Downto
+
 -- one layer of a statement, its parts spelled
 abbrev pub stmt_step : Stmt-F Spelling → Spelling
 stmt_step stmt.Empty = []
@@ -178,6 +185,9 @@ stmt_step (stmt.While place condition body) =
 stmt_step (stmt.Repeat place statements condition) =
     of_kind_at (kind.Word word.Repeat) place ∷ separated symbol.Semicolon statements.items
     ++ (word_symbol word.Until ∷ expr_spelling condition)
+stmt_step (stmt.For place variable first direction last body) =
+    of_kind_at (kind.Word word.For) place ∷ identifier variable ∷ mark symbol.Becomes ∷ expr_spelling first
+    ++ (word_symbol (direction_word direction) ∷ expr_spelling last ++ (word_symbol word.Do ∷ body.value))
 
 -- a statement (6.8)
 abbrev pub stmt_spelling : Stmt → Spelling

@@ -161,6 +161,8 @@ stmt_step (stmt.While place condition body) =
 stmt_step (stmt.Repeat place statements condition) =
     closed
     (is_expression condition && (has_items statements.items && list_all (λ statement. statement.well) statements.items))
+stmt_step (stmt.For place variable first direction last body) =
+    record { well = is_expression first && (is_expression last && body.value.well); ends_open = body.value.ends_open }
 
 -- the form of a statement
 abbrev pub stmt_form : Stmt → StmtForm

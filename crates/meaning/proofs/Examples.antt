@@ -2,6 +2,8 @@
 use Rattle.std.proofs.Common.{◌≡◌, inl, inr, ℕ, ℤ, ap, refl, true, false, pos, negsuc, List, [], ◌∷◌, Option, Some, None, Box, Global, codes, if◌then◌else◌, slice_get}
 use Rattle.typed_tree.specs.declared.tree.Dyadic.{Dyadic}
 use Rattle.typed_tree.specs.declared.tree.Relation.{Relation}
+use Rattle.typed_tree.specs.declared.tree.Direction.{Direction}
+use Rattle.typed_tree.specs.declared.tree.Direction.TheVariants.{To, DownTo}
 use Rattle.typed_tree.specs.declared.tree.Dyadic.TheVariants as dyadic
 use Rattle.typed_tree.specs.declared.tree.Monadic.TheVariants as monadic
 use Rattle.typed_tree.specs.declared.tree.Relation.TheVariants.{Equal, Less}
@@ -17,8 +19,8 @@ use Rattle.meaning.specs.declared.store.Value.{Value}
 use Rattle.meaning.specs.declared.store.Value.TheVariants.{Number}
 use Rattle.meaning.specs.Store.{Place, Step, Element, Environment, stored, written, undefined, overlap}
 use Rattle.meaning.specs.Integers.{is_integer_number}
-use Rattle.meaning.specs.Effect.{State, Reply, Gives, Stops, Action, Round, looped, ◌>>=◌, and_then, give, enter, fetch, store, use_turn, write, is_in, boolean_text, text_of}
-use Rattle.meaning.specs.Meaning.{Evaluation, Combination, Execution, effect_step, is_so, alternative_of, combined, while_round, repeat_round, Meaning, ended, link_step, in_turn, operated}
+use Rattle.meaning.specs.Effect.{State, Reply, Gives, Stops, Action, Round, looped, ◌>>=◌, and_then, give, enter, fetch, store, undefine, use_turn, write, is_in, places, boolean_text, text_of}
+use Rattle.meaning.specs.Meaning.{Evaluation, Combination, Execution, effect_step, is_so, alternative_of, combined, while_round, repeat_round, for_between, Meaning, ended, link_step, in_turn, operated}
 use Rattle.meaning.specs.Meaning.{value_of, width_of, parameter_of, completed, first_state}
 use Rattle.meaning.specs.Meaning.{home_of, program_environment}
 use Rattle.meaning.specs.Laws.{Extends}
@@ -327,3 +329,78 @@ turns_of_repeat = refl
 repeat_wants_more : from_zero (until_equal (pos 0)) 4 ≡ record { output = codes "aaaa"; ending = More }
 unfolding nowhere
 repeat_wants_more = refl
+
+-- where each variable lies at the same place
+everywhere : Environment
+everywhere root = Some (place 0 [])
+
+abbrev number_out : Value → Action (Unit {0})
+number_out (Number n) = write (places n ∷ [])
+
+-- writes the control variable, as a number without its sign
+abbrev written_out : Execution
+written_out environment = do
+  v ← fetch (environment 0) 7
+  w ← operated monadic.Abs v
+  number_out w
+
+abbrev integers : OrdinalRange
+integers = record { first = negsuc 2147483646; last = pos 2147483647 }
+
+-- a for whose control variable has the values of a range, from bounds that are tested at the sites 8 and 9
+abbrev counts_out : OrdinalRange → Direction → ℤ → ℤ → Action (Unit {0})
+counts_out range direction first last = do
+  _ ← for_between 0 (record { site = 8; range = range }) direction (record { site = 9; range = range }) written_out everywhere (Number first) (Number last)
+  undefine (everywhere 0)
+
+abbrev of_for : OrdinalRange → Direction → ℤ → ℤ → ℕ → Meaning
+of_for range direction first last turns = ended (counts_out range direction first last (first_state [] turns))
+
+upward : of_for integers To (pos 1) (pos 3) 3 ≡ record { output = 1 ∷ 2 ∷ 3 ∷ []; ending = Finished }
+unfolding everywhere
+upward = refl
+
+downward : of_for integers DownTo (pos 2) (negsuc 0) 9 ≡ record { output = 2 ∷ 1 ∷ 0 ∷ 1 ∷ []; ending = Finished }
+unfolding everywhere
+downward = refl
+
+-- the last value may be the last of type integer: behind it the control variable isn't increased
+to_maxint : of_for integers To (pos 2147483646) (pos 2147483647) 2 ≡ record { output = 2147483646 ∷ 2147483647 ∷ []; ending = Finished }
+unfolding everywhere
+to_maxint = refl
+
+down_to_the_least : of_for integers DownTo (negsuc 2147483645) (negsuc 2147483646) 2 ≡
+    record { output = 2147483646 ∷ 2147483647 ∷ []; ending = Finished }
+unfolding everywhere
+down_to_the_least = refl
+
+-- where there is no value between the bounds, nothing is executed, no turn is used and no bound is tested
+never : of_for booleans To (pos 7) (pos 6) 0 ≡ record { output = []; ending = Finished }
+unfolding everywhere
+never = refl
+
+-- with a turn less than it asks for
+for_wants_more : of_for integers To (pos 1) (pos 3) 2 ≡ record { output = 1 ∷ 2 ∷ []; ending = More }
+unfolding everywhere
+for_wants_more = refl
+
+-- both bounds are tested before the first value, and the first one first
+last_is_outside : of_for booleans To (pos 0) (pos 2) 5 ≡ record { output = []; ending = Error 9 }
+unfolding everywhere
+last_is_outside = refl
+
+both_are_outside : of_for booleans DownTo (pos 3) (pos 2) 5 ≡ record { output = []; ending = Error 8 }
+unfolding everywhere
+both_are_outside = refl
+
+-- behind the for its control variable is undefined, also where nothing was executed
+undefined_behind : ended ((counts_out integers To (pos 1) (pos 1) >>= λ _. written_out everywhere) (first_state [] 1)) ≡
+    record { output = 1 ∷ []; ending = Error 7 }
+unfolding everywhere
+undefined_behind = refl
+
+undefined_all_the_same :
+    ended ((store (everywhere 0) (Number (pos 5)) >>= λ _. counts_out integers To (pos 1) (pos 0) >>= λ _. written_out everywhere) (first_state [] 1)) ≡
+    record { output = []; ending = Error 7 }
+unfolding everywhere
+undefined_all_the_same = refl

@@ -1,3 +1,4 @@
+mod Counts
 mod Examples
 mod LeftToRight
 pub mod Loops

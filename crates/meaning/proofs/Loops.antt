@@ -1,11 +1,14 @@
 -- A loop's bound: each round behind which another follows uses a turn, so a loop is the same under every bound that is no
 -- less than the turns that are left, and its rounds follow one another as if there were none.
-use Rattle.std.proofs.Common.{◌≡◌, ℕ, zero, suc, ◌≤◌, ◌<◌, Bool, true, false, Option, Some, None, arith, refl, if◌then◌else◌}
+use Rattle.std.proofs.Common.{◌≡◌, ℕ, ℤ, zero, suc, ◌≤◌, ◌<◌, Bool, true, false, Option, Some, None, arith, refl, if◌then◌else◌}
+use Rattle.typed_tree.specs.declared.tree.Direction.{Direction}
 use Rattle.meaning.specs.declared.outcome.Ending.TheVariants.{More}
 use Rattle.meaning.specs.declared.store.Value.{Value}
+use Rattle.meaning.specs.declared.store.Value.TheVariants.{Number}
 use Rattle.meaning.specs.Store.{Environment}
-use Rattle.meaning.specs.Effect.{State, Reply, Gives, Stops, Action, Round, ◌>>=◌, and_then, give, stop, take_turn, use_turn, another, looping, looped}
-use Rattle.meaning.specs.Meaning.{Evaluation, Execution, is_so, turn_if, while_round, repeat_round}
+use Rattle.meaning.specs.Effect.{State, Reply, Gives, Stops, Action, Round, ◌>>=◌, and_then, give, stop, take_turn, use_turn, another, looping, looped, store}
+use Rattle.meaning.specs.Meaning.{Evaluation, Execution, is_so, turn_if, while_round, repeat_round, for_round}
+use Rattle.meaning.specs.Counting.{value_behind}
 use Rattle.meaning.specs.Laws.{state_after}
 use Rattle.meaning.proofs.Turns.{Extended, extended_then, extended_give}
 
@@ -106,3 +109,18 @@ repeat_uses body condition env done tested =
       spent = λ start s. spent_turn rest s (extended_then (body env) (λ _. condition env >>= until) done
           (λ _. extended_then (condition env) until tested (λ v. extended_give (if is_so v then None else Some tt))));
     }
+
+-- a control variable gets a value, and then comes a turn
+pub counted_uses : (control : ℕ) (body : Execution) (env : Environment) (behind : ℤ → Option ℤ) → Extended (body env) →
+    UsesTurns (λ n. store (env control) (Number n) >>= λ _. use_turn >>= λ _. body env >>= λ _. give (behind n))
+counted_uses control body env behind done =
+    let next : ℤ → Action (Option ℤ) = λ n. give (behind n) in
+    record {
+      spent = λ n s. spent_then (store (env control) (Number n) s) (λ _. use_turn >>= λ _. body env >>= λ _. next n) s.turns (omega arith)
+          (λ _ t. spent_turn (body env >>= λ _. next n) t (extended_then (body env) (λ _. next n) done (λ _. extended_give (behind n))));
+    }
+
+-- each turn of a for is used
+pub for_uses : (control : ℕ) (direction : Direction) (last : ℤ) (body : Execution) (env : Environment) → Extended (body env) →
+    UsesTurns (for_round control direction last body env)
+for_uses control direction last body env done = counted_uses control body env (value_behind direction last) done

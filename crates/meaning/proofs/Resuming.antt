@@ -1,6 +1,9 @@
 -- What pending work means, step by step.
 use Rattle.std.proofs.Common.{◌≡◌, ℕ, List, [], ◌∷◌, ◌++◌, Option, Some, None, Result, Ok, reverse, sym, ◌∙◌, ap, subst, refl, length, arith, Bool}
-use Rattle.std.proofs.Common.{true, false, if◌then◌else◌, Box, Global}
+use Rattle.std.proofs.Common.{true, false, if◌then◌else◌, Box, Global, ℤ}
+use Rattle.std.proofs.lemmas.Int.{ints}
+use mir.Syntax.{w32}
+use mir.Val.{SFits, to_z, of_z}
 use Rattle.std.specs.declared.alloc.AllocError.{AllocError}
 use Rattle.typed_tree.specs.declared.tree.RangeTest.{RangeTest}
 use Rattle.typed_tree.specs.declared.tree.Stmt.{Stmt}
@@ -145,3 +148,10 @@ choice_some false v u h = let no : ⊥ = cc in absurd no
 
 pub checked_some : (range : OrdinalRange) (v u : Value) (o : Option Value) → o ≡ checked range v → o ≡ Some u → (v ≡ u) × (is_in range v ≡ true)
 checked_some range v u o is some = choice_some (is_in range v) v u (sym is ∙ some)
+
+-- what holds of two numbers that were passed holds of them
+pub passed : (P : ℤ → ℤ → Type 0) (a b : ℤ) → SFits w32 a → SFits w32 b → P (to_z w32 (of_z w32 a)) (to_z w32 (of_z w32 b)) → P a b
+passed P a b fits too holds =
+    let one : to_z w32 (of_z w32 a) ≡ a = omega (arith, ints, fits) in
+    let other : to_z w32 (of_z w32 b) ≡ b = omega (arith, ints, too) in
+    subst (λ n. P n b) one (subst (λ n. P (to_z w32 (of_z w32 a)) n) other holds)

@@ -7,6 +7,9 @@ use Rattle.std.proofs.Common.{◌≡◌, ◌≢◌, inl, inr, ℕ, zero, suc, �
 use Rattle.std.proofs.Common.{List, [], ◌∷◌, ◌++◌, append-nil, append_assoc, Bool, true, false, Option, Some, None, map, slice_get}
 use Rattle.std.proofs.Common.{sym, ◌∙◌, ap, subst, refl}
 use Rattle.typed_tree.specs.declared.tree.Block.{Block}
+use Rattle.typed_tree.specs.declared.tree.Direction.{Direction}
+use Rattle.typed_tree.specs.declared.tree.RangeTest.{RangeTest}
+use Rattle.meaning.specs.Counting.{has_values, value_behind}
 use Rattle.typed_tree.specs.declared.tree.Dyadic.{Dyadic}
 use Rattle.typed_tree.specs.declared.tree.Dyadic.TheVariants as dyadic
 use Rattle.typed_tree.specs.declared.tree.Monadic.{Monadic}
@@ -21,7 +24,7 @@ use Rattle.typed_tree.specs.declared.tree.Expr.TheOpen.{Expr-F, Link-F}
 use Rattle.typed_tree.specs.declared.tree.Expr.TheOpen.Expr-F.{Constant, Variable, Monadic as MonadicOf, Chain}
 use Rattle.typed_tree.specs.declared.tree.Expr.TheFolds.{map-Expr, map-Link, fold-roll-Expr, fold-roll-Link, ind-Expr}
 use Rattle.typed_tree.specs.declared.tree.Stmt.TheOpen.{Stmt-F}
-use Rattle.typed_tree.specs.declared.tree.Stmt.TheOpen.Stmt-F.{Empty, Assign, Write, Compound, If, While, Repeat}
+use Rattle.typed_tree.specs.declared.tree.Stmt.TheOpen.Stmt-F.{Empty, Assign, Write, Compound, If, While, Repeat, For}
 use Rattle.typed_tree.specs.declared.tree.Stmt.TheFolds.{map-Stmt, fold-roll-Stmt, ind-Stmt}
 use Rattle.meaning.specs.declared.outcome.Ending.{Ending}
 use Rattle.meaning.specs.declared.outcome.Ending.TheVariants as ending
@@ -30,9 +33,9 @@ use Rattle.meaning.specs.declared.store.Value.TheVariants.{Number}
 use Rattle.meaning.specs.Integers.{is_integer_number}
 use Rattle.meaning.specs.Store.{Environment, Place, held}
 use Rattle.meaning.specs.Effect.{State, Reply, Gives, Stops, Action, Round, ◌>>=◌, and_then, give, stop, require, enter, take_turn, use_turn, another, looping, looped}
-use Rattle.meaning.specs.Effect.{fetched, fetch, store, write, is_in, is_positive, text_of}
+use Rattle.meaning.specs.Effect.{fetched, fetch, store, undefine, write, is_in, is_positive, text_of}
 use Rattle.meaning.specs.Meaning.{Evaluation, Combination, Execution, value_step, link_step, effect_step, whole, operated, combined, in_turn, all_of}
-use Rattle.meaning.specs.Meaning.{width_of, parameter_of, line_ended, is_so, turn_if, while_round, repeat_round, value_of, link_of, effect_of, Meaning, run_of, run, ended}
+use Rattle.meaning.specs.Meaning.{width_of, parameter_of, line_ended, is_so, turn_if, while_round, repeat_round, for_round, for_rounds, for_between, value_of, link_of, effect_of, Meaning, run_of, run, ended}
 use Rattle.meaning.specs.Meaning.{program_environment, first_state}
 use Rattle.meaning.specs.Laws.{with_turns, reply_with_turns, state_after, Begins, Extends, TurnsGoOn, TurnsExtendTheOutput, EndingsStay}
 
@@ -101,6 +104,9 @@ extended_enter number env = record { grows = λ s. nothing s.output; falls = λ 
 
 extended_store : (p : Option Place) (v : Value) → Extended (store p v)
 extended_store p v = record { grows = λ s. nothing s.output; falls = λ s. omega arith; extends = λ more s. inl refl }
+
+extended_undefine : (p : Option Place) → Extended (undefine p)
+extended_undefine p = record { grows = λ s. nothing s.output; falls = λ s. omega arith; extends = λ more s. inl refl }
 
 extended_write : (bytes : List ℕ) → Extended (write bytes)
 extended_write bytes = record { grows = λ s. (bytes, refl); falls = λ s. omega arith; extends = λ more s. inl refl }
@@ -353,6 +359,30 @@ extended_repeat_round body condition env done tested start =
     (λ _. extended_then (body env) (λ _. condition env >>= until) done
     (λ _. extended_then (condition env) until tested (λ v. extended_give (if is_so v then None else Some tt))))
 
+pub extended_for_round : (control : ℕ) (direction : Direction) (last : ℤ) (body : Execution) (env : Environment) → Extended (body env) →
+    (n : ℤ) → Extended (for_round control direction last body env n)
+extended_for_round control direction last body env done n =
+    let next : Action (Option ℤ) = give (value_behind direction last n) in
+    extended_then (store (env control) (Number n)) (λ _. use_turn >>= λ _. body env >>= λ _. next) (extended_store (env control) (Number n))
+    (λ _. extended_then use_turn (λ _. body env >>= λ _. next) extended_use_turn
+    (λ _. extended_then (body env) (λ _. next) done (λ _. extended_give (value_behind direction last n))))
+
+extended_for_rounds : (control : ℕ) (first_fits : RangeTest) (direction : Direction) (last_fits : RangeTest) (body : Execution) (env : Environment) →
+    Extended (body env) → (first last : ℤ) → Extended (for_rounds control first_fits direction last_fits body env first last)
+extended_for_rounds control first_fits direction last_fits body env done first last =
+    let round = for_round control direction last body env in
+    let last_tested : Action (Unit {0}) = require (is_in last_fits.range (Number last)) last_fits.site in
+    extended_then (require (is_in first_fits.range (Number first)) first_fits.site) (λ _. last_tested >>= λ _. looped round first)
+    (extended_require (is_in first_fits.range (Number first)) first_fits.site)
+    (λ _. extended_then last_tested (λ _. looped round first) (extended_require (is_in last_fits.range (Number last)) last_fits.site)
+    (λ _. extended_looped round (extended_for_round control direction last body env done) first))
+
+pub extended_for_between : (control : ℕ) (first_fits : RangeTest) (direction : Direction) (last_fits : RangeTest) (body : Execution) (env : Environment) →
+    Extended (body env) → (first last : Value) → Extended (for_between control first_fits direction last_fits body env first last)
+extended_for_between control first_fits direction last_fits body env done (Number first) (Number last) =
+    extended_chosen (has_values direction first last) (for_rounds control first_fits direction last_fits body env first last) (give tt)
+    (extended_for_rounds control first_fits direction last_fits body env done first last) (extended_give tt)
+
 -- the statements of one layer
 abbrev executed : Stmt-F Stmt → Execution
 executed y = effect_step (map-Stmt Stmt Execution effect_of y)
@@ -392,6 +422,17 @@ effect-parts (Repeat number loop_number place statements condition) env =
     extended_then (enter number env) (λ _. looped round tt) (extended_enter number env)
     (λ _. extended_looped round
     (extended_repeat_round all (value_of condition) env (extended_all_of statements.items env) (extended_value condition env)) tt)
+effect-parts (For number loop_number place control first first_fits direction last last_fits body) env =
+    let inner : Execution = effect_of body.value.0 in
+    let behind : Unit {0} → Action (Unit {0}) = λ _. undefine (env control) in
+    let between : Value → Value → Action (Unit {0}) = λ a b. for_between control first_fits direction last_fits inner env a b >>= behind in
+    let rest : Value → Action (Unit {0}) = λ a. value_of last env >>= between a in
+    extended_then (enter number env) (λ _. value_of first env >>= rest) (extended_enter number env)
+    (λ _. extended_then (value_of first env) rest (extended_value first env)
+    (λ a. extended_then (value_of last env) (between a) (extended_value last env)
+    (λ b. extended_then (for_between control first_fits direction last_fits inner env a b) behind
+    (extended_for_between control first_fits direction last_fits inner env (body.value.1 env) a b)
+    (λ _. extended_undefine (env control)))))
 
 pub extended_effect : (e : Stmt) (env : Environment) → Extended (effect_of e env)
 extended_effect = ind-Stmt

@@ -1,7 +1,8 @@
 -- Each form of an expression and of a statement, as the work that an interpreter has to do for it.
-use Rattle.std.proofs.Common.{◌≡◌, ℕ, List, [], ◌∷◌, ◌++◌, Bool, true, false, Option, Some, None, Bor, if◌then◌else◌, Box, Vec, Global, map, sym, ◌∙◌, ap, refl}
+use Rattle.std.proofs.Common.{◌≡◌, ℕ, ℤ, List, [], ◌∷◌, ◌++◌, Bool, true, false, Option, Some, None, Result, Bor, if◌then◌else◌, Box, Vec, Global, map, sym, ◌∙◌, ap, refl}
 use Rattle.place.specs.declared.Place.{Place as SourcePlace}
 use Rattle.typed_tree.specs.declared.tree.Access.{Access}
+use Rattle.typed_tree.specs.declared.tree.Direction.{Direction}
 use Rattle.typed_tree.specs.declared.tree.Monadic.{Monadic}
 use Rattle.typed_tree.specs.declared.tree.RangeTest.{RangeTest}
 use Rattle.typed_tree.specs.declared.tree.Width.{Width}
@@ -12,21 +13,23 @@ use Rattle.typed_tree.specs.declared.tree.Stmt.{Stmt}
 use Rattle.typed_tree.specs.declared.tree.Expr.TheVariants as expr
 use Rattle.typed_tree.specs.declared.tree.Stmt.TheVariants as stmt
 use Rattle.typed_tree.specs.declared.tree.Expr.TheOpen.Expr-F.{Variable as Variable-F, Monadic as Monadic-F, Chain as Chain-F}
-use Rattle.typed_tree.specs.declared.tree.Stmt.TheOpen.Stmt-F.{Empty as Empty-F, Assign as Assign-F, Write as Write-F, Compound as Compound-F, If as If-F, While as While-F, Repeat as Repeat-F}
+use Rattle.typed_tree.specs.declared.tree.Stmt.TheOpen.Stmt-F.{Empty as Empty-F, Assign as Assign-F, Write as Write-F, Compound as Compound-F, If as If-F, While as While-F, Repeat as Repeat-F, For as For-F}
 use Rattle.typed_tree.specs.declared.tree.Expr.TheFolds.{fold-roll-Expr, fold_out-Link}
 use Rattle.typed_tree.specs.declared.tree.Stmt.TheFolds.{fold-roll-Stmt}
 use Rattle.meaning.specs.declared.store.Value.{Value}
+use Rattle.meaning.specs.declared.store.Value.TheVariants.{Number}
 use Rattle.meaning.specs.declared.work.Work.{Work}
 use Rattle.meaning.specs.declared.work.Work.TheVariants as work
-use Rattle.meaning.specs.Store.{Environment}
-use Rattle.meaning.specs.Effect.{State, Reply, Gives, Stops, Action, ◌>>=◌, and_then, give, require, enter, use_turn, another, looped}
-use Rattle.meaning.specs.Effect.{fetch, store, write, is_in, text_of}
+use Rattle.meaning.specs.Store.{Environment, kept}
+use Rattle.meaning.specs.Effect.{State, Reply, Action, ◌>>=◌, and_then, give, require, enter, use_turn, another, looped}
+use Rattle.meaning.specs.Effect.{fetch, store, undefine, write, is_in, text_of}
 use Rattle.meaning.specs.Meaning.{Evaluation, Combination, Execution, value_step, link_step, effect_step, operated, combined, in_turn, all_of}
-use Rattle.meaning.specs.Meaning.{width_of, parameter_of, line_ended, is_so, turn_if, value_of, link_of, effect_of}
-use Rattle.meaning.specs.Pending.{Resumption, pending_of, resumed, chosen, further, while_rounds, repeat_rounds, turning, line_ending, linking, giving, with_top}
+use Rattle.meaning.specs.Meaning.{width_of, parameter_of, line_ended, is_so, turn_if, for_between, value_of, link_of, effect_of}
+use Rattle.meaning.specs.Pending.{Resumption, pending_of, resumed, chosen, further, while_rounds, repeat_rounds, bounds_tested, value_before, counting, forgetting, turning, line_ending, linking, giving, with_top}
 use Rattle.meaning.specs.Pending.{positive, top_of, below_top}
 use Rattle.meaning.proofs.Turns.{extended_value, extended_effect, extended_statements}
-use Rattle.meaning.proofs.Loops.{looped-rounds, while_uses, repeat_uses}
+use Rattle.meaning.proofs.Loops.{looped-rounds, while_uses, repeat_uses, counted_uses}
+use Rattle.meaning.proofs.Counts.{rounds_of, between-tested, turn-given}
 use Rattle.meaning.proofs.Resuming.{and_then-and_then, and_then-same}
 
 value-Variable : (a : Access) (defined : ℕ) (env : Environment) →
@@ -88,6 +91,16 @@ effect-Repeat : (n loop_number : ℕ) (place : SourcePlace) (statements : Vec St
 effect-Repeat n loop_number place statements condition env =
     ap (λ (e : Stmt). effect_of e env) (sym (stmt.rolls-Repeat n loop_number place statements condition))
     ∙ ap (λ (f : Execution). f env) (fold-roll-Stmt Execution effect_step (Repeat-F n loop_number place statements condition))
+
+effect-For : (n loop_number : ℕ) (place : SourcePlace) (control : ℕ) (first : Expr) (first_fits : RangeTest) (direction : Direction) (last : Expr)
+    (last_fits : RangeTest) (body : Box Stmt Global) (env : Environment) →
+    effect_of (stmt.For n loop_number place control first first_fits direction last last_fits body) env ≡
+    (enter n env >>= λ _. value_of first env >>= λ a. value_of last env >>= λ b.
+    for_between control first_fits direction last_fits (effect_of body.value) env a b >>= λ _. undefine (env control))
+effect-For n loop_number place control first first_fits direction last last_fits body env =
+    ap (λ (e : Stmt). effect_of e env) (sym (stmt.rolls-For n loop_number place control first first_fits direction last last_fits body))
+    ∙ ap (λ (f : Execution). f env)
+    (fold-roll-Stmt Execution effect_step (For-F n loop_number place control first first_fits direction last last_fits body))
 
 -- the state after an entry
 abbrev pub entered : ℕ → Environment → State → State
@@ -237,17 +250,6 @@ does-while-round env condition body works operands s =
     ∙ and_then-and_then (value_of condition env s) turn (λ more. again more >>= then_rest)
     ∙ and_then-same (value_of condition env s) _ _ (λ v t. sym (and_then-and_then (turn v t) again then_rest))
 
--- what comes behind the body of a while
-body-done : (reply : Reply (Unit {0})) (again : Option (Unit {0}) → Action (Unit {0})) (rest : Unit {0} → Action (Unit {0})) →
-    and_then (and_then (and_then reply (λ _. give (Some tt))) again) rest ≡ and_then reply (λ _. again (Some tt) >>= rest)
-body-done (Gives a s) again rest = refl
-body-done (Stops e s) again rest = refl
-
-turn-done : (reply : Reply (Unit {0})) (body : Action (Unit {0})) (again : Option (Unit {0}) → Action (Unit {0})) (rest : Unit {0} → Action (Unit {0})) →
-    and_then (and_then (and_then reply (λ _. body >>= λ _. give (Some tt))) again) rest ≡ and_then reply (λ _. body >>= λ _. again (Some tt) >>= rest)
-turn-done (Gives a s) body again rest = body-done (body s) again rest
-turn-done (Stops e s) body again rest = refl
-
 pub does-while-turn : (env : Environment) (condition : Bor Expr) (body : Bor Stmt) (works : List Work) (operands : List Value) (s : State) →
     is_so (top_of operands) ≡ true → while_tested env condition.now body.now works operands s ≡
     turning env (work.Statement body) (work.While condition body) (pending_of env works) (below_top operands) s
@@ -255,8 +257,11 @@ does-while-turn env condition body works operands s so =
     let then_rest : Unit {0} → Action (Unit {0}) = λ _. pending_of env works (below_top operands) in
     let round = while_rounds env condition.now body.now in
     let again : Option (Unit {0}) → Action (Unit {0}) = λ more. another more (looped round) in
-    ap (λ (b : Bool). and_then (further round (turn_if b (effect_of body.now env)) s) then_rest) so
-    ∙ turn-done (use_turn s) (effect_of body.now env) again then_rest
+    let inner = effect_of body.now env in
+    ap (λ (b : Bool). and_then (further round (turn_if b inner) s) then_rest) so
+    ∙ ap (λ (r : Reply (Unit {0})). and_then r then_rest) (turn-given (use_turn s) inner (Some tt) again)
+    ∙ and_then-and_then (use_turn s) (λ _. inner >>= λ _. again (Some tt)) then_rest
+    ∙ and_then-same (use_turn s) _ _ (λ _ t. and_then-and_then (inner t) (λ _. again (Some tt)) then_rest)
 
 -- the rounds of a repeat, and then what is pending
 abbrev pub repeating : Environment → List Stmt → Expr → List Work → List Value → Action (Unit {0})
@@ -297,6 +302,65 @@ pub does-unless : (env : Environment) (statements : Bor (List Stmt)) (condition 
 does-unless env statements condition works operands s so =
     ap (λ (b : Bool). and_then (further (repeat_rounds env statements.now condition.now) (give (if b then None else Some tt)) s)
     (λ _. pending_of env works (below_top operands))) so
+
+-- what is pending after the bounds of a for
+abbrev pub bounding : Environment → ℕ → RangeTest → Direction → RangeTest → Stmt → List Work → Resumption
+bounding env control first_fits direction last_fits body works =
+    with_top (λ last rest. with_top (λ first below. for_between control first_fits direction last_fits (effect_of body) env first last
+    >>= λ _. forgetting (env control) (pending_of env works) below) rest)
+
+pub does-For : (n loop_number : ℕ) (place : SourcePlace) (control : ℕ) (first : Expr) (first_fits : RangeTest) (direction : Direction) (last : Expr)
+    (last_fits : RangeTest) (body : Box Stmt Global) (given : Stmt) →
+    given ≡ stmt.For n loop_number place control first first_fits direction last last_fits body → (inner : Stmt) → inner ≡ body.value →
+    (env : Environment) (works : List Work) (operands : List Value) (s : State) →
+    executed env given works operands s ≡ giving (value_of first env) (giving (value_of last env)
+    (bounding env control first_fits direction last_fits inner works)) operands (entered n env s)
+does-For n loop_number place control first first_fits direction last last_fits body given is inner same env works operands s =
+    let then_rest : Unit {0} → Action (Unit {0}) = λ _. pending_of env works operands in
+    let there = entered n env s in
+    let between : Value → Value → Action (Unit {0}) = λ a b. for_between control first_fits direction last_fits (effect_of body.value) env a b in
+    let behind : Unit {0} → Action (Unit {0}) = λ _. undefine (env control) in
+    let with_last : Value → Action (Unit {0}) = λ a. value_of last env >>= λ b. between a b >>= behind in
+    ap (λ (e : Stmt). executed env e works operands s) is
+    ∙ ap (λ (a : Action (Unit {0})). and_then (a s) then_rest)
+    (effect-For n loop_number place control first first_fits direction last last_fits body env)
+    ∙ and_then-and_then (value_of first env there) with_last then_rest
+    ∙ and_then-same (value_of first env there) _ _ (λ a t. and_then-and_then (value_of last env t) (λ b. between a b >>= behind) then_rest
+    ∙ and_then-same (value_of last env t) _ _ (λ b u. and_then-and_then (between a b u) behind then_rest))
+    ∙ ap (λ (e : Stmt). giving (value_of first env) (giving (value_of last env)
+    (bounding env control first_fits direction last_fits e works)) operands there) (sym same)
+
+pub does-bounds : (env : Environment) (control : ℕ) (first_fits : RangeTest) (direction : Direction) (last_fits : RangeTest) (body : Stmt)
+    (works : List Work) (operands : List Value) (s : State) (result : Result (Option (ℤ × ℤ)) ℕ) →
+    bounds_tested direction first_fits (top_of (below_top operands)) last_fits (top_of operands) ≡ result →
+    bounding env control first_fits direction last_fits body works operands s ≡
+    and_then (rounds_of env control direction (effect_of body) result s)
+    (λ _. forgetting (env control) (pending_of env works) (below_top (below_top operands)))
+does-bounds env control first_fits direction last_fits body works operands s result is =
+    let then_rest : Unit {0} → Action (Unit {0}) = λ _. forgetting (env control) (pending_of env works) (below_top (below_top operands)) in
+    ap (λ (r : Reply (Unit {0})). and_then r then_rest)
+    (between-tested env control first_fits direction last_fits (effect_of body) (top_of (below_top operands)) (top_of operands) s
+    ∙ ap (λ (r : Result (Option (ℤ × ℤ)) ℕ). rounds_of env control direction (effect_of body) r s) is)
+
+-- the rounds of a for from a value on, and then what is pending
+abbrev pub counting_on : Environment → ℕ → Direction → ℤ → ℤ → Stmt → Resumption → Resumption
+counting_on env control direction n last body next operands =
+    looped (counting env control direction last body) n >>= λ _. forgetting (env control) next operands
+
+pub does-for-round : (env : Environment) (control : ℕ) (direction : Direction) (n last : ℤ) (body : Bor Stmt) (next : Resumption) (operands : List Value)
+    (s : State) → counting_on env control direction n last body.now next operands s ≡
+    turning env (work.Statement body) (work.Next control direction n last body) next operands (record s { store = kept s.store (env control) (Number n) })
+does-for-round env control direction n last body next operands s =
+    let then_rest : Unit {0} → Action (Unit {0}) = λ _. forgetting (env control) next operands in
+    let each = counting env control direction last body.now in
+    let again : Option ℤ → Action (Unit {0}) = λ more. another more (looped each) in
+    let there : State = record s { store = kept s.store (env control) (Number n) } in
+    let uses = counted_uses control (effect_of body.now) env (value_before direction last) (extended_effect body.now env) in
+    ap (λ (r : Reply (Unit {0})). and_then r then_rest)
+    (looped-rounds each uses n s ∙ turn-given (use_turn there) (effect_of body.now env) (value_before direction last n) again)
+    ∙ and_then-and_then (use_turn there) (λ _. effect_of body.now env >>= λ _. again (value_before direction last n)) then_rest
+    ∙ and_then-same (use_turn there) _ _
+    (λ _ t. and_then-and_then (effect_of body.now env t) (λ _. again (value_before direction last n)) then_rest)
 
 pub does-Statements : (first : Bor Stmt) (rest all : Bor (List Stmt)) → all.now ≡ first.now ∷ rest.now →
     (env : Environment) (works : List Work) (operands : List Value) (s : State) →

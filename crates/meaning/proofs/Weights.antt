@@ -9,7 +9,7 @@ use Rattle.typed_tree.specs.declared.tree.Expr.TheOpen.{Expr-F, Link-F}
 use Rattle.typed_tree.specs.declared.tree.Expr.TheOpen.Expr-F.{Constant, Variable, Monadic, Chain}
 use Rattle.typed_tree.specs.declared.tree.Expr.TheFolds.{map-Expr, map-Link, fold-roll-Expr, fold-roll-Link, fold_out-Link, ind-Expr}
 use Rattle.typed_tree.specs.declared.tree.Stmt.TheOpen.{Stmt-F}
-use Rattle.typed_tree.specs.declared.tree.Stmt.TheOpen.Stmt-F.{Empty, Assign, Write, Compound, If, While, Repeat}
+use Rattle.typed_tree.specs.declared.tree.Stmt.TheOpen.Stmt-F.{Empty, Assign, Write, Compound, If, While, Repeat, For}
 use Rattle.typed_tree.specs.declared.tree.Stmt.TheFolds.{map-Stmt, fold-roll-Stmt, ind-Stmt}
 use Rattle.std.proofs.lemmas.List.Sums.{sum_by-cons}
 use Rattle.std.specs.declared.alloc.AllocError.{AllocError}
@@ -17,7 +17,7 @@ use Rattle.meaning.specs.declared.outcome.Ending.{Ending}
 use Rattle.meaning.specs.declared.work.Work.{Work}
 use Rattle.meaning.specs.declared.work.Work.TheVariants as work
 use Rattle.meaning.specs.Weight.{Weight, row_weight, rounds_weight, link_weight, expression_weight, weight_of_expression, weight_of_link, weight_of_width}
-use Rattle.meaning.specs.Weight.{weight_of_parameter, round_weight, statement_weight, weight_of_statement, weight_of_alternative, weight_of, turn_weight}
+use Rattle.meaning.specs.Weight.{weight_of_parameter, round_weight, for_weight, statement_weight, weight_of_statement, weight_of_alternative, weight_of, turn_weight}
 
 -- a weight that more turns never lower
 abbrev Rises : Weight → Type 0
@@ -135,10 +135,19 @@ statement-parts (Repeat number loop_number place statements condition) =
     let all = row_weight 1 (map weight_of_statement (map (λ e. e.0) statements.items)) in
     let rounds = rising_rounds (round_weight all (weight_of_expression condition)) turns more in
     omega (arith, rounds)
+statement-parts (For number loop_number place control first first_fits direction last last_fits body) =
+    λ turns more.
+    let one = rising_expression first turns more in
+    let other = rising_expression last turns more in
+    let rounds = rising_rounds (λ left. 3 + weight_of_statement body.value.0 left) turns more in
+    omega (arith, one, other, rounds)
 
 rising_statement : (e : Stmt) → Rises (weight_of_statement e)
 rising_statement = ind-Stmt (λ e. Rises (weight_of_statement e))
     (λ x y is. subst Rises (sym (fold-roll-Stmt Weight statement_weight x ∙ ap weighed_statement (sym is))) (statement-parts y))
+
+rising_for : (body : Weight) → Rises (for_weight body)
+rising_for body turns more = let rounds = rising_rounds (λ left. 3 + body left) turns more in omega (arith, rounds)
 
 rising_alternative : (alternative : Option (Box Stmt Global)) → Rises (weight_of_alternative alternative)
 rising_alternative None = λ turns more. omega arith
@@ -177,6 +186,11 @@ rising_work (work.Unless statements condition) =
     let all = row_weight 1 (map weight_of_statement statements.now) in
     let rounds = rising_rounds (round_weight all (weight_of_expression condition.now)) turns more in
     omega (arith, rounds)
+rising_work (work.Bounds control first_fits direction last_fits body) =
+    λ turns more. let rounds = rising_for (weight_of_statement body.now) turns more in omega (arith, rounds)
+rising_work (work.For control direction value last body) = rising_for (weight_of_statement body.now)
+rising_work (work.Next control direction value last body) =
+    λ turns more. let rounds = rising_for (weight_of_statement body.now) turns more in omega (arith, rounds)
 rising_work (work.Parameters parameters ends_line) = rising_row 1 weight_of_parameter parameters.now rising_parameter
 rising_work (work.Parameter parameter) = rising_parameter parameter.now
 rising_work (work.Width parameter) = rising_width parameter.now.width

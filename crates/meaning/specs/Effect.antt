@@ -10,7 +10,7 @@ use Rattle.meaning.specs.declared.outcome.Ending.TheVariants as ending
 use Rattle.meaning.specs.declared.store.Value.{Value}
 use Rattle.meaning.specs.declared.store.Value.TheVariants.{Number}
 use Rattle.meaning.specs.Integers.{is_integer_number, is_true, is_within}
-use Rattle.meaning.specs.Store.{Environment, Place, Store, held, kept}
+use Rattle.meaning.specs.Store.{Environment, Place, Store, held, kept, forgotten}
 
 -- an entry into the statement or expression with this number, for theorems alone
 pub record Visit : Type 0 where
@@ -104,6 +104,10 @@ fetch place site s = fetched (held s.store place) site s
 -- a value is written to a place, if there is one
 abbrev pub store : Option Place → Value → Action (Unit {0})
 store place v s = Gives tt (record s { store = kept s.store place v })
+
+-- what a place holds becomes undefined, if there is a place
+abbrev pub undefine : Option Place → Action (Unit {0})
+undefine place s = Gives tt (record s { store = forgotten s.store place })
 
 -- bytes are put behind the output
 abbrev pub write : List ℕ → Action (Unit {0})

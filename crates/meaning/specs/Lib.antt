@@ -1,5 +1,6 @@
 pub mod Integers
 pub mod Store
+pub mod Counting
 pub mod Effect
 pub mod Meaning
 pub mod Weight

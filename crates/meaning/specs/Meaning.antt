@@ -18,6 +18,8 @@ use Rattle.typed_tree.specs.declared.tree.Relation.{Relation}
 use Rattle.typed_tree.specs.declared.tree.Relation.TheVariants as relation
 use Rattle.typed_tree.specs.declared.tree.Representation.{Representation}
 use Rattle.typed_tree.specs.declared.tree.Representation.TheVariants as representation
+use Rattle.typed_tree.specs.declared.tree.Direction.{Direction}
+use Rattle.typed_tree.specs.declared.tree.RangeTest.{RangeTest}
 use Rattle.typed_tree.specs.declared.tree.Width.{Width}
 use Rattle.typed_tree.specs.declared.tree.WriteParameter.{WriteParameter}
 use Rattle.typed_tree.specs.declared.tree.Expr.{Expr}
@@ -27,7 +29,7 @@ use Rattle.typed_tree.specs.declared.tree.Expr.TheOpen.Expr-F.{Constant, Variabl
 use Rattle.typed_tree.specs.declared.tree.Expr.TheFolds.{fold-Expr, fold-Link}
 use Rattle.typed_tree.specs.declared.tree.Stmt.{Stmt}
 use Rattle.typed_tree.specs.declared.tree.Stmt.TheOpen.{Stmt-F}
-use Rattle.typed_tree.specs.declared.tree.Stmt.TheOpen.Stmt-F.{Empty, Assign, Write, Compound, If, While, Repeat}
+use Rattle.typed_tree.specs.declared.tree.Stmt.TheOpen.Stmt-F.{Empty, Assign, Write, Compound, If, While, Repeat, For}
 use Rattle.typed_tree.specs.declared.tree.Stmt.TheFolds.{fold-Stmt}
 use Rattle.meaning.specs.declared.outcome.Ending.{Ending}
 use Rattle.meaning.specs.declared.outcome.Ending.TheVariants as ending
@@ -35,8 +37,9 @@ use Rattle.meaning.specs.declared.store.Value.{Value}
 use Rattle.meaning.specs.declared.store.Value.TheVariants.{Number}
 use Rattle.meaning.specs.Integers.{is_integer_number, truth, is_true, is_odd, magnitude}
 use Rattle.meaning.specs.Store.{Environment, Place}
+use Rattle.meaning.specs.Counting.{has_values, value_behind}
 use Rattle.meaning.specs.Effect.{State, Reply, Gives, Stops, Action, Round, ◌>>=◌, give, require, enter, use_turn, looped}
-use Rattle.meaning.specs.Effect.{fetch, store, write, is_in, is_positive, text_of}
+use Rattle.meaning.specs.Effect.{fetch, store, undefine, write, is_in, is_positive, text_of}
 
 -- what an expression does in an environment: it gives its value
 abbrev pub Evaluation : Type 0
@@ -191,6 +194,29 @@ repeat_round body condition env start = do
   v ← condition env
   give (if is_so v then None else Some tt)
 
+-- a round of a for: its control variable gets a value, and then comes a turn (6.8.3.9)
+abbrev pub for_round : ℕ → Direction → ℤ → Execution → Environment → Round ℤ
+for_round control direction last body env n = do
+  _ ← store (env control) (Number n)
+  _ ← use_turn
+  _ ← body env
+  give (value_behind direction last n)
+
+-- the rounds of a for whose bounds leave values; both bounds are tested before, the first one first
+abbrev pub for_rounds : ℕ → RangeTest → Direction → RangeTest → Execution → Environment → ℤ → ℤ → Action (Unit {0})
+for_rounds control first_fits direction last_fits body env first last = do
+  _ ← require (is_in first_fits.range (Number first)) first_fits.site
+  _ ← require (is_in last_fits.range (Number last)) last_fits.site
+  looped (for_round control direction last body env) first
+
+-- a for from the values of its bounds
+abbrev pub for_between : ℕ → RangeTest → Direction → RangeTest → Execution → Environment → Value → Value
+    → Action (Unit {0})
+for_between control first_fits direction last_fits body env (Number first) (Number last) =
+    if has_values direction first last
+    then for_rounds control first_fits direction last_fits body env first last
+    else give tt
+
 -- one layer of a statement
 abbrev pub effect_step : Stmt-F Execution → Execution
 effect_step (Empty number) env = enter number env
@@ -217,6 +243,12 @@ effect_step (While number loop_number place condition body) env = do
 effect_step (Repeat number loop_number place statements condition) env = do
   _ ← enter number env
   looped (repeat_round (all_of statements.items) (value_of condition) env) tt
+effect_step (For number loop_number place control first first_fits direction last last_fits body) env = do
+  _ ← enter number env
+  a ← value_of first env
+  b ← value_of last env
+  _ ← for_between control first_fits direction last_fits body.value env a b
+  undefine (env control)
 
 -- what a statement does
 abbrev pub effect_of : Stmt → Execution

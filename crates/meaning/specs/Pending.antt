@@ -1,12 +1,15 @@
 -- What the work that an interpreter has still to do means: from its operands and the state, the topmost first.
 -- It says nothing of how many steps the work takes.
-use Rattle.std.specs.Prelude.{◌≡◌, ℕ, pos, Bool, List, [], ◌∷◌, Option, Some, None, Result, Ok, Err, IfOk}
-use Rattle.std.specs.Prelude.{if◌then◌else◌, drop, map, reverse, slice_get}
+use Rattle.std.specs.Prelude.{◌≡◌, ℕ, ℤ, pos, Bool, List, [], ◌∷◌, Option, Some, None, Result, Ok, Err, IfOk}
+use Rattle.std.specs.Prelude.{int_lt, if◌then◌else◌, drop, map, reverse, slice_get}
 use Rattle.std.specs.BTreeMap.{BTreeMap, get}
 use Rattle.std.specs.declared.alloc.AllocError.{AllocError}
 use Rattle.std.specs.declared.alloc.Global.{Global}
 use Rattle.std.specs.declared.boxed.Box.{Box}
 use Rattle.types.specs.declared.form.OrdinalRange.{OrdinalRange}
+use Rattle.typed_tree.specs.declared.tree.Direction.{Direction}
+use Rattle.typed_tree.specs.declared.tree.Direction.TheVariants.{To, DownTo}
+use Rattle.typed_tree.specs.declared.tree.RangeTest.{RangeTest}
 use Rattle.typed_tree.specs.declared.tree.Expr.{Expr}
 use Rattle.typed_tree.specs.declared.tree.Stmt.{Stmt}
 use Rattle.meaning.specs.declared.outcome.Ending.{Ending}
@@ -20,9 +23,11 @@ use Rattle.meaning.specs.declared.interpreter.Run.{Run}
 use Rattle.meaning.specs.contracts.store.PlaceOrd.TheImpl.{ghosts as places}
 use Rattle.meaning.specs.Store.{Environment, Place, Store, stored}
 use Rattle.meaning.specs.Effect.{State, Reply, Stops, Action, Round, ◌>>=◌, give, stop, require, use_turn}
-use Rattle.meaning.specs.Effect.{another, looped, store, write, is_in, is_positive, text_of}
+use Rattle.meaning.specs.Effect.{another, looped, store, undefine, write, is_in, is_positive, text_of}
 use Rattle.meaning.specs.Meaning.{Combination, Execution, completed, ended, home_of, operated, combined, value_of, link_of}
 use Rattle.meaning.specs.Meaning.{effect_of, all_of, width_of, parameter_of, line_ended, is_so, turn_if, while_round, repeat_round}
+use Rattle.meaning.specs.Meaning.{for_between}
+use Rattle.meaning.specs.Counting.{has_values, next_value}
 
 -- what is done with the operands, the topmost first, and the state
 abbrev pub Resumption : Type 0
@@ -54,6 +59,28 @@ answered (Err site) = stop (ending.Error site)
 -- a result is the value that an action gives, or the site of the error where it stops
 abbrev pub Answers : Action Value → Result Value ℕ → Type 0
 Answers action result = (s : State) → action s ≡ answered result s
+
+-- a bound of a for, or the site of its test
+abbrev pub bound_tested : RangeTest → ℤ → Result ℤ ℕ
+bound_tested fits n = if is_in fits.range (Number n) then Ok n else Err fits.site
+
+-- two bounds, the first tested first
+abbrev pub both_bounds : Result ℤ ℕ → Result ℤ ℕ → Result (Option (ℤ × ℤ)) ℕ
+both_bounds (Err site) last = Err site
+both_bounds (Ok first) (Err site) = Err site
+both_bounds (Ok first) (Ok last) = Ok (Some (first, last))
+
+-- the bounds of a for, if they leave any value between them
+abbrev pub bounds_tested : Direction → RangeTest → Value → RangeTest → Value → Result (Option (ℤ × ℤ)) ℕ
+bounds_tested direction first_fits (Number first) last_fits (Number last) =
+    if has_values direction first last
+    then both_bounds (bound_tested first_fits first) (bound_tested last_fits last)
+    else Ok None
+
+-- the next value of a control variable on its way to the last one
+abbrev pub value_before : Direction → ℤ → ℤ → Option ℤ
+value_before To last n = if int_lt n last then Some (next_value To n) else None
+value_before DownTo last n = if int_lt last n then Some (next_value DownTo n) else None
 
 -- a value, if it lies in a range
 abbrev pub checked : OrdinalRange → Value → Option Value
@@ -96,6 +123,20 @@ while_rounds env condition body = while_round (value_of condition) (effect_of bo
 abbrev pub repeat_rounds : Environment → List Stmt → Expr → Round (Unit {0})
 repeat_rounds env statements condition = repeat_round (all_of (map effect_of statements)) (value_of condition) env
 
+-- the rounds of a for with values that haven't passed the last one
+abbrev pub counting : Environment → ℕ → Direction → ℤ → Stmt → Round ℤ
+counting env control direction last body n = do
+  _ ← store (env control) (Number n)
+  _ ← use_turn
+  _ ← effect_of body env
+  give (value_before direction last n)
+
+-- a place is undefined from here, and then the rest
+abbrev pub forgetting : Option Place → Resumption → Resumption
+forgetting place next operands = do
+  _ ← undefine place
+  next operands
+
 -- further rounds of a repeat, unless the topmost operand ends it, and then the rest
 abbrev pub unless_so : Environment → List Stmt → Expr → Resumption → Resumption
 unless_so env statements condition next =
@@ -130,6 +171,19 @@ resumed env (work.Until statements condition) next operands =
     giving (value_of condition.now env) (unless_so env statements.now condition.now next) operands
 resumed env (work.Unless statements condition) next operands =
     unless_so env statements.now condition.now next operands
+resumed env (work.Bounds control first_fits direction last_fits body) next operands =
+    with_top
+    (λ last rest. with_top
+    (λ first below. for_between control first_fits direction last_fits (effect_of body.now) env first last
+    >>= λ _. forgetting (env control) next below)
+    rest)
+    operands
+resumed env (work.For control direction value last body) next operands = do
+  _ ← looped (counting env control direction last body.now) value
+  forgetting (env control) next operands
+resumed env (work.Next control direction value last body) next operands = do
+  _ ← further (counting env control direction last body.now) (give (value_before direction last value))
+  forgetting (env control) next operands
 resumed env (work.Parameters parameters ends_line) next operands = do
   _ ← all_of (map parameter_of parameters.now) env
   line_ending ends_line next operands
@@ -150,6 +204,11 @@ resumed env (work.Monadic operation) next operands = with_top (λ v. giving (ope
 resumed env (work.Links links) next operands = linking env (map link_of links.now) next operands
 resumed env (work.Combine operation) next operands =
     with_top (λ right rest. with_top (λ left. giving (combined operation left right) next) rest) operands
+
+-- two values, a piece of work with them, and then the rest
+abbrev pub evaluating : Environment → Expr → Expr → Work → Resumption → Resumption
+evaluating env first second later next =
+    giving (value_of first env) (giving (value_of second env) (resumed env later next))
 
 -- two pieces of work in a turn, and then the rest
 abbrev pub turning : Environment → Work → Work → Resumption → Resumption

@@ -58,6 +58,11 @@ kept store (Some p) v = written store p v
 abbrev pub undefined : Store → Place → Store
 undefined store p = (p, None) ∷ store
 
+-- the store after a place became undefined, where there is a place
+abbrev pub forgotten : Store → Option Place → Store
+forgotten store None = store
+forgotten store (Some p) = undefined store p
+
 -- the first steps of a row of steps
 abbrev pub is_beginning : List Step → List Step → Bool
 is_beginning [] steps = Bool.true

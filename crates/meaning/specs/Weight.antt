@@ -14,7 +14,7 @@ use Rattle.typed_tree.specs.declared.tree.Expr.TheOpen.Expr-F.{Constant, Variabl
 use Rattle.typed_tree.specs.declared.tree.Expr.TheFolds.{fold-Expr, fold-Link}
 use Rattle.typed_tree.specs.declared.tree.Stmt.{Stmt}
 use Rattle.typed_tree.specs.declared.tree.Stmt.TheOpen.{Stmt-F}
-use Rattle.typed_tree.specs.declared.tree.Stmt.TheOpen.Stmt-F.{Empty, Assign, Write, Compound, If, While, Repeat}
+use Rattle.typed_tree.specs.declared.tree.Stmt.TheOpen.Stmt-F.{Empty, Assign, Write, Compound, If, While, Repeat, For}
 use Rattle.typed_tree.specs.declared.tree.Stmt.TheFolds.{fold-Stmt}
 use Rattle.meaning.specs.declared.outcome.Ending.{Ending}
 use Rattle.meaning.specs.declared.interpreter.Run.{Run}
@@ -74,6 +74,10 @@ while_weight condition body turns = 2 + condition turns + rounds_weight (round_w
 abbrev pub repeat_weight : Weight → Weight → Weight
 repeat_weight statements condition turns = 1 + rounds_weight (round_weight statements condition) turns
 
+-- a for, from the round with its first value
+abbrev pub for_weight : Weight → Weight
+for_weight body turns = 1 + rounds_weight (λ left. 3 + body left) turns
+
 abbrev pub statement_weight : Stmt-F Weight → Weight
 statement_weight (Empty n) turns = 1
 statement_weight (Assign n becomes target fits value) turns = 2 + weight_of_expression value turns
@@ -86,6 +90,8 @@ statement_weight (While n loop_number place condition body) turns =
     while_weight (weight_of_expression condition) body.value turns
 statement_weight (Repeat n loop_number place statements condition) turns =
     repeat_weight (row_weight 1 statements.items) (weight_of_expression condition) turns
+statement_weight (For n loop_number place control first first_fits direction last last_fits body) turns =
+    3 + weight_of_expression first turns + weight_of_expression last turns + for_weight body.value turns
 
 abbrev pub weight_of_statement : Stmt → Weight
 weight_of_statement = fold-Stmt Weight statement_weight
@@ -110,6 +116,10 @@ weight_of turns (work.Until statements condition) =
     + repeat_weight (row_weight 1 (map weight_of_statement statements.now)) (weight_of_expression condition.now) turns
 weight_of turns (work.Unless statements condition) =
     1 + repeat_weight (row_weight 1 (map weight_of_statement statements.now)) (weight_of_expression condition.now) turns
+weight_of turns (work.Bounds control first_fits direction last_fits body) =
+    1 + for_weight (weight_of_statement body.now) turns
+weight_of turns (work.For control direction value last body) = for_weight (weight_of_statement body.now) turns
+weight_of turns (work.Next control direction value last body) = 1 + for_weight (weight_of_statement body.now) turns
 weight_of turns (work.Parameters parameters ends_line) = row_weight 1 (map weight_of_parameter parameters.now) turns
 weight_of turns (work.Parameter parameter) = weight_of_parameter parameter.now turns
 weight_of turns (work.Width parameter) = weight_of_width parameter.now.width turns

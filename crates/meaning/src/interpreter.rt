@@ -1,13 +1,14 @@
 ghost use Rattle.std.specs.Prelude.{◌≡◌, ◌+◌, ◌≤◌, OnOk, IfOk, IfSome, [], ◌∷◌, ◌++◌, option_map, reverse, slice_get};
-ghost use Rattle.meaning.specs.Weight.{Lightens, pending_weight, turn_weight, weight_of};
+ghost use Rattle.meaning.specs.Weight.{Lightens, pending_weight, turn_weight, weight_of, weight_of_expression};
 ghost use Rattle.meaning.specs.Effect.{fetch};
-ghost use Rattle.meaning.specs.Store.{Store, held, kept};
-ghost use Rattle.meaning.specs.Pending.{Does, Finishes, StoreAgrees, answered, giving, line_ending, resumed, turning, rest_of, place_seen};
+ghost use Rattle.meaning.specs.Store.{Store, forgotten, held, kept};
+ghost use Rattle.meaning.specs.Pending.{Does, Finishes, StoreAgrees, answered, giving, line_ending, resumed, turning, evaluating, forgetting, rest_of, place_seen};
 ghost use Rattle.meaning.specs.Pending.{top_of, below_top};
 ghost use Rattle.meaning.specs.Meaning.{home_of, meaning, run_of};
 
 use crate::operations::{
-    combined_value, operated_value, positive_width, truth_of, value_in, width_by_default,
+    combined_value, operated_value, positive_width, tested_bounds, truth_of, value_in,
+    value_toward, width_by_default,
 };
 use crate::outcome::{Ending, Outcome};
 use crate::store::{Ordinal, Place, Value};
@@ -16,7 +17,8 @@ use crate::work::{Work, put};
 use std::alloc::{AllocError, Global};
 use std::collections::BTreeMap;
 use typed_tree::tree::{
-    Dyadic, Expr, Link, Monadic, RangeTest, Representation, Stmt, Tree, Variable, WriteParameter,
+    Direction, Dyadic, Expr, Link, Monadic, RangeTest, Representation, Stmt, Tree, Variable,
+    WriteParameter,
 };
 
 /// What a program writes and how it ends, from an input and for a number of turns: each start of a
@@ -121,6 +123,27 @@ impl<'t> Run<'t, '_> {
                 statements,
                 condition,
             } => self.unless(statements, condition),
+            Work::Bounds {
+                control,
+                first_fits,
+                direction,
+                last_fits,
+                body,
+            } => self.bounds(control, first_fits, direction, last_fits, body),
+            Work::For {
+                control,
+                direction,
+                value,
+                last,
+                body,
+            } => self.for_round(control, direction, value, last, body),
+            Work::Next {
+                control,
+                direction,
+                value,
+                last,
+                body,
+            } => self.next_round(control, direction, value, last, body),
             Work::Parameters {
                 parameters,
                 ends_line,
@@ -157,6 +180,22 @@ impl<'t> Run<'t, '_> {
         put(&mut self.pending, later)?;
         put(&mut self.pending, next)?;
         Ok(None)
+    }
+
+    // Two values, and what is done with them.
+    fn plan_values(
+        &mut self,
+        first: &'t Expr,
+        second: &'t Expr,
+        later: Work<'t>,
+    ) -> Result<Option<Ending>, AllocError>
+        ensures weight { OnOk result (pending_weight self.new ≡ pending_weight self.old
+            + weight_of self.old.turns later.entry + weight_of_expression second.now self.old.turns
+            + weight_of_expression first.now self.old.turns) }
+        ensures does { Does (λ env. evaluating env first.now second.now later.entry) self.old result self.new }
+    {
+        put(&mut self.pending, later)?;
+        self.plan(Work::Value(first), Work::Value(second))
     }
 
     // A turn, and what is done in it; with none left the run ends.
@@ -231,6 +270,26 @@ impl<'t> Run<'t, '_> {
                 condition,
                 ..
             } => self.repeat_round(statements, condition),
+            Stmt::For {
+                control,
+                first,
+                first_fits,
+                direction,
+                last,
+                last_fits,
+                body,
+                ..
+            } => self.plan_values(
+                first,
+                last,
+                Work::Bounds {
+                    control: *control,
+                    first_fits: *first_fits,
+                    direction: *direction,
+                    last_fits: *last_fits,
+                    body,
+                },
+            ),
         }
     }
 
@@ -332,6 +391,92 @@ impl<'t> Run<'t, '_> {
                 condition,
             })
         }
+    }
+
+    fn bounds(
+        &mut self,
+        control: u32,
+        first_fits: RangeTest,
+        direction: Direction,
+        last_fits: RangeTest,
+        body: &'t Stmt,
+    ) -> Result<Option<Ending>, AllocError>
+        ensures fewer { Lightens (Work.Bounds control first_fits direction last_fits body.entry)
+            self.old result self.new }
+        ensures does { Does (λ env. resumed env (Work.Bounds control first_fits direction last_fits body.entry))
+            self.old result self.new }
+    {
+        let last = self.popped();
+        let first = self.popped();
+        match tested_bounds(direction, first_fits, first, last_fits, last) {
+            Ok(Some((value, last))) => self.do_next(Work::For {
+                control,
+                direction,
+                value,
+                last,
+                body,
+            }),
+            Ok(None) => self.forget(control),
+            Err(site) => Ok(Some(Ending::Error(site))),
+        }
+    }
+
+    fn for_round(
+        &mut self,
+        control: u32,
+        direction: Direction,
+        value: i32,
+        last: i32,
+        body: &'t Stmt,
+    ) -> Result<Option<Ending>, AllocError>
+        ensures fewer { Lightens (Work.For control direction value last body.entry) self.old result self.new }
+        ensures does { Does (λ env. resumed env (Work.For control direction value last body.entry))
+            self.old result self.new }
+    {
+        self.keep(control, Value::Number(Ordinal::new(value)))?;
+        self.turn(
+            Work::Statement(body),
+            Work::Next {
+                control,
+                direction,
+                value,
+                last,
+                body,
+            },
+        )
+    }
+
+    fn next_round(
+        &mut self,
+        control: u32,
+        direction: Direction,
+        value: i32,
+        last: i32,
+        body: &'t Stmt,
+    ) -> Result<Option<Ending>, AllocError>
+        ensures fewer { Lightens (Work.Next control direction value last body.entry) self.old result self.new }
+        ensures does { Does (λ env. resumed env (Work.Next control direction value last body.entry))
+            self.old result self.new }
+    {
+        match value_toward(direction, last, value) {
+            Some(value) => self.do_next(Work::For {
+                control,
+                direction,
+                value,
+                last,
+                body,
+            }),
+            None => self.forget(control),
+        }
+    }
+
+    // Behind a for its control variable is undefined.
+    fn forget(&mut self, control: u32) -> Result<Option<Ending>, AllocError>
+        ensures weight { pending_weight self.new ≡ pending_weight self.old }
+        ensures does { Does (λ env. forgetting (env control)) self.old result self.new }
+    {
+        self.lose(control);
+        Ok(None)
     }
 
     fn parameters(
@@ -520,6 +665,17 @@ impl Run<'_, '_> {
             self.store.insert(place, value)?;
         }
         Ok(())
+    }
+
+    // Makes a variable undefined, if it is visible.
+    fn lose(&mut self, root: u32)
+        ensures same { self.new ≡ record self.old { store = self.new.store } }
+        ensures agrees { (s : Store) → StoreAgrees self.old.store s
+            → StoreAgrees self.new.store (forgotten s (home_of root (slice_get self.old.variables.now root))) }
+    {
+        if let Some(place) = self.place(root) {
+            self.store.remove(&place);
+        }
     }
 
     // Where a variable lies, if the program's block declares it: that block's activation is the first.

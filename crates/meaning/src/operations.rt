@@ -1,10 +1,10 @@
 ghost use Rattle.std.specs.Prelude.{◌≡◌, pos};
 ghost use Rattle.meaning.specs.Effect.{is_in, is_positive};
 ghost use Rattle.meaning.specs.Meaning.{combined, default_width, is_so, operated, relates, whole};
-ghost use Rattle.meaning.specs.Pending.{Answers, checked, positive};
+ghost use Rattle.meaning.specs.Pending.{Answers, bound_tested, bounds_tested, checked, positive, value_before};
 
 use crate::store::{Ordinal, Value};
-use typed_tree::tree::{Dyadic, Monadic, Relation, Representation};
+use typed_tree::tree::{Direction, Dyadic, Monadic, RangeTest, Relation, Representation};
 use types::OrdinalRange;
 
 // The default total widths (ISO 7185:1990, 6.9.3.1).
@@ -98,6 +98,55 @@ pub fn value_in(range: OrdinalRange, value: Value) -> Option<Value>
         Some(value)
     } else {
         None
+    }
+}
+
+/// The bounds of a for, or nothing where they leave no value between them; or the site at which one of them is outside
+/// the type of the control variable, the first tested first (ISO 7185:1990, 6.8.3.9).
+pub fn tested_bounds(
+    direction: Direction,
+    first_fits: RangeTest,
+    first: Value,
+    last_fits: RangeTest,
+    last: Value,
+) -> Result<Option<(i32, i32)>, u32>
+    ensures { result ≡ bounds_tested direction first_fits first last_fits last }
+{
+    let Value::Number(first) = first;
+    let Value::Number(last) = last;
+    let any = match direction {
+        Direction::To => first.is_at_most(last),
+        Direction::DownTo => last.is_at_most(first),
+    };
+    if any {
+        let first = tested_bound(first_fits, first)?;
+        let last = tested_bound(last_fits, last)?;
+        Ok(Some((first, last)))
+    } else {
+        Ok(None)
+    }
+}
+
+// A bound, or the site of its test.
+fn tested_bound(fits: RangeTest, bound: Ordinal) -> Result<i32, u32>
+    ensures { result ≡ bound_tested fits bound }
+{
+    match i32::try_from(bound.number()) {
+        Ok(number) if bound.is_integer() && bound.is_within(fits.range.first, fits.range.last) => {
+            Ok(number)
+        }
+        _ => Err(fits.site),
+    }
+}
+
+/// The next value of a control variable, on its way to the last one.
+pub fn value_toward(direction: Direction, last: i32, value: i32) -> Option<i32>
+    ensures { result ≡ value_before direction last value }
+{
+    match direction {
+        Direction::To if value < last => Some(value + 1),
+        Direction::DownTo if last < value => Some(value - 1),
+        _ => None,
     }
 }
 

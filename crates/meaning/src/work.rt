@@ -2,7 +2,7 @@ ghost use Rattle.std.specs.Prelude.{◌≡◌, [], ◌∷◌, ◌++◌, OnOk};
 
 use std::alloc::AllocError;
 use typed_tree::tree::{
-    Dyadic, Expr, Link, Monadic, RangeTest, Representation, Stmt, WriteParameter,
+    Direction, Dyadic, Expr, Link, Monadic, RangeTest, Representation, Stmt, WriteParameter,
 };
 
 /// Work that a run has still to do. What it needs lies on the stack of values.
@@ -40,6 +40,30 @@ pub enum Work<'t> {
     Unless {
         statements: &'t [Stmt],
         condition: &'t Expr,
+    },
+    /// A for statement, whose bounds are topmost, the last above the first.
+    Bounds {
+        control: u32,
+        first_fits: RangeTest,
+        direction: Direction,
+        last_fits: RangeTest,
+        body: &'t Stmt,
+    },
+    /// The rounds of a for, from a value of its control variable on.
+    For {
+        control: u32,
+        direction: Direction,
+        value: i32,
+        last: i32,
+        body: &'t Stmt,
+    },
+    /// The rounds of a for behind that with a value of its control variable.
+    Next {
+        control: u32,
+        direction: Direction,
+        value: i32,
+        last: i32,
+        body: &'t Stmt,
     },
     /// The parameters of a write, one after another, and behind them the line end of a writeln.
     Parameters {

@@ -69,6 +69,18 @@ refused_behind_opening n m a b k p fault one more took h =
           up_to_behind n m place (took.0 ∷ []) a.rest.now b.rest.now (took.2 ∙ ap (λ ts. took.0 ∷ ts) took.4) (omega arith) (h.deep place is);
     }
 
+-- and behind more tokens, the first of which opens one
+pub refused_behind_opened : (n m : ℕ) (a b : Cursor) (k : Kind) (p : Place) (s : Spelling) (fault : ParseFault) → opens k ≡ 1 → m ≡ n + 1
+    → Took a b (of_kind_at k p ∷ s) → Refused n b fault → Refused m a fault
+refused_behind_opened n m a b k p s fault one more took h =
+    let f = front_of s took.1 b.rest.now took.4 in
+    let opens_one = taken_opens k took.0 took.3.kind one in
+    record {
+      rules = h.rules;
+      deep = λ place is.
+          up_to_behind n m place (took.0 ∷ f.front) a.rest.now b.rest.now (took.2 ∙ ap (λ ts. took.0 ∷ ts) f.are) (omega arith) (h.deep place is);
+    }
+
 -- a fault that doesn't tell of nesting
 not_deep : (n : ℕ) (a : Cursor) (fault : ParseFault) → IsOfRules fault → ((p : Place) → fault ≡ TooDeep p → ⊥) → Refused n a fault
 not_deep n a fault rules other = record { rules = rules; deep = λ p is. absurd (other p is) }

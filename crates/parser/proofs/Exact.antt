@@ -28,6 +28,9 @@ within_above levels inner depth below others new (Err fault) less under h = stop
 pub stops_spent : (levels depth : ℕ) (fault : ParseFault) (place : Place) → (levels ≡ 0) × (fault ≡ TooDeep place) → 0 < depth → Stops levels depth fault
 stops_spent levels depth fault place h some = subst (λ f. Stops levels depth f) (sym h.1) (let z = h.0 in omega arith)
 
+pub stops_memory : (levels depth : ℕ) (fault : ParseFault) → fault ≡ Memory → Stops levels depth fault
+stops_memory levels depth fault e = subst (λ f. Stops levels depth f) (sym e) tt
+
 -- what was read, in a box
 pub boxed_within : {A : Type 0} → (levels depth : ℕ) (others : List Token) (new : Cursor) (found : Result A ParseFault) (answer : Result (Box A Global) ParseFault)
     → MatchResult answer (λ kept. found ≡ Ok kept.value) (NotKept found) → ReadWithin levels depth others new found → ReadWithin levels depth others new answer

@@ -10,17 +10,19 @@ use Rattle.lexer.specs.declared.token.Word.TheVariants as word
 use Rattle.lexer.specs.declared.token.Token.{Token}
 use Rattle.token_cursor.specs.declared.fault.ParseFault.{ParseFault}
 use Rattle.token_cursor.specs.declared.cursor.Cursor.{Cursor}
+use Rattle.syntax_tree.specs.declared.Direction.{Direction}
 use Rattle.syntax_tree.specs.declared.Expr.{Expr}
+use Rattle.syntax_tree.specs.declared.Name.{Name}
 use Rattle.syntax_tree.specs.declared.Stmt.{Stmt}
 use Rattle.grammar.specs.Spelling.{Reads, of_kind_at, word_symbol}
 use Rattle.grammar.specs.Following.{next_kind, NoNext, Anything, EndsStmt, EndsStatements, compound, repeated}
 use Rattle.grammar.specs.WellFormed.{relation_level}
-use Rattle.parser.specs.Reading.{ReadWithin, ReadsDeep}
-use Rattle.grammar.specs.Begins.{BeginsExpr, BeginsGuard, BeginsStmt, BeginsAlternative, BeginsStatements}
+use Rattle.parser.specs.Reading.{ReadWithin, ReadsEach, ReadsDeep}
+use Rattle.grammar.specs.Begins.{BeginsExpr, BeginsGuard, BeginsStmt, BeginsAlternative, BeginsStatements, BeginsControl, BeginsInitial}
 use Rattle.grammar.proofs.Parts.{PartsLeft, PartThenOthers, ComesBehind, one_more, no_more, comes_behind}
 use Rattle.grammar.proofs.Rows.{begins, same_first}
 use Rattle.grammar.proofs.Conditionals.{Branches, IsConditional}
-use Rattle.grammar.proofs.Loops.{IsWhile, IsRepeat}
+use Rattle.grammar.proofs.Loops.{IsWhile, IsRepeat, IsFor}
 use Rattle.grammar.proofs.Statements.{IsSimple, IsCalled, becomes_missed, statement_list_parts, StatementsLeft, stmt_ends, StatementNext}
 
 -- where no `:=` comes stand the actuals of a call
@@ -156,3 +158,67 @@ pub until_taken : (depth : ℕ) (p : Place) (a b others : List Token) → Reads 
 until_taken depth p a b others k h =
     let same : b ≡ h.behind = (same_first (of_kind_at (kind.Word word.Until) p) (word_symbol word.Until) [] a b h.behind k h.closed).1 in
     record { below = h.below; less = h.less; condition = h.condition; tested = subst (λ x. BeginsExpr relation_level h.below x others h.condition) (sym same) h.tested }
+
+-- the bounds and the body that stand behind the `:=` of a for statement
+pub record IsBounded (levels : ℕ) (a c : List Token) : Type 0 where
+  pub below : ℕ
+  pub less : below < levels
+  pub bound : Expr × Direction
+  pub middle : List Token
+  pub initial : BeginsInitial below a middle bound
+  pub final : Expr
+  pub behind : List Token
+  pub guarded : BeginsGuard word.Do below middle behind final
+  pub body : Stmt
+  pub begun : BeginsStmt below behind c body
+
+-- behind the control variable read
+pub bounds_left : (depth : ℕ) (a b : Cursor) (found : Place × Name) (others : List Token) → ReadsEach BeginsControl Anything a b (Ok found)
+    → IsFor depth a.rest.now others → IsBounded depth b.rest.now others
+bounds_left depth a b found others reads h =
+    let p = h.parts in
+    let same : b.rest.now ≡ h.middle = reads h.found h.middle h.control tt in
+    record {
+      below = p.below;
+      less = p.less;
+      bound = (h.first, h.direction);
+      middle = p.middle;
+      initial = subst (λ x. BeginsInitial p.below x p.middle (h.first, h.direction)) (sym same) p.initial;
+      final = h.final;
+      behind = p.behind;
+      guarded = p.final;
+      body = h.body;
+      begun = p.begun;
+    }
+
+-- the last bound and the body that stand behind the direction
+pub record IsFinal (levels : ℕ) (a c : List Token) : Type 0 where
+  pub below : ℕ
+  pub less : below < levels
+  pub final : Expr
+  pub behind : List Token
+  pub guarded : BeginsGuard word.Do below a behind final
+  pub body : Stmt
+  pub begun : BeginsStmt below behind c body
+
+-- behind the first bound read
+pub final_left : (levels depth : ℕ) (a b : Cursor) (bound : Expr × Direction) (others : List Token)
+    → ReadsDeep levels BeginsInitial Anything a b (Ok bound) → IsBounded depth a.rest.now others → IsFinal depth b.rest.now others
+final_left levels depth a b bound others reads h =
+    let same : b.rest.now ≡ h.middle = reads h.below h.bound h.middle h.initial tt in
+    record {
+      below = h.below;
+      less = h.less;
+      final = h.final;
+      behind = h.behind;
+      guarded = subst (λ x. BeginsGuard word.Do h.below x h.behind h.final) (sym same) h.guarded;
+      body = h.body;
+      begun = h.begun;
+    }
+
+-- behind the last bound read
+pub for_body_left : (levels depth : ℕ) (a b : Cursor) (final : Expr) (others : List Token)
+    → ReadsDeep levels (BeginsGuard word.Do) Anything a b (Ok final) → IsFinal depth a.rest.now others → IsBody depth b.rest.now others
+for_body_left levels depth a b final others reads h =
+    let same : b.rest.now ≡ h.behind = reads h.below h.final h.behind h.guarded tt in
+    record { below = h.below; less = h.less; body = h.body; begun = subst (λ x. BeginsStmt h.below x others h.body) (sym same) h.begun }

@@ -14,18 +14,19 @@ use Rattle.lexer.specs.declared.token.Word.TheVariants as word
 use Rattle.lexer.specs.declared.token.Token.{Token}
 use Rattle.token_cursor.specs.declared.cursor.Cursor.{Cursor}
 use Rattle.syntax_tree.specs.declared.Actual.{Actual}
+use Rattle.syntax_tree.specs.declared.Direction.{Direction}
 use Rattle.syntax_tree.specs.declared.Expr.{Expr}
 use Rattle.syntax_tree.specs.declared.Name.{Name}
 use Rattle.syntax_tree.specs.declared.Stmt.{Stmt}
 use Rattle.syntax_tree.specs.declared.Stmt.TheVariants as statement
 use Rattle.token_cursor.specs.Cursor.{Took}
-use Rattle.grammar.specs.Spelling.{Spelling, Reads, expr_spelling, identifier, actual_spelling, stmt_spelling, of_kind_at, mark, word_symbol, separated, in_parentheses}
+use Rattle.grammar.specs.Spelling.{Spelling, Reads, expr_spelling, identifier, actual_spelling, stmt_spelling, of_kind_at, mark, word_symbol, direction_word, separated, in_parentheses}
 use Rattle.grammar.specs.WellFormed.{relation_level, is_expression, is_actual, stmt_form, is_statement, ends_open, has_items}
 use Rattle.grammar.specs.Nesting.{actual_levels, stmt_levels, deepest}
 use Rattle.grammar.specs.Following.{NoNext, LeavesNoElse}
 use Rattle.parser.specs.Rules.{Read}
-use Rattle.grammar.specs.Begins.{BeginsExpr, BeginsList, BeginsActual, BeginsActualList, BeginsActuals, BeginsGuard, BeginsStmt, BeginsAlternative, BeginsStatements, BeginsCompound}
-use Rattle.grammar.proofs.Equations.{spelling-Empty, form-Empty, levels-Empty, spelling-Assign, form-Assign, levels-Assign, spelling-Call, form-Call, levels-Call, spelling-Compound, form-Compound, levels-Compound, closed-Empty, closed-Assign, closed-Call, closed-Compound, spelling-If, form-If, levels-If, spelling-Else, form-Else, open-Else, levels-Else, spelling-While, form-While, open-While, levels-While, spelling-Repeat, form-Repeat, closed-Repeat, levels-Repeat}
+use Rattle.grammar.specs.Begins.{BeginsExpr, BeginsList, BeginsActual, BeginsActualList, BeginsActuals, BeginsGuard, BeginsStmt, BeginsAlternative, BeginsControl, BeginsInitial, BeginsStatements, BeginsCompound}
+use Rattle.grammar.proofs.Equations.{spelling-Empty, form-Empty, levels-Empty, spelling-Assign, form-Assign, levels-Assign, spelling-Call, form-Call, levels-Call, spelling-Compound, form-Compound, levels-Compound, closed-Empty, closed-Assign, closed-Call, closed-Compound, spelling-If, form-If, levels-If, spelling-Else, form-Else, open-Else, levels-Else, spelling-While, form-While, open-While, levels-While, spelling-Repeat, form-Repeat, closed-Repeat, levels-Repeat, spelling-For, form-For, open-For, levels-For}
 use Rattle.grammar.proofs.Lists.{map_push, all_push, deepest_push, and_true, length_map}
 use Rattle.grammar.proofs.Rows.{begins}
 use Rattle.grammar.proofs.Reading.{both, without_place, without_last_place, separated_more, in_parentheses_some}
@@ -281,3 +282,26 @@ gives-Repeat levels a b c d e p q v condition taken list closed given = record {
   nests = let n = levels-Repeat p v condition in let m = list.nests in let k = given.nests in omega arith;
   whole = closed_whole (statement.Repeat p v condition) e.rest.now (closed-Repeat p v condition);
 }
+
+-- a for statement
+pub gives-For : (levels : ℕ) (a b c d e : Cursor) (p : Place) (n : Name) (first : Expr) (direction : Direction) (last : Expr) (box : Box Stmt Global)
+    → Read BeginsControl a b (p, n) → Read (BeginsInitial levels) b c (first, direction) → Read (BeginsGuard word.Do levels) c d last
+    → Read (BeginsStmt levels) d e box.value → Read (BeginsStmt (levels + 1)) a e (statement.For p n first direction last box)
+gives-For levels a b c d e p n first direction last box control initial guarded given =
+    let body : Spelling = word_symbol word.Do ∷ stmt_spelling box.value in
+    let w = direction_word direction in
+    record {
+      spelled = subst (λ s. Took a e s) (sym (spelling-For p n first direction last box))
+          (both (of_kind_at (kind.Word word.For) p ∷ identifier n ∷ mark symbol.Becomes ∷ [])
+          (expr_spelling first ++ (word_symbol w ∷ expr_spelling last ++ body)) a.rest.now b.rest.now e.rest.now control
+          (both (expr_spelling first) (word_symbol w ∷ expr_spelling last ++ body) b.rest.now initial.middle e.rest.now initial.expression.spelled
+          (both (word_symbol w ∷ []) (expr_spelling last ++ body) initial.middle c.rest.now e.rest.now initial.closed
+          (both (expr_spelling last) body c.rest.now guarded.middle e.rest.now guarded.expression.spelled
+          (both (word_symbol word.Do ∷ []) (stmt_spelling box.value) guarded.middle d.rest.now e.rest.now guarded.closed given.spelled)))));
+      formed = form-For p n first direction last box
+          ∙ and_true (is_expression first) (is_expression last && is_statement box.value) initial.expression.formed
+          (and_true (is_expression last) (is_statement box.value) guarded.expression.formed given.formed);
+      nests = let m = levels-For p n first direction last box in
+          let i = initial.expression.nests in let k = guarded.expression.nests in let j = given.nests in omega arith;
+      whole = λ o. given.whole (sym (open-For p n first direction last box) ∙ o);
+    }

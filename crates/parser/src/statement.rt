@@ -1,16 +1,16 @@
 ghost use Rattle.std.specs.Prelude.{◌≡◌, ◌+◌, MatchResult, Some};
-ghost use Rattle.parser.specs.Refusing.{Refused};
+ghost use Rattle.parser.specs.Refusing.{IsPlain, Refused};
 ghost use Rattle.grammar.specs.Following.{next_kind, EndsEach, EndsStmt, EndsStatements, Anything};
-ghost use Rattle.parser.specs.Reading.{ReadsDeep};
+ghost use Rattle.parser.specs.Reading.{ReadsEach, ReadsDeep};
 ghost use Rattle.parser.specs.Rules.{Read};
-ghost use Rattle.grammar.specs.Begins.{BeginsGuard, BeginsStmt, BeginsAlternative, BeginsStatements, BeginsCompound};
+ghost use Rattle.grammar.specs.Begins.{BeginsGuard, BeginsStmt, BeginsAlternative, BeginsStatements, BeginsControl, BeginsInitial, BeginsCompound};
 
 use crate::expression::{actuals, expression};
 use crate::memory::{boxed, put};
 use lexer::token::{Kind, Symbol, Word};
 use place::Place;
 use std::alloc::Global;
-use syntax_tree::{Expr, Stmt};
+use syntax_tree::{Direction, Expr, Name, Stmt};
 use token_cursor::cursor::Cursor;
 use token_cursor::fault::ParseFault;
 use token_cursor::nesting::inside;
@@ -56,7 +56,7 @@ fn statements<'a>(
     }
 }
 
-// statement = [simple | compound | conditional | while_loop | repeat_loop]
+// statement = [simple | compound | conditional | while_loop | repeat_loop | for_loop]
 /// A statement in something below which `levels` levels are left (6.8).
 #[cycle(statement)]
 fn statement<'a>(
@@ -77,6 +77,7 @@ fn statement<'a>(
         Some(Kind::Word(Word::If)) => conditional(alloc, cursor, levels),
         Some(Kind::Word(Word::While)) => while_loop(alloc, cursor, levels),
         Some(Kind::Word(Word::Repeat)) => repeat_loop(alloc, cursor, levels),
+        Some(Kind::Word(Word::For)) => for_loop(alloc, cursor, levels),
         _ => Ok(Stmt::Empty),
     }
 }
@@ -196,6 +197,61 @@ fn repeat_loop<'a>(
         statements,
         condition,
     })
+}
+
+// for_loop = control initial expression "do" statement
+/// A for statement (6.8.3.9), below which `levels` levels are left.
+#[cycle(statement)]
+fn for_loop<'a>(
+    alloc: Global,
+    cursor: &mut Cursor<'_, 'a>,
+    levels: u32,
+) -> Result<Stmt<'a>, ParseFault>
+    ensures given { MatchResult result (Read (BeginsStmt (levels + 1)) cursor.old cursor.new)
+        (Refused (levels + 1) cursor.old) }
+    ensures exact { next_kind cursor.old.rest.now ≡ Some (Kind.Word Word.For) →
+        ReadsDeep (levels + 1) BeginsStmt EndsStmt cursor.old cursor.new result }
+{
+    let (place, variable) = control(cursor)?;
+    let (first, direction) = initial(alloc, cursor, levels)?;
+    let last = guard(alloc, cursor, levels, Word::Do)?;
+    let body = body(alloc, cursor, levels)?;
+    Ok(Stmt::For {
+        place,
+        variable,
+        first,
+        direction,
+        last,
+        body,
+    })
+}
+
+// control = "for" name ":="
+/// The place of a for statement, and its control variable.
+fn control<'a>(cursor: &mut Cursor<'_, 'a>) -> Result<(Place, Name<'a>), ParseFault>
+    ensures given { MatchResult result (Read BeginsControl cursor.old cursor.new) IsPlain }
+    ensures exact { ReadsEach BeginsControl Anything cursor.old cursor.new result }
+{
+    let place = cursor.expect_word(Word::For)?;
+    let variable = cursor.expect_name()?;
+    cursor.expect_symbol(Symbol::Becomes)?;
+    Ok((place, variable))
+}
+
+// initial = expression ("to" | "downto")
+/// The first bound of a for statement, and its direction.
+fn initial<'a>(
+    alloc: Global,
+    cursor: &mut Cursor<'_, 'a>,
+    levels: u32,
+) -> Result<(Expr<'a>, Direction), ParseFault>
+    ensures given { MatchResult result (Read (BeginsInitial levels) cursor.old cursor.new)
+        (Refused (levels + 1) cursor.old) }
+    ensures exact { ReadsDeep levels BeginsInitial Anything cursor.old cursor.new result }
+{
+    let first = expression(alloc, cursor, levels, Level::Relation)?;
+    let direction = cursor.expect_direction()?;
+    Ok((first, direction))
 }
 
 /// A statement that is part of another one, below which `levels` levels are left.

@@ -1,6 +1,5 @@
 -- The places that a syntax tree keeps, in the order of the text: of names, numbers, operators and `:=`, of the opening
--- parenthesis of an expression, of the words `if`, `while` and `repeat`, and of the last `end`. It says nothing of what
--- stands there.
+-- parenthesis of an expression, of the words `if`, `while`, `repeat` and `for`, and of the last `end`. It says nothing of what stands there.
 use Rattle.std.specs.Prelude.{List, [], ◌∷◌, ◌++◌, Option, Some, None, map, flat_map}
 use Rattle.std.specs.declared.alloc.Global.{Global}
 use Rattle.std.specs.declared.boxed.Box.{Box}
@@ -19,7 +18,7 @@ use Rattle.syntax_tree.specs.declared.Expr.TheOpen.Expr-F.{Number, Name as NameO
 use Rattle.syntax_tree.specs.declared.Expr.TheFolds.{fold-Expr, fold-Actual, fold-Link}
 use Rattle.syntax_tree.specs.declared.Stmt.{Stmt}
 use Rattle.syntax_tree.specs.declared.Stmt.TheOpen.{Stmt-F}
-use Rattle.syntax_tree.specs.declared.Stmt.TheOpen.Stmt-F.{Empty, Assign, Call, Compound, If, While, Repeat}
+use Rattle.syntax_tree.specs.declared.Stmt.TheOpen.Stmt-F.{Empty, Assign, Call, Compound, If, While, Repeat, For}
 use Rattle.syntax_tree.specs.declared.Stmt.TheFolds.{fold-Stmt}
 
 abbrev pub Places : Type 0
@@ -73,6 +72,8 @@ statement_step (If place condition consequence alternative) =
     place ∷ (expr_places condition ++ (consequence.value ++ alternative_places alternative))
 statement_step (While place condition body) = place ∷ (expr_places condition ++ body.value)
 statement_step (Repeat place statements condition) = place ∷ (joined_places statements.items ++ expr_places condition)
+statement_step (For place variable first direction last body) =
+    place ∷ variable.place ∷ (expr_places first ++ (expr_places last ++ body.value))
 
 -- the places of a statement
 abbrev pub stmt_places : Stmt → Places

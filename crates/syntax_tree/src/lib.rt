@@ -80,6 +80,22 @@ pub enum Stmt<'a> {
         statements: Vec<Stmt<'a>>,
         condition: Expr<'a>,
     },
+    /// `for variable := first to last do body`, or with `downto` (6.8.3.9), with the place of the word `for`.
+    For {
+        place: Place,
+        variable: Name<'a>,
+        first: Expr<'a>,
+        direction: Direction,
+        last: Expr<'a>,
+        body: Box<Stmt<'a>>,
+    },
+}
+
+/// The way of a control variable (6.8.3.9).
+#[derive(Clone, Copy)]
+pub enum Direction {
+    To,
+    DownTo,
 }
 
 /// A sign (6.7.2.2).

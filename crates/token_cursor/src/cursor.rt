@@ -5,7 +5,7 @@ use crate::fault::ParseFault;
 use crate::operator::{Level, level_of, operator_of};
 use lexer::token::{Kind, Symbol, Token, Word};
 use place::Place;
-use syntax_tree::{Name, Operator, Sign};
+use syntax_tree::{Direction, Name, Operator, Sign};
 
 /// The tokens that are left to read.
 #[derive(Clone, Copy)]
@@ -16,7 +16,7 @@ pub struct Cursor<'t, 'a> {
 }
 
 impl<'t, 'a> Cursor<'t, 'a> {
-    ghost use Rattle.grammar.specs.Spelling.{of_kind_at, identifier, sign, operator};
+    ghost use Rattle.grammar.specs.Spelling.{of_kind_at, word_symbol, identifier, sign, operator, direction_word};
     ghost use Rattle.grammar.specs.WellFormed.{operator_level};
     ghost use Rattle.token_cursor.specs.Level.{level_number};
     ghost use Rattle.token_cursor.specs.Cursor.{place_of_next, Took};
@@ -180,6 +180,33 @@ impl<'t, 'a> Cursor<'t, 'a> {
         }
         let place = self.take_symbol(Symbol::Minus)?;
         Some((Sign::Minus, place))
+    }
+
+    /// Takes the word symbol of a direction, if one is next.
+    #[tactic(auto, using(grammar::proofs::Reading::without_place))]
+    pub fn take_direction(&mut self) -> Option<Direction>
+        ensures kept { IfNone result (self.new ≡ self.old) }
+        ensures missed { IfNone result
+            ((direction : Direction) → ¬ (next_kind self.old.rest.now ≡ Some (Kind.Word (direction_word direction)))) }
+        ensures spelled { IfSome result
+            (λ direction. Took self.old self.new (word_symbol (direction_word direction) ∷ [])) }
+    {
+        if let Some(_) = self.take_word(Word::To) {
+            return Some(Direction::To);
+        }
+        self.take_word(Word::Downto)?;
+        Some(Direction::DownTo)
+    }
+
+    pub fn expect_direction(&mut self) -> Result<Direction, ParseFault>
+        ensures kept { IfErr result
+            (λ fault. (self.new ≡ self.old) × (fault ≡ ParseFault.NoProgram (place_of_next self.old))) }
+        ensures missed { IfErr result (λ _.
+            (direction : Direction) → ¬ (next_kind self.old.rest.now ≡ Some (Kind.Word (direction_word direction)))) }
+        ensures spelled { IfOk result
+            (λ direction. Took self.old self.new (word_symbol (direction_word direction) ∷ [])) }
+    {
+        self.take_direction().ok_or(self.no_program())
     }
 
     /// Whether an operator of this level is next.

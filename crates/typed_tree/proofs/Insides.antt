@@ -1,9 +1,10 @@
 -- What stands inside the statements of a typed tree, as code makes them.
-use Rattle.std.proofs.Common.{◌≡◌, ℕ, Bool, Option, Some, None, map, Box, Vec, sym, ap, ◌∙◌}
+use Rattle.std.proofs.Common.{◌≡◌, ℕ, Bool, List, [], ◌∷◌, ◌++◌, Option, Some, None, map, Box, Vec, sym, ap, ◌∙◌}
 use Rattle.std.specs.declared.alloc.Global.{Global}
 use Rattle.place.specs.declared.Place.{Place}
 use Rattle.typed_tree.specs.declared.tree.Access.{Access}
 use Rattle.typed_tree.specs.declared.tree.RangeTest.{RangeTest}
+use Rattle.typed_tree.specs.declared.tree.Direction.{Direction}
 use Rattle.typed_tree.specs.declared.tree.WriteParameter.{WriteParameter}
 use Rattle.typed_tree.specs.declared.tree.Expr.{Expr}
 use Rattle.typed_tree.specs.declared.tree.Stmt.{Stmt}
@@ -11,7 +12,8 @@ use Rattle.typed_tree.specs.declared.tree.Stmt.TheVariants as stmt
 use Rattle.typed_tree.specs.declared.tree.Stmt.TheOpen as layer
 use Rattle.typed_tree.specs.declared.tree.Stmt.TheViews.{roll-Stmt}
 use Rattle.typed_tree.specs.declared.tree.Stmt.TheFolds.{map-Stmt, fold-roll-Stmt}
-use Rattle.typed_tree.specs.Loops.{Inside, no_loop, both_inside, all_inside, looped, statement_inside, inside_of}
+use Rattle.typed_tree.specs.declared.tree.Loop.{Loop}
+use Rattle.typed_tree.specs.Loops.{AreLoops, Inside, no_loop, both_inside, all_inside, looped, controlled, statement_inside, inside_of}
 
 rolled : (s : Stmt) (d : layer.Stmt-F Stmt) → roll-Stmt d ≡ s → inside_of s ≡ statement_inside (map-Stmt Stmt Inside inside_of d)
 rolled s d is = ap inside_of (sym is) ∙ fold-roll-Stmt Inside statement_inside d
@@ -54,3 +56,25 @@ pub inside_repeat : (number loop_number : ℕ) (place : Place) (statements : Vec
 inside_repeat number loop_number place statements condition =
     rolled (stmt.Repeat number loop_number place statements condition) (layer.Repeat number loop_number place statements condition)
     (stmt.rolls-Repeat number loop_number place statements condition)
+
+pub inside_for : (number loop_number : ℕ) (place : Place) (control : ℕ) (first : Expr) (first_fits : RangeTest) (direction : Direction) (last : Expr)
+    (last_fits : RangeTest) (body : Box Stmt Global)
+    → inside_of (stmt.For number loop_number place control first first_fits direction last last_fits body)
+    ≡ controlled control (looped loop_number (inside_of body.value))
+inside_for number loop_number place control first first_fits direction last last_fits body =
+    rolled (stmt.For number loop_number place control first first_fits direction last last_fits body)
+    (layer.For number loop_number place control first first_fits direction last last_fits body)
+    (stmt.rolls-For number loop_number place control first first_fits direction last last_fits body)
+
+-- ---- rows of loops
+
+module _ (rows : List Loop) where
+  pub loops_joined : (first second : List (ℕ × List ℕ)) → AreLoops rows first → AreLoops rows second → AreLoops rows (first ++ second)
+  loops_joined [] second one more = more
+  loops_joined (l ∷ first) second one more = (one.0, loops_joined first second one.1 more)
+
+  pub loops_split : (first second : List (ℕ × List ℕ)) → AreLoops rows (first ++ second) → AreLoops rows first × AreLoops rows second
+  loops_split [] second all = (tt, all)
+  loops_split (l ∷ first) second all =
+      let rest = loops_split first second all.1 in
+      ((all.0, rest.0), rest.1)

@@ -9,6 +9,7 @@ use Rattle.place.specs.declared.Place.{Place}
 use Rattle.typed_tree.specs.declared.tree.Access.{Access}
 use Rattle.typed_tree.specs.declared.tree.Monadic.{Monadic as MonadicOperation}
 use Rattle.typed_tree.specs.declared.tree.RangeTest.{RangeTest}
+use Rattle.typed_tree.specs.declared.tree.Direction.{Direction}
 use Rattle.typed_tree.specs.declared.tree.WriteParameter.{WriteParameter}
 use Rattle.typed_tree.specs.declared.tree.Expr.{Expr}
 use Rattle.typed_tree.specs.declared.tree.Link.{Link}
@@ -20,7 +21,7 @@ use Rattle.typed_tree.specs.declared.tree.Stmt.{Stmt}
 use Rattle.typed_tree.specs.declared.tree.Stmt.TheVariants as stmt
 use Rattle.typed_tree.specs.declared.tree.Stmt.TheOpen as stmt_layer
 use Rattle.typed_tree.specs.declared.tree.Stmt.TheFolds.{fold-roll-Stmt}
-use Rattle.typed_tree.specs.Look.{Look, link_look, expression_look, look_expr, look_link, look_parameter, statement_look, look_stmt, Constant, Variable, Operation, Begins, Operator, Ends, Empty, Assign, Target, Fits, Write, Compound, If, Then, Else, While, Do, Repeat, Until}
+use Rattle.typed_tree.specs.Look.{Look, link_look, expression_look, look_expr, look_link, look_parameter, statement_look, look_stmt, Constant, Variable, Operation, Begins, Operator, Ends, Empty, Assign, Target, Fits, Write, Compound, If, Then, Else, While, Do, Repeat, Until, For}
 pub use Rattle.typed_tree.proofs.Measured.{entries_are, formed_are}
 
 -- ---- expressions
@@ -106,3 +107,12 @@ look_repeat number loop_number place statements condition =
     ∙ fold-roll-Stmt Look statement_look (stmt_layer.Repeat number loop_number place statements condition)
     ∙ ap (λ rows. Repeat number loop_number place ∷ (rows ++ (Until ∷ (look_expr condition ++ (Ends ∷ [])))))
     (flat_map-map (λ (row : Look). row) look_stmt statements.items)
+
+pub look_for : (number loop_number : ℕ) (place : Place) (control : ℕ) (first : Expr) (first_fits : RangeTest) (direction : Direction) (last : Expr)
+    (last_fits : RangeTest) (body : Box Stmt Global)
+    → look_stmt (stmt.For number loop_number place control first first_fits direction last last_fits body)
+    ≡ For number loop_number place control direction
+    ∷ (look_expr first ++ (Fits first_fits ∷ (look_expr last ++ (Fits last_fits ∷ Do ∷ (look_stmt body.value ++ (Ends ∷ []))))))
+look_for number loop_number place control first first_fits direction last last_fits body =
+    ap look_stmt (sym (stmt.rolls-For number loop_number place control first first_fits direction last last_fits body))
+    ∙ fold-roll-Stmt Look statement_look (stmt_layer.For number loop_number place control first first_fits direction last last_fits body)

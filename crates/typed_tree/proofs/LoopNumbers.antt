@@ -14,7 +14,7 @@ use Rattle.typed_tree.specs.declared.tree.Expr.TheOpen.Expr-F.{Constant, Variabl
 use Rattle.typed_tree.specs.declared.tree.Expr.TheFolds.{map-Expr, map-Link, fold-roll-Expr, fold-roll-Link, ind-Expr}
 use Rattle.typed_tree.specs.declared.tree.Stmt.{Stmt}
 use Rattle.typed_tree.specs.declared.tree.Stmt.TheOpen.{Stmt-F}
-use Rattle.typed_tree.specs.declared.tree.Stmt.TheOpen.Stmt-F.{Empty, Assign, Write, Compound, If, While, Repeat}
+use Rattle.typed_tree.specs.declared.tree.Stmt.TheOpen.Stmt-F.{Empty, Assign, Write, Compound, If, While, Repeat, For}
 use Rattle.typed_tree.specs.declared.tree.Stmt.TheFolds.{map-Stmt, fold-roll-Stmt, ind-Stmt}
 use Rattle.typed_tree.specs.Entries.{joined}
 use Rattle.typed_tree.specs.Loops.{Inside, statement_inside, inside_of, loops_of}
@@ -132,6 +132,12 @@ numbers_layer (Repeat number loop_number place statements condition) =
     (flat_map-append mark_loops rows (Until ∷ (look_expr condition ++ (Ends ∷ [])))
     ∙ ap₂ (λ a b. a ++ b) (numbers_joined statements.items) (ended (look_expr condition) Ends refl ∙ silent_expr condition)
     ∙ append-nil _)
+numbers_layer (For number loop_number place control first first_fits direction last last_fits body) =
+    let inside = look_stmt body.value.0 ++ (Ends ∷ []) in
+    ap (λ more. loop_number ∷ more)
+    (behind (look_expr first) (FitsMark first_fits ∷ (look_expr last ++ (FitsMark last_fits ∷ Do ∷ inside))) (silent_expr first)
+    ∙ behind (look_expr last) (FitsMark last_fits ∷ Do ∷ inside) (silent_expr last)
+    ∙ ended (look_stmt body.value.0) Ends refl ∙ body.value.1)
 
 numbers_stmt : (s : Stmt) → loops_of_look (look_stmt s) ≡ numbers (inside_of s)
 numbers_stmt =

@@ -16,7 +16,7 @@ use Rattle.typed_tree.specs.declared.tree.Expr.TheOpen.Expr-F.{Constant, Variabl
 use Rattle.typed_tree.specs.declared.tree.Expr.TheFolds.{fold-Expr, fold-Link, map-Expr, map-Link, fold-roll-Expr, fold-roll-Link, ind-Expr}
 use Rattle.typed_tree.specs.declared.tree.Stmt.{Stmt}
 use Rattle.typed_tree.specs.declared.tree.Stmt.TheOpen.{Stmt-F}
-use Rattle.typed_tree.specs.declared.tree.Stmt.TheOpen.Stmt-F.{Empty, Assign, Write, Compound, If, While, Repeat}
+use Rattle.typed_tree.specs.declared.tree.Stmt.TheOpen.Stmt-F.{Empty, Assign, Write, Compound, If, While, Repeat, For}
 use Rattle.typed_tree.specs.declared.tree.Stmt.TheFolds.{fold-Stmt, map-Stmt, fold-roll-Stmt, ind-Stmt}
 use Rattle.typed_tree.specs.Entries.{joined, expression_entries, link_entries, entries_of_expression, entries_of_width, entries_of_parameter, statement_entries, entries_of_statement, entries_of}
 use Rattle.typed_tree.specs.WellFormed.{all_hold, is_whole, monadic_is_well_formed, dyadic_is_well_formed, link_is_well_formed, expr_is_well_formed, is_well_formed_expr, is_well_formed_link, is_well_formed_width, is_well_formed_parameter, is_well_formed_test, stmt_is_well_formed, is_well_formed_stmt, is_well_formed_block}
@@ -176,6 +176,13 @@ entries_stmt_layer (Repeat number loop_number place statements condition) =
     (flat_map-append mark_entries rows (Until ∷ (look_expr condition ++ (Ends ∷ [])))
     ∙ ap₂ (λ a b. a ++ b) (entries_joined look_stmt entries_of_statement statements.items)
     (entries_ended (look_expr condition) Ends refl ∙ entries_expr condition))
+entries_stmt_layer (For number loop_number place control first first_fits direction last last_fits body) =
+    let inside = look_stmt body.value.0 ++ (Ends ∷ []) in
+    ap (λ entries. number ∷ entries)
+    (flat_map-append mark_entries (look_expr first) (FitsMark first_fits ∷ (look_expr last ++ (FitsMark last_fits ∷ Do ∷ inside)))
+    ∙ ap₂ (λ a b. a ++ b) (entries_expr first)
+    (flat_map-append mark_entries (look_expr last) (FitsMark last_fits ∷ Do ∷ inside)
+    ∙ ap₂ (λ a b. a ++ b) (entries_expr last) (entries_ended (look_stmt body.value.0) Ends refl ∙ body.value.1)))
 
 entries_stmt : (s : Stmt) → entries_of_look (look_stmt s) ≡ entries_of_statement s
 entries_stmt = measured_stmt entries_of_look statement_entries entries_stmt_layer
@@ -283,6 +290,14 @@ module _ (variables sites : ℕ) where
       formed_cut rows (Until ∷ (look_expr condition ++ (Ends ∷ [])))
       ∙ ap₂ (λ a b. a && b) (formed_joined look_stmt (is_well_formed_stmt variables sites) statements.items)
       (formed_ended (look_expr condition) Ends refl ∙ formed_expr condition)
+  formed_stmt_layer (For number loop_number place control first first_fits direction last last_fits body) =
+      let inside = look_stmt body.value.0 ++ (Ends ∷ []) in
+      ap (λ b. nat_lt control variables && b)
+      (formed_cut (look_expr first) (FitsMark first_fits ∷ (look_expr last ++ (FitsMark last_fits ∷ Do ∷ inside)))
+      ∙ ap₂ (λ a b. a && (is_well_formed_test variables sites first_fits && b)) (formed_expr first)
+      (formed_cut (look_expr last) (FitsMark last_fits ∷ Do ∷ inside)
+      ∙ ap₂ (λ a b. a && (is_well_formed_test variables sites last_fits && b)) (formed_expr last)
+      (formed_ended (look_stmt body.value.0) Ends refl ∙ body.value.1)))
 
   formed_stmt : (s : Stmt) → is_formed (look_stmt s) ≡ is_well_formed_stmt variables sites s
   formed_stmt = measured_stmt is_formed (stmt_is_well_formed variables sites) formed_stmt_layer

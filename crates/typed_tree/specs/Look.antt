@@ -10,6 +10,7 @@ use Rattle.typed_tree.specs.declared.tree.Block.{Block}
 use Rattle.typed_tree.specs.declared.tree.Monadic.{Monadic}
 use Rattle.typed_tree.specs.declared.tree.Dyadic.{Dyadic}
 use Rattle.typed_tree.specs.declared.tree.RangeTest.{RangeTest}
+use Rattle.typed_tree.specs.declared.tree.Direction.{Direction}
 use Rattle.typed_tree.specs.declared.tree.Representation.{Representation}
 use Rattle.typed_tree.specs.declared.tree.Width.{Width as TotalWidth}
 use Rattle.typed_tree.specs.declared.tree.WriteParameter.{WriteParameter}
@@ -20,7 +21,7 @@ use Rattle.typed_tree.specs.declared.tree.Expr.TheOpen.Expr-F.{Constant as Const
 use Rattle.typed_tree.specs.declared.tree.Expr.TheFolds.{fold-Expr, fold-Link}
 use Rattle.typed_tree.specs.declared.tree.Stmt.{Stmt}
 use Rattle.typed_tree.specs.declared.tree.Stmt.TheOpen.{Stmt-F}
-use Rattle.typed_tree.specs.declared.tree.Stmt.TheOpen.Stmt-F.{Empty as EmptyOf, Assign as AssignOf, Write as WriteOf, Compound as CompoundOf, If as IfOf, While as WhileOf, Repeat as RepeatOf}
+use Rattle.typed_tree.specs.declared.tree.Stmt.TheOpen.Stmt-F.{Empty as EmptyOf, Assign as AssignOf, Write as WriteOf, Compound as CompoundOf, If as IfOf, While as WhileOf, Repeat as RepeatOf, For as ForOf}
 use Rattle.typed_tree.specs.declared.tree.Stmt.TheFolds.{fold-Stmt}
 use Rattle.typed_tree.specs.Entries.{joined}
 use Rattle.typed_tree.specs.WellFormed.{is_whole, monadic_is_well_formed, dyadic_is_well_formed, is_well_formed_test}
@@ -63,6 +64,8 @@ pub data Mark : Type 0 where
   -- a repeat: its number, the loop's number, the place of its word; its condition begins
   Repeat : ℕ → ℕ → Place → Mark
   Until : Mark
+  -- a for: its number, the loop's number, the place of its word, the root of its control variable, and its way
+  For : ℕ → ℕ → Place → ℕ → Direction → Mark
   -- a block ends, at its last `end`
   BlockEnds : Place → Mark
 
@@ -114,6 +117,10 @@ statement_look (WhileOf number loop_number place condition body) =
     While number loop_number place ∷ (look_expr condition ++ (Do ∷ (body.value ++ (Ends ∷ []))))
 statement_look (RepeatOf number loop_number place statements condition) =
     Repeat number loop_number place ∷ (joined statements.items ++ (Until ∷ (look_expr condition ++ (Ends ∷ []))))
+statement_look (ForOf number loop_number place control first first_fits direction last last_fits body) =
+    For number loop_number place control direction
+    ∷ (look_expr first
+    ++ (Fits first_fits ∷ (look_expr last ++ (Fits last_fits ∷ Do ∷ (body.value ++ (Ends ∷ []))))))
 
 -- how a statement looks
 abbrev pub look_stmt : Stmt → Look
@@ -149,6 +156,7 @@ mark_entries (While number loop_number place) = number ∷ []
 mark_entries Do = []
 mark_entries (Repeat number loop_number place) = number ∷ []
 mark_entries Until = []
+mark_entries (For number loop_number place control direction) = number ∷ []
 mark_entries (BlockEnds end) = []
 
 -- the numbers of the entries of what looks so
@@ -159,6 +167,7 @@ entries_of_look = flat_map mark_entries
 abbrev pub mark_loops : Mark → List ℕ
 mark_loops (While number loop_number place) = loop_number ∷ []
 mark_loops (Repeat number loop_number place) = loop_number ∷ []
+mark_loops (For number loop_number place control direction) = loop_number ∷ []
 mark_loops other = []
 
 -- the numbers of the loops of what looks so
@@ -188,4 +197,5 @@ is_formed_mark variables sites (While number loop_number place) = true
 is_formed_mark variables sites Do = true
 is_formed_mark variables sites (Repeat number loop_number place) = true
 is_formed_mark variables sites Until = true
+is_formed_mark variables sites (For number loop_number place control direction) = nat_lt control variables
 is_formed_mark variables sites (BlockEnds end) = true

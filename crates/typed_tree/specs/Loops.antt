@@ -1,13 +1,13 @@
 -- The loops of a typed tree, its repetitive statements (ISO 7185:1990, 6.8.3.6), in the order of their first words: the
 -- number of each, and the control variables of the for statements inside it. It says nothing of what a loop does.
-use Rattle.std.specs.Prelude.{ℕ, ◌++◌, Bool, List, [], ◌∷◌, Option, Some, None, flat_map, length, nat_lt}
+use Rattle.std.specs.Prelude.{◌≡◌, ℕ, ◌++◌, List, [], ◌∷◌, Option, Some, None, flat_map, slice_get}
 use Rattle.std.specs.declared.alloc.Global.{Global}
 use Rattle.std.specs.declared.boxed.Box.{Box}
 use Rattle.typed_tree.specs.declared.tree.Tree.{Tree}
 use Rattle.typed_tree.specs.declared.tree.Loop.{Loop}
 use Rattle.typed_tree.specs.declared.tree.Stmt.{Stmt}
 use Rattle.typed_tree.specs.declared.tree.Stmt.TheOpen.{Stmt-F}
-use Rattle.typed_tree.specs.declared.tree.Stmt.TheOpen.Stmt-F.{Empty, Assign, Write, Compound, If, While, Repeat}
+use Rattle.typed_tree.specs.declared.tree.Stmt.TheOpen.Stmt-F.{Empty, Assign, Write, Compound, If, While, Repeat, For}
 use Rattle.typed_tree.specs.declared.tree.Stmt.TheFolds.{fold-Stmt}
 
 -- what stands inside a statement
@@ -37,6 +37,10 @@ alternative_inside (Some inside) = inside.value
 abbrev pub looped : ℕ → Inside → Inside
 looped loop_number body = record { loops = (loop_number, body.controls) ∷ body.loops; controls = body.controls }
 
+-- the control variable of a for statement isn't inside its own loop
+abbrev pub controlled : ℕ → Inside → Inside
+controlled control inside = record { loops = inside.loops; controls = control ∷ inside.controls }
+
 abbrev pub statement_inside : Stmt-F Inside → Inside
 statement_inside (Empty number) = no_loop
 statement_inside (Assign number becomes target fits value) = no_loop
@@ -47,6 +51,8 @@ statement_inside (If number condition consequence alternative) =
 statement_inside (While number loop_number place condition body) = looped loop_number body.value
 statement_inside (Repeat number loop_number place statements condition) =
     looped loop_number (all_inside statements.items)
+statement_inside (For number loop_number place control first first_fits direction last last_fits body) =
+    controlled control (looped loop_number body.value)
 
 abbrev pub inside_of : Stmt → Inside
 inside_of = fold-Stmt Inside statement_inside
@@ -63,6 +69,11 @@ controls_of statement = (inside_of statement).controls
 abbrev pub loops_of : Tree → List (ℕ × List ℕ)
 loops_of tree = flat_map (λ block. loops_of_statement block.body) tree.blocks.items
 
--- whether a loop has its row in the table
-abbrev pub is_loop : List Loop → ℕ × List ℕ → Bool
-is_loop loops one = nat_lt one.0 (length loops)
+-- a loop has a row in the table, with the control variables of the for statements inside it
+abbrev pub IsLoop : List Loop → ℕ × List ℕ → Type 0
+IsLoop rows one = (row : Loop) × (slice_get rows one.0 ≡ Some row) × (row.controls.items ≡ one.1)
+
+-- each of these has
+abbrev pub AreLoops : List Loop → List (ℕ × List ℕ) → Type 0
+AreLoops rows [] = Unit {0}
+AreLoops rows (one ∷ others) = IsLoop rows one × AreLoops rows others

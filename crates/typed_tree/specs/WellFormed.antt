@@ -22,9 +22,9 @@ use Rattle.typed_tree.specs.declared.tree.Expr.TheOpen.Expr-F.{Constant, Variabl
 use Rattle.typed_tree.specs.declared.tree.Expr.TheFolds.{fold-Expr, fold-Link}
 use Rattle.typed_tree.specs.declared.tree.Stmt.{Stmt}
 use Rattle.typed_tree.specs.declared.tree.Stmt.TheOpen.{Stmt-F}
-use Rattle.typed_tree.specs.declared.tree.Stmt.TheOpen.Stmt-F.{Empty, Assign, Write, Compound, If, While, Repeat}
+use Rattle.typed_tree.specs.declared.tree.Stmt.TheOpen.Stmt-F.{Empty, Assign, Write, Compound, If, While, Repeat, For}
 use Rattle.typed_tree.specs.declared.tree.Stmt.TheFolds.{fold-Stmt}
-use Rattle.typed_tree.specs.Loops.{loops_of, is_loop}
+use Rattle.typed_tree.specs.Loops.{loops_of, AreLoops}
 
 -- they all hold
 abbrev pub all_hold : List Bool → Bool
@@ -96,6 +96,11 @@ module _ (variables sites : ℕ) where
   stmt_is_well_formed (While number loop_number place condition body) = is_well_formed_expr condition && body.value
   stmt_is_well_formed (Repeat number loop_number place statements condition) =
       all_hold statements.items && is_well_formed_expr condition
+  stmt_is_well_formed (For number loop_number place control first first_fits direction last last_fits body) =
+      nat_lt control variables
+      && (is_well_formed_expr first
+      && (is_well_formed_test first_fits
+      && (is_well_formed_expr last && (is_well_formed_test last_fits && body.value))))
 
   -- a statement is well formed
   abbrev pub is_well_formed_stmt : Stmt → Bool
@@ -116,5 +121,5 @@ pub record IsWellFormed (tree : Tree) : Type 0 where
   pub blocks :
       list_all (is_well_formed_block (length tree.variables.items) (length tree.sites.items)) tree.blocks.items ≡ true
   -- each loop has its row in the table; until routines come, each stands in the program's block
-  pub loops : list_all (is_loop tree.loops.items) (loops_of tree) ≡ true
+  pub loops : AreLoops tree.loops.items (loops_of tree)
   pub in_program : list_all (λ row. nat_eq row.block 0) tree.loops.items ≡ true

@@ -25,6 +25,8 @@ pub struct Tree {
 pub struct Loop {
     /// The number of the block in which it stands.
     pub block: u32,
+    /// The root numbers of the control variables of the for statements inside it, in the order of the text.
+    pub controls: Vec<u32>,
 }
 
 /// The body of a block.
@@ -110,6 +112,28 @@ pub enum Stmt {
         statements: Vec<Stmt>,
         condition: Expr,
     },
+    /// Both bounds are evaluated once; where the body is executed at all, the first and then the last is tested. With
+    /// the place of the word `for`.
+    For {
+        number: u32,
+        loop_number: u32,
+        place: Place,
+        /// The root number of the control variable.
+        control: u32,
+        first: Expr,
+        first_fits: RangeTest,
+        direction: Direction,
+        last: Expr,
+        last_fits: RangeTest,
+        body: Box<Stmt>,
+    },
+}
+
+/// The way of a control variable (6.8.3.9).
+#[derive(Clone, Copy)]
+pub enum Direction {
+    To,
+    DownTo,
 }
 
 /// A value that is written (ISO 7185:1990, 6.9.3), before its width is evaluated.

@@ -1,6 +1,6 @@
 -- What a typed tree has of what is known behind its program, and whether it is the program's typed tree.
 -- It says nothing of what typing answers.
-use Rattle.std.specs.Prelude.{◌≡◌, true, [], Ok, length, map, nat_eq}
+use Rattle.std.specs.Prelude.{◌≡◌, true, [], Ok, map, nat_eq}
 use Rattle.std.specs.List.{list_all}
 use Rattle.syntax_tree.specs.declared.Program.{Program}
 use Rattle.typed_tree.specs.declared.site.Site.{Site}
@@ -23,9 +23,9 @@ pub record IsLeft (passed : Passed) (tree : Tree) : Type 0 where
   pub types : tree.types ≡ passed.types
   pub points : tree.points.items ≡ []
 
--- each loop has its row in the table, and stands in the program's block
+-- the table of loops says which control variables are inside each; each loop stands in the program's block
 pub record HasLoops (tree : Tree) : Type 0 where
-  pub rows : length tree.loops.items ≡ length (loops_of tree)
+  pub rows : map (λ row. row.controls.items) tree.loops.items ≡ map (λ one. one.1) (loops_of tree)
   pub in_program : list_all (λ row. nat_eq row.block 0) tree.loops.items ≡ true
 
 -- a program breaks no rule of names and types, and this is its typed tree

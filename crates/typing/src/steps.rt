@@ -73,6 +73,35 @@ impl Typer {
         Ok(denotation)
     }
 
+    /// A variable may be changed, if it isn't the control variable of a for statement round the place (6.8.3.9); else it
+    /// is K5 at its name.
+    #[tactic(auto, unfolding(crate::specs::Steps::may_change))]
+    pub fn may_change(&self, place: Place, root: u32) -> Result<(), TypeFault>
+        ensures { Tells (spec.may_change place root self.now) result self.now }
+    {
+        if self.controls.contains(&root) {
+            return Err(TypeFault::Threatened(place));
+        }
+        Ok(())
+    }
+
+    /// The statement of a for begins, of this control variable.
+    #[tactic(auto, unfolding(crate::specs::Steps::begin_control))]
+    pub fn begin_control(&mut self, root: u32) -> Result<(), TypeFault>
+        ensures { Takes (spec.begin_control root self.old) result self.new }
+    {
+        self.controls.push(root)?;
+        Ok(())
+    }
+
+    /// It ends.
+    #[tactic(auto, unfolding(crate::specs::Steps::end_control))]
+    pub fn end_control(&mut self)
+        ensures { spec.end_control self.old ≡ Ok (after tt [] self.new) }
+    {
+        let _ = self.controls.pop();
+    }
+
     /// Begins the region of the required identifiers, which stands round the program (6.2.2.10).
     #[tactic(auto, unfolding(crate::specs::Steps::open_required, crate::specs::Names::required_region))]
     pub fn open_required(&mut self) -> Result<(), TypeFault>

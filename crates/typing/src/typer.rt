@@ -40,6 +40,8 @@ pub struct Typer {
     pub(crate) entries: u32,
     // How many loops began: each is a statement.
     pub(crate) loops: u32,
+    // Those of the for statements round the place, by root number, the outermost first.
+    pub(crate) controls: Vec<u32>,
     // The place of the latest token that the syntax tree tells.
     pub(crate) latest: Place,
     // The name that was looked up last, in small letters. It is kept, so that the use of a name asks for no memory.
@@ -64,6 +66,7 @@ impl Model for Typer {
       sites = map stands t.sites.items;
       entries = t.entries;
       loops = t.loops;
+      controls = t.controls.items;
       latest = t.latest;
     } };
 }
@@ -86,6 +89,7 @@ impl Typer {
             sites: Vec::new(alloc),
             entries: 0,
             loops: 0,
+            controls: Vec::new(alloc),
             latest: start,
             key: Vec::new(alloc),
         })

@@ -1,7 +1,7 @@
 -- What the steps of typing do, and what they do one after another.
-use Rattle.std.proofs.Common.{◌≡◌, ℕ, ◌+◌, ◌<◌, ◌≤◌, Bool, true, false, nat_le, Result, List, [], ◌∷◌, ◌++◌, length, Option, Some, None, Ok, Err, if◌then◌else◌}
+use Rattle.std.proofs.Common.{◌≡◌, ℕ, ◌+◌, ◌-◌, ◌<◌, ◌≤◌, Bool, true, false, nat_eq, nat_le, take, Result, List, [], ◌∷◌, ◌++◌, length, Option, Some, None, Ok, Err, if◌then◌else◌}
 use Rattle.std.proofs.Common.{append-nil, length-append, refl, sym, ap, subst, ◌∙◌, arith}
-use Rattle.std.specs.List.{range_with_len}
+use Rattle.std.specs.List.{range_with_len, list_any}
 use Rattle.std.proofs.lemmas.Bool.Decides.{nat_tests}
 use Rattle.place.specs.declared.Place.{Place}
 use Rattle.syntax_tree.specs.declared.Name.{Name}
@@ -15,7 +15,8 @@ use Rattle.typed_tree.specs.declared.site.SiteKind.{SiteKind}
 use Rattle.typed_tree.specs.Ids.{Stands}
 use Rattle.typed_tree.specs.Look.{Mark, Look, mark_entries, mark_loops, is_formed_mark}
 use Rattle.typing.specs.Passing.{Passed, Checked, After, Passing, and_then, after, pure, fail, given, mark, behind_marks, ◌>>=◌, ◌>>?◌}
-use Rattle.typing.specs.Steps.{most_sites, most_entries, pass, enter, enter_as, number_loop, begin_loop, enter_loop, site, find, told, wants_output}
+use Rattle.typing.specs.Steps.{most_sites, most_entries, pass, enter, enter_as, number_loop, begin_loop, enter_loop, site, find, told, may_change}
+use Rattle.typing.specs.Steps.{begin_control, end_control, wants_output}
 use Rattle.typing.specs.Expressions.{behind}
 use Rattle.typing.specs.Names.{folded}
 use Rattle.typing_laws.proofs.Sound.{IsSound, found_sound}
@@ -307,6 +308,34 @@ enter_loop_does {variables} {least} marked one loop formed = record {
           formed = λ n more. both_true _ true (formed s.entries s.loops n (omega (arith, more, h))) refl;
         } in
         subst (Leaves variables Nothing s Anything) same (g, tt)
+
+-- ---- control variables
+
+pub may_change_does : {variables least : ℕ} (place : Place) (root : ℕ) → Does variables least Nothing (may_change place root) Anything
+unfolding may_change
+may_change_does {variables} place root = record {
+  does = λ s a is fine h.
+      let x = split_unless (list_any (λ control. nat_eq control root) s.controls) (fault.Threatened place) (after tt [] s) a is in
+      subst (Leaves variables Nothing s Anything) x.1 (grown_silent variables s s refl refl refl refl refl refl fine, tt);
+}
+
+pub begin_control_does : {variables least : ℕ} (root : ℕ) → Does variables least Nothing (begin_control root) Anything
+unfolding begin_control
+begin_control_does {variables} root = record {
+  does = λ s a is fine h.
+      let new : Passed = record s { controls = s.controls ++ root ∷ [] } in
+      let same : after tt [] new ≡ a = cc in
+      subst (Leaves variables Nothing s Anything) same (grown_silent variables s new refl refl refl refl refl refl fine, tt);
+}
+
+pub end_control_does : {variables least : ℕ} → Does variables least Nothing end_control Anything
+unfolding end_control
+end_control_does {variables} = record {
+  does = λ s a is fine h.
+      let new : Passed = record s { controls = take (length s.controls - 1) s.controls } in
+      let same : after tt [] new ≡ a = cc in
+      subst (Leaves variables Nothing s Anything) same (grown_silent variables s new refl refl refl refl refl refl fine, tt);
+}
 
 -- ---- sites
 

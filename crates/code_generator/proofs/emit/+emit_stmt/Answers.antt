@@ -1,12 +1,12 @@
-use Rattle.std.proofs.Common.{rules, OnOk, ◌≡◌, ℕ, ◌+◌, ◌≤◌, ◌++◌, [], ◌∷◌, Some, None, drop, ap, ◌∙◌, sym, subst, refl, length, length-append, map, append-nil, arith}
+use Rattle.std.proofs.Common.{rules, Ok, OnOk, ◌≡◌, ℕ, ◌+◌, ◌≤◌, ◌++◌, [], ◌∷◌, Some, None, drop, ap, ◌∙◌, sym, subst, refl, length, length-append, map, append-nil, arith}
 use Rattle.std.proofs.lemmas.List.{drop_more, drop_all}
 use Rattle.pcode_assembler.specs.declared.instr.Instr.TheVariants as instr
 use Rattle.typed_tree.specs.declared.tree.Stmt.TheVariants.{If}
-use Rattle.code_generator.specs.Code.{stmt_code, expr_code, if_code, if_else_code, while_code}
-use Rattle.code_generator.specs.Emitted.{statements_table}
+use Rattle.code_generator.specs.Code.{stmt_code, expr_code, if_code, if_else_code, while_code, for_code, for_begin, for_end, holding}
+use Rattle.code_generator.specs.Emitted.{Emits, statements_table}
 use Rattle.code_generator.specs.Sizes.{capped, rest_of, table_of, measured, all_tables}
-use Rattle.code_generator.proofs.Emitting.{IsLeft, if_emitted, if_else_emitted, one_emitted, passed_emitted, same_emitted, measured-Compound, measured-If, measured-If-else, if_measured, if_else_measured, measured-While, measured-Repeat, while_measured, while_emitted, repeat_emitted}
-use Rattle.code_generator.proofs.Pieces.{stmts_code, stmt_code-Compound, stmt_code-If, stmt_code-If-else, stmt_code-While, stmt_code-Repeat}
+use Rattle.code_generator.proofs.Emitting.{IsLeft, if_emitted, if_else_emitted, one_emitted, passed_emitted, same_emitted, measured-Compound, measured-If, measured-If-else, if_measured, if_else_measured, measured-While, measured-Repeat, measured-For, for_measured, for_emitted, while_measured, while_emitted, repeat_emitted}
+use Rattle.code_generator.proofs.Pieces.{stmts_code, stmt_code-Compound, stmt_code-If, stmt_code-If-else, stmt_code-While, stmt_code-Repeat, stmt_code-For}
 use Rattle.code_generator.proofs.emit.+emit_stmt.Goals as goal
 
 pub emit_statements-loop-statement-init : goal.emit_statements-loop-statement-init
@@ -84,6 +84,44 @@ emit_stmt-returns-in_ok-emit_stmt-in-While t c =
     (passed_emitted answer before after c.args.sizes.now now left _ (table_of (measured c.deref-in-While.result.now scope)) _ c.pass.ensures
     (while_emitted answer test c.deref-in-While.result.now scope before c.emit_test-in-While.new.code.items done after now left c.place_of-head.result
     jumping c.in_ok-emit_stmt-in-While.ensures begins c.put.ensures))
+
+pub emit_stmt-returns-in_ok-emit_next-in-For : goal.emit_stmt-returns-in_ok-emit_next-in-For
+emit_stmt-returns-in_ok-emit_next-in-For t c =
+    let scope = c.args.scope in
+    let before = c.args.code.now.items in
+    let place = length before in
+    let first = expr_code scope c.in-For.first in
+    let last = expr_code scope c.in-For.last in
+    let way = c.in-For.direction in
+    let control = c.in-For.control in
+    let body = c.in-For.body in
+    let inner = holding 2 scope in
+    let now = c.pass.new.self in
+    let answer = c.emit_end.result in
+    let after = c.emit_end.new.code.items in
+    let bounds = c.emit_bounds.new.code.items in
+    let begun = c.emit_begin.new.code.items in
+    let done = c.emit_stmt-in-For.new.code.items in
+    let left = c.emit_stmt-in-For.new.sizes in
+    let head = c.saturating_add-head.result in
+    let out = c.saturating_add-out.result in
+    let entered = c.in_ok-emit_begin-in-For.ensures ∙ ap (λ xs. xs ++ for_begin scope control) c.in_ok-emit_entry-in-For.ensures in
+    let ended = subst (λ xs. OnOk answer (after ≡ xs ++ for_end scope control)) c.in_ok-emit_next-in-For.ensures c.emit_end.ensures in
+    let size = c.in-For.is in
+    same_emitted answer before after c.args.sizes.now left _ _ _ _
+    (ap (λ s. stmt_code s scope place) c.in-For.is
+    ∙ stmt_code-For scope place c.in-For.number c.in-For.loop_number c.in-For.place control c.in-For.first c.in-For.first_fits way c.in-For.last
+    c.in-For.last_fits body
+    ∙ ap (λ s. for_code control first c.in-For.first_fits way last c.in-For.last_fits (stmt_code s) scope place) (sym c.deref-in-For.ensures))
+    (ap (λ s. table_of (measured s scope)) c.in-For.is
+    ∙ ap table_of (measured-For scope c.in-For.number c.in-For.loop_number c.in-For.place control c.in-For.first c.in-For.first_fits way c.in-For.last
+    c.in-For.last_fits body)
+    ∙ ap (λ s. table_of (for_measured first last (measured s inner))) (sym c.deref-in-For.ensures))
+    (passed_emitted answer before after c.args.sizes.now now left _ (table_of (measured c.deref-in-For.result.now inner)) _ c.pass.ensures
+    (for_emitted answer control first c.in-For.first_fits way last c.in-For.last_fits c.deref-in-For.result.now scope before bounds begun done after now left
+    head out c.in_ok-emit_bounds-in-For.ensures (search rules) (search rules) entered
+    (subst (λ sc. Emits (Ok tt) begun done now left (stmt_code c.deref-in-For.result.now sc (length begun)) (table_of (measured c.deref-in-For.result.now sc)))
+    c.holding_two.ensures c.in_ok-emit_stmt-in-For.ensures) ended))
 
 pub emit_stmt-returns-in_ok-emit_expr-in-Repeat : goal.emit_stmt-returns-in_ok-emit_expr-in-Repeat
 emit_stmt-returns-in_ok-emit_expr-in-Repeat t c =

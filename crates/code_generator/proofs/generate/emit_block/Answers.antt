@@ -11,5 +11,6 @@ returns c =
     let body = c.args.body.now in
     let cells : c.min-evaluation.result ≡ count (stmt_depth body) = omega arith in
     let entered = c.in_ok-put.ensures ∙ ap (λ n. before ++ instr.Enter c.args.variables n ∷ []) cells in
-    behind_emitted c.emit_stmt.result before c.put.new.code.items c.emit_stmt.new.code.items c.args.sizes.now c.emit_stmt.new.sizes (table_of (measured body c.args.scope))
+    behind_emitted c.emit_stmt.result before c.put.new.code.items c.emit_stmt.new.code.items c.args.sizes.now c.emit_stmt.new.sizes (table_of (measured body
+    c.args.scope))
     (instr.Enter c.args.variables (count (stmt_depth body))) (stmt_code body c.args.scope) entered c.emit_stmt.ensures

@@ -4,16 +4,16 @@ use Rattle.std.specs.declared.alloc.AllocError.{AllocError}
 use Rattle.std.proofs.lemmas.List.{take_all}
 use Rattle.pcode_assembler.specs.declared.instr.Instr.TheVariants as instr
 use Rattle.typed_tree.specs.declared.tree.Stmt.TheVariants.{If}
-use Rattle.code_generator.specs.Code.{expr_code, program_scope, variable_offset}
+use Rattle.code_generator.specs.Code.{expr_code, holding, program_scope, variable_offset}
 use Rattle.code_generator.specs.Sizes.{capped, Measured, measured, all_sizes, all_tables, table_of, IsTold, AreTold}
-use Rattle.code_generator.proofs.Emitting.{measured-Assign, measured-Compound, measured-If, measured-If-else, measured-While, measured-Repeat, sizes_one_more, tables_one_more, set_at_seam}
+use Rattle.code_generator.proofs.Emitting.{measured-Assign, measured-Compound, measured-If, measured-If-else, measured-While, measured-Repeat, measured-For, sizes_one_more, tables_one_more, set_at_seam}
 use Rattle.code_generator.proofs.size.+measure.Goals as goal
 
 pub measure-index_mut-requires : goal.measure-index_mut-requires
 measure-index_mut-requires t c =
     let before = c.args.sizes.now.items in
-    let inner = (measured c.args.stmt.now program_scope).inner in
-    let told = (c.in_ok-size.ensures program_scope).1 in
+    let inner = (measured c.args.stmt.now (program_scope 0)).inner in
+    let told = (c.in_ok-size.ensures (program_scope 0)).1 in
     omega (
       arith,
       ap length told,
@@ -107,6 +107,23 @@ measure_parts-returns-in_ok-measure_statements-in-Repeat t c = λ scope.
     let all = c.in_ok-measure_statements-in-Repeat.ensures scope in (
       omega (arith, c.repeat_size.ensures scope, all.0, ap (λ m. m.size) is),
       all.1 ∙ ap (λ m. c.args.sizes.now.items ++ m.inner) (sym is),
+    )
+
+pub measure_parts-returns-in_ok-measure-in-For : goal.measure_parts-returns-in_ok-measure-in-For
+measure_parts-returns-in_ok-measure-in-For t c = λ scope.
+    let first = c.in-For.first in
+    let last = c.in-For.last in
+    let body = c.in-For.body in
+    let inner = holding 2 scope in
+    let is = ap (λ s. measured s scope) c.in-For.is
+    ∙ measured-For scope c.in-For.number c.in-For.loop_number c.in-For.place c.in-For.control first c.in-For.first_fits c.in-For.direction last
+    c.in-For.last_fits body in
+    let one = c.in_ok-measure-in-For.ensures inner in
+    let same = ap (λ s. measured s inner) c.deref-in-For.ensures in (
+      omega (arith, c.for_size.ensures scope, one.0, ap (λ m. m.size) same, ap (λ m. m.size) is),
+      one.1
+          ∙ ap (λ m. c.args.sizes.now.items ++ table_of m) same
+          ∙ ap (λ m. c.args.sizes.now.items ++ m.inner) (sym is),
     )
 
 pub measure_parts-returns-in-None : goal.measure_parts-returns-in-None

@@ -1,8 +1,8 @@
 use Rattle.std.proofs.Common.{ap, sym, ◌∙◌, ◌+◌, length, length-append, take, arith}
 use Rattle.typed_tree.specs.declared.tree.Stmt.TheVariants.{If}
-use Rattle.code_generator.specs.Code.{expr_code, stmt_code, write_code}
+use Rattle.code_generator.specs.Code.{expr_code, holding, stmt_code, write_code}
 use Rattle.code_generator.specs.Sizes.{capped}
-use Rattle.code_generator.proofs.Pieces.{stmts_code, stmt_code-Empty, stmt_code-Compound, stmt_code-Write, stmt_code-If, stmt_code-If-else, stmt_code-While, stmt_code-Repeat, length-While, length-Repeat, length-Assign, length-If, length-If-else, stmts_one_more, all_stmts}
+use Rattle.code_generator.proofs.Pieces.{stmts_code, stmt_code-Empty, stmt_code-Compound, stmt_code-Write, stmt_code-If, stmt_code-If-else, stmt_code-While, stmt_code-Repeat, stmt_code-For, length-For, length-While, length-Repeat, length-Assign, length-If, length-If-else, stmts_one_more, all_stmts}
 use Rattle.code_generator.proofs.size.+stmt_size.Goals as goal
 
 pub stmt_size-returns-in-Empty : goal.stmt_size-returns-in-Empty
@@ -40,6 +40,20 @@ stmt_size-returns-in-Repeat t c = λ scope place.
     let long = ap length whole ∙ length-Repeat (stmts_code scope statements.items) (expr_code scope condition) place in
     let inside = c.statements_size-in-Repeat.ensures scope place in
     let size = c.repeat_size.ensures scope in
+    grind (arith, long, inside, size)
+
+pub stmt_size-returns-in-For : goal.stmt_size-returns-in-For
+stmt_size-returns-in-For t c = λ scope place.
+    let first = expr_code scope c.in-For.first in
+    let last = expr_code scope c.in-For.last in
+    let body = c.in-For.body in
+    let whole = ap (λ s. stmt_code s scope place) c.in-For.is
+    ∙ stmt_code-For scope place c.in-For.number c.in-For.loop_number c.in-For.place c.in-For.control c.in-For.first c.in-For.first_fits c.in-For.direction
+    c.in-For.last c.in-For.last_fits body in
+    let long = ap length whole
+    ∙ length-For c.in-For.control first c.in-For.first_fits c.in-For.direction last c.in-For.last_fits (stmt_code body.value) scope place in
+    let inside = c.stmt_size-in-For.ensures (holding 2 scope) (place + length first + length last + 8 + 2) in
+    let size = c.for_size.ensures scope in
     grind (arith, long, inside, size)
 
 pub statements_size-loop-statement-preserved : goal.statements_size-loop-statement-preserved

@@ -4,27 +4,27 @@ use Rattle.lexer.specs.declared.token.Word.TheVariants as word
 use Rattle.syntax_tree.specs.declared.Stmt.{Stmt}
 use Rattle.lexer.specs.declared.token.Symbol.TheVariants as symbol
 use Rattle.token_cursor.specs.declared.fault.ParseFault.TheVariants.{TooDeep}
-use Rattle.grammar.specs.Spelling.{Reads, of_kind_at, word_symbol, expr_spelling, stmt_spelling, separated}
+use Rattle.grammar.specs.Spelling.{Reads, of_kind_at, word_symbol, mark, identifier, direction_word, expr_spelling, stmt_spelling, separated}
 use Rattle.grammar.specs.Following.{next_kind, EndsStmt}
 use Rattle.grammar.specs.Following as following
 use Rattle.parser.specs.Reading.{Stops, ReadWithin, ReadsDeep}
 use Rattle.parser.specs.Refusing.{Refused}
-use Rattle.parser.proofs.Deep.{front_none, front_on, refused_behind, refused_behind_front, memory_refused, refused_behind_opening, refused_spent}
+use Rattle.parser.proofs.Deep.{front_none, front_on, refused_behind, refused_behind_front, memory_refused, refused_behind_opening, refused_behind_opened, refused_plain, refused_spent}
 use Rattle.parser.specs.Rules.{Read}
 use Rattle.grammar.specs.Begins.{BeginsStatements, BeginsStmt}
 use Rattle.grammar.proofs.Lists.{pushed, emptied}
 use Rattle.parser.proofs.Kept.{handed_on, last, was_read, not_kept}
 use Rattle.grammar.proofs.Rows.{begins, same_first}
-use Rattle.parser.proofs.Exact.{stops_above, boxed_within}
+use Rattle.parser.proofs.Exact.{stops_above, stops_memory, boxed_within}
 use Rattle.grammar.proofs.Parts.{parts_end}
 use Rattle.grammar.proofs.Reading.{reads_fewer, reads_no_more}
 use Rattle.parser.proofs.Reading.{unchanged}
 use Rattle.grammar.proofs.Chains.{then_ends, do_ends}
 use Rattle.grammar.proofs.Conditionals.{conditional_opened}
-use Rattle.grammar.proofs.Loops.{while_opened, repeat_opened}
+use Rattle.grammar.proofs.Loops.{while_opened, repeat_opened, for_opened}
 use Rattle.grammar.proofs.Statements.{ends_value, compounded, opened_compound, statement_list_parts, statement_list_begins, statement_list_goes_on}
-use Rattle.parser.proofs.ExactStatements.{statement_answer, statement_list_left, branches_left, alternative_left, alternative_taken, while_body_left, until_left, until_taken}
-use Rattle.parser.proofs.Statements.{gives-Empty, StatementsGrow, statements_grow_first, statements_grow, compound_closed, compound_stands, guard_spelled, gives-If, gives-While, gives-Repeat}
+use Rattle.parser.proofs.ExactStatements.{statement_answer, statement_list_left, branches_left, alternative_left, alternative_taken, while_body_left, until_left, until_taken, bounds_left, final_left, for_body_left}
+use Rattle.parser.proofs.Statements.{gives-Empty, StatementsGrow, statements_grow_first, statements_grow, compound_closed, compound_stands, guard_spelled, gives-If, gives-While, gives-Repeat, gives-For}
 use Rattle.parser.proofs.statement.+statement.Goals as goal
 
 pub compound-returns-clause-given : goal.compound-returns-clause-given
@@ -406,3 +406,94 @@ repeat_loop-returns-clause-exact t c = λ first depth s others h ends.
     let k = until_taken depth c.in_ok-expect_word.field-0 c.statements.new.cursor.rest.now c.expect_word-2.new.self.rest.now others
     c.in_ok-expect_word.ensures.spelled l in
     c.in_ok-condition.ensures.exact k.below k.condition others k.tested (ends_value others ends)
+
+pub statement-returns-in-Some-Word-For-clause-exact : goal.statement-returns-in-Some-Word-For-clause-exact
+statement-returns-in-Some-Word-For-clause-exact t c = λ depth s others h ends.
+    let first : next_kind c.args.cursor.now.rest.now ≡ Some (kind.Word word.For) = search rules in
+    subst (λ n. ReadWithin n depth others c.for_loop.new.cursor c.for_loop.result) c.in_ok-levels.ensures.left
+    (c.for_loop.ensures.exact first depth s others h ends)
+
+pub for_loop-returns-in_err-place-clause-given : goal.for_loop-returns-in_err-place-clause-given
+for_loop-returns-in_err-place-clause-given t c =
+    let fault = c.in_err-place.field-0.0 in
+    handed_on _ _ c.from_residual.result fault c.from_residual.ensures
+    (refused_plain (c.args.levels + 1) c.args.cursor.now fault c.in_err-place.ensures.given)
+
+pub for_loop-returns-in_err-first-clause-given : goal.for_loop-returns-in_err-first-clause-given
+for_loop-returns-in_err-first-clause-given t c =
+    let fault = c.in_err-first.field-0.0 in
+    handed_on _ _ c.from_residual-in_err-first.result fault c.from_residual-in_err-first.ensures
+    (refused_behind (c.args.levels + 1) c.args.cursor.now c.control.new.cursor
+    (of_kind_at (kind.Word word.For) c.in_ok-place.place ∷ identifier c.in_ok-place.variable ∷ mark symbol.Becomes ∷ []) fault c.in_ok-place.ensures.given c.in_err-first.ensures.given)
+
+pub for_loop-returns-in_err-last-clause-given : goal.for_loop-returns-in_err-last-clause-given
+for_loop-returns-in_err-last-clause-given t c =
+    let n = c.args.levels + 1 in
+    let fault = c.in_err-last.field-0.0 in
+    let w = direction_word c.in_ok-first.direction in
+    handed_on _ _ c.from_residual-in_err-last.result fault c.from_residual-in_err-last.ensures
+    (refused_behind n c.args.cursor.now c.control.new.cursor
+    (of_kind_at (kind.Word word.For) c.in_ok-place.place ∷ identifier c.in_ok-place.variable ∷ mark symbol.Becomes ∷ []) fault c.in_ok-place.ensures.given
+    (refused_behind n c.control.new.cursor c.initial.new.cursor (expr_spelling c.in_ok-first.first ++ word_symbol w ∷ []) fault
+    (guard_spelled w c.args.levels c.control.new.cursor c.initial.new.cursor c.in_ok-first.first c.in_ok-first.ensures.given) c.in_err-last.ensures.given))
+
+pub for_loop-returns-in_err-body-clause-given : goal.for_loop-returns-in_err-body-clause-given
+for_loop-returns-in_err-body-clause-given t c =
+    let n = c.args.levels in
+    let fault = c.in_err-body.field-0.0 in
+    let w = direction_word c.in_ok-first.direction in
+    handed_on _ _ c.from_residual-in_err-body.result fault c.from_residual-in_err-body.ensures
+    (refused_behind_opened n (n + 1) c.args.cursor.now c.control.new.cursor (kind.Word word.For) c.in_ok-place.place
+    (identifier c.in_ok-place.variable ∷ mark symbol.Becomes ∷ []) fault refl refl c.in_ok-place.ensures.given
+    (refused_behind n c.control.new.cursor c.initial.new.cursor (expr_spelling c.in_ok-first.first ++ word_symbol w ∷ []) fault
+    (guard_spelled w n c.control.new.cursor c.initial.new.cursor c.in_ok-first.first c.in_ok-first.ensures.given)
+    (refused_behind n c.initial.new.cursor c.guard.new.cursor (expr_spelling c.in_ok-last.last ++ word_symbol word.Do ∷ []) fault
+    (guard_spelled word.Do n c.initial.new.cursor c.guard.new.cursor c.in_ok-last.last c.in_ok-last.ensures.given) c.in_err-body.ensures.given)))
+
+pub for_loop-returns-clause-given : goal.for_loop-returns-clause-given
+for_loop-returns-clause-given t c =
+    gives-For c.args.levels c.args.cursor.now c.control.new.cursor c.initial.new.cursor c.guard.new.cursor c.body.new.cursor c.in_ok-place.place c.in_ok-place.variable
+    c.in_ok-first.first c.in_ok-first.direction c.in_ok-last.last c.in_ok-body.body c.in_ok-place.ensures.given c.in_ok-first.ensures.given c.in_ok-last.ensures.given
+    c.in_ok-body.ensures.given
+
+pub for_loop-returns-in_err-place-clause-exact : goal.for_loop-returns-in_err-place-clause-exact
+for_loop-returns-in_err-place-clause-exact t c = λ first depth s others h ends.
+    let o = for_opened depth c.args.cursor.now.rest.now others s first h ends in
+    let fault = c.in_err-place.field-0.0 in
+    handed_on _ _ c.from_residual.result fault c.from_residual.ensures
+    (stops_memory (c.args.levels + 1) depth fault (c.in_err-place.ensures.exact o.found o.middle o.control tt))
+
+pub for_loop-returns-in_err-first-clause-exact : goal.for_loop-returns-in_err-first-clause-exact
+for_loop-returns-in_err-first-clause-exact t c = λ first depth s others h ends.
+    let o = for_opened depth c.args.cursor.now.rest.now others s first h ends in
+    let b = bounds_left depth c.args.cursor.now c.control.new.cursor (c.in_ok-place.place, c.in_ok-place.variable) others c.in_ok-place.ensures.exact o in
+    let fault = c.in_err-first.field-0.0 in
+    handed_on _ _ c.from_residual-in_err-first.result fault c.from_residual-in_err-first.ensures
+    (stops_above (c.args.levels + 1) c.args.levels depth b.below fault refl b.less (c.in_err-first.ensures.exact b.below b.bound b.middle b.initial tt))
+
+pub for_loop-returns-in_err-last-clause-exact : goal.for_loop-returns-in_err-last-clause-exact
+for_loop-returns-in_err-last-clause-exact t c = λ first depth s others h ends.
+    let o = for_opened depth c.args.cursor.now.rest.now others s first h ends in
+    let b = bounds_left depth c.args.cursor.now c.control.new.cursor (c.in_ok-place.place, c.in_ok-place.variable) others c.in_ok-place.ensures.exact o in
+    let f = final_left c.args.levels depth c.control.new.cursor c.initial.new.cursor (c.in_ok-first.first, c.in_ok-first.direction) others c.in_ok-first.ensures.exact b in
+    let fault = c.in_err-last.field-0.0 in
+    handed_on _ _ c.from_residual-in_err-last.result fault c.from_residual-in_err-last.ensures
+    (stops_above (c.args.levels + 1) c.args.levels depth f.below fault refl f.less (c.in_err-last.ensures.exact do_ends f.below f.final f.behind f.guarded tt))
+
+pub for_loop-returns-in_err-body-clause-exact : goal.for_loop-returns-in_err-body-clause-exact
+for_loop-returns-in_err-body-clause-exact t c = λ first depth s others h ends.
+    let o = for_opened depth c.args.cursor.now.rest.now others s first h ends in
+    let b = bounds_left depth c.args.cursor.now c.control.new.cursor (c.in_ok-place.place, c.in_ok-place.variable) others c.in_ok-place.ensures.exact o in
+    let f = final_left c.args.levels depth c.control.new.cursor c.initial.new.cursor (c.in_ok-first.first, c.in_ok-first.direction) others c.in_ok-first.ensures.exact b in
+    let l = for_body_left c.args.levels depth c.initial.new.cursor c.guard.new.cursor c.in_ok-last.last others (c.in_ok-last.ensures.exact do_ends) f in
+    let fault = c.in_err-body.field-0.0 in
+    handed_on _ _ c.from_residual-in_err-body.result fault c.from_residual-in_err-body.ensures
+    (stops_above (c.args.levels + 1) c.args.levels depth l.below fault refl l.less (c.in_err-body.ensures.exact l.below l.body others l.begun ends))
+
+pub for_loop-returns-clause-exact : goal.for_loop-returns-clause-exact
+for_loop-returns-clause-exact t c = λ first depth s others h ends.
+    let o = for_opened depth c.args.cursor.now.rest.now others s first h ends in
+    let b = bounds_left depth c.args.cursor.now c.control.new.cursor (c.in_ok-place.place, c.in_ok-place.variable) others c.in_ok-place.ensures.exact o in
+    let f = final_left c.args.levels depth c.control.new.cursor c.initial.new.cursor (c.in_ok-first.first, c.in_ok-first.direction) others c.in_ok-first.ensures.exact b in
+    let l = for_body_left c.args.levels depth c.initial.new.cursor c.guard.new.cursor c.in_ok-last.last others (c.in_ok-last.ensures.exact do_ends) f in
+    c.in_ok-body.ensures.exact l.below l.body others l.begun ends

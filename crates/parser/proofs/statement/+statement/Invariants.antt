@@ -23,6 +23,9 @@ decreases-while_loop l = 4 * l.levels + 3
 abbrev pub decreases-repeat_loop : goal.decreases-repeat_loop
 decreases-repeat_loop l = 4 * l.levels + 3
 
+abbrev pub decreases-for_loop : goal.decreases-for_loop
+decreases-for_loop l = 4 * l.levels + 3
+
 abbrev pub decreases-alternative : goal.decreases-alternative
 decreases-alternative l = 4 * l.levels + 2
 

@@ -1,6 +1,6 @@
 use Rattle.std.proofs.Common.{reverse, refl}
 use Rattle.meaning.proofs.Resuming.{continues_as, goes_on_to}
-use Rattle.meaning.proofs.Unrolling.{entered, does-Empty, does-Assign, does-Write, does-Compound, does-If, does-While, does-Repeat}
+use Rattle.meaning.proofs.Unrolling.{entered, does-Empty, does-Assign, does-Write, does-Compound, does-If, does-While, does-Repeat, does-For}
 use Rattle.meaning.proofs.interpreter.Run.statement.Goals as goal
 
 pub returns-in-Empty-clause-does : goal.returns-in-Empty-clause-does
@@ -61,3 +61,12 @@ returns-in-Repeat-clause-does c = λ env s agrees.
     (does-Repeat given.number given.loop_number given.place given.statements given.condition c.args.statement.now given.is c.deref-in-Repeat.result.now
     c.deref-in-Repeat.ensures.value env (reverse old.pending.items) (reverse old.values.items) s)
     (c.repeat_round.ensures.does env (entered given.number env s) agrees)
+
+pub returns-in-For-clause-does : goal.returns-in-For-clause-does
+returns-in-For-clause-does c = λ env s agrees.
+    let old = c.args.self.now in
+    let given = c.in-For in
+    continues_as env old c.plan_values.new.self _ _ c.plan_values.result
+    (does-For given.number given.loop_number given.place given.control given.first given.first_fits given.direction given.last given.last_fits given.body
+    c.args.statement.now given.is c.deref-in-For.result.now c.deref-in-For.ensures env (reverse old.pending.items) (reverse old.values.items) s)
+    (c.plan_values.ensures.does env (entered given.number env s) agrees)

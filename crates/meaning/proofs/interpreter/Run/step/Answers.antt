@@ -1,4 +1,9 @@
-use Rattle.meaning.proofs.Resuming.{does_as}
+use Rattle.std.proofs.Common.{ℤ, rules}
+use mir.Syntax.{w32}
+use mir.Val.{SFits}
+use Rattle.meaning.specs.declared.work.Work.TheVariants as work
+use Rattle.meaning.specs.Pending.{Does, resumed}
+use Rattle.meaning.proofs.Resuming.{does_as, passed}
 use Rattle.meaning.proofs.interpreter.Run.step.Goals as goal
 
 pub returns-in-Statements-clause-does : goal.returns-in-Statements-clause-does
@@ -25,6 +30,33 @@ returns-in-Until-clause-does c = does_as c.args.self.now c.until.new.self c.args
 
 pub returns-in-Unless-clause-does : goal.returns-in-Unless-clause-does
 returns-in-Unless-clause-does c = does_as c.args.self.now c.unless.new.self c.args.work _ c.unless.result c.in-Unless.is c.unless.ensures.does
+
+pub returns-in-Bounds-clause-does : goal.returns-in-Bounds-clause-does
+returns-in-Bounds-clause-does c = does_as c.args.self.now c.bounds.new.self c.args.work _ c.bounds.result c.in-Bounds.is c.bounds.ensures.does
+
+pub returns-in-For-clause-does : goal.returns-in-For-clause-does
+returns-in-For-clause-does c =
+    let given = c.in-For in
+    let old = c.args.self.now in
+    let new = c.for_round.new.self in
+    let fits : SFits w32 given.value = search rules in
+    let last_fits : SFits w32 given.last = search rules in
+    let does : ℤ → ℤ → Type 0 = λ value last.
+    Does (λ env. resumed env (work.For given.control given.direction value last given.body)) old c.for_round.result new in
+    does_as old new c.args.work _ c.for_round.result given.is
+    (passed does given.value given.last fits last_fits c.for_round.ensures.does)
+
+pub returns-in-Next-clause-does : goal.returns-in-Next-clause-does
+returns-in-Next-clause-does c =
+    let given = c.in-Next in
+    let old = c.args.self.now in
+    let new = c.next_round.new.self in
+    let fits : SFits w32 given.value = search rules in
+    let last_fits : SFits w32 given.last = search rules in
+    let does : ℤ → ℤ → Type 0 = λ value last.
+    Does (λ env. resumed env (work.Next given.control given.direction value last given.body)) old c.next_round.result new in
+    does_as old new c.args.work _ c.next_round.result given.is
+    (passed does given.value given.last fits last_fits c.next_round.ensures.does)
 
 pub returns-in-Parameters-clause-does : goal.returns-in-Parameters-clause-does
 returns-in-Parameters-clause-does c =

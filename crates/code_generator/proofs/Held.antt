@@ -1,0 +1,314 @@
+-- The cells that are held above the variables, in a frame that runs: what is loaded from them and stored into them; and
+-- what the instructions of a for statement do with the two bounds that are held.
+use Rattle.std.proofs.Common.{◌≡◌, ℕ, zero, suc, ◌+◌, ◌-◌, ◌<◌, ◌≤◌, List, [], ◌∷◌, ◌++◌, length, Some, None, Ok, refl, sym, ap, ◌∙◌, subst, arith, append-nil, append_assoc, length-append, Bool, true, false}
+use Rattle.std.specs.Prelude.{slice_get, slice_set, ℤ, pos, ◌+ℤ◌, ◌-ℤ◌, int_le, not, ◌&&◌, if◌then◌else◌}
+use Rattle.std.specs.Ordering.{int_eq}
+use Rattle.std.specs.Int.{w32, int_wrapping_add, int_wrapping_sub}
+use Rattle.std.proofs.lemmas.Int.{ints}
+use Rattle.std.proofs.lemmas.List.{length-set}
+use Rattle.std.proofs.lemmas.Option.{slice_get_within}
+use Rattle.pcode_assembler.specs.declared.instr.Instr.{Instr}
+use Rattle.pcode_assembler.specs.declared.instr.Instr.TheVariants as instr
+use Rattle.typed_tree.specs.declared.tree.Direction.{Direction}
+use Rattle.typed_tree.specs.declared.tree.Direction.TheVariants as direction
+use Rattle.typed_tree.specs.declared.tree.RangeTest.{RangeTest}
+use Rattle.meaning.specs.declared.store.Value.{Value}
+use Rattle.meaning.specs.declared.store.Value.TheVariants as value
+use Rattle.meaning.specs.Store as meant
+use Rattle.meaning.specs.Store.{kept, forgotten}
+use Rattle.meaning.specs.Counting.{has_values, next_value}
+use Rattle.meaning.specs.Effect as effect
+use Rattle.meaning.specs.Effect.{Action, require}
+use Rattle.stack_machine.specs.declared.cell.Cell.{Cell}
+use Rattle.stack_machine.specs.declared.cell.Cell.TheVariants.{Undefined, Number}
+use Rattle.stack_machine.specs.declared.arithmetic.Dyadic.TheVariants as dyadic
+use Rattle.stack_machine.specs.Frames as frames
+use Rattle.stack_machine.specs.Frames.{is_true, truth, on_two}
+use Rattle.stack_machine.specs.Machine.{State, obeyed, and_then, with_frames}
+use Rattle.check_remover.specs.Strip.{stays}
+use Rattle.code_generator.specs.Code.{variable_offset, held_offset, range_check, order_instr, next_instr}
+use Rattle.code_generator.proofs.Reach.{Comes, Stands, StandsAt, comes_on, comes_less}
+use Rattle.code_generator.proofs.Numbers.{Fits, same_range, sum_is, difference_is}
+use Rattle.code_generator.proofs.Setting.{Setting, running_at, on, Based, linked, Here, acts, passes, fails, branches_on, jumps, Executes, executes_from}
+use Rattle.code_generator.proofs.Acts.{framed, length_one, pushes, loads, stores, on_two_is, is_in_range}
+use Rattle.code_generator.proofs.Alike.{Activation, Alike, Leads, HasCell, alike_above, alike_written, alike_undefined, base_is, cell_within, direct_lies, slice_get-front}
+
+-- cells above others
+slice_get-above : {A : Type 0} (xs ys : List A) (i : ℕ) (a : A) → slice_get ys i ≡ Some a → slice_get (xs ++ ys) (length xs + i) ≡ Some a
+slice_get-above [] ys i a e = let z : 0 + i ≡ i = omega arith in ap (slice_get ys) z ∙ e
+slice_get-above (x ∷ xs) ys i a e =
+    let z : length (x ∷ xs) + i ≡ suc (length xs + i) = omega arith in ap (slice_get (x ∷ (xs ++ ys))) z ∙ slice_get-above xs ys i a e
+
+set_above : {A : Type 0} (xs ys : List A) (i : ℕ) (a : A) → slice_set (xs ++ ys) (length xs + i) a ≡ xs ++ slice_set ys i a
+set_above [] ys i a = let z : 0 + i ≡ i = omega arith in ap (λ n. slice_set ys n a) z
+set_above (x ∷ xs) ys i a =
+    let z : length (x ∷ xs) + i ≡ suc (length xs + i) = omega arith in
+    ap (λ n. slice_set (x ∷ (xs ++ ys)) n a) z ∙ ap (λ l. x ∷ l) (set_above xs ys i a)
+
+-- an element that is set below others
+pub set_front : {A : Type 0} (xs ys : List A) (i : ℕ) (a : A) → i < length xs → slice_set (xs ++ ys) i a ≡ slice_set xs i a ++ ys
+set_front [] ys i a h = absurd (omega arith)
+set_front (x ∷ xs) ys zero a h = refl
+set_front (x ∷ xs) ys (suc i) a h = ap (λ l. x ∷ l) (set_front xs ys i a (omega arith))
+
+set_twice : {A : Type 0} (xs : List A) (i : ℕ) (a b : A) → slice_set (slice_set xs i a) i b ≡ slice_set xs i b
+set_twice [] i a b = refl
+set_twice (x ∷ xs) zero a b = refl
+set_twice (x ∷ xs) (suc i) a b = ap (λ l. x ∷ l) (set_twice xs i a b)
+
+true_truth : (b : Bool) → is_true (truth b) ≡ b
+true_truth true = refl
+true_truth false = refl
+
+module _ (g : Setting) where
+  abbrev variables : ℕ
+  variables = length g.tree.variables.items
+
+  abbrev frames_of : List Cell → frames.Frames
+  frames_of = framed g.running.frame g.limit g.size
+
+  -- ---- the cell of a variable
+
+  module _ (root : ℕ) (within : root < variables) where
+    abbrev way : (b : Activation) × Leads g.world 0 g.running b × HasCell g.environment g.world root (b.frame + variable_offset g.scope root)
+    way = direct_lies g.environment g.world g.running root 0 (variable_offset g.scope root) (g.shows root within)
+
+    abbrev pub slot : ℕ
+    slot = way.0.frame + variable_offset g.scope root
+
+    pub inside : (store : meant.Store) (base : List Cell) → Based g store base → slot < length base
+    inside store base based = cell_within g.world store base way.2.0 slot based.alike way.2.2
+
+    -- what is popped into it
+    pub stores_variable : (store : meant.Store) (base held cells : List Cell) (cell : Cell) (place : ℕ) (output : List ℕ) → Based g store base
+        → cells ≡ (base ++ held) ++ cell ∷ [] → Here g place (instr.Store 0 (variable_offset g.scope root))
+        → Comes g.target 1 (on g cells place output) (on g (slice_set base slot cell ++ held) (place + 1) output)
+    stores_variable store base held cells cell place output based is here =
+        let below = base ++ held in
+        let low = inside store base based in
+        let at = length-append base held in
+        let leads = base_is g.world store below 0 g.running way.0 (alike_above g.world store base held based.alike) way.1 in
+        let does = stores g.running.frame g.limit g.size below (linked g store base held based) cell 0 (variable_offset g.scope root) way.0.frame leads
+        (omega arith) ∙ ap (λ cs. Ok (frames_of cs)) (set_front base held slot cell low) in
+        acts g (instr.Store 0 (variable_offset g.scope root)) cells (slice_set base slot cell ++ held) place output
+        (frames.store 0 (variable_offset g.scope root) (frames_of cells)) here refl (ap (λ cs. frames.store 0 (variable_offset g.scope root) (frames_of cs)) is
+        ∙ does)
+
+    pub variable_kept : (store : meant.Store) (base : List Cell) (n : ℤ) → Based g store base → Fits n
+        → Based g (kept store (g.environment root) (value.Number n)) (slice_set base slot (Number n))
+    variable_kept store base n based fit = record {
+      full = length-set base slot (Number n) ∙ based.full;
+      alike = subst (λ home. Alike g.world (kept store home (value.Number n)) (slice_set base slot (Number n))) (sym way.2.1)
+          (alike_written g.world store base way.2.0 slot n g.apart way.2.2 fit based.alike);
+    }
+
+    pub variable_forgotten : (store : meant.Store) (base : List Cell) → Based g store base
+        → Based g (forgotten store (g.environment root)) (slice_set base slot Undefined)
+    variable_forgotten store base based = record {
+      full = length-set base slot Undefined ∙ based.full;
+      alike = subst (λ home. Alike g.world (forgotten store home) (slice_set base slot Undefined)) (sym way.2.1)
+          (alike_undefined g.world store base way.2.0 slot g.apart way.2.2 based.alike);
+    }
+
+  -- ---- held cells
+
+  -- where they lie
+  held_at : (held : List Cell) (n : ℕ) → length held ≡ g.scope.height → g.below + (length held + n) < g.limit
+      → g.running.frame + held_offset g.scope n ≡ g.below + (length held + n)
+  held_at held n high room = let a = g.above_is in let b = g.far in omega (arith, high)
+
+  pub loads_held : (store : meant.Store) (base held rest more cells : List Cell) (n : ℕ) (cell : Cell) (place : ℕ) (output : List ℕ) → Based g store base
+      → length held ≡ g.scope.height → cells ≡ (base ++ (held ++ rest)) ++ more → slice_get rest n ≡ Some cell
+      → g.below + length held + length rest + length more < g.limit → Here g place (instr.Load 0 (held_offset g.scope n))
+      → Comes g.target 1 (on g cells place output) (on g (cells ++ cell ∷ []) (place + 1) output)
+  loads_held store base held rest more cells n cell place output based high is found room here =
+      let full = based.full in
+      let few = slice_get_within rest n cell found in
+      let long = ap length is ∙ length-append (base ++ (held ++ rest)) more in
+      let at : g.running.frame + held_offset g.scope n ≡ length base + (length held + n) = held_at held n high (omega arith)
+      ∙ ap (λ m. m + (length held + n)) (sym full) in
+      let there : slice_get cells (g.running.frame + held_offset g.scope n) ≡ Some cell =
+      ap (slice_get cells) at ∙ ap (λ cs. slice_get cs (length base + (length held + n))) is
+      ∙ slice_get-front (base ++ (held ++ rest)) more (length base + (length held + n)) cell
+      (slice_get-above base (held ++ rest) (length held + n) cell (slice_get-above held rest n cell found)) in
+      let all : length cells ≡ length base + (length held + length rest) + length more =
+      omega (arith, long, length-append base (held ++ rest), length-append held rest) in
+      acts g (instr.Load 0 (held_offset g.scope n)) cells (cells ++ cell ∷ []) place output (frames.load 0 (held_offset g.scope n) (frames_of cells)) here refl
+      (loads g.running.frame g.limit g.size cells 0 (held_offset g.scope n) g.running.frame cell (omega (arith, all, full)) refl (omega (arith, at, all, few))
+      there)
+
+  pub stores_held : (store : meant.Store) (base held rest cells : List Cell) (n : ℕ) (cell : Cell) (place : ℕ) (output : List ℕ) → Based g store base
+      → length held ≡ g.scope.height → cells ≡ (base ++ (held ++ rest)) ++ cell ∷ [] → n < length rest → g.below + length held + length rest ≤ g.limit
+      → Here g place (instr.Store 0 (held_offset g.scope n))
+      → Comes g.target 1 (on g cells place output) (on g (base ++ (held ++ slice_set rest n cell)) (place + 1) output)
+  stores_held store base held rest cells n cell place output based high is few room here =
+      let below = base ++ (held ++ rest) in
+      let full = based.full in
+      let at : g.running.frame + held_offset g.scope n ≡ length base + (length held + n) = held_at held n high (omega arith)
+      ∙ ap (λ m. m + (length held + n)) (sym full) in
+      let all : length below ≡ length base + (length held + length rest) = omega (arith, length-append base (held ++ rest), length-append held rest) in
+      let does = stores g.running.frame g.limit g.size below (linked g store base (held ++ rest) based) cell 0 (held_offset g.scope n) g.running.frame refl
+      (omega (arith, at, all)) ∙ ap (λ i. Ok (frames_of (slice_set below i cell))) at
+      ∙ ap (λ cs. Ok (frames_of cs)) (set_above base (held ++ rest) (length held + n) cell)
+      ∙ ap (λ cs. Ok (frames_of (base ++ cs))) (set_above held rest n cell) in
+      acts g (instr.Store 0 (held_offset g.scope n)) cells (base ++ (held ++ slice_set rest n cell)) place output
+      (frames.store 0 (held_offset g.scope n) (frames_of cells)) here refl (ap (λ cs. frames.store 0 (held_offset g.scope n) (frames_of cs)) is ∙ does)
+
+  -- two numbers on top give way to a third
+  pub operates : (i : Instr) (f : ℤ → ℤ → ℤ) (cells : List Cell) (a b : ℤ) (place : ℕ) (output : List ℕ) → Here g place i
+      → ((s : State) → obeyed g.target.sites i s ≡ and_then (on_two f s.frames) (with_frames s)) → g.running.frame + 4 ≤ length cells → length cells < g.limit
+      → Comes g.target 1 (on g ((cells ++ Number a ∷ []) ++ Number b ∷ []) place output) (on g (cells ++ Number (f a b) ∷ []) (place + 1) output)
+  operates i f cells a b place output here rule in_frame room =
+      acts g i ((cells ++ Number a ∷ []) ++ Number b ∷ []) (cells ++ Number (f a b) ∷ []) place output
+      (on_two f (frames_of ((cells ++ Number a ∷ []) ++ Number b ∷ []))) here
+      (rule (running_at g ((cells ++ Number a ∷ []) ++ Number b ∷ []) (g.target.to place + 1) output))
+      (on_two_is g.running.frame g.limit g.size cells in_frame a b f room)
+
+  pub pushes_number : (cells : List Cell) (n : ℤ) (place : ℕ) (output : List ℕ) → Here g place (instr.LoadConstant n) → length cells < g.limit
+      → Comes g.target 1 (on g cells place output) (on g (cells ++ Number n ∷ []) (place + 1) output)
+  pushes_number cells n place output here room =
+      acts g (instr.LoadConstant n) cells (cells ++ Number n ∷ []) place output (frames.load_constant n (frames_of cells)) here refl
+      (pushes g.running.frame g.limit g.size cells n room)
+
+  -- ---- the bounds of a for statement, which are held
+
+  module _ (store : meant.Store) (base held : List Cell) (n l : ℤ) (output : List ℕ) (based : Based g store base) (high : length held ≡ g.scope.height)
+      (room : g.below + length held + 4 ≤ g.limit) where
+    abbrev bounds : List Cell
+    bounds = Number n ∷ Number l ∷ []
+
+    abbrev here : List Cell
+    here = base ++ (held ++ bounds)
+
+    long : length here ≡ g.below + length held + 2
+    long = let full = based.full in omega (arith, length-append base (held ++ bounds), length-append held bounds)
+
+    in_frame : g.running.frame + 4 ≤ length here
+    in_frame = linked g store base (held ++ bounds) based
+
+    -- they are compared, and a jump is taken where the comparison is false
+    pub decides : (i : Instr) (f : ℤ → ℤ → ℤ) (holds : Bool) (place out : ℕ)
+        → Here g place (instr.Load 0 (held_offset g.scope 0)) → Here g (place + 1) (instr.Load 0 (held_offset g.scope 1)) → Here g (place + 1 + 1) i
+        → StandsAt g.target (place + 1 + 1 + 1) (instr.JumpIfFalse out) true
+        → ((s : State) → obeyed g.target.sites i s ≡ and_then (on_two f s.frames) (with_frames s)) → f n l ≡ truth holds
+        → Comes g.target 4 (on g here place output) (on g here (if holds then place + 4 else out) output)
+    decides i f holds place out at1 at2 at3 at4 rule is =
+        let size = long in
+        let a = loads_held store base held bounds [] here 0 (Number n) place output based high (sym (append-nil here)) refl (omega arith) at1 in
+        let b = loads_held store base held bounds (Number n ∷ []) (here ++ Number n ∷ []) 1 (Number l) (place + 1) output based high refl refl (omega arith)
+        at2 in
+        let c = operates i f here n l (place + 1 + 1) output at3 rule in_frame (omega arith) in
+        let d = branches_on g out here (f n l) (place + 1 + 1 + 1) output at4 in_frame in
+        let whole = comes_on g.target 1 3 _ _ _ a (comes_on g.target 1 2 _ _ _ b (comes_on g.target 1 1 _ _ _ c d)) in
+        let same : is_true (f n l) ≡ holds = ap is_true is ∙ true_truth holds in
+        let p : place + 1 + 1 + 1 + 1 ≡ place + 4 = omega arith in
+        subst (λ q. Comes g.target 4 (on g here place output) (on g here (if holds then q else out) output)) p
+        (subst (λ b. Comes g.target 4 (on g here place output) (on g here (if b then place + 1 + 1 + 1 + 1 else out) output)) same whole)
+
+    -- a value that is held becomes that of the control variable
+    pub begins : (control place : ℕ) (within : control < variables) → Fits n → Here g place (instr.Load 0 (held_offset g.scope 0))
+        → Here g (place + 1) (instr.Store 0 (variable_offset g.scope control))
+        → Comes g.target 2 (on g here place output) (on g (slice_set base (slot control within) (Number n) ++ (held ++ bounds)) (place + 2) output)
+    begins control place within fit at1 at2 =
+        let p : place + 1 + 1 ≡ place + 2 = omega arith in
+        let after = slice_set base (slot control within) (Number n) ++ (held ++ bounds) in
+        subst (λ q. Comes g.target 2 (on g here place output) (on g after q output)) p
+        (comes_on g.target 1 1 _ _ _
+        (loads_held store base held bounds [] here 0 (Number n) place output based high (sym (append-nil here)) refl (omega arith) at1)
+        (stores_variable control within store base (held ++ bounds) (here ++ Number n ∷ []) (Number n) (place + 1) output based refl at2))
+
+    -- the next value is held, and the next round begins
+    pub steps : (i : Instr) (f : ℤ → ℤ → ℤ) (next : ℤ) (place head : ℕ) → Here g place (instr.Load 0 (held_offset g.scope 0))
+        → Here g (place + 1) (instr.LoadConstant (pos 1)) → Here g (place + 1 + 1) i → Here g (place + 1 + 1 + 1) (instr.Store 0 (held_offset g.scope 0))
+        → StandsAt g.target (place + 1 + 1 + 1 + 1) (instr.Jump head) true
+        → ((s : State) → obeyed g.target.sites i s ≡ and_then (on_two f s.frames) (with_frames s)) → f n (pos 1) ≡ next
+        → Comes g.target 1 (on g here place output) (on g (base ++ (held ++ Number next ∷ Number l ∷ [])) head output)
+    steps i f next place head at1 at2 at3 at4 at5 rule is =
+        let size = long in
+        let a = loads_held store base held bounds [] here 0 (Number n) place output based high (sym (append-nil here)) refl (omega arith) at1 in
+        let b = pushes_number (here ++ Number n ∷ []) (pos 1) (place + 1) output at2 (omega (arith, length_one here (Number n))) in
+        let c = operates i f here n (pos 1) (place + 1 + 1) output at3 rule in_frame (omega arith) in
+        let d = stores_held store base held bounds (here ++ Number (f n (pos 1)) ∷ []) 0 (Number (f n (pos 1))) (place + 1 + 1 + 1) output based high refl
+        (omega arith) (omega arith) at4 in
+        let e = jumps g head (base ++ (held ++ Number (f n (pos 1)) ∷ Number l ∷ [])) (place + 1 + 1 + 1 + 1) output at5 in
+        let whole = comes_on g.target 1 4 _ _ _ a (comes_on g.target 1 3 _ _ _ b (comes_on g.target 1 2 _ _ _ c (comes_on g.target 1 1 _ _ _ d e))) in
+        subst (λ m. Comes g.target 1 (on g here place output) (on g (base ++ (held ++ Number m ∷ Number l ∷ [])) head output)) is
+        (comes_less g.target 1 5 _ _ (omega arith) whole)
+
+    -- behind the loop nothing more is held, and the control variable is undefined
+    pub leaves : (control place : ℕ) (within : control < variables) → Fits n → Fits l → Here g place (instr.Store 0 (variable_offset g.scope control))
+        → Here g (place + 1) (instr.Store 0 (variable_offset g.scope control)) → Here g (place + 1 + 1) (instr.Load 0 2)
+        → Here g (place + 1 + 1 + 1) (instr.Store 0 (variable_offset g.scope control))
+        → Comes g.target 4 (on g here place output) (on g (slice_set base (slot control within) Undefined ++ held) (place + 4) output)
+    leaves control place within fit fit' at1 at2 at3 at4 =
+        let c = slot control within in
+        let one = held ++ Number n ∷ [] in
+        let base1 = slice_set base c (Number l) in
+        let base2 = slice_set base1 c (Number n) in
+        let based1 = variable_kept control within store base l based fit' in
+        let store1 = kept store (g.environment control) (value.Number l) in
+        let based2 = variable_kept control within store1 base1 n based1 fit in
+        let store2 = kept store1 (g.environment control) (value.Number n) in
+        let is1 : here ≡ (base ++ one) ++ Number l ∷ [] = ap (λ cs. base ++ cs) (sym (append_assoc held (Number n ∷ []) (Number l ∷ [])))
+        ∙ sym (append_assoc base one (Number l ∷ [])) in
+        let a = stores_variable control within store base one here (Number l) place output based is1 at1 in
+        let b = stores_variable control within store1 base1 held (base1 ++ one) (Number n) (place + 1) output based1
+        (sym (append_assoc base1 held (Number n ∷ []))) at2 in
+        let cells = base2 ++ held in
+        let size = length-append base2 held in
+        let full = based2.full in
+        let links = linked g store2 base2 held based2 in
+        let blank = slice_get-front base2 held (g.running.frame + 2) Undefined (based2.alike.blank g.running g.lives g.outermost) in
+        let d = acts g (instr.Load 0 2) cells (cells ++ Undefined ∷ []) (place + 1 + 1) output (frames.load 0 2 (frames_of cells)) at3 refl
+        (loads g.running.frame g.limit g.size cells 0 2 g.running.frame Undefined (omega arith) refl (omega arith) blank) in
+        let e = stores_variable control within store2 base2 held (cells ++ Undefined ∷ []) Undefined (place + 1 + 1 + 1) output based2 refl at4 in
+        let whole = comes_on g.target 1 3 _ _ _ a (comes_on g.target 1 2 _ _ _ b (comes_on g.target 1 1 _ _ _ d e)) in
+        let same : slice_set base2 c Undefined ≡ slice_set base c Undefined = set_twice base1 c (Number n) Undefined ∙ set_twice base c (Number l) Undefined in
+        let p : place + 1 + 1 + 1 + 1 ≡ place + 4 = omega arith in
+        subst (λ q. Comes g.target 4 (on g here place output) (on g (slice_set base c Undefined ++ held) q output)) p
+        (subst (λ cs. Comes g.target 4 (on g here place output) (on g (cs ++ held) (place + 1 + 1 + 1 + 1) output)) same whole)
+
+  -- the test of a value on top, behind which more comes
+  tests_by : (fits : RangeTest) (below held : List Cell) (n : ℤ) (place end : ℕ) (s : effect.State) (next : Action (Unit {0})) (good : Bool)
+      → (int_le fits.range.first n && int_le n fits.range.last) ≡ good → StandsAt g.target place (range_check fits) (g.target.is_open fits.site)
+      → fits.site < length g.tree.sites.items → g.running.frame + 4 ≤ length below
+      → Executes g s.turns (on g (below ++ Number n ∷ []) (place + 1) s.output) held end (next s)
+      → Executes g s.turns (on g (below ++ Number n ∷ []) place s.output) held end (effect.and_then (require good fits.site s) (λ _. next))
+  tests_by fits below held n place end s next true holds stands site in_frame then' =
+      executes_from g 0 s.turns _ _ held end (next s)
+      (passes g (range_check fits) (below ++ Number n ∷ []) place fits.site s.output _ refl refl stands
+      (is_in_range g.running.frame g.limit g.size below in_frame fits.range.first fits.range.last n ∙ ap Ok holds)) then'
+  tests_by fits below held n place end s next false holds stands site in_frame then' =
+      fails g (range_check fits) (below ++ Number n ∷ []) place fits.site s.output _ refl refl s.turns stands site
+      (is_in_range g.running.frame g.limit g.size below in_frame fits.range.first fits.range.last n ∙ ap Ok holds)
+
+  pub tests : (fits : RangeTest) (below held : List Cell) (n : ℤ) (place end : ℕ) (s : effect.State) (next : Action (Unit {0})) → Fits n
+      → StandsAt g.target place (range_check fits) (g.target.is_open fits.site) → fits.site < length g.tree.sites.items → g.running.frame + 4 ≤ length below
+      → Executes g s.turns (on g (below ++ Number n ∷ []) (place + 1) s.output) held end (next s)
+      → Executes g s.turns (on g (below ++ Number n ∷ []) place s.output) held end
+      (effect.and_then (require (effect.is_in fits.range (value.Number n)) fits.site s) (λ _. next))
+  tests fits below held n place end s next fit stands site in_frame then' =
+      subst (λ test. Executes g s.turns (on g (below ++ Number n ∷ []) place s.output) held end (effect.and_then (require test fits.site s) (λ _. next)))
+      (sym (same_range fits.range n fit)) (tests_by fits below held n place end s next _ refl stands site in_frame then')
+
+-- ---- the values of a control variable
+
+-- the last one
+pub last_is : (n l : ℤ) → int_eq n l ≡ true → n ≡ l
+last_is n l e = grind (arith, ints)
+
+-- one that isn't the last has a next one
+pub record NextFits (way : Direction) (n l : ℤ) : Type 0 where
+  pub fits : Fits (next_value way n)
+  pub has : has_values way (next_value way n) l ≡ true
+
+pub next_fits : (way : Direction) (n l : ℤ) → Fits n → Fits l → has_values way n l ≡ true → int_eq n l ≡ false → NextFits way n l
+next_fits direction.To n l f h has other =
+    let a = f.is in let b = h.is in
+    record { fits = record { is = grind (arith, ints) }; has = grind (arith, ints) }
+next_fits direction.DownTo n l f h has other =
+    let a = f.is in let b = h.is in
+    record { fits = record { is = grind (arith, ints) }; has = grind (arith, ints) }
+
+pub one_fits : Fits (pos 1)
+one_fits = record { is = refl }
