@@ -1,4 +1,5 @@
 pub mod Actuals
+pub mod Cases
 pub mod Chains
 pub mod Conditionals
 pub mod Equations
