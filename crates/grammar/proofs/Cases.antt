@@ -1,27 +1,35 @@
 -- The parts of case statements.
-use Rattle.std.proofs.Common.{◌≡◌, ℕ, ◌+◌, ◌<◌, ◌≤◌, Bool, true, false, ◌&&◌, max, nat_eq, List, [], ◌∷◌, ◌++◌, map, length, Some, refl, subst, sym, ap, ◌∙◌, arith}
+use Rattle.std.proofs.Common.{◌≡◌, ℕ, ◌+◌, ◌<◌, ◌≤◌, Bool, true, false, ◌&&◌, max, nat_eq, List, [], ◌∷◌, ◌++◌, map, length, Option, Some, None, refl, subst, sym, ap, ◌∙◌, arith}
+use Rattle.std.proofs.lemmas.List.{append-nil}
 use Rattle.std.proofs.lemmas.Bool.{eqb-true, lt-ltb}
 use Rattle.std.specs.List.{list_all}
 use Rattle.std.specs.declared.alloc.Global.{Global}
 use Rattle.std.specs.declared.vec.Vec.{Vec}
 use Rattle.place.specs.declared.Place.{Place}
+use Rattle.lexer.specs.declared.token.Kind.{Kind}
 use Rattle.lexer.specs.declared.token.Kind.TheVariants as kind
 use Rattle.lexer.specs.declared.token.Symbol.TheVariants as symbol
 use Rattle.lexer.specs.declared.token.Token.{Token}
 use Rattle.lexer.specs.declared.token.Word.TheVariants as word
 use Rattle.syntax_tree.specs.declared.CaseConstant.{CaseConstant}
+use Rattle.syntax_tree.specs.declared.ConstantValue.{ConstantValue}
+use Rattle.syntax_tree.specs.declared.ConstantValue.TheVariants as constant
+use Rattle.syntax_tree.specs.declared.Sign.{Sign}
+use Rattle.syntax_tree.specs.declared.Sign.TheVariants.{Plus, Minus}
+use Rattle.syntax_tree.specs.declared.SignAt.{SignAt}
 use Rattle.syntax_tree.specs.declared.Expr.{Expr}
 use Rattle.syntax_tree.specs.declared.Stmt.{Stmt}
 use Rattle.syntax_tree.specs.declared.Stmt.TheOpen as stmt
 use Rattle.syntax_tree.specs.declared.Stmt.TheViews.{out-Stmt}
 use Rattle.syntax_tree.specs.Places.{arms_of}
-use Rattle.grammar.specs.Spelling.{Spelling, Reads, expr_spelling, stmt_spelling, of_kind_at, word_symbol, arm_spelling, case_end, separated}
+use Rattle.grammar.specs.Spelling.{Spelling, Reads, identifier, sign, sign_spelling, value_lexeme, constant_spelling, expr_spelling, stmt_spelling, of_kind_at, word_symbol, arm_spelling, case_end, separated}
 use Rattle.grammar.specs.WellFormed.{StmtForm, stmt_form, is_expression, is_statement, has_items, are_rows}
 use Rattle.grammar.specs.Nesting.{expr_levels, stmt_levels, deepest}
-use Rattle.grammar.specs.Following.{EndsStmt}
+use Rattle.grammar.specs.Following.{next_kind, EndsStmt}
 use Rattle.grammar.specs.Begins.{BeginsGuard, BeginsStmt, Arm, arm_spelled, arm_well, BeginsArms}
 use Rattle.grammar.proofs.Lists.{and_left, and_right, and_true, all_computed, length_map}
 use Rattle.grammar.proofs.Rows.{begins, same_first}
+use Rattle.grammar.proofs.Led.{list_begins}
 use Rattle.grammar.proofs.Programs.{some_items}
 use Rattle.grammar.proofs.Starts.{first_of, Layer, layer, form_at}
 use Rattle.grammar.proofs.Conditionals.{guard_parted}
@@ -68,6 +76,32 @@ arms_formed (r ∷ rows) [] e = absurd (omega arith)
 arms_formed (r ∷ rows) (s ∷ arms) e =
     ap (λ b. (has_items r.items && is_statement s) && b) (arms_formed rows arms (rows_left r rows s arms e))
     ∙ four (has_items r.items) (is_statement s) (list_all (λ (r : Vec CaseConstant Global). has_items r.items) rows) (list_all is_statement arms)
+
+-- an arm begins with a constant
+abbrev pub constant_kind : Kind → Bool
+constant_kind kind.Identifier = true
+constant_kind (kind.Number v) = true
+constant_kind (kind.Symbol symbol.Plus) = true
+constant_kind (kind.Symbol symbol.Minus) = true
+constant_kind _ = false
+
+sign_first : (g : Sign) (p : Place) (s : Spelling) (a c : List Token) → Reads a (sign g p ∷ s) c
+    → (k : Kind) × (next_kind a ≡ Some k) × (constant_kind k ≡ true)
+sign_first Plus p s a c h = (kind.Symbol symbol.Plus, begins (sign Plus p) s a c h, refl)
+sign_first Minus p s a c h = (kind.Symbol symbol.Minus, begins (sign Minus p) s a c h, refl)
+
+constant_first : (o : Option SignAt) (v : ConstantValue) (s : Spelling) (a c : List Token) → Reads a ((sign_spelling o ++ value_lexeme v ∷ []) ++ s) c
+    → (k : Kind) × (next_kind a ≡ Some k) × (constant_kind k ≡ true)
+constant_first None (constant.Number m p) s a c h = (kind.Number m, begins (of_kind_at (kind.Number m) p) s a c h, refl)
+constant_first None (constant.Name n) s a c h = (kind.Identifier, begins (identifier n) s a c h, refl)
+constant_first (Some g) v s a c h = sign_first g.sign g.place (value_lexeme v ∷ s) a c h
+
+pub row_first : (cs : List CaseConstant) (a c : List Token) → 0 < length cs → Reads a (separated symbol.Comma (map constant_spelling cs)) c
+    → (k : Kind) × (next_kind a ≡ Some k) × (constant_kind k ≡ true)
+row_first [] a c some h = absurd (omega arith)
+row_first (x ∷ xs) a c some h =
+    let r = list_begins symbol.Comma (constant_spelling x) (map constant_spelling xs) a c h in
+    constant_first x.sign x.value [] a r.0 (subst (λ s. Reads a s r.0) (sym (append-nil (constant_spelling x))) r.1)
 
 -- ---- case statements
 

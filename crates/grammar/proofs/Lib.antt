@@ -9,6 +9,7 @@ pub mod Led
 pub mod Lists
 pub mod Loops
 pub mod OneTree
+pub mod OneTreeConstants
 pub mod OneTreeExpressions
 pub mod OneTreeLists
 pub mod OneTreePrograms
