@@ -1,4 +1,5 @@
 pub mod Actuals
+pub mod Arms
 pub mod Cases
 pub mod Chains
 pub mod Conditionals

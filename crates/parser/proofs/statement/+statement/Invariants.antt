@@ -26,6 +26,12 @@ decreases-repeat_loop l = 4 * l.levels + 3
 abbrev pub decreases-for_loop : goal.decreases-for_loop
 decreases-for_loop l = 4 * l.levels + 3
 
+abbrev pub decreases-case_of : goal.decreases-case_of
+decreases-case_of l = 4 * l.levels + 3
+
+abbrev pub decreases-arms : goal.decreases-arms
+decreases-arms l = 4 * l.levels + 1
+
 abbrev pub decreases-alternative : goal.decreases-alternative
 decreases-alternative l = 4 * l.levels + 2
 
