@@ -1,5 +1,5 @@
 -- What the rules of the arms of cases give.
-use Rattle.std.proofs.Common.{◌≡◌, ℕ, ◌+◌, ◌<◌, ◌≤◌, Bool, true, ◌&&◌, List, [], ◌∷◌, ◌++◌, map, length, Some, Ok, refl, subst, sym, ap, ◌∙◌, arith, nat_eq, false, append_assoc}
+use Rattle.std.proofs.Common.{◌≡◌, ℕ, ◌+◌, ◌<◌, ◌≤◌, Bool, true, ◌&&◌, List, [], ◌∷◌, ◌++◌, map, length, Some, Ok, refl, subst, sym, ap, ◌∙◌, arith, nat_eq, false}
 use Rattle.std.specs.declared.alloc.Global.{Global}
 use Rattle.std.specs.declared.vec.Vec.{Vec}
 use Rattle.place.specs.declared.Place.{Place}
@@ -12,7 +12,7 @@ use Rattle.syntax_tree.specs.declared.CaseConstant.{CaseConstant}
 use Rattle.token_cursor.specs.declared.cursor.Cursor.{Cursor}
 use Rattle.token_cursor.specs.Cursor.{Took}
 use Rattle.grammar.specs.Spelling.{of_kind_at, mark, constant_spelling, Spelling, Reads, word_symbol, separated, expr_spelling, stmt_spelling, arm_spelling, case_end}
-use Rattle.grammar.specs.Following.{Anything, next_kind, NoNext, EndsStmt}
+use Rattle.grammar.specs.Following.{Anything, NoNext, EndsStmt}
 use Rattle.grammar.specs.Begins.{BeginsConstant, BeginsConstants, BeginsRow, BeginsGuard, BeginsStmt, Arm, arm_spelled, arm_well, BeginsArms}
 use Rattle.grammar.proofs.Lists.{map_push, all_push, deepest_push, and_true, and_left, and_right, length_map}
 use Rattle.grammar.proofs.Parts.{PartsLeft}
@@ -28,7 +28,7 @@ use Rattle.syntax_tree.specs.declared.Expr.{Expr}
 use Rattle.syntax_tree.specs.Places.{arms_of}
 use Rattle.grammar.specs.WellFormed.{is_expression, is_statement, stmt_form, has_items, are_rows}
 use Rattle.grammar.specs.Nesting.{stmt_levels, deepest}
-use Rattle.grammar.proofs.Rows.{parted, begins, same_first}
+use Rattle.grammar.proofs.Rows.{begins, same_first}
 use Rattle.grammar.proofs.Equations.{spelling-Case, form-Case, closed-Case, levels-Case}
 use Rattle.grammar.proofs.Cases.{arms_computed, arms_levels, arms_length, arms_formed, IsCase}
 
@@ -109,37 +109,43 @@ ArmsGrow levels old now rows arms =
 
 -- the first arm
 pub arms_grow_first : (levels : ℕ) (a : Cursor) → ArmsGrow levels a a [] []
-arms_grow_first levels a = (refl, λ b c row s headed given. record {
-  each = refl;
-  some = omega arith;
-  spelled = arm_read levels a b c row.items s headed given;
-  formed = and_true (arm_well (row.items, s)) true (arm_formed levels a b c row.items s headed given) refl;
-  nests = deepest_push levels [] (stmt_levels s) (omega arith) given.nests;
-})
+arms_grow_first levels a = (
+  refl,
+  λ b c row s headed given. record {
+    each = refl;
+    some = omega arith;
+    spelled = arm_read levels a b c row.items s headed given;
+    formed = and_true (arm_well (row.items, s)) true (arm_formed levels a b c row.items s headed given) refl;
+    nests = deepest_push levels [] (stmt_levels s) (omega arith) given.nests;
+  },
+)
 
 -- behind a semicolon
 pub arms_grow : (levels : ℕ) (a b c : Cursor) (rows : List (Vec CaseConstant Global)) (arms : List Stmt) → ArmList levels a b rows arms
     → Took b c (mark symbol.Semicolon ∷ []) → ArmsGrow levels a c rows arms
-arms_grow levels a b c rows arms list taken = (list.each, λ d e row s headed given.
-    let arm : Arm = (row.items, s) in
-    let grown = arms_of_push rows arms row s list.each in
-    let size = length_map arm_spelled (arms_of rows arms) in
-    record {
-      each = pushed_each rows arms row s list.each;
-      some = subst (λ l. 0 < length l) (sym grown) (some_grown (arms_of rows arms) arm);
-      spelled = subst (λ l. Took a e (separated symbol.Semicolon (map arm_spelled l))) (sym grown)
-          (subst (λ l. Took a e (separated symbol.Semicolon l)) (sym (map_push arm_spelled (arms_of rows arms) arm))
-          (subst (λ l. Took a e l)
-          (sym (separated_more symbol.Semicolon (map arm_spelled (arms_of rows arms)) (arm_spelled arm) (let some = list.some in omega arith)))
-          (both (separated symbol.Semicolon (map arm_spelled (arms_of rows arms))) (mark symbol.Semicolon ∷ arm_spelled arm) a.rest.now b.rest.now e.rest.now
-          list.spelled
-          (both (mark symbol.Semicolon ∷ []) (arm_spelled arm) b.rest.now c.rest.now e.rest.now taken (arm_read levels c d e row.items s headed given)))));
-      formed = subst (λ l. list_all arm_well l ≡ true) (sym grown)
-          (all_push arm_well (arms_of rows arms) arm list.formed (arm_formed levels c d e row.items s headed given));
-      nests = subst (λ l. deepest (map (λ (arm : Arm). stmt_levels arm.1) l) ≤ levels) (sym grown)
-          (subst (λ l. deepest l ≤ levels) (sym (map_push (λ (arm : Arm). stmt_levels arm.1) (arms_of rows arms) arm))
-          (deepest_push levels (map (λ (arm : Arm). stmt_levels arm.1) (arms_of rows arms)) (stmt_levels s) list.nests given.nests));
-    })
+arms_grow levels a b c rows arms list taken = (
+  list.each,
+  λ d e row s headed given.
+      let arm : Arm = (row.items, s) in
+      let grown = arms_of_push rows arms row s list.each in
+      let size = length_map arm_spelled (arms_of rows arms) in
+      record {
+        each = pushed_each rows arms row s list.each;
+        some = subst (λ l. 0 < length l) (sym grown) (some_grown (arms_of rows arms) arm);
+        spelled = subst (λ l. Took a e (separated symbol.Semicolon (map arm_spelled l))) (sym grown)
+            (subst (λ l. Took a e (separated symbol.Semicolon l)) (sym (map_push arm_spelled (arms_of rows arms) arm))
+            (subst (λ l. Took a e l)
+            (sym (separated_more symbol.Semicolon (map arm_spelled (arms_of rows arms)) (arm_spelled arm) (let some = list.some in omega arith)))
+            (both (separated symbol.Semicolon (map arm_spelled (arms_of rows arms))) (mark symbol.Semicolon ∷ arm_spelled arm) a.rest.now b.rest.now e.rest.now
+            list.spelled
+            (both (mark symbol.Semicolon ∷ []) (arm_spelled arm) b.rest.now c.rest.now e.rest.now taken (arm_read levels c d e row.items s headed given)))));
+        formed = subst (λ l. list_all arm_well l ≡ true) (sym grown)
+            (all_push arm_well (arms_of rows arms) arm list.formed (arm_formed levels c d e row.items s headed given));
+        nests = subst (λ l. deepest (map (λ (arm : Arm). stmt_levels arm.1) l) ≤ levels) (sym grown)
+            (subst (λ l. deepest l ≤ levels) (sym (map_push (λ (arm : Arm). stmt_levels arm.1) (arms_of rows arms) arm))
+            (deepest_push levels (map (λ (arm : Arm). stmt_levels arm.1) (arms_of rows arms)) (stmt_levels s) list.nests given.nests));
+      },
+)
 
 -- up to the `end`
 pub arms_close : (levels : ℕ) (a b c : Cursor) (rows : List (Vec CaseConstant Global)) (arms : List Stmt) (last : Bool) → ArmList levels a b rows arms

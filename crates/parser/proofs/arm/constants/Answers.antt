@@ -1,5 +1,4 @@
 use Rattle.std.proofs.Common.{◌≡◌, [], arith, ◌∙◌, ap, subst, refl}
-use Rattle.lexer.specs.declared.token.Symbol.TheVariants as symbol
 use Rattle.token_cursor.specs.declared.fault.ParseFault.TheVariants.{Memory}
 use Rattle.parser.specs.Refusing.{IsPlain}
 use Rattle.parser.specs.Reading.{ReadsEach}

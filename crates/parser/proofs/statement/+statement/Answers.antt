@@ -32,7 +32,7 @@ use Rattle.parser.specs.Rules.{ReadBehindArm}
 use Rattle.token_cursor.specs.declared.fault.ParseFault.TheVariants.{Memory}
 use Rattle.grammar.specs.Following.{Anything}
 use Rattle.std.proofs.Common.{None}
-use Rattle.grammar.specs.Spelling.{constant_spelling, case_end}
+use Rattle.grammar.specs.Spelling.{constant_spelling}
 use Rattle.grammar.proofs.Statements.{ends_value, compounded, opened_compound, statement_list_parts, statement_list_begins, statement_list_goes_on}
 use Rattle.parser.proofs.ExactStatements.{statement_answer, statement_list_left, branches_left, alternative_left, alternative_taken, while_body_left, until_left, until_taken, bounds_left, final_left, for_body_left}
 use Rattle.parser.proofs.Statements.{gives-Empty, StatementsGrow, statements_grow_first, statements_grow, compound_closed, compound_stands, guard_spelled, gives-If, gives-While, gives-Repeat, gives-For}
