@@ -48,6 +48,7 @@ ReadBehindArm old new None = Took old new (mark symbol.Semicolon ∷ []) × NoNe
 ReadBehindArm old new (Some semicolon) = Took old new (case_end semicolon)
 
 -- the arms of a case were read up to its `end`, each with a row of constants
-pub record ReadArms (levels : ℕ) (old new : Cursor) (rows : List (Vec CaseConstant Global)) (arms : List Stmt) (last : Bool) : Type 0 where
+pub record ReadArms (levels : ℕ) (old new : Cursor) (rows : List (Vec CaseConstant Global)) (arms : List Stmt)
+    (last : Bool) : Type 0 where
   pub each : length rows ≡ length arms
   pub begun : Read (BeginsArms levels) old new (arms_of rows arms, last)
