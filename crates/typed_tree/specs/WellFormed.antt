@@ -2,7 +2,7 @@
 -- variable is one of the program's (6.2.2), which its block declares, each test names a site of the table, each loop
 -- stands in the table of loops, there is a block, and the program has no more variables than a block has cells. It does
 -- not say that a tree is that of a program.
-use Rattle.std.specs.Prelude.{◌≡◌, ℕ, ℤ, ◌<◌, ◌≤◌, pos, neg_ℤ, ◌&&◌, Bool, true, List, Option, Some, None, int_le, nat_lt, nat_eq, length, map}
+use Rattle.std.specs.Prelude.{◌≡◌, ℕ, ℤ, ◌<◌, ◌≤◌, pos, neg_ℤ, ◌&&◌, Bool, true, List, [], Option, Some, None, int_le, nat_lt, nat_eq, length, map}
 use Rattle.std.specs.List.{list_all}
 use Rattle.std.specs.declared.alloc.Global.{Global}
 use Rattle.std.specs.declared.boxed.Box.{Box}
@@ -25,6 +25,7 @@ use Rattle.typed_tree.specs.declared.tree.Stmt.TheOpen.{Stmt-F}
 use Rattle.typed_tree.specs.declared.tree.Stmt.TheOpen.Stmt-F.{Empty, Assign, Write, Compound, If, While, Repeat, For}
 use Rattle.typed_tree.specs.declared.tree.Stmt.TheFolds.{fold-Stmt}
 use Rattle.typed_tree.specs.Loops.{loops_of, AreLoops}
+use Rattle.typed_tree.specs.Kept.{keeps}
 
 -- they all hold
 abbrev pub all_hold : List Bool → Bool
@@ -123,3 +124,5 @@ pub record IsWellFormed (tree : Tree) : Type 0 where
   -- each loop has its row in the table; until routines come, each stands in the program's block
   pub loops : AreLoops tree.loops.items (loops_of tree)
   pub in_program : list_all (λ row. nat_eq row.block 0) tree.loops.items ≡ true
+  -- no statement of a for changes its control variable
+  pub kept : list_all (λ block. keeps block.body []) tree.blocks.items ≡ true
