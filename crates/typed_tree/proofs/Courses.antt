@@ -86,7 +86,7 @@ pub record Course (k : Keeping) (look : Look) : Type 0 where
   pub keeping : (forms : Open) → all_spare forms look ≡ k (actives forms)
 
 -- one look and then another
-both_course : {k l : Keeping} (first second : Look) → Course k first → Course l second → Course (λ controls. k controls && l controls) (first ++ second)
+pub both_course : {k l : Keeping} (first second : Look) → Course k first → Course l second → Course (λ controls. k controls && l controls) (first ++ second)
 both_course {k} {l} first second one two = record {
   stays = λ forms. follows_both forms first second ∙ ap (λ o. follows o second) (one.stays forms) ∙ two.stays forms;
   keeping = λ forms.
@@ -95,7 +95,7 @@ both_course {k} {l} first second one two = record {
       ∙ ap (λ b. k (actives forms) && b) (two.keeping forms);
 }
 
-nothing : Course (λ controls. true) []
+pub nothing : Course (λ controls. true) []
 nothing = record { stays = λ forms. refl; keeping = λ forms. refl }
 
 -- the same, with what is kept said otherwise
@@ -105,7 +105,7 @@ as_course same c = record { stays = c.stays; keeping = λ forms. c.keeping forms
 -- ---- forms
 
 -- between a mark that opens a form and its end
-enclosed : {k : Keeping} {look : Look} (one : Mark) → ((forms : Open) → behind forms one ≡ None ∷ forms) → ((forms : Open) → spares forms one ≡ true)
+pub enclosed : {k : Keeping} {look : Look} (one : Mark) → ((forms : Open) → behind forms one ≡ None ∷ forms) → ((forms : Open) → spares forms one ≡ true)
     → Course k look → Course k (one ∷ (look ++ (Ends ∷ [])))
 enclosed {k} {look} one opens fine c = record {
   stays = λ forms.
@@ -116,7 +116,7 @@ enclosed {k} {look} one opens fine c = record {
 }
 
 -- between a for and its end
-counted : {k : Keeping} {look : Look} (number loop_number : ℕ) (place : Place) (control : ℕ) (direction : Direction) → Course k look
+pub counted : {k : Keeping} {look : Look} (number loop_number : ℕ) (place : Place) (control : ℕ) (direction : Direction) → Course k look
     → Course (λ controls. is_free control controls && k (controls ++ control ∷ [])) (For number loop_number place control direction ∷ (look ++ (Ends ∷ [])))
 counted {k} {look} number loop_number place control direction c = record {
   stays = λ forms. follows_both (Some control ∷ forms) look (Ends ∷ []) ∙ ap closed (c.stays (Some control ∷ forms));
@@ -125,7 +125,7 @@ counted {k} {look} number loop_number place control direction c = record {
       (spare_both (Some control ∷ forms) look (Ends ∷ []) ∙ ap (λ b. b && true) (c.keeping (Some control ∷ forms)) ∙ and-true (k (actives forms ++ control ∷ [])));
 }
 
-abbrev Free : Look → Type 0
+abbrev pub Free : Look → Type 0
 Free look = Course (λ controls. true) look
 
 -- what is free of control variables

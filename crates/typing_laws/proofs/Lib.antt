@@ -9,3 +9,4 @@ pub mod Statements
 pub mod Ordered
 pub mod Declarations
 pub mod Programs
+pub mod Spared
