@@ -10,3 +10,4 @@ pub mod Ordered
 pub mod Declarations
 pub mod Programs
 pub mod Spared
+pub mod EverySpared

@@ -148,7 +148,7 @@ pub record WrittenSpares (w : Written) : Type 0 where
 pub record LinkSpares (l : WrittenLink) : Type 0 where
   pub of_left : (left : TypeId) → Spares (l left)
 
-number_spares : (value : ℕ) (place : Place) → WrittenSpares (record { first = place; typing = number value place })
+pub number_spares : (value : ℕ) (place : Place) → WrittenSpares (record { first = place; typing = number value place })
 unfolding number
 number_spares value place = record {
   of_lead = λ lead.
@@ -175,11 +175,11 @@ denoted_spares (denotes.Function function) place lead = fail_spares (fault.Wrong
 denoted_spares (denotes.TypeName type_id) place lead = fail_spares (fault.Mismatch place)
 denoted_spares denotes.Output place lead = fail_spares (fault.Mismatch place)
 
-named_spares : (name : Name) → WrittenSpares (record { first = name.place; typing = named name })
+pub named_spares : (name : Name) → WrittenSpares (record { first = name.place; typing = named name })
 unfolding named
 named_spares name = record { of_lead = λ lead. then_spares (find_spares name) λ denotation. denoted_spares denotation name.place lead }
 
-parenthesized_spares : (place : Place) (inner : Written) → WrittenSpares inner → WrittenSpares (record { first = place; typing = parenthesized place inner })
+pub parenthesized_spares : (place : Place) (inner : Written) → WrittenSpares inner → WrittenSpares (record { first = place; typing = parenthesized place inner })
 unfolding parenthesized
 parenthesized_spares place inner law = record {
   of_lead = λ lead.
@@ -188,7 +188,7 @@ parenthesized_spares place inner law = record {
       checks_spare (λ types t. Ok (typed t.type_id id)) (law.of_lead None);
 }
 
-negation_spares : (place : Place) (operand : Written) → WrittenSpares operand → WrittenSpares (record { first = place; typing = negation place operand })
+pub negation_spares : (place : Place) (operand : Written) → WrittenSpares operand → WrittenSpares (record { first = place; typing = negation place operand })
 unfolding negation
 negation_spares place operand law = record {
   of_lead = λ lead.
@@ -198,7 +198,7 @@ negation_spares place operand law = record {
       checks_spare _ (law.of_lead None);
 }
 
-signed_spares : (s : Sign) (place : Place) (operand : Written) → WrittenSpares operand → WrittenSpares (record { first = place; typing = signed s place operand })
+pub signed_spares : (s : Sign) (place : Place) (operand : Written) → WrittenSpares operand → WrittenSpares (record { first = place; typing = signed s place operand })
 unfolding signed
 signed_spares s place operand law = record {
   of_lead = λ lead.
@@ -228,7 +228,7 @@ operation_spares op.Greater place = pure_spares (dyadic.Relation relation.Greate
 operation_spares op.LessOrEqual place = pure_spares (dyadic.Relation relation.LessOrEqual)
 operation_spares op.GreaterOrEqual place = pure_spares (dyadic.Relation relation.GreaterOrEqual)
 
-link_spares : (o : Operator) (place : Place) (operand : Written) → WrittenSpares operand → LinkSpares (link o place operand)
+pub link_spares : (o : Operator) (place : Place) (operand : Written) → WrittenSpares operand → LinkSpares (link o place operand)
 unfolding link
 link_spares o place operand law = record {
   of_left = λ left.
@@ -237,7 +237,7 @@ link_spares o place operand law = record {
       checks_spare _ (law.of_lead None);
 }
 
-links_more_spare : (left : TypeId) (l : WrittenLink) (ls : List WrittenLink) → LinkSpares l → ((type_id : TypeId) → Spares (links type_id ls))
+pub links_more_spare : (left : TypeId) (l : WrittenLink) (ls : List WrittenLink) → LinkSpares l → ((type_id : TypeId) → Spares (links type_id ls))
     → Spares (links left (l ∷ ls))
 links_more_spare left l ls law more = then_spares (law.of_left left) more
 
@@ -260,7 +260,7 @@ given_then_spares {A} {B} checked f rest = record {
       subst (Spared s) y.2 (both_course x.0.look y.0.look one.0 two.0, two.1 ∙ one.1);
 }
 
-call_spares : (name : Name) (actuals : List WrittenActual) → ((w : Written) → only name.place actuals ≡ Ok w → WrittenSpares w)
+pub call_spares : (name : Name) (actuals : List WrittenActual) → ((w : Written) → only name.place actuals ≡ Ok w → WrittenSpares w)
     → WrittenSpares (record { first = name.place; typing = call name actuals })
 unfolding call
 call_spares name actuals laws = record {
@@ -275,7 +275,7 @@ call_spares name actuals laws = record {
 }
 
 -- a chain stands between its own marks
-chain_spares : (first : Written) (ls : List WrittenLink) → WrittenSpares first → ((type_id : TypeId) → Spares (links type_id ls))
+pub chain_spares : (first : Written) (ls : List WrittenLink) → WrittenSpares first → ((type_id : TypeId) → Spares (links type_id ls))
     → WrittenSpares (record { first = first.first; typing = chain first ls })
 unfolding chain
 chain_spares first ls law more = record { of_lead = λ lead. record { spared = λ s a is. by lead s a is } }
