@@ -11,3 +11,4 @@ pub mod Declarations
 pub mod Programs
 pub mod Spared
 pub mod EverySpared
+pub mod Keeping

@@ -139,7 +139,7 @@ enter_spares marked plain = record { spared = λ s a is. by s a (nat_le most_ent
 
 -- ---- expressions
 
-plain : (one : Mark) → ((forms : Open) → behind forms one ≡ forms) → ((forms : Open) → spares forms one ≡ true) → IsPlain one
+pub plain : (one : Mark) → ((forms : Open) → behind forms one ≡ forms) → ((forms : Open) → spares forms one ≡ true) → IsPlain one
 plain one same fine = record { stays = same; keeping = λ forms. ap (λ b. b && true) (fine forms) }
 
 pub record WrittenSpares (w : Written) : Type 0 where

@@ -1,0 +1,254 @@
+-- What statements keep: how they look is closed behind itself, it keeps the control variables that there are, and these stay.
+use Rattle.std.proofs.Common.{◌≡◌, ℕ, Bool, true, false, ◌&&◌, not, nat_eq, nat_le, List, [], ◌∷◌, ◌++◌, ◌+◌, Option, Some, None, Ok, Err, if◌then◌else◌, refl, sym, ap, subst, ◌∙◌}
+use Rattle.std.proofs.Common.{append_assoc}
+use Rattle.std.specs.List.{list_any}
+use Rattle.place.specs.declared.Place.{Place}
+use Rattle.typed_tree.specs.declared.fault.TypeFault.TheVariants as fault
+use Rattle.typed_tree.specs.Kept.{Keeping, is_free}
+use Rattle.typed_tree.specs.Look.{Mark, Look, Ends, Empty, Compound, If, Then, Else, While, Do, Repeat, Until}
+use Rattle.typed_tree.proofs.Courses.{Open, behind, spares, Course, nothing, both_course, enclosed}
+use Rattle.typing.specs.Passing.{Passed, After, Passing, and_then, after, pure, mark, behind_marks, each, ◌>>=◌}
+use Rattle.typing.specs.Steps.{most_entries, pass, enter, enter_as, number_loop, begin_loop, enter_loop, may_change}
+use Rattle.typing.specs.Expressions.{Written}
+use Rattle.typing.specs.Statements.{condition, alternative, tested, choice, compound, while_loop, repeat_loop}
+use Rattle.typing_laws.proofs.Grown.{both_true}
+use Rattle.typing_laws.proofs.Steps.{split, split_behind}
+use Rattle.typing_laws.proofs.Spared.{Spares, WrittenSpares, checks_spare, mark_spares, pure_spares, pass_spares, enter_spares, plain}
+
+abbrev pub Kept : {A : Type 0} → Passed → After A → Type 0
+Kept s a = (k : Keeping) × Course k a.look × (k s.controls ≡ true) × (a.passed.controls ≡ s.controls)
+
+pub record Keeps {A : Type 0} (p : Passing A) : Type 0 where
+  pub kept : (s : Passed) (a : After A) → p s ≡ Ok a → Kept s a
+
+-- a mark that opens a form
+abbrev IsOpening : Mark → Type 0
+IsOpening one = ((forms : Open) → behind forms one ≡ None ∷ forms) × ((forms : Open) → spares forms one ≡ true)
+
+-- a form begins with such a mark
+abbrev Begun : {A : Type 0} → Passed → After A → Type 0
+Begun s a = (one : Mark) × IsOpening one × (inner : Look) × (a.look ≡ one ∷ inner) × (k : Keeping) × Course k inner × (k s.controls ≡ true)
+    × (a.passed.controls ≡ s.controls)
+
+record Opening {A : Type 0} (p : Passing A) : Type 0 where
+  pub begun : (s : Passed) (a : After A) → p s ≡ Ok a → Begun s a
+
+-- it ends
+abbrev Ended : {A : Type 0} → Passed → After A → Type 0
+Ended s a = (inner : Look) × (a.look ≡ inner ++ (Ends ∷ [])) × (k : Keeping) × Course k inner × (k s.controls ≡ true) × (a.passed.controls ≡ s.controls)
+
+record Ending {A : Type 0} (p : Passing A) : Type 0 where
+  pub ended : (s : Passed) (a : After A) → p s ≡ Ok a → Ended s a
+
+pub of_spares : {A : Type 0} {p : Passing A} → Spares p → Keeps p
+of_spares x = record { kept = λ s a is. let y = x.spared s a is in ((λ controls. true), y.0, refl, y.1) }
+
+pub then_keeps : {A B : Type 0} {p : Passing A} {f : A → Passing B} → Keeps p → ((x : A) → Keeps (f x)) → Keeps (p >>= f)
+then_keeps {A} {B} {p} {f} first rest = record {
+  kept = λ s b is.
+      let x = split (p s) (λ a. behind_marks a.look (f a.answer a.passed)) b is in
+      let y = split_behind x.0.look (f x.0.answer x.0.passed) b x.2 in
+      let one = first.kept s x.0 x.1 in
+      let two = (rest x.0.answer).kept x.0.passed y.0 y.1 in
+      subst (Kept s) y.2 (
+        (λ controls. one.0 controls && two.0 controls),
+        both_course x.0.look y.0.look one.1 two.1,
+        both_true (one.0 s.controls) (two.0 s.controls) one.2 (subst (λ cs. two.0 cs ≡ true) one.3 two.2),
+        two.3 ∙ one.3,
+      );
+}
+
+then_ending : {A B : Type 0} {p : Passing A} {f : A → Passing B} → Keeps p → ((x : A) → Ending (f x)) → Ending (p >>= f)
+then_ending {A} {B} {p} {f} first rest = record {
+  ended = λ s b is.
+      let x = split (p s) (λ a. behind_marks a.look (f a.answer a.passed)) b is in
+      let y = split_behind x.0.look (f x.0.answer x.0.passed) b x.2 in
+      let one = first.kept s x.0 x.1 in
+      let two = (rest x.0.answer).ended x.0.passed y.0 y.1 in
+      subst (Ended s) y.2 (
+        x.0.look ++ two.0,
+        ap (λ l. x.0.look ++ l) two.1 ∙ sym (append_assoc x.0.look two.0 (Ends ∷ [])),
+        (λ controls. one.0 controls && two.2 controls),
+        both_course x.0.look two.0 one.1 two.3,
+        both_true (one.0 s.controls) (two.2 s.controls) one.2 (subst (λ cs. two.2 cs ≡ true) one.3 two.4),
+        two.5 ∙ one.3,
+      );
+}
+
+ends : Ending (mark Ends)
+ends = record {
+  ended = λ s a is.
+      let same : after tt (Ends ∷ []) s ≡ a = cc in
+      subst (Ended s) same ([], refl, (λ controls. true), nothing, refl, refl);
+}
+
+opening_then : {A B : Type 0} {p : Passing A} {f : A → Passing B} → Opening p → ((x : A) → Ending (f x)) → Keeps (p >>= f)
+opening_then {A} {B} {p} {f} first rest = record {
+  kept = λ s b is.
+      let x = split (p s) (λ a. behind_marks a.look (f a.answer a.passed)) b is in
+      let y = split_behind x.0.look (f x.0.answer x.0.passed) b x.2 in
+      let one = first.begun s x.0 x.1 in
+      let two = (rest x.0.answer).ended x.0.passed y.0 y.1 in
+      let whole = enclosed one.0 one.1.0 one.1.1 (both_course one.2 two.0 one.5 two.3) in
+      let looks : one.0 ∷ ((one.2 ++ two.0) ++ (Ends ∷ [])) ≡ x.0.look ++ y.0.look =
+      ap (λ l. one.0 ∷ l) (append_assoc one.2 two.0 (Ends ∷ []) ∙ ap (λ l. one.2 ++ l) (sym two.1)) ∙ ap (λ l. l ++ y.0.look) (sym one.3) in
+      subst (Kept s) y.2 (
+        (λ controls. one.4 controls && two.2 controls),
+        subst (Course (λ controls. one.4 controls && two.2 controls)) looks whole,
+        both_true (one.4 s.controls) (two.2 s.controls) one.6 (subst (λ cs. two.2 cs ≡ true) one.7 two.4),
+        two.5 ∙ one.7,
+      );
+}
+
+opening_more : {A B : Type 0} {p : Passing A} {f : A → Passing B} → Opening p → ((x : A) → Keeps (f x)) → Opening (p >>= f)
+opening_more {A} {B} {p} {f} first rest = record {
+  begun = λ s b is.
+      let x = split (p s) (λ a. behind_marks a.look (f a.answer a.passed)) b is in
+      let y = split_behind x.0.look (f x.0.answer x.0.passed) b x.2 in
+      let one = first.begun s x.0 x.1 in
+      let two = (rest x.0.answer).kept x.0.passed y.0 y.1 in
+      subst (Begun s) y.2 (
+        one.0,
+        one.1,
+        one.2 ++ y.0.look,
+        ap (λ l. l ++ y.0.look) one.3,
+        (λ controls. one.4 controls && two.0 controls),
+        both_course one.2 y.0.look one.5 two.1,
+        both_true (one.4 s.controls) (two.0 s.controls) one.6 (subst (λ cs. two.0 cs ≡ true) one.7 two.2),
+        two.3 ∙ one.7,
+      );
+}
+
+enter_opening : (marked : ℕ → Mark) → ((n : ℕ) → IsOpening (marked n)) → Opening (enter_as marked)
+unfolding enter_as enter
+enter_opening marked opens = record { begun = λ s a is. by s a (nat_le most_entries s.entries) is }
+  where
+    by : (s : Passed) (a : After (Unit {0})) (test : Bool)
+        → and_then (if test then Err (fault.TooMany s.latest) else Ok (after s.entries [] (record s { entries = s.entries + 1 })))
+        (λ b. behind_marks b.look (mark (marked b.answer) b.passed)) ≡ Ok a
+        → Begun s a
+    by s a true is = absurd cc
+    by s a false is =
+        let same : after tt (marked s.entries ∷ []) (record s { entries = s.entries + 1 }) ≡ a = cc in
+        subst (Begun s) same (marked s.entries, opens s.entries, [], refl, (λ controls. true), nothing, refl, refl)
+
+-- ---- statements
+
+pub each_keeps : {A : Type 0} {step : A → Passing (Unit {0})} (xs : List A) → ((x : A) → Keeps (step x)) → Keeps (each step xs)
+each_keeps [] law = of_spares (pure_spares tt)
+each_keeps (x ∷ xs) law = then_keeps (law x) λ _. each_keeps xs law
+
+pub empty_keeps : Keeps (enter_as Empty)
+empty_keeps = of_spares (enter_spares Empty (λ n. plain _ (λ f. refl) (λ f. refl)))
+
+pub compound_keeps : (statements : List (Passing (Unit {0}))) → Keeps (each (λ s. s) statements) → Keeps (compound statements)
+unfolding compound
+compound_keeps statements row = opening_then (enter_opening Compound (λ n. ((λ f. refl), (λ f. refl)))) λ _. then_ending row λ _. ends
+
+pub condition_keeps : (w : Written) → WrittenSpares w → Keeps (condition w)
+unfolding condition
+condition_keeps w law = of_spares (checks_spare _ (law.of_lead None))
+
+pub alternative_keeps : (other : Option (Passing (Unit {0}))) → ((statement : Passing (Unit {0})) → other ≡ Some statement → Keeps statement)
+    → Keeps (alternative other)
+unfolding alternative
+alternative_keeps None law = of_spares (pure_spares tt)
+alternative_keeps (Some statement) law = then_keeps (of_spares (mark_spares Else (plain _ (λ f. refl) (λ f. refl)))) λ _. law statement refl
+
+pass_opening : {A : Type 0} (place : Place) {f : Unit {0} → Passing A} → ((x : Unit {0}) → Opening (f x)) → Opening (pass place >>= f)
+unfolding pass
+pass_opening {A} place {f} rest = record {
+  begun = λ s b is.
+      let t : Passed = record s { latest = place } in
+      let y = split_behind [] (f tt t) b is in
+      let one = (rest tt).begun t y.0 y.1 in
+      subst (Begun s) y.2 one;
+}
+
+tested_opening : (place : Place) (w : Written) → WrittenSpares w → Opening (tested place w)
+unfolding tested
+tested_opening place w law =
+    pass_opening place λ _.
+    opening_more (enter_opening If (λ n. ((λ f. refl), (λ f. refl)))) λ _.
+    then_keeps (condition_keeps w law) λ _.
+    of_spares (mark_spares Then (plain _ (λ f. refl) (λ f. refl)))
+
+pub choice_keeps : (place : Place) (w : Written) (consequence : Passing (Unit {0})) (other : Option (Passing (Unit {0}))) → WrittenSpares w → Keeps consequence
+    → Keeps (alternative other) → Keeps (choice place w consequence other)
+unfolding choice
+choice_keeps place w consequence other law one two =
+    opening_then (tested_opening place w law) λ _. then_ending one λ _. then_ending two λ _. ends
+
+enter_loop_opening : (marked : ℕ → ℕ → Mark) → ((n l : ℕ) → IsOpening (marked n l)) → Opening (enter_loop marked)
+unfolding enter_loop begin_loop enter number_loop
+enter_loop_opening marked opens = record { begun = λ s a is. by s a (nat_le most_entries s.entries) is }
+  where
+    by : (s : Passed) (a : After (Unit {0})) (test : Bool)
+        → and_then (and_then (if test then Err (fault.TooMany s.latest) else Ok (after s.entries [] (record s { entries = s.entries + 1 })))
+        (λ b. behind_marks {A = ℕ × ℕ} b.look ((number_loop >>= (λ l. pure {A = ℕ × ℕ} (b.answer, l))) b.passed)))
+        (λ b. behind_marks b.look (mark (marked b.answer.0 b.answer.1) b.passed)) ≡ Ok a
+        → Begun s a
+    by s a true is = absurd cc
+    by s a false is =
+        let same : after tt (marked s.entries s.loops ∷ []) (record s { entries = s.entries + 1; loops = s.loops + 1 }) ≡ a = cc in
+        subst (Begun s) same (marked s.entries s.loops, opens s.entries s.loops, [], refl, (λ controls. true), nothing, refl, refl)
+
+pub while_keeps : (place : Place) (w : Written) (body : Passing (Unit {0})) → WrittenSpares w → Keeps body → Keeps (while_loop place w body)
+unfolding while_loop
+while_keeps place w body law one =
+    then_keeps (of_spares (pass_spares place)) λ _.
+    opening_then (enter_loop_opening (λ n l. While n l place) (λ n l. ((λ f. refl), (λ f. refl)))) λ _.
+    then_ending (condition_keeps w law) λ _.
+    then_ending (of_spares (mark_spares Do (plain _ (λ f. refl) (λ f. refl)))) λ _.
+    then_ending one λ _. ends
+
+pub repeat_keeps : (place : Place) (statements : List (Passing (Unit {0}))) (w : Written) → Keeps (each (λ s. s) statements) → WrittenSpares w
+    → Keeps (repeat_loop place statements w)
+unfolding repeat_loop
+repeat_keeps place statements w row law =
+    then_keeps (of_spares (pass_spares place)) λ _.
+    opening_then (enter_loop_opening (λ n l. Repeat n l place) (λ n l. ((λ f. refl), (λ f. refl)))) λ _.
+    then_ending row λ _.
+    then_ending (of_spares (mark_spares Until (plain _ (λ f. refl) (λ f. refl)))) λ _.
+    then_ending (condition_keeps w law) λ _. ends
+
+-- ---- a variable that is changed
+
+enter_course : {k : Keeping} (marked : ℕ → Mark) → ((n : ℕ) → Course k (marked n ∷ [])) → (s : Passed) (a : After (Unit {0})) → enter_as marked s ≡ Ok a
+    → Course k a.look × (a.passed.controls ≡ s.controls)
+unfolding enter_as enter
+enter_course {k} marked course s a is = by (nat_le most_entries s.entries) is
+  where
+    by : (test : Bool)
+        → and_then (if test then Err (fault.TooMany s.latest) else Ok (after s.entries [] (record s { entries = s.entries + 1 })))
+        (λ b. behind_marks b.look (mark (marked b.answer) b.passed)) ≡ Ok a
+        → Course k a.look × (a.passed.controls ≡ s.controls)
+    by true h = absurd cc
+    by false h =
+        let same : after tt (marked s.entries ∷ []) (record s { entries = s.entries + 1 }) ≡ a = cc in
+        subst (λ (z : After (Unit {0})). Course k z.look × (z.passed.controls ≡ s.controls)) same (course s.entries, refl)
+
+-- a variable that may be changed, and its mark
+pub changed_keeps : {B : Type 0} (place : Place) (root : ℕ) (marked : ℕ → Mark) {rest : Unit {0} → Passing B} → ((n : ℕ) → Course (is_free root) (marked n ∷ []))
+    → ((x : Unit {0}) → Spares (rest x)) → Keeps (may_change place root >>= (λ _. enter_as marked >>= rest))
+unfolding may_change
+changed_keeps {B} place root marked {rest} course law = record { kept = λ s b is. by s b (list_any (λ control. nat_eq control root) s.controls) refl is }
+  where
+    by : (s : Passed) (b : After B) (test : Bool) → list_any (λ control. nat_eq control root) s.controls ≡ test
+        → and_then (if test then Err (fault.Threatened place) else Ok (after {A = Unit {0}} tt [] s)) (λ a. behind_marks a.look ((enter_as marked >>= rest) a.passed)) ≡ Ok b
+        → Kept s b
+    by s b true found is = absurd cc
+    by s b false found is =
+        let w = split_behind [] ((enter_as marked >>= rest) s) b is in
+        let x = split (enter_as marked s) (λ a. behind_marks a.look (rest a.answer a.passed)) w.0 w.1 in
+        let y = split_behind x.0.look (rest x.0.answer x.0.passed) w.0 x.2 in
+        let one = enter_course marked course s x.0 x.1 in
+        let two = (law x.0.answer).spared x.0.passed y.0 y.1 in
+        let answers : after y.0.answer (x.0.look ++ y.0.look) y.0.passed ≡ b = y.2 ∙ w.2 in
+        let free : not (list_any (λ control. nat_eq control root) s.controls) ≡ true = ap not found in
+        subst (Kept s) answers (
+          (λ controls. is_free root controls && true),
+          both_course {k = is_free root} {l = λ controls. true} x.0.look y.0.look one.0 two.0,
+          both_true (is_free root s.controls) true free refl,
+          two.1 ∙ one.1,
+        )
