@@ -3,17 +3,21 @@ use Rattle.std.proofs.Common.{◌≡◌, ℕ, Bool, true, false, ◌&&◌, not, 
 use Rattle.std.proofs.Common.{append_assoc}
 use Rattle.std.specs.List.{list_any}
 use Rattle.place.specs.declared.Place.{Place}
+use Rattle.std.proofs.Math.Bool.{and-true}
+use Rattle.syntax_tree.specs.declared.Name.{Name}
+use Rattle.types.specs.declared.form.TypeId.{TypeId}
+use Rattle.typed_tree.specs.declared.site.SiteKind.TheVariants as kind
 use Rattle.typed_tree.specs.declared.fault.TypeFault.TheVariants as fault
 use Rattle.typed_tree.specs.Kept.{Keeping, is_free}
-use Rattle.typed_tree.specs.Look.{Mark, Look, Ends, Empty, Compound, If, Then, Else, While, Do, Repeat, Until}
-use Rattle.typed_tree.proofs.Courses.{Open, behind, spares, Course, nothing, both_course, enclosed}
+use Rattle.typed_tree.specs.Look.{Mark, Look, Ends, Empty, Assign, Target, Fits, Compound, If, Then, Else, While, Do, Repeat, Until}
+use Rattle.typed_tree.proofs.Courses.{Open, actives, behind, spares, Course, nothing, both_course, enclosed}
 use Rattle.typing.specs.Passing.{Passed, After, Passing, and_then, after, pure, mark, behind_marks, each, ◌>>=◌}
 use Rattle.typing.specs.Steps.{most_entries, pass, enter, enter_as, number_loop, begin_loop, enter_loop, may_change}
 use Rattle.typing.specs.Expressions.{Written}
-use Rattle.typing.specs.Statements.{condition, alternative, tested, choice, compound, while_loop, repeat_loop}
+use Rattle.typing.specs.Statements.{condition, alternative, tested, choice, compound, while_loop, repeat_loop, as_variable, assignment, bound}
 use Rattle.typing_laws.proofs.Grown.{both_true}
 use Rattle.typing_laws.proofs.Steps.{split, split_behind}
-use Rattle.typing_laws.proofs.Spared.{Spares, WrittenSpares, checks_spare, mark_spares, pure_spares, pass_spares, enter_spares, plain}
+use Rattle.typing_laws.proofs.Spared.{Spares, WrittenSpares, then_spares, checks_spare, site_spares, find_spares, given_spares, mark_spares, pure_spares, pass_spares, enter_spares, plain}
 
 abbrev pub Kept : {A : Type 0} → Passed → After A → Type 0
 Kept s a = (k : Keeping) × Course k a.look × (k s.controls ≡ true) × (a.passed.controls ≡ s.controls)
@@ -252,3 +256,22 @@ changed_keeps {B} place root marked {rest} course law = record { kept = λ s b i
           both_true (is_free root s.controls) true free refl,
           two.1 ∙ one.1,
         )
+
+pub assignment_keeps : (name : Name) (becomes : Place) (value : Written) → WrittenSpares value → Keeps (assignment name becomes value)
+unfolding assignment
+assignment_keeps name becomes value law =
+    then_keeps (of_spares (enter_spares (λ n. Assign n becomes) (λ n. plain _ (λ f. refl) (λ f. refl)))) λ _.
+    then_keeps (of_spares (find_spares name)) λ d.
+    then_keeps (of_spares (given_spares (as_variable name.place d))) λ target.
+    changed_keeps name.place target.0 (λ n. Target n target.0) (λ n. record { stays = λ f. refl; keeping = λ f. and-true (is_free target.0 (actives f)) }) λ _.
+    then_spares (site_spares kind.Subrange becomes) λ id.
+    then_spares (checks_spare _ (law.of_lead None)) λ range.
+    mark_spares (Fits (record { site = id; range = range })) (plain _ (λ f. refl) (λ f. refl))
+
+-- a bound of a for
+pub bound_spares : (type_id : TypeId) (w : Written) → WrittenSpares w → Spares (bound type_id w)
+unfolding bound
+bound_spares type_id w law =
+    then_spares (site_spares kind.Subrange w.first) λ id.
+    then_spares (checks_spare _ (law.of_lead None)) λ range.
+    mark_spares (Fits (record { site = id; range = range })) (plain _ (λ f. refl) (λ f. refl))
