@@ -1,23 +1,31 @@
 -- What statements keep: how they look is closed behind itself, it keeps the control variables that there are, and these stay.
-use Rattle.std.proofs.Common.{◌≡◌, ℕ, Bool, true, false, ◌&&◌, not, nat_eq, nat_le, List, [], ◌∷◌, ◌++◌, ◌+◌, Option, Some, None, Ok, Err, if◌then◌else◌, refl, sym, ap, subst, ◌∙◌}
+use Rattle.std.proofs.Common.{◌≡◌, ℕ, Bool, true, false, ◌&&◌, not, nat_eq, nat_le, List, [], ◌∷◌, ◌++◌, ◌+◌, map, Option, Some, None, Ok, Err, if◌then◌else◌, refl, sym, ap, subst, ◌∙◌}
 use Rattle.std.proofs.Common.{append_assoc}
 use Rattle.std.specs.List.{list_any}
 use Rattle.place.specs.declared.Place.{Place}
 use Rattle.std.proofs.Math.Bool.{and-true}
 use Rattle.syntax_tree.specs.declared.Name.{Name}
+use Rattle.syntax_tree.specs.declared.Expr.{Expr}
+use Rattle.syntax_tree.specs.declared.Actual.{Actual}
+use Rattle.syntax_tree.specs.declared.Link.{Link}
+use Rattle.syntax_tree.specs.declared.Expr.TheOpen as expr_layer
+use Rattle.syntax_tree.specs.declared.Expr.TheViews.{out-Expr, out-Actual}
+use Rattle.scopes.specs.declared.denotation.RequiredProcedure.{RequiredProcedure}
 use Rattle.types.specs.declared.form.TypeId.{TypeId}
 use Rattle.typed_tree.specs.declared.site.SiteKind.TheVariants as kind
 use Rattle.typed_tree.specs.declared.fault.TypeFault.TheVariants as fault
 use Rattle.typed_tree.specs.Kept.{Keeping, is_free}
-use Rattle.typed_tree.specs.Look.{Mark, Look, Ends, Empty, Assign, Target, Fits, Compound, If, Then, Else, While, Do, Repeat, Until}
+use Rattle.typed_tree.specs.Look.{Mark, Look, Ends, Empty, Assign, Target, Fits, Write, Written as WrittenMark, Width, Compound, If, Then, Else, While, Do, Repeat, Until}
 use Rattle.typed_tree.proofs.Courses.{Open, actives, behind, spares, Course, nothing, both_course, enclosed}
 use Rattle.typing.specs.Passing.{Passed, After, Passing, and_then, after, pure, mark, behind_marks, each, ◌>>=◌}
-use Rattle.typing.specs.Steps.{most_entries, pass, enter, enter_as, number_loop, begin_loop, enter_loop, may_change}
-use Rattle.typing.specs.Expressions.{Written}
+use Rattle.typing.specs.Steps.{most_entries, pass, enter, enter_as, number_loop, begin_loop, enter_loop, may_change, wants_output}
+use Rattle.typing.specs.Expressions.{Written, WrittenActual, written_actual}
 use Rattle.typing.specs.Statements.{condition, alternative, tested, choice, compound, while_loop, repeat_loop, as_variable, assignment, bound}
+use Rattle.typing.specs.Statements.{is_output, names_file, unless_wide, is_file, written_values, width, parameter, has_values, ends_line, write, as_procedure, procedure_call}
 use Rattle.typing_laws.proofs.Grown.{both_true}
-use Rattle.typing_laws.proofs.Steps.{split, split_behind}
-use Rattle.typing_laws.proofs.Spared.{Spares, WrittenSpares, then_spares, checks_spare, site_spares, find_spares, given_spares, mark_spares, pure_spares, pass_spares, enter_spares, plain}
+use Rattle.typing_laws.proofs.EverySpared.{WidthSpares, ActualSpares, actual_spares}
+use Rattle.typing_laws.proofs.Steps.{split, split_behind, split_if}
+use Rattle.typing_laws.proofs.Spared.{Spared, Spares, WrittenSpares, then_spares, checks_spare, site_spares, find_spares, given_spares, mark_spares, pure_spares, pass_spares, enter_spares, plain}
 
 abbrev pub Kept : {A : Type 0} → Passed → After A → Type 0
 Kept s a = (k : Keeping) × Course k a.look × (k s.controls ≡ true) × (a.passed.controls ≡ s.controls)
@@ -275,3 +283,69 @@ bound_spares type_id w law =
     then_spares (site_spares kind.Subrange w.first) λ id.
     then_spares (checks_spare _ (law.of_lead None)) λ range.
     mark_spares (Fits (record { site = id; range = range })) (plain _ (λ f. refl) (λ f. refl))
+
+-- ---- what is written
+
+wants_output_spares : (place : Place) → Spares (wants_output place)
+unfolding wants_output
+wants_output_spares place = record {
+  spared = λ s a is.
+      let x = split_if s.has_output (fault.NotProgramParameter place) (after tt [] s) a is in
+      subst (Spared s) x.1 (nothing, refl);
+}
+
+names_file_spares : (e : expr_layer.Expr-F Expr Actual Link) → Spares (names_file e)
+names_file_spares (expr_layer.Name name) = then_spares (find_spares name) λ d. pure_spares (is_output d)
+names_file_spares (expr_layer.Number value place) = pure_spares false
+names_file_spares (expr_layer.Call name actuals) = pure_spares false
+names_file_spares (expr_layer.Parenthesized place inner) = pure_spares false
+names_file_spares (expr_layer.Not place operand) = pure_spares false
+names_file_spares (expr_layer.Signed s place term) = pure_spares false
+names_file_spares (expr_layer.Chain first rest) = pure_spares false
+
+unless_wide_spares : (value : Expr) (w : Option Expr) → Spares (unless_wide value w)
+unless_wide_spares value None = names_file_spares (out-Expr value)
+unless_wide_spares value (Some w) = pure_spares false
+
+is_file_spares : (actual : Actual) → Spares (is_file actual)
+unfolding is_file
+is_file_spares actual = unless_wide_spares (out-Actual actual).value (out-Actual actual).width
+
+written_values_spare : (actuals : List Actual) → Spares (written_values actuals)
+unfolding written_values
+written_values_spare [] = pure_spares []
+written_values_spare (first ∷ rest) = then_spares (is_file_spares first) λ file. pure_spares (if file then rest else first ∷ rest)
+
+width_spares : (w : Option Written) → WidthSpares w → Spares (width w)
+unfolding width
+width_spares None law = pure_spares tt
+width_spares (Some w) law =
+    then_spares (checks_spare _ (law.of_lead (Some kind.Width))) λ id.
+    mark_spares (Width id) (plain _ (λ f. refl) (λ f. refl))
+
+parameter_spares : (a : WrittenActual) → ActualSpares a → Spares (parameter a)
+unfolding parameter
+parameter_spares a law =
+    then_spares (checks_spare _ (law.value.of_lead None)) λ form.
+    then_spares (mark_spares (WrittenMark form) (plain _ (λ f. refl) (λ f. refl))) λ _.
+    width_spares a.width law.width
+
+parameters_keep : (values : List Actual) → Keeps (each parameter (map written_actual values))
+parameters_keep [] = of_spares (pure_spares tt)
+parameters_keep (value ∷ values) = then_keeps (of_spares (parameter_spares (written_actual value) (actual_spares value))) λ _. parameters_keep values
+
+write_keeps : (name : Name) (actuals : List Actual) (procedure : RequiredProcedure) → Keeps (write name actuals procedure)
+unfolding write
+write_keeps name actuals procedure =
+    then_keeps (of_spares (wants_output_spares name.place)) λ _.
+    opening_then (enter_opening (λ n. Write n name.place (ends_line procedure)) (λ n. ((λ f. refl), (λ f. refl)))) λ _.
+    then_ending (of_spares (written_values_spare actuals)) λ values.
+    then_ending (of_spares (given_spares (has_values name.place procedure values))) λ _.
+    then_ending (parameters_keep values) λ _. ends
+
+pub call_keeps : (name : Name) (actuals : List Actual) → Keeps (procedure_call name actuals)
+unfolding procedure_call
+call_keeps name actuals =
+    then_keeps (of_spares (find_spares name)) λ d.
+    then_keeps (of_spares (given_spares (as_procedure name.place d))) λ procedure.
+    write_keeps name actuals procedure

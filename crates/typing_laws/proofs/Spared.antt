@@ -295,8 +295,7 @@ chain_spares first ls law more = record { of_lead = λ lead. record { spared = �
         let looks : Begins ∷ (x.0.look ++ (z.0.look ++ (Ends ∷ []))) ≡ a.look =
         ap (λ (b : After Typed). Begins ∷ (x.0.look ++ b.look)) ended ∙ ap (λ (b : After Typed). Begins ∷ b.look) y.2 ∙ ap (λ (b : After Typed). b.look) w.2 in
         let controls : z.0.passed.controls ≡ a.passed.controls =
-        ap (λ (b : After Typed). b.passed.controls) ended ∙ ap (λ (b : After Typed). b.passed.controls) y.2 ∙ ap (λ (b : After Typed). b.passed.controls) w.2 in
-        (
+        ap (λ (b : After Typed). b.passed.controls) ended ∙ ap (λ (b : After Typed). b.passed.controls) y.2 ∙ ap (λ (b : After Typed). b.passed.controls) w.2 in (
           subst Free (ap (λ l. Begins ∷ l) (append_assoc x.0.look z.0.look (Ends ∷ [])) ∙ looks)
               (enclosed Begins (λ f. refl) (λ f. refl) (both_course x.0.look z.0.look one.0 two.0)),
           sym controls ∙ two.1 ∙ one.1,
