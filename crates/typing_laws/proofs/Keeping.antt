@@ -2,6 +2,8 @@
 use Rattle.std.proofs.Common.{◌≡◌, ℕ, Bool, true, false, ◌&&◌, not, nat_eq, nat_le, List, [], ◌∷◌, ◌++◌, ◌+◌, map, Option, Some, None, Ok, Err, if◌then◌else◌, refl, sym, ap, subst, ◌∙◌}
 use Rattle.std.proofs.Common.{append_assoc}
 use Rattle.std.specs.List.{list_any}
+use Rattle.std.proofs.Math.Seq.{take-append_seam}
+use Rattle.std.proofs.Common.{length, take, ◌-◌, length-append, arith}
 use Rattle.place.specs.declared.Place.{Place}
 use Rattle.std.proofs.Math.Bool.{and-true}
 use Rattle.syntax_tree.specs.declared.Name.{Name}
@@ -17,10 +19,10 @@ use Rattle.typed_tree.specs.declared.fault.TypeFault.TheVariants as fault
 use Rattle.typed_tree.specs.Kept.{Keeping, is_free}
 use Rattle.typed_tree.specs.Look.{Mark, Look, Ends, Empty, Assign, Target, Fits, Write, Written as WrittenMark, Width, Compound, If, Then, Else, While, Do, Repeat, Until}
 use Rattle.typed_tree.proofs.Courses.{Open, actives, behind, spares, Course, nothing, both_course, enclosed}
-use Rattle.typing.specs.Passing.{Passed, After, Passing, and_then, after, pure, mark, behind_marks, each, ◌>>=◌}
-use Rattle.typing.specs.Steps.{most_entries, pass, enter, enter_as, number_loop, begin_loop, enter_loop, may_change, wants_output}
+use Rattle.typing.specs.Passing.{Passed, Checked, After, Passing, and_then, after, pure, mark, behind_marks, each, ◌>>=◌}
+use Rattle.typing.specs.Steps.{most_entries, pass, enter, enter_as, number_loop, begin_loop, enter_loop, may_change, begin_control, end_control, wants_output}
 use Rattle.typing.specs.Expressions.{Written, WrittenActual, written_actual}
-use Rattle.typing.specs.Statements.{condition, alternative, tested, choice, compound, while_loop, repeat_loop, as_variable, assignment, bound}
+use Rattle.typing.specs.Statements.{condition, alternative, tested, choice, compound, while_loop, repeat_loop, as_variable, assignment, bound, for_body}
 use Rattle.typing.specs.Statements.{is_output, names_file, unless_wide, is_file, written_values, width, parameter, has_values, ends_line, write, as_procedure, procedure_call}
 use Rattle.typing_laws.proofs.Grown.{both_true}
 use Rattle.typing_laws.proofs.EverySpared.{WidthSpares, ActualSpares, actual_spares}
@@ -349,3 +351,36 @@ call_keeps name actuals =
     then_keeps (of_spares (find_spares name)) λ d.
     then_keeps (of_spares (given_spares (as_procedure name.place d))) λ procedure.
     write_keeps name actuals procedure
+
+-- ---- a for
+
+without_last : (controls : List ℕ) (control : ℕ) → take (length (controls ++ control ∷ []) - 1) (controls ++ control ∷ []) ≡ controls
+without_last controls control =
+    ap (λ n. take n (controls ++ control ∷ [])) counted_less ∙ take-append_seam controls (control ∷ [])
+  where
+    counted_less : length (controls ++ control ∷ []) - 1 ≡ length controls
+    counted_less = omega (arith, length-append controls (control ∷ []))
+
+-- the statement of a for, by the control variables round it
+for_body_keeps : (control : ℕ) (body : Passing (Unit {0})) → Keeps body → (s : Passed) (a : After (Unit {0})) → for_body control body s ≡ Ok a
+    → (inner : Look) × (a.look ≡ inner ++ (Ends ∷ [])) × (k : Keeping) × Course k inner × (k (s.controls ++ control ∷ []) ≡ true)
+    × (a.passed.controls ≡ s.controls)
+unfolding for_body begin_control end_control
+for_body_keeps control body law s a is =
+    let t : Passed = record s { controls = s.controls ++ control ∷ [] } in
+    let rest : After (Unit {0}) → Checked (After (Unit {0})) = λ b. behind_marks b.look ((end_control >>= (λ _. mark Ends)) b.passed) in
+    let w = split_behind [] (and_then (body t) rest) a is in
+    let x = split (body t) rest w.0 w.1 in
+    let y = split_behind x.0.look ((end_control >>= (λ _. mark Ends)) x.0.passed) w.0 x.2 in
+    let one = law.kept t x.0 x.1 in
+    let u : Passed = record x.0.passed { controls = take (length x.0.passed.controls - 1) x.0.passed.controls } in
+    let ended : after tt (Ends ∷ []) u ≡ y.0 = cc in
+    let answers : after tt (x.0.look ++ (Ends ∷ [])) u ≡ a = ap (λ (b : After (Unit {0})). after b.answer (x.0.look ++ b.look) b.passed) ended ∙ y.2 ∙ w.2 in (
+      x.0.look,
+      sym (ap (λ (b : After (Unit {0})). b.look) answers),
+      one.0,
+      one.1,
+      one.2,
+      sym (ap (λ (b : After (Unit {0})). b.passed.controls) answers)
+          ∙ ap (λ cs. take (length cs - 1) cs) one.3 ∙ without_last s.controls control,
+    )
