@@ -3,3 +3,4 @@ mod Chains
 mod Files
 mod MadeRows
 mod Programs
+mod Tables

@@ -1,8 +1,11 @@
 -- Programs: their typing goes on from that of their declarations and of their statements; and what the typed tree of one
 -- has by the laws of typing.
-use Rattle.std.proofs.Common.{◌≡◌, ◌<◌, ◌≤◌, [], ◌∷◌, ◌++◌, length, map, nat_eq, Ok, inl, inr, sym, ap, subst, ◌∙◌, append-nil, arith}
+use Rattle.std.proofs.Common.{◌≡◌, ℕ, ◌+◌, ◌<◌, ◌≤◌, true, List, [], ◌∷◌, ◌++◌, length, map, nat_eq, Some, Ok, inl, inr, refl, sym, ap, subst, ◌∙◌, append-nil, append_assoc}
+use Rattle.std.proofs.Common.{length-append, arith}
 use Rattle.std.specs.List.{list_all, range_with_len, flat_map}
 use Rattle.std.proofs.lemmas.List.{length-map}
+use Rattle.std.proofs.lemmas.List.Folds.{list_all-map}
+use Rattle.std.specs.Prelude.{slice_get}
 use Rattle.place.specs.Place.{ArePlacesInOrder}
 use Rattle.syntax_tree.specs.declared.Program.{Program}
 use Rattle.syntax_tree.specs.Places.{program_places}
@@ -10,6 +13,9 @@ use Rattle.types.specs.Types.{required_forms}
 use Rattle.typed_tree.specs.declared.fault.TypeFault.{TypeFault}
 use Rattle.typed_tree.specs.declared.tree.Tree.{Tree}
 use Rattle.typed_tree.specs.declared.tree.Block.{Block}
+use Rattle.typed_tree.specs.declared.tree.Loop.{Loop}
+use Rattle.typed_tree.specs.Loops.{AreLoops, loops_of, loops_of_statement}
+use Rattle.typed_tree.proofs.LoopNumbers.{loop_numbers_are}
 use Rattle.typed_tree.specs.Entries.{entries_of}
 use Rattle.typed_tree.specs.Ids.{AreInOrder, AreByPlace}
 use Rattle.typed_tree.specs.Look.{Look, BlockEnds, look_stmt, look_block, tree_look, is_formed_mark}
@@ -24,6 +30,50 @@ use Rattle.typing_laws.specs.Lawful.{Lawful}
 use Rattle.typing_laws.proofs.Programs.{typing_is_lawful}
 use Rattle.declarations.specs.Declared.{declared}
 use Rattle.resolver.specs.Made.{IsResolved}
+use Rattle.resolver.specs.Table.{row_of, rows_of, IsTableOf}
+
+-- ---- the rows of loops
+
+-- a part of what was made of each
+parts_of : {A B C : Type 0} (part : B → C) (made : A → B) (xs : List A) → map part (map made xs) ≡ map (λ x. part (made x)) xs
+parts_of part made [] = refl
+parts_of part made (x ∷ xs) = ap (λ l. part (made x) ∷ l) (parts_of part made xs)
+
+-- the control variables in them
+rows_are : (rows : List Loop) (ones : List (ℕ × List ℕ)) → map row_of rows ≡ rows_of ones → map (λ row. row.controls.items) rows ≡ map (λ one. one.1) ones
+rows_are rows ones is =
+    sym (parts_of (λ (row : ℕ × List ℕ). row.1) row_of rows) ∙ ap (map (λ row. row.1)) is
+    ∙ parts_of (λ (row : ℕ × List ℕ). row.1) (λ (one : ℕ × List ℕ). (0, one.1)) ones
+
+-- the program's block
+in_program : (rows : List Loop) (ones : List (ℕ × List ℕ)) → map row_of rows ≡ rows_of ones → list_all (λ row. nat_eq row.block 0) rows ≡ true
+in_program rows ones is =
+    sym (list_all-map (λ (row : ℕ × List ℕ). nat_eq row.0 0) row_of rows) ∙ ap (list_all (λ row. nat_eq row.0 0)) is ∙ by ones
+  where
+    by : (ones : List (ℕ × List ℕ)) → list_all (λ row. nat_eq row.0 0) (rows_of ones) ≡ true
+    by [] = refl
+    by (one ∷ ones) = by ones
+
+-- the row of the next number
+next_row : (done : List Loop) (row : Loop) (rows : List Loop) → slice_get (done ++ row ∷ rows) (length done) ≡ Some row
+next_row [] row rows = refl
+next_row (other ∷ done) row rows = next_row done row rows
+
+-- the rows behind some others
+each_has_row : (done rows : List Loop) (ones : List (ℕ × List ℕ)) → map (λ row. row.controls.items) rows ≡ map (λ one. one.1) ones
+    → map (λ one. one.0) ones ≡ range_with_len (length done) (length ones) → AreLoops (done ++ rows) ones
+each_has_row done rows [] same numbers = tt
+each_has_row done [] (one ∷ ones) same numbers = absurd cc
+each_has_row done (row ∷ rows) (one ∷ ones) same numbers =
+    let number : one.0 ≡ length done = cc in
+    let controls : row.controls.items ≡ one.1 = cc in
+    let others : map (λ (r : Loop). r.controls.items) rows ≡ map (λ (o : ℕ × List ℕ). o.1) ones = cc in
+    let more : map (λ (o : ℕ × List ℕ). o.0) ones ≡ range_with_len (length done + 1) (length ones) = cc in
+    let counted : length done + 1 ≡ length (done ++ row ∷ []) = sym (length-append done (row ∷ [])) in
+    let rest = each_has_row (done ++ row ∷ []) rows ones others (more ∙ ap (λ n. range_with_len n (length ones)) counted) in (
+      (row, ap (slice_get (done ++ row ∷ rows)) number ∙ next_row done row rows, controls),
+      subst (λ l. AreLoops l ones) (append_assoc done (row ∷ []) rows) rest,
+    )
 
 -- ---- from the parts to the program
 
@@ -52,8 +102,8 @@ module _ (program : Program) where
 
     -- the tree of the program
     pub is_resolved : (n : Passed) (block : Block) (tree : Tree) → compound (map statement program.block.statements.items) m ≡ Ok (after tt (look_stmt block.body) n)
-        → block.end ≡ program.block.end → tree.blocks.items ≡ block ∷ [] → IsLeft n tree → IsResolved program tree
-    is_resolved n block tree ends end blocks left = record {
+        → block.end ≡ program.block.end → tree.blocks.items ≡ block ∷ [] → IsLeft n tree → IsTableOf block.body tree.loops.items → IsResolved program tree
+    is_resolved n block tree ends end blocks left table = record {
       is_typed = record {
         left = n;
         typed =
@@ -62,6 +112,12 @@ module _ (program : Program) where
             ∙ ap (λ look. Ok (after tt look n)) (sym (append-nil (look_stmt block.body ++ (BlockEnds block.end ∷ []))))
             ∙ ap (λ bs. Ok (after tt (flat_map look_block bs) n)) (sym blocks);
         is_left = left;
+        has_loops = record {
+          rows = rows_are tree.loops.items (loops_of_statement block.body) table
+              ∙ ap (map (λ one. one.1)) (sym (append-nil (loops_of_statement block.body)))
+              ∙ ap (λ bs. map (λ one. one.1) (flat_map (λ b. loops_of_statement b.body) bs)) (sym blocks);
+          in_program = in_program tree.loops.items (loops_of_statement block.body) table;
+        };
       };
       block = block;
       blocks = blocks;
@@ -105,6 +161,16 @@ module _ (program : Program) (tree : Tree) (resolved : IsResolved program tree) 
   pub is_numbered : entries_of tree ≡ range_with_len 0 (length (entries_of tree))
   is_numbered = subst (λ es. es ≡ range_with_len 0 (length es)) (entries_are tree) lawful.numbered
 
+  -- loops are numbered, and each has its row
+  pub loops_are_numbered : map (λ l. l.0) (loops_of tree) ≡ range_with_len 0 (length (loops_of tree))
+  loops_are_numbered =
+      sym (loop_numbers_are tree) ∙ lawful.loops
+      ∙ ap (λ numbers. range_with_len 0 (length numbers)) (loop_numbers_are tree)
+      ∙ ap (range_with_len 0) (length-map (loops_of tree) (λ l. l.0))
+
+  has_rows : AreLoops tree.loops.items (loops_of tree)
+  has_rows = each_has_row [] tree.loops.items (loops_of tree) resolved.is_typed.has_loops.rows loops_are_numbered
+
   pub sites_by_place : ArePlacesInOrder (program_places program) → AreByPlace (map stands tree.sites.items)
   sites_by_place order = subst AreByPlace (sym is_left.sites) (lawful.by_place order)
 
@@ -118,8 +184,10 @@ module _ (program : Program) (tree : Tree) (resolved : IsResolved program tree) 
         ∙ ap (λ n. list_all (is_formed_mark n (length tree.sites.items)) (tree_look tree)) (ap length is_left.variables)
         ∙ ap (λ n. list_all (is_formed_mark (length passed.variables) n) (tree_look tree)) as_many_sites
         ∙ lawful.formed;
+    loops = has_rows;
+    in_program = resolved.is_typed.has_loops.in_program;
   }
 
 -- all of these
 pub ruleset has_it_all =
-    (is_typed, ids_in_order, has_no_points, has_required_types, has_one_block, has_few_sites, is_numbered, sites_by_place, is_well_formed)
+    (is_typed, ids_in_order, has_no_points, has_required_types, has_one_block, has_few_sites, is_numbered, loops_are_numbered, sites_by_place, is_well_formed)

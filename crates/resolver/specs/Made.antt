@@ -16,7 +16,7 @@ use Rattle.typed_tree.specs.declared.tree.Stmt.{Stmt}
 use Rattle.typed_tree.specs.declared.tree.WriteParameter.{WriteParameter}
 use Rattle.typed_tree.specs.declared.tree.Width.{Width}
 use Rattle.types.specs.declared.form.TypeId.{TypeId}
-use Rattle.typed_tree.specs.Look.{Look, Begins, Ends, If, Then, Else, look_expr, look_link, look_stmt, look_parameter, look_width}
+use Rattle.typed_tree.specs.Look.{Look, Begins, Ends, Fits, If, Then, Else, Do, For, look_expr, look_link, look_stmt, look_parameter, look_width}
 use Rattle.typing.specs.Passing.{Passed, Checked, After}
 use Rattle.typing.specs.Expressions.{Typed, typed}
 use Rattle.typing.specs.Outcomes.{Makes}
@@ -24,6 +24,8 @@ use Rattle.typing.specs.Sound.{IsTyped}
 use Rattle.resolver.specs.declared.typed.Typed.{Typed as MadeExpr}
 use Rattle.resolver.specs.declared.typed.TypedLink.{TypedLink}
 use Rattle.resolver.specs.declared.typed.TypedLinks.{TypedLinks}
+use Rattle.resolver.specs.declared.typed.Bound.{Bound}
+use Rattle.resolver.specs.declared.typed.ForHead.{ForHead}
 
 -- an expression
 abbrev pub MakesTyped : Checked (After Typed) → Result MadeExpr TypeFault → Passed → Type 0
@@ -63,6 +65,24 @@ MakesCondition = Makes (λ made. tt) look_expr
 -- an if as far as its `then`, by its number and its condition
 abbrev pub MakesTested : Checked (After (Unit {0})) → Result (ℕ × Expr) TypeFault → Passed → Type 0
 MakesTested = Makes (λ made. tt) (λ made. If made.0 ∷ (look_expr made.1 ++ (Then ∷ [])))
+
+-- how a bound of a for looks, with its test
+abbrev pub look_bound : Bound → Look
+look_bound bound = look_expr bound.value ++ (Fits bound.fits ∷ [])
+
+-- a bound of a for
+abbrev pub MakesBound : Checked (After (Unit {0})) → Result Bound TypeFault → Passed → Type 0
+MakesBound = Makes (λ made. tt) look_bound
+
+-- how a for looks as far as its `do`
+abbrev pub for_head_look : ForHead → Look
+for_head_look head =
+    For head.number head.loop_number head.place head.control head.direction
+    ∷ (look_bound head.first ++ (look_bound head.last ++ (Do ∷ [])))
+
+-- a for as far as its `do`, by the root of its control variable
+abbrev pub MakesForHead : Checked (After ℕ) → Result ForHead TypeFault → Passed → Type 0
+MakesForHead = Makes (λ head. head.control) for_head_look
 
 -- a statement in a box
 abbrev pub MakesBoxed : Checked (After (Unit {0})) → Result (Box Stmt Global) TypeFault → Passed → Type 0

@@ -5,6 +5,7 @@
 mod expressions;
 mod program;
 mod statements;
+mod table;
 mod typed;
 
 pub use program::resolve;

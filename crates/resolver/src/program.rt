@@ -5,6 +5,7 @@ ghost use Rattle.syntax_tree.specs.Places.{program_places};
 ghost use Rattle.types.specs.Types.{required_forms};
 ghost use Rattle.typed_tree.specs.Entries.{entries_of};
 ghost use Rattle.typed_tree.specs.Ids.{AreInOrder, AreByPlace};
+ghost use Rattle.typed_tree.specs.Loops.{loops_of};
 ghost use Rattle.typed_tree.specs.WellFormed.{IsWellFormed};
 ghost use Rattle.typing.specs.Outcomes.{IsFault};
 ghost use Rattle.typing.specs.Sound.{IsTyped, stands};
@@ -13,6 +14,7 @@ ghost use Rattle.typing.specs.declared.typer.TheConstants.{MOST_SITES};
 ghost use Rattle.resolver.specs.Made.{IsResolved};
 
 use crate::statements::compound;
+use crate::table::table_of;
 use declarations::declare_program;
 use std::alloc::Global;
 use syntax_tree::Program;
@@ -30,6 +32,10 @@ pub fn resolve(alloc: Global, program: &Program) -> Result<Tree, TypeFault>
 
     // Entries are numbered from 0, in the order of the text.
     ensures numbered { IfOk result (λ tree. entries_of tree ≡ range_with_len 0 (length (entries_of tree))) }
+
+    // So are loops, in the order of their first words.
+    ensures loops_numbered { IfOk result (λ tree.
+        map (λ l. l.0) (loops_of tree) ≡ range_with_len 0 (length (loops_of tree))) }
 
     // Sites have their places in the table as ids, and stand there by place and then by kind.
     ensures in_order { IfOk result (λ tree. AreInOrder tree.sites.items) }
@@ -52,10 +58,11 @@ fn typed_program(alloc: Global, program: &Program) -> Result<Tree, TypeFault>
 {
     let mut typer = declare_program(alloc, program)?;
     let body = compound(&mut typer, &program.block.statements)?;
+    let loops = table_of(alloc, &body)?;
     let mut blocks = Vec::new(alloc);
     blocks.push(Block {
         body,
         end: program.block.end,
     })?;
-    Ok(typer.tree(blocks))
+    Ok(typer.tree(blocks, loops))
 }

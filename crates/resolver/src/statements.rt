@@ -1,24 +1,25 @@
 ghost use Rattle.std.specs.Prelude.{◌≡◌, Some, map, option_map};
-ghost use Rattle.typing.specs.Passing.{each};
+ghost use Rattle.typing.specs.Passing.{each, behind_marks};
 ghost use Rattle.typing.specs.Expressions.{expression, written_actual};
 ghost use Rattle.typing.specs.Statements as spec;
 ghost use Rattle.typing.specs.Outcomes.{Takes};
-ghost use Rattle.resolver.specs.Made.{MakesStmt, MakesStmts, MakesBoxed, MakesAlternative, MakesCondition, MakesTested, MakesParameter, MakesParameters, MakesWidth, MakesOwnWidth, MakesValues};
+ghost use Rattle.resolver.specs.Made.{MakesStmt, MakesStmts, MakesBoxed, MakesAlternative, MakesCondition, MakesTested, MakesBound, MakesForHead, for_head_look, MakesParameter, MakesParameters, MakesWidth, MakesOwnWidth, MakesValues};
 
 use crate::expressions::{expression, first_place};
+use crate::typed::{Bound, ForHead};
 use place::Place;
 use scopes::RequiredProcedure;
 use syntax_tree as syntax;
 use typed_tree::fault::TypeFault;
 use typed_tree::site::SiteKind;
 use typed_tree::tree::{Access, Expr, RangeTest, Stmt, Width, WriteParameter};
-use types::TypeTable;
+use types::{TypeId, TypeTable};
 use typing::Typer;
-use typing::rules::{as_procedure, as_variable, ends_line, is_output};
+use typing::rules::{as_procedure, as_variable, ends_line, is_output, way};
 
 /// A statement.
 #[cycle(statements)]
-#[tactic(auto, using(typing::proofs::Written::written_statements, typed_tree::proofs::Looks::look_empty, crate::proofs::Branches::look_choice), unfolding(typing::specs::Steps::enter_as, typing::specs::Statements::choice))]
+#[tactic(auto, using(typing::proofs::Written::written_statements, typed_tree::proofs::Looks::look_empty, crate::proofs::Branches::look_choice), unfolding(typing::specs::Steps::enter_as, typing::specs::Statements::choice, typing::specs::Statements::for_loop))]
 pub(crate) fn statement(typer: &mut Typer, written: &syntax::Stmt) -> Result<Stmt, TypeFault>
     ensures { MakesStmt (spec.statement written.now typer.old) result typer.new }
 {
@@ -48,6 +49,27 @@ pub(crate) fn statement(typer: &mut Typer, written: &syntax::Stmt) -> Result<Stm
                 consequence,
                 alternative,
             })
+        }
+        syntax::Stmt::While {
+            place,
+            condition,
+            body,
+        } => while_loop(typer, body, *place, condition),
+        syntax::Stmt::Repeat {
+            place,
+            statements,
+            condition,
+        } => repeat_loop(typer, *place, statements, condition),
+        syntax::Stmt::For {
+            place,
+            variable,
+            first,
+            direction,
+            last,
+            body,
+        } => {
+            let head = for_head(typer, *place, variable, first, *direction, last)?;
+            for_body(typer, body, head)
         }
     }
 }
@@ -83,6 +105,126 @@ fn tested(typer: &mut Typer, place: Place, written: &syntax::Expr) -> Result<(u3
     typer.pass(place);
     let number = typer.enter()?;
     Ok((number, condition(typer, written)?))
+}
+
+// A while (6.8.3.8).
+#[cycle(statements)]
+#[tactic(auto, using(typed_tree::proofs::Looks::look_while), unfolding(typing::specs::Statements::while_loop, typing::specs::Steps::enter_loop))]
+fn while_loop(
+    typer: &mut Typer,
+    body: &syntax::Stmt,
+    place: Place,
+    tested: &syntax::Expr,
+) -> Result<Stmt, TypeFault>
+    ensures { MakesStmt (spec.while_loop place (expression tested.now) (spec.statement body.now) typer.old)
+        result typer.new }
+{
+    typer.pass(place);
+    let (number, loop_number) = typer.enter_loop()?;
+    let condition = condition(typer, tested)?;
+    let body = boxed(typer, body)?;
+    Ok(Stmt::While {
+        number,
+        loop_number,
+        place,
+        condition,
+        body,
+    })
+}
+
+// A repeat (6.8.3.7).
+#[cycle(statements)]
+#[tactic(auto, using(typed_tree::proofs::Looks::look_repeat), unfolding(typing::specs::Statements::repeat_loop, typing::specs::Steps::enter_loop))]
+fn repeat_loop(
+    typer: &mut Typer,
+    place: Place,
+    written: &[syntax::Stmt],
+    tested: &syntax::Expr,
+) -> Result<Stmt, TypeFault>
+    ensures { MakesStmt (spec.repeat_loop place (map spec.statement written.now) (expression tested.now) typer.old)
+        result typer.new }
+{
+    typer.pass(place);
+    let (number, loop_number) = typer.enter_loop()?;
+    let statements = statements(typer, written)?;
+    let condition = condition(typer, tested)?;
+    Ok(Stmt::Repeat {
+        number,
+        loop_number,
+        place,
+        statements,
+        condition,
+    })
+}
+
+// The statement of a for, which is made as far as its `do` (6.8.3.9).
+#[cycle(statements)]
+#[tactic(auto, using(crate::proofs::Branches::look_counted), unfolding(typing::specs::Statements::for_body))]
+fn for_body(typer: &mut Typer, body: &syntax::Stmt, head: ForHead) -> Result<Stmt, TypeFault>
+    ensures { MakesStmt (behind_marks (for_head_look head)
+        (spec.for_body head.control (spec.statement body.now) typer.old)) result typer.new }
+{
+    typer.begin_control(head.control)?;
+    let body = boxed(typer, body)?;
+    typer.end_control();
+    Ok(Stmt::For {
+        number: head.number,
+        loop_number: head.loop_number,
+        place: head.place,
+        control: head.control,
+        first: head.first.value,
+        first_fits: head.first.fits,
+        direction: head.direction,
+        last: head.last.value,
+        last_fits: head.last.fits,
+        body,
+    })
+}
+
+// A for as far as its `do`.
+#[tactic(auto, unfolding(typing::specs::Statements::for_head, typing::specs::Steps::enter_loop))]
+fn for_head(
+    typer: &mut Typer,
+    place: Place,
+    variable: &syntax::Name,
+    first: &syntax::Expr,
+    direction: syntax::Direction,
+    last: &syntax::Expr,
+) -> Result<ForHead, TypeFault>
+    ensures { MakesForHead (spec.for_head place variable.now (expression first.now) direction (expression last.now)
+        typer.old) result typer.new }
+{
+    typer.pass(place);
+    let denotation = typer.find(variable)?;
+    let (control, type_id) = as_variable(variable.place, denotation)?;
+    typer.may_change(variable.place, control)?;
+    let (number, loop_number) = typer.enter_loop()?;
+    Ok(ForHead {
+        number,
+        loop_number,
+        place,
+        control,
+        first: bound(typer, type_id, first)?,
+        direction: way(direction),
+        last: bound(typer, type_id, last)?,
+    })
+}
+
+// A bound of a for: the site of its test stands before those of its first token.
+#[tactic(auto, unfolding(typing::specs::Statements::bound))]
+fn bound(typer: &mut Typer, type_id: TypeId, written: &syntax::Expr) -> Result<Bound, TypeFault>
+    ensures { MakesBound (spec.bound type_id (expression written.now) typer.old) result typer.new }
+{
+    let place = first_place(written);
+    let site = typer.site(SiteKind::Subrange, place)?;
+    let value = expression(typer, written, None)?;
+    let range = typer
+        .fitting(type_id, value.type_id)
+        .ok_or(TypeFault::Mismatch(place))?;
+    Ok(Bound {
+        value: value.expression,
+        fits: RangeTest { site, range },
+    })
 }
 
 // A condition, which is Boolean.
@@ -135,6 +277,7 @@ fn assignment(
     let number = typer.enter()?;
     let denotation = typer.find(name)?;
     let (root, type_id) = as_variable(name.place, denotation)?;
+    typer.may_change(name.place, root)?;
     let target = Access {
         number: typer.enter()?,
         root,

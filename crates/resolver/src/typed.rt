@@ -1,4 +1,5 @@
-use typed_tree::tree::{Expr, Link};
+use place::Place;
+use typed_tree::tree::{Direction, Expr, Link, RangeTest};
 use types::TypeId;
 
 /// An expression, the type of its value, and the id of its leading site.
@@ -21,4 +22,24 @@ pub(crate) struct TypedLink {
 pub(crate) struct TypedLinks {
     pub(crate) links: Vec<Link>,
     pub(crate) type_id: TypeId,
+}
+
+/// A bound of a for, and its test.
+#[derive(Drop)]
+pub(crate) struct Bound {
+    pub(crate) value: Expr,
+    pub(crate) fits: RangeTest,
+}
+
+/// A for as far as its `do`.
+#[derive(Drop)]
+pub(crate) struct ForHead {
+    pub(crate) number: u32,
+    pub(crate) loop_number: u32,
+    pub(crate) place: Place,
+    /// The root number of the control variable.
+    pub(crate) control: u32,
+    pub(crate) first: Bound,
+    pub(crate) direction: Direction,
+    pub(crate) last: Bound,
 }

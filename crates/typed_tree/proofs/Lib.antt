@@ -1,3 +1,4 @@
 pub mod Insides
+pub mod LoopNumbers
 pub mod Looks
 pub mod Measured

@@ -28,6 +28,12 @@ pub enum TypeFault {
     /// K3, where the parameters of a call are wrong.
     #[error("{0}: wrong parameters")]
     WrongParameters(Place),
+    /// K5, at the name of a control variable that the statement of its for statement assigns, or uses as another one.
+    #[error("{0}: a control variable is assigned or used again inside its statement")]
+    Threatened(Place),
+    /// K6, at a case constant that was there before, or is not of the index's type.
+    #[error("{0}: a case constant that is repeated or of another type")]
+    CaseConstant(Place),
     /// K8, at a write or writeln without the program parameter output, and at another program parameter.
     #[error("{0}: input or output is no program parameter")]
     NotProgramParameter(Place),

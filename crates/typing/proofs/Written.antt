@@ -4,6 +4,7 @@ use Rattle.std.specs.declared.alloc.Global.{Global}
 use Rattle.place.specs.declared.Place.{Place}
 use Rattle.syntax_tree.specs.declared.Name.{Name}
 use Rattle.syntax_tree.specs.declared.Sign.{Sign}
+use Rattle.syntax_tree.specs.declared.Direction.{Direction}
 use Rattle.syntax_tree.specs.declared.Expr.{Expr}
 use Rattle.syntax_tree.specs.declared.Link.{Link}
 use Rattle.syntax_tree.specs.declared.Actual.{Actual}
@@ -17,7 +18,7 @@ use Rattle.syntax_tree.specs.declared.Stmt.TheOpen as stmt_layer
 use Rattle.syntax_tree.specs.declared.Stmt.TheFolds.{map-Stmt, fold-roll-Stmt}
 use Rattle.typing.specs.Passing.{Passing}
 use Rattle.typing.specs.Expressions.{Written, WrittenActual, WrittenLink, written, expression_step, actual_step, link_step, expression, written_link, written_actual, number, named, call, parenthesized, negation, signed, chain, link}
-use Rattle.typing.specs.Statements.{statement, statement_step, assignment, procedure_call, compound, choice}
+use Rattle.typing.specs.Statements.{statement, statement_step, assignment, procedure_call, compound, choice, while_loop, repeat_loop, for_loop}
 use Rattle.typing.specs.Steps.{enter_as}
 use Rattle.typed_tree.specs.Look as Look
 
@@ -103,5 +104,25 @@ typing_if place condition consequence alternative =
     mapped None = refl
     mapped (Some other) = refl
 
+pub typing_while : (place : Place) (condition : Expr) (body : Box Stmt Global)
+    → statement (stmt.While place condition body) ≡ while_loop place (expression condition) (statement body.value)
+typing_while place condition body =
+    ap statement (sym (stmt.rolls-While place condition body))
+    ∙ fold-roll-Stmt (Passing (Unit {0})) statement_step (stmt_layer.While place condition body)
+
+pub typing_repeat : (place : Place) (statements : Vec Stmt Global) (condition : Expr)
+    → statement (stmt.Repeat place statements condition) ≡ repeat_loop place (map statement statements.items) (expression condition)
+typing_repeat place statements condition =
+    ap statement (sym (stmt.rolls-Repeat place statements condition))
+    ∙ fold-roll-Stmt (Passing (Unit {0})) statement_step (stmt_layer.Repeat place statements condition)
+
+pub typing_for : (place : Place) (variable : Name) (first : Expr) (direction : Direction) (last : Expr) (body : Box Stmt Global)
+    → statement (stmt.For place variable first direction last body)
+    ≡ for_loop place variable (expression first) direction (expression last) (statement body.value)
+typing_for place variable first direction last body =
+    ap statement (sym (stmt.rolls-For place variable first direction last body))
+    ∙ fold-roll-Stmt (Passing (Unit {0})) statement_step (stmt_layer.For place variable first direction last body)
+
 -- those of all statements
-pub ruleset written_statements = (typing_empty, typing_assign, typing_procedure_call, typing_compound, typing_if)
+pub ruleset written_statements =
+    (typing_empty, typing_assign, typing_procedure_call, typing_compound, typing_if, typing_while, typing_repeat, typing_for)

@@ -26,6 +26,10 @@ pub record Passed : Type 0 where
   pub sites : List Stands
   -- how many statements and expressions were entered
   pub entries : ℕ
+  -- how many loops began
+  pub loops : ℕ
+  -- the control variables of the for statements round the place, by root number, the outermost first
+  pub controls : List ℕ
   -- the latest token that was passed
   pub latest : Place
 

@@ -1,11 +1,13 @@
 -- What a typed tree has of what is known behind its program, and whether it is the program's typed tree.
 -- It says nothing of what typing answers.
-use Rattle.std.specs.Prelude.{◌≡◌, [], Ok, map}
+use Rattle.std.specs.Prelude.{◌≡◌, true, [], Ok, map, nat_eq}
+use Rattle.std.specs.List.{list_all}
 use Rattle.syntax_tree.specs.declared.Program.{Program}
 use Rattle.typed_tree.specs.declared.site.Site.{Site}
 use Rattle.typed_tree.specs.declared.tree.Tree.{Tree}
 use Rattle.typed_tree.specs.Ids.{Stands, AreInOrder}
 use Rattle.typed_tree.specs.Look.{tree_look}
+use Rattle.typed_tree.specs.Loops.{loops_of}
 use Rattle.typing.specs.Passing.{Passed, after}
 use Rattle.typing.specs.Typing.{typing}
 
@@ -21,8 +23,14 @@ pub record IsLeft (passed : Passed) (tree : Tree) : Type 0 where
   pub types : tree.types ≡ passed.types
   pub points : tree.points.items ≡ []
 
+-- the table of loops says which control variables are inside each; each loop stands in the program's block
+pub record HasLoops (tree : Tree) : Type 0 where
+  pub rows : map (λ row. row.controls.items) tree.loops.items ≡ map (λ one. one.1) (loops_of tree)
+  pub in_program : list_all (λ row. nat_eq row.block 0) tree.loops.items ≡ true
+
 -- a program breaks no rule of names and types, and this is its typed tree
 pub record IsTyped (program : Program) (tree : Tree) : Type 0 where
   pub left : Passed
   pub typed : typing program ≡ Ok (after tt (tree_look tree) left)
   pub is_left : IsLeft left tree
+  pub has_loops : HasLoops tree

@@ -9,9 +9,11 @@ use Rattle.syntax_tree.specs.declared.Expr.TheOpen.{Expr-F}
 use Rattle.syntax_tree.specs.declared.Expr.TheOpen.Expr-F.{Number as NumberOf, Name as NameOf, Call as FunctionOf, Parenthesized as ParenthesizedOf, Not as NotOf, Signed as SignedOf, Chain as ChainOf}
 use Rattle.syntax_tree.specs.declared.Expr.TheViews.{out-Expr, out-Actual}
 use Rattle.syntax_tree.specs.declared.Link.{Link}
+use Rattle.syntax_tree.specs.declared.Direction.{Direction as SyntaxDirection}
+use Rattle.syntax_tree.specs.declared.Direction.TheVariants as written
 use Rattle.syntax_tree.specs.declared.Stmt.{Stmt}
 use Rattle.syntax_tree.specs.declared.Stmt.TheOpen.{Stmt-F}
-use Rattle.syntax_tree.specs.declared.Stmt.TheOpen.Stmt-F.{Empty as EmptyOf, Assign as AssignOf, Call as CallOf, Compound as CompoundOf, If as IfOf}
+use Rattle.syntax_tree.specs.declared.Stmt.TheOpen.Stmt-F.{Empty as EmptyOf, Assign as AssignOf, Call as CallOf, Compound as CompoundOf, If as IfOf, While as WhileOf, Repeat as RepeatOf, For as ForOf}
 use Rattle.syntax_tree.specs.declared.Stmt.TheFolds.{fold-Stmt}
 use Rattle.types.specs.declared.form.TypeForm.{TypeForm}
 use Rattle.types.specs.declared.form.TypeForm.TheVariants as form
@@ -24,11 +26,13 @@ use Rattle.scopes.specs.declared.denotation.RequiredProcedure.{RequiredProcedure
 use Rattle.scopes.specs.declared.denotation.RequiredProcedure.TheVariants as procedure
 use Rattle.typed_tree.specs.declared.fault.TypeFault.TheVariants as fault
 use Rattle.typed_tree.specs.declared.site.SiteKind.TheVariants as kind
+use Rattle.typed_tree.specs.declared.tree.Direction.{Direction}
+use Rattle.typed_tree.specs.declared.tree.Direction.TheVariants as direction
 use Rattle.typed_tree.specs.declared.tree.Representation.{Representation}
 use Rattle.typed_tree.specs.declared.tree.Representation.TheVariants as representation
-use Rattle.typed_tree.specs.Look.{Assign, Target, Fits, Write, Written as WrittenMark, Width, Empty, Compound, If, Then, Else, Ends}
+use Rattle.typed_tree.specs.Look.{Assign, Target, Fits, Write, Written as WrittenMark, Width, Empty, Compound, If, Then, Else, While, Do, Repeat, Until, For, Ends}
 use Rattle.typing.specs.Passing.{Checked, Passing, and_then, pure, given, mark, each, ◌>>=◌, ◌>>◌, ◌>>?◌}
-use Rattle.typing.specs.Steps.{pass, enter_as, site, find, wants_output}
+use Rattle.typing.specs.Steps.{pass, enter_as, enter_loop, site, find, may_change, begin_control, end_control, wants_output}
 use Rattle.typing.specs.Expressions.{Typed, Written, WrittenActual, fits, or_mismatch, expression, written_actual}
 
 -- the variable that a name denotes: its root and its type
@@ -50,6 +54,7 @@ assignment name becomes value = do
   enter_as (λ n. Assign n becomes)
   d ← find name
   target ← given (as_variable name.place d)
+  may_change name.place target.0
   enter_as (λ n. Target n target.0)
   id ← site kind.Subrange becomes
   range ← value.typing None >>? (λ types t. or_mismatch becomes (fitting types target.1 t.type_id))
@@ -180,6 +185,63 @@ choice place w consequence other = do
   alternative other
   mark Ends
 
+-- a while (6.8.3.8)
+unfoldable pub while_loop : Place → Written → Passing (Unit {0}) → Passing (Unit {0})
+while_loop place w body = do
+  pass place
+  enter_loop (λ n l. While n l place)
+  condition w
+  mark Do
+  body
+  mark Ends
+
+-- a repeat (6.8.3.7)
+unfoldable pub repeat_loop : Place → List (Passing (Unit {0})) → Written → Passing (Unit {0})
+repeat_loop place statements w = do
+  pass place
+  enter_loop (λ n l. Repeat n l place)
+  each (λ s. s) statements
+  mark Until
+  condition w
+  mark Ends
+
+abbrev pub way : SyntaxDirection → Direction
+way written.To = direction.To
+way written.DownTo = direction.DownTo
+
+-- a bound of a for: the site of its test stands at its first token, before the sites of that token's own
+unfoldable pub bound : TypeId → Written → Passing (Unit {0})
+bound type_id w = do
+  id ← site kind.Subrange w.first
+  range ← w.typing None >>? (λ types t. or_mismatch w.first (fitting types type_id t.type_id))
+  mark (Fits (record { site = id; range = range }))
+
+-- a for as far as its `do`, by the root of its control variable
+unfoldable pub for_head : Place → Name → Written → SyntaxDirection → Written → Passing ℕ
+for_head place variable first direction last = do
+  pass place
+  d ← find variable
+  control ← given (as_variable variable.place d)
+  may_change variable.place control.0
+  enter_loop (λ n l. For n l place control.0 (way direction))
+  bound control.1 first
+  bound control.1 last
+  mark Do
+  pure control.0
+
+-- the statement of a for changes the control variable nowhere
+unfoldable pub for_body : ℕ → Passing (Unit {0}) → Passing (Unit {0})
+for_body control body = do
+  begin_control control
+  body
+  end_control
+  mark Ends
+
+-- a for (6.8.3.9)
+unfoldable pub for_loop : Place → Name → Written → SyntaxDirection → Written → Passing (Unit {0}) → Passing (Unit {0})
+for_loop place variable first direction last body =
+    for_head place variable first direction last >>= (λ control. for_body control body)
+
 abbrev pub statement_step : Stmt-F (Passing (Unit {0})) → Passing (Unit {0})
 statement_step EmptyOf = enter_as Empty
 statement_step (AssignOf name becomes value) = assignment name becomes (expression value)
@@ -187,6 +249,10 @@ statement_step (CallOf name actuals) = procedure_call name actuals.items
 statement_step (CompoundOf statements) = compound statements.items
 statement_step (IfOf place condition consequence alternative) =
     choice place (expression condition) consequence.value (option_map (λ statement. statement.value) alternative)
+statement_step (WhileOf place condition body) = while_loop place (expression condition) body.value
+statement_step (RepeatOf place statements condition) = repeat_loop place statements.items (expression condition)
+statement_step (ForOf place variable first direction last body) =
+    for_loop place variable (expression first) direction (expression last) body.value
 
 -- a statement
 abbrev pub statement : Stmt → Passing (Unit {0})

@@ -1,6 +1,7 @@
--- The steps of typing: a token that is passed, a form that is entered, a site, a name that is found, a region, a
--- definition, a variable. It says nothing of the forms that take them.
-use Rattle.std.specs.Prelude.{ℕ, ◌+◌, ◌++◌, true, false, List, [], ◌∷◌, Result, Ok, Err, if◌then◌else◌, nat_le, nat_lt, length}
+-- The steps of typing: a token that is passed, a form that is entered, a loop, a site, a name that is found, a control
+-- variable, a region, a definition, a variable. It says nothing of the forms that take them.
+use Rattle.std.specs.Prelude.{ℕ, ◌+◌, ◌-◌, ◌++◌, true, false, List, [], ◌∷◌, Result, Ok, Err, if◌then◌else◌, nat_eq, nat_le, nat_lt, length, take}
+use Rattle.std.specs.List.{list_any}
 use Rattle.place.specs.declared.Place.{Place}
 use Rattle.syntax_tree.specs.declared.Name.{Name}
 use Rattle.types.specs.declared.form.TypeId.{TypeId}
@@ -14,7 +15,7 @@ use Rattle.typed_tree.specs.declared.fault.TypeFault.TheVariants as fault
 use Rattle.typed_tree.specs.declared.site.SiteKind.{SiteKind}
 use Rattle.typed_tree.specs.Look.{Mark}
 use Rattle.typing.specs.Names.{folded, required_region}
-use Rattle.typing.specs.Passing.{Passed, Checked, Passing, after, and_then, mark, ◌>>=◌}
+use Rattle.typing.specs.Passing.{Passed, Checked, Passing, after, and_then, pure, mark, ◌>>=◌}
 
 -- the most sites of a program
 abbrev pub most_sites : ℕ
@@ -38,6 +39,8 @@ begins start = record {
   has_output = false;
   sites = [];
   entries = 0;
+  loops = 0;
+  controls = [];
   latest = start;
 }
 
@@ -54,6 +57,18 @@ enter = λ s.
 -- a form that looks so is entered
 unfoldable pub enter_as : (ℕ → Mark) → Passing (Unit {0})
 enter_as marked = enter >>= (λ number. mark (marked number))
+
+-- the number of a loop that begins
+unfoldable pub number_loop : Passing ℕ
+number_loop = λ s. Ok (after s.loops [] (record s { loops = s.loops + 1 }))
+
+-- a loop is entered, by its number among the entries and its number among the loops
+unfoldable pub begin_loop : Passing (ℕ × ℕ)
+begin_loop = enter >>= (λ number. number_loop >>= (λ loop_number. pure (number, loop_number)))
+
+-- a loop that looks so is entered
+unfoldable pub enter_loop : (ℕ → ℕ → Mark) → Passing (Unit {0})
+enter_loop marked = begin_loop >>= (λ numbers. mark (marked numbers.0 numbers.1))
 
 -- a site, by its id
 unfoldable pub site : SiteKind → Place → Passing ℕ
@@ -78,6 +93,20 @@ unfoldable pub find : Name → Passing Denotation
 find name = λ s.
     and_then (told name.place (found s.regions (folded name.text.now)))
     (λ denotation. Ok (after denotation [] (record s { latest = name.place })))
+
+-- a variable may be changed, if it isn't the control variable of a for statement round the place; else it is K5 at its
+-- name
+unfoldable pub may_change : Place → ℕ → Passing (Unit {0})
+may_change place root = λ s.
+    if list_any (λ control. nat_eq control root) s.controls then Err (fault.Threatened place) else Ok (after tt [] s)
+
+-- the statement of a for begins, of this control variable
+unfoldable pub begin_control : ℕ → Passing (Unit {0})
+begin_control root = λ s. Ok (after tt [] (record s { controls = s.controls ++ root ∷ [] }))
+
+-- it ends
+unfoldable pub end_control : Passing (Unit {0})
+end_control = λ s. Ok (after tt [] (record s { controls = take (length s.controls - 1) s.controls }))
 
 -- the region of a block that defines these names, in small letters
 unfoldable pub open_block : List (List ℕ) → Passing (Unit {0})

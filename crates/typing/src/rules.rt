@@ -2,13 +2,13 @@
 ghost use Rattle.std.specs.Prelude.{◌≡◌, nat_eq};
 ghost use Rattle.typing.specs.Steps.{told};
 ghost use Rattle.typing.specs.Expressions.{sign_operation, both_of, result_type, function_type, as_function};
-ghost use Rattle.typing.specs.Statements.{as_variable, as_procedure, fitting, ends_line, is_output, representation_of};
+ghost use Rattle.typing.specs.Statements.{as_variable, as_procedure, fitting, ends_line, is_output, representation_of, way};
 
 use place::Place;
 use scopes::{Denotation, RequiredFunction, RequiredProcedure, ScopeFault};
 use syntax_tree::{Operator, Sign};
 use typed_tree::fault::TypeFault;
-use typed_tree::tree::{Monadic, Representation};
+use typed_tree::tree::{Direction, Monadic, Representation};
 use types::{OrdinalRange, TypeForm, TypeId, TypeTable};
 
 // What the scopes answer, at a place.
@@ -126,6 +126,16 @@ pub fn fitting(types: &TypeTable, target: TypeId, value: TypeId) -> Option<Ordin
         return None;
     }
     types.range(target)
+}
+
+/// The way of a control variable (6.8.3.9).
+pub fn way(direction: syntax_tree::Direction) -> Direction
+    ensures { result ≡ way direction }
+{
+    match direction {
+        syntax_tree::Direction::To => Direction::To,
+        syntax_tree::Direction::DownTo => Direction::DownTo,
+    }
 }
 
 /// How a value of a type is written (6.9.3).

@@ -37,6 +37,17 @@ impl Typer {
         Ok(number)
     }
 
+    /// The numbers of the loop that is entered: among the statements and expressions, and among the loops.
+    #[tactic(auto, unfolding(crate::specs::Steps::begin_loop, crate::specs::Steps::enter, crate::specs::Steps::number_loop))]
+    pub fn enter_loop(&mut self) -> Result<(u32, u32), TypeFault>
+        ensures { Tells (spec.begin_loop self.old) result self.new }
+    {
+        let loop_number = self.loops;
+        let number = self.enter()?;
+        self.loops = loop_number + 1;
+        Ok((number, loop_number))
+    }
+
     /// The id of a new site. Sites come in the order of their tokens.
     #[tactic(auto, using(crate::proofs::Rows::one_site_more), unfolding(crate::specs::Steps::site))]
     pub fn site(&mut self, kind: SiteKind, place: Place) -> Result<u32, TypeFault>
@@ -60,6 +71,35 @@ impl Typer {
         let denotation = placed(self.scopes.find(&self.key), name.place)?;
         self.latest = name.place;
         Ok(denotation)
+    }
+
+    /// A variable may be changed, if it isn't the control variable of a for statement round the place (6.8.3.9); else it
+    /// is K5 at its name.
+    #[tactic(auto, unfolding(crate::specs::Steps::may_change))]
+    pub fn may_change(&self, place: Place, root: u32) -> Result<(), TypeFault>
+        ensures { Tells (spec.may_change place root self.now) result self.now }
+    {
+        if self.controls.contains(&root) {
+            return Err(TypeFault::Threatened(place));
+        }
+        Ok(())
+    }
+
+    /// The statement of a for begins, of this control variable.
+    #[tactic(auto, unfolding(crate::specs::Steps::begin_control))]
+    pub fn begin_control(&mut self, root: u32) -> Result<(), TypeFault>
+        ensures { Takes (spec.begin_control root self.old) result self.new }
+    {
+        self.controls.push(root)?;
+        Ok(())
+    }
+
+    /// It ends.
+    #[tactic(auto, unfolding(crate::specs::Steps::end_control))]
+    pub fn end_control(&mut self)
+        ensures { spec.end_control self.old ≡ Ok (after tt [] self.new) }
+    {
+        let _ = self.controls.pop();
     }
 
     /// Begins the region of the required identifiers, which stands round the program (6.2.2.10).

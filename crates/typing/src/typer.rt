@@ -11,7 +11,7 @@ use std::alloc::Global;
 use std::marker::Model;
 use typed_tree::fault::TypeFault;
 use typed_tree::site::Site;
-use typed_tree::tree::{Block, Tree, Variable};
+use typed_tree::tree::{Block, Loop, Tree, Variable};
 use types::TypeTable;
 
 /// The most sites, and the most points, of a program.
@@ -38,6 +38,10 @@ pub struct Typer {
     pub(crate) sites: Vec<Site>,
     // How many statements and expressions were entered.
     pub(crate) entries: u32,
+    // How many loops began: each is a statement.
+    pub(crate) loops: u32,
+    // Those of the for statements round the place, by root number, the outermost first.
+    pub(crate) controls: Vec<u32>,
     // The place of the latest token that the syntax tree tells.
     pub(crate) latest: Place,
     // The name that was looked up last, in small letters. It is kept, so that the use of a name asks for no memory.
@@ -45,6 +49,7 @@ pub struct Typer {
     ghost in_order: { AreInOrder sites.items },
     ghost few_sites: { vec_len sites ≤ MOST_SITES },
     ghost few_entries: { entries ≤ MOST_ENTRIES },
+    ghost few_loops: { loops ≤ entries },
     ghost room: { vec_len variables ≤ cells },
     ghost few_cells: { cells ≤ MOST_CELLS },
 }
@@ -60,6 +65,8 @@ impl Model for Typer {
       has_output = t.has_output;
       sites = map stands t.sites.items;
       entries = t.entries;
+      loops = t.loops;
+      controls = t.controls.items;
       latest = t.latest;
     } };
 }
@@ -81,14 +88,17 @@ impl Typer {
             has_output: false,
             sites: Vec::new(alloc),
             entries: 0,
+            loops: 0,
+            controls: Vec::new(alloc),
             latest: start,
             key: Vec::new(alloc),
         })
     }
 
-    /// The typed tree of the program that was passed, by its blocks.
-    pub fn tree(self, blocks: Vec<Block>) -> Tree
+    /// The typed tree of the program that was passed, by its blocks and its table of loops.
+    pub fn tree(self, blocks: Vec<Block>, loops: Vec<Loop>) -> Tree
         ensures blocks { result.blocks ≡ blocks }
+        ensures loops { result.loops ≡ loops }
         ensures left { IsLeft self result }
     {
         let points = Vec::new(self.alloc);
@@ -97,6 +107,7 @@ impl Typer {
             variables: self.variables,
             sites: self.sites,
             points,
+            loops,
             types: self.types,
         }
     }

@@ -35,6 +35,7 @@ pub record Ready (bound : ℕ) (s : Passed) : Type 0 where
   pub types : s.types ≡ required_forms
   pub sites : s.sites ≡ []
   pub entries : s.entries ≡ 0
+  pub loops : s.loops ≡ 0
   pub by_program : list_all (λ variable. nat_eq variable.block 0) s.variables ≡ true
   pub declared : length s.variables ≤ s.cells
   pub room : s.cells ≤ most_cells
@@ -49,12 +50,13 @@ pub record Keeps (From : Passed → Type 0) {A : Type 0} (p : Passing A) (To : A
 
 -- other regions, and all else the same
 ready_as : {bound now : ℕ} {s new : Passed} → AreSound now new.regions → Ready bound s → new.types ≡ s.types → new.sites ≡ s.sites → new.entries ≡ s.entries
-    → new.variables ≡ s.variables → new.cells ≡ s.cells → Ready now new
-ready_as sound r types sites entries variables cells = record {
+    → new.loops ≡ s.loops → new.variables ≡ s.variables → new.cells ≡ s.cells → Ready now new
+ready_as sound r types sites entries loops variables cells = record {
   sound = sound;
   types = types ∙ r.types;
   sites = sites ∙ r.sites;
   entries = entries ∙ r.entries;
+  loops = loops ∙ r.loops;
   by_program = ap (list_all (λ variable. nat_eq variable.block 0)) variables ∙ r.by_program;
   declared = omega (arith, ap length variables, cells, r.declared);
   room = omega (arith, cells, r.room);
@@ -92,12 +94,12 @@ each_keeps law (x ∷ xs) = keeps_then (law x) λ _. each_keeps law xs
 open_required_keeps : Keeps IsReady open_required Readied
 unfolding open_required
 open_required_keeps = always open_required tt (λ s. record s { regions = required_region ∷ s.regions }) (λ s. refl) λ s r.
-    ready_as (required_sound (length s.variables), r.sound) r refl refl refl refl refl
+    ready_as (required_sound (length s.variables), r.sound) r refl refl refl refl refl refl
 
 open_block_keeps : (names : List (List ℕ)) → Keeps IsReady (open_block names) Readied
 unfolding open_block
 open_block_keeps names = always (open_block names) tt (λ s. record s { regions = opened names ∷ s.regions }) (λ s. refl) λ s r.
-    ready_as (opened_sound (length s.variables) names, r.sound) r refl refl refl refl refl
+    ready_as (opened_sound (length s.variables) names, r.sound) r refl refl refl refl refl refl
 
 told_is : {A : Type 0} (place : Place) (r : Result A ScopeFault) (x : A) → told place r ≡ Ok x → r ≡ Ok x
 told_is place (Ok a) x is = let same : a ≡ x = cc in ap Ok same
@@ -116,7 +118,7 @@ declare_keeps name denotation bound same_bound = record {
       let same : after tt [] (record s { regions = x.0 }) ≡ a = cc in
       let sound = define_sound (bound s) text denotation s.regions x.0 from.1 r.sound (told_is name.place (define text denotation s.regions) x.0 x.1) in
       subst (λ (z : After (Unit {0})). (z.look ≡ []) × Ready (bound z.passed) z.passed) same
-      (refl, subst (λ n. Ready n (record s { regions = x.0 })) (sym (same_bound s x.0)) (ready_as sound r refl refl refl refl refl));
+      (refl, subst (λ n. Ready n (record s { regions = x.0 })) (sym (same_bound s x.0)) (ready_as sound r refl refl refl refl refl refl));
 }
 
 -- ---- the parameter and the variables
@@ -124,7 +126,7 @@ declare_keeps name denotation bound same_bound = record {
 give_output_keeps : Keeps IsReady give_output Readied
 unfolding give_output
 give_output_keeps = always give_output tt (λ s. record s { has_output = true }) (λ s. refl) λ s r.
-    ready_as r.sound r refl refl refl refl refl
+    ready_as r.sound r refl refl refl refl refl refl
 
 parameter_keeps : (name : Name) → Keeps IsReady (parameter_of_program name) Readied
 unfolding parameter_of_program
@@ -167,6 +169,7 @@ reserve_keeps place type_id = record {
         types = r.types;
         sites = r.sites;
         entries = r.entries;
+        loops = r.loops;
         by_program = list_all-append (λ (v : Variable). nat_eq v.block 0) s.variables (one ∷ []) ∙ both_true _ _ r.by_program refl;
         declared = omega (arith, counted, cell, r.declared);
         room = at_most most_cells taken x.0;
@@ -191,7 +194,7 @@ variable_keeps type_id name = keeps_then next_root_keeps λ root. keeps_then (de
       keeps = λ s a is from.
           let r = from.0 in
           let n = length s.variables in
-          let next : Ready (n + 1) s = ready_as (regions_more n (n + 1) (omega arith) s.regions r.sound) r refl refl refl refl refl in
+          let next : Ready (n + 1) s = ready_as (regions_more n (n + 1) (omega arith) s.regions r.sound) r refl refl refl refl refl refl in
           (declare_keeps name (denotes.Variable root type_id) (λ s. length s.variables + 1) (λ s regions. refl)).keeps s a is (next, omega (arith, from.1));
     }
 
@@ -202,7 +205,7 @@ denoted_type_keeps names (denoter.Name name) = record {
       let told_type = named_type names name (found s.regions (folded name.text.now)) in
       let x = split told_type (λ type_id. Ok (after type_id [] (record s { latest = name.place }))) a is in
       let same : after x.0 [] (record s { latest = name.place }) ≡ a = cc in
-      let ready : IsReady (record s { latest = name.place }) = ready_as r.sound r refl refl refl refl refl in
+      let ready : IsReady (record s { latest = name.place }) = ready_as r.sound r refl refl refl refl refl refl in
       subst (λ (z : After TypeId). (z.look ≡ []) × IsReady z.passed) same (refl, ready);
 }
 

@@ -1,5 +1,5 @@
 -- The law of every expression, by induction over its form.
-use Rattle.std.proofs.Common.{◌≡◌, ℕ, List, [], ◌∷◌, ◌++◌, map, Option, Some, None, Ok, refl, sym, subst}
+use Rattle.std.proofs.Common.{◌≡◌, ℕ, List, [], ◌∷◌, ◌++◌, map, Option, Some, None, Ok, refl, sym, ap, subst, ◌∙◌, append_assoc}
 use Rattle.place.specs.declared.Place.{Place}
 use Rattle.syntax_tree.specs.declared.Expr.{Expr}
 use Rattle.syntax_tree.specs.declared.Link.{Link}
@@ -72,10 +72,16 @@ module _ (variables : ℕ) where
   one_lawful place places a w law is =
       let same = by a.value a.width is in
       record {
+        begins = (
+          law.value.begins.0 ++ (law.of_width ++ []),
+          ap (λ l. l ++ []) law.places_are ∙ append_assoc law.of_value law.of_width []
+              ∙ ap (λ l. l ++ (law.of_width ++ [])) law.value.begins.1
+              ∙ ap (λ (z : Written). z.first ∷ (law.value.begins.0 ++ (law.of_width ++ []))) same,
+        );
         types = λ least lead led.
             sited (λ sites has.
-            covers_more places [] sites (subst (λ p. Covers p sites) (sym law.places_are) (covers_more law.of_value law.of_width sites has)))
-            (subst (λ (z : Written). Does variables least (Covers law.of_value) (z.typing lead) Types) same (law.value.types least lead led));
+            covers_more 2 places [] sites (subst (λ p. Covers 2 p sites) (sym law.places_are) (covers_more 2 law.of_value law.of_width sites has)))
+            (subst (λ (z : Written). Does variables least (Covers 2 law.of_value) (z.typing lead) Types) same (law.value.types least lead led));
       }
     where
       by : (value : Written) (width : Option Written) → without_width place value width ≡ Ok w → value ≡ w
@@ -92,7 +98,7 @@ module _ (variables : ℕ) where
   bare_links ys = map (λ (y : WithLink). y.0) ys
 
   links_lawful : (ys : List WithLink) (now : ℕ) (type_id : TypeId)
-      → Does variables now (Covers (joined_places (map link_places (bare_links ys)))) (links type_id (map written_link (bare_links ys))) Anything
+      → Does variables now (Covers 2 (joined_places (map link_places (bare_links ys)))) (links type_id (map written_link (bare_links ys))) Anything
   links_lawful [] now type_id = links_none variables type_id
   links_lawful (y ∷ ys) now type_id =
       links_more variables type_id (written_link y.0) (map written_link (bare_links ys)) (link_places y.0) (joined_places (map link_places (bare_links ys))) y.1

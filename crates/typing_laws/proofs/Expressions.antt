@@ -19,7 +19,7 @@ use Rattle.typed_tree.specs.Look.{Constant, Variable, Operation}
 use Rattle.typing.specs.Passing.{Checked, Passing}
 use Rattle.typing.specs.Expressions.{Typed, Written, WrittenLink, typed, fits, number, denoted, named, parenthesized, negation, signed, sign_operation}
 use Rattle.typing_laws.proofs.Sound.{IsSound}
-use Rattle.typing_laws.proofs.Covers.{AreAscending, Covers, Leads, leads_first, leads_more, leads_covers}
+use Rattle.typing_laws.proofs.Covers.{AreAbove, Covers, Leads, leads_first, leads_more, leads_covers}
 use Rattle.typing_laws.proofs.Grown.{both_true}
 use Rattle.typing_laws.proofs.Steps.{Does, Anything, joins, quietly, checks, sited, pass_does, pure_does, given_does, fail_does, find_does, enter_does}
 use Rattle.typing_laws.proofs.Steps.{site_does, led, IsKnown, behind_does}
@@ -31,13 +31,13 @@ abbrev pub IsLed : Option SiteKind → Type 0
 IsLed None = Unit {0}
 IsLed (Some kind) = 11 < number_of kind
 
-pub led_alone : (lead : Option SiteKind) → AreAscending (led lead)
-led_alone None = tt
-led_alone (Some kind) = tt
+pub led_alone : (lead : Option SiteKind) → IsLed lead → AreAbove 2 (led lead)
+led_alone None is = tt
+led_alone (Some kind) is = (omega (arith, is), tt)
 
-pub led_behind : (own : SiteKind) (lead : Option SiteKind) → number_of own ≤ 11 → IsLed lead → AreAscending (own ∷ led lead)
-led_behind own None low is = tt
-led_behind own (Some kind) low is = (omega (arith, low, is), tt)
+pub led_behind : (own : SiteKind) (lead : Option SiteKind) → 2 < number_of own → number_of own ≤ 11 → IsLed lead → AreAbove 2 (own ∷ led lead)
+led_behind own None high low is = (high, tt)
+led_behind own (Some kind) high low is = (high, (omega (arith, low, is), tt))
 
 pub known_later : (id : Option ℕ) (now next : ℕ) → now ≤ next → IsKnown id now → IsKnown id next
 known_later None now next more known = tt
@@ -53,12 +53,13 @@ Types t now = IsKnown t.site now
 -- ---- the laws
 
 module _ (variables : ℕ) where
-  -- an expression, with any leading site
+  -- an expression, with any leading site: its own ones are of kinds above those of a test that stands before them
   pub record LawfulWritten (places : List Place) (w : Written) : Type 0 where
-    pub types : (least : ℕ) (lead : Option SiteKind) → IsLed lead → Does variables least (Covers places) (w.typing lead) Types
+    pub begins : (others : List Place) × (places ≡ w.first ∷ others)
+    pub types : (least : ℕ) (lead : Option SiteKind) → IsLed lead → Does variables least (Covers 2 places) (w.typing lead) Types
 
   pub record LawfulLink (places : List Place) (l : WrittenLink) : Type 0 where
-    pub types : (least : ℕ) (left : TypeId) → Does variables least (Covers places) (l left) Anything
+    pub types : (least : ℕ) (left : TypeId) → Does variables least (Covers 2 places) (l left) Anything
 
   -- ---- constants and variables
 
@@ -66,42 +67,42 @@ module _ (variables : ℕ) where
   fits_is true place answer other is = (refl, cc)
   fits_is false place answer other is = absurd cc
 
-  pub led_covers : (place : Place) (places : List Place) (kinds : List SiteKind) → AreAscending kinds
-      → {least : ℕ} {A : Type 0} {p : Passing A} {K : A → ℕ → Type 0} → Does variables least (Leads place kinds places) p K
-      → Does variables least (Covers (place ∷ places)) p K
-  led_covers place places kinds ascending d = sited (λ sites. leads_covers place kinds places sites ascending) d
+  pub led_covers : (low : ℕ) (place : Place) (places : List Place) (kinds : List SiteKind) → AreAbove low kinds
+      → {least : ℕ} {A : Type 0} {p : Passing A} {K : A → ℕ → Type 0} → Does variables least (Leads low place kinds places) p K
+      → Does variables least (Covers low (place ∷ places)) p K
+  led_covers low place places kinds ascending d = sited (λ sites. leads_covers low place kinds places sites ascending) d
 
   pub number_does : (value : ℕ) (place : Place) → LawfulWritten (place ∷ []) (record { first = place; typing = number value place })
   unfolding number
-  number_does value place = record { types = λ least lead is. led_covers place [] (led lead) (led_alone lead) (by least lead) }
+  number_does value place = record { begins = ([], refl); types = λ least lead is. led_covers 2 place [] (led lead) (led_alone lead is) (by least lead) }
     where
-      by : (least : ℕ) (lead : Option SiteKind) → Does variables least (Leads place (led lead) []) (number value place lead) Types
+      by : (least : ℕ) (lead : Option SiteKind) → Does variables least (Leads 2 place (led lead) []) (number value place lead) Types
       by least lead =
           quietly (pass_does place) λ _ _ _ _.
-          joins (leads_first place (led lead) []) (behind_does lead place) λ id now _ known.
+          joins (leads_first 2 place (led lead) []) (behind_does lead place) λ id now _ known.
           quietly (given_does (fits (nat_le value 2147483647) place (typed integer id))) λ t _ more is.
           let fit = fits_is (nat_le value 2147483647) place (typed integer id) t is in
-          quietly (enter_does (λ n. Constant n (pos value)) (λ n. refl) (λ n m h. fit.0)) λ _ next later _.
+          quietly (enter_does (λ n. Constant n (pos value)) (λ n. refl) (λ n. refl) (λ n m h. fit.0)) λ _ next later _.
           pure_does t (λ n h. subst (λ (z : Typed). IsKnown z.site n) fit.1 (known_later id now n (omega arith) known))
 
   denoted_does : (denotation : Denotation) (place : Place) {least : ℕ} (lead : Option SiteKind) → IsLed lead → IsSound variables denotation
-      → Does variables least (Covers (place ∷ [])) (denoted denotation place lead) Types
+      → Does variables least (Covers 2 (place ∷ [])) (denoted denotation place lead) Types
   unfolding denoted
-  denoted_does (denotes.Constant value type_id) place lead is sound = led_covers place [] (led lead) (led_alone lead) by
+  denoted_does (denotes.Constant value type_id) place lead is sound = led_covers 2 place [] (led lead) (led_alone lead is) by
     where
-      by : {least : ℕ} → Does variables least (Leads place (led lead) []) (denoted (denotes.Constant value type_id) place lead) Types
+      by : {least : ℕ} → Does variables least (Leads 2 place (led lead) []) (denoted (denotes.Constant value type_id) place lead) Types
       by =
-          joins (leads_first place (led lead) []) (behind_does lead place) λ id now _ known.
-          quietly (enter_does (λ n. Constant n value) (λ n. refl) (λ n m h. sound)) λ _ _ more _.
+          joins (leads_first 2 place (led lead) []) (behind_does lead place) λ id now _ known.
+          quietly (enter_does (λ n. Constant n value) (λ n. refl) (λ n. refl) (λ n m h. sound)) λ _ _ more _.
           pure_does (typed type_id id) (λ n h. known_later id now n (omega arith) known)
   denoted_does (denotes.Variable root type_id) place lead is sound =
-      led_covers place [] (kind.UndefinedVariable ∷ led lead) (led_behind kind.UndefinedVariable lead (omega arith) is) by
+      led_covers 2 place [] (kind.UndefinedVariable ∷ led lead) (led_behind kind.UndefinedVariable lead (omega arith) (omega arith) is) by
     where
-      by : {least : ℕ} → Does variables least (Leads place (kind.UndefinedVariable ∷ led lead) []) (denoted (denotes.Variable root type_id) place lead) Types
+      by : {least : ℕ} → Does variables least (Leads 2 place (kind.UndefinedVariable ∷ led lead) []) (denoted (denotes.Variable root type_id) place lead) Types
       by =
-          joins (leads_more place (kind.UndefinedVariable ∷ []) (led lead) []) (site_does kind.UndefinedVariable place) λ defined there _ test.
-          joins (leads_first place (led lead) []) (behind_does lead place) λ id now later known.
-          quietly (enter_does (λ n. Variable n root defined) (λ n. refl)
+          joins (leads_more 2 place (kind.UndefinedVariable ∷ []) (led lead) []) (site_does kind.UndefinedVariable place) λ defined there _ test.
+          joins (leads_first 2 place (led lead) []) (behind_does lead place) λ id now later known.
+          quietly (enter_does (λ n. Variable n root defined) (λ n. refl) (λ n. refl)
           (λ n m h. both_true _ _ (lt_true root variables sound) (lt_true defined m (omega (arith, test, later, h))))) λ _ _ more _.
           pure_does (typed type_id id) (λ n h. known_later id now n (omega arith) known)
   denoted_does (denotes.Procedure procedure) place lead is sound = fail_does (fault.WrongParameters place)
@@ -111,19 +112,19 @@ module _ (variables : ℕ) where
 
   pub named_does : (name : Name) → LawfulWritten (name.place ∷ []) (record { first = name.place; typing = named name })
   unfolding named
-  named_does name = record { types = λ least lead is. quietly (find_does name) λ denotation _ _ sound. denoted_does denotation name.place lead is sound }
+  named_does name = record { begins = ([], refl); types = λ least lead is. quietly (find_does name) λ denotation _ _ sound. denoted_does denotation name.place lead is sound }
 
   -- ---- one operand
 
   pub parenthesized_does : (place : Place) (places : List Place) (inner : Written) → LawfulWritten places inner
       → LawfulWritten (place ∷ places) (record { first = place; typing = parenthesized place inner })
   unfolding parenthesized
-  parenthesized_does place places inner law = record { types = λ least lead is. led_covers place places (led lead) (led_alone lead) (by least lead) }
+  parenthesized_does place places inner law = record { begins = (places, refl); types = λ least lead is. led_covers 2 place places (led lead) (led_alone lead is) (by least lead) }
     where
-      by : (least : ℕ) (lead : Option SiteKind) → Does variables least (Leads place (led lead) places) (parenthesized place inner lead) Types
+      by : (least : ℕ) (lead : Option SiteKind) → Does variables least (Leads 2 place (led lead) places) (parenthesized place inner lead) Types
       by least lead =
           quietly (pass_does place) λ _ _ _ _.
-          joins (leads_first place (led lead) places) (behind_does lead place) λ id now _ known.
+          joins (leads_first 2 place (led lead) places) (behind_does lead place) λ id now _ known.
           checks (law.types now None tt) λ types t b n more is _. answer id now n b t.type_id known more is
         where
           answer : (id : Option ℕ) (now n : ℕ) (b : Typed) (type_id : TypeId) → IsKnown id now → now ≤ n
@@ -140,13 +141,13 @@ module _ (variables : ℕ) where
   pub negation_does : (place : Place) (places : List Place) (operand : Written) → LawfulWritten places operand
       → LawfulWritten (place ∷ places) (record { first = place; typing = negation place operand })
   unfolding negation
-  negation_does place places operand law = record { types = λ least lead is. led_covers place places (led lead) (led_alone lead) (by least lead) }
+  negation_does place places operand law = record { begins = (places, refl); types = λ least lead is. led_covers 2 place places (led lead) (led_alone lead is) (by least lead) }
     where
-      by : (least : ℕ) (lead : Option SiteKind) → Does variables least (Leads place (led lead) places) (negation place operand lead) Types
+      by : (least : ℕ) (lead : Option SiteKind) → Does variables least (Leads 2 place (led lead) places) (negation place operand lead) Types
       by least lead =
           quietly (pass_does place) λ _ _ _ _.
-          joins (leads_first place (led lead) places) (behind_does lead place) λ id now _ known.
-          quietly (enter_does (λ n. Operation n monadic.Not) (λ n. refl) (λ n m h. refl)) λ _ next later _.
+          joins (leads_first 2 place (led lead) places) (behind_does lead place) λ id now _ known.
+          quietly (enter_does (λ n. Operation n monadic.Not) (λ n. refl) (λ n. refl) (λ n m h. refl)) λ _ next later _.
           checks (law.types next None tt) λ types t b n more is _. fits_known (is_same t.type_id boolean) place boolean id b now n is known (omega arith)
 
   signs_formed : (s : Sign) (sites : ℕ) → monadic_is_well_formed variables sites (sign_operation s) ≡ true
@@ -156,11 +157,11 @@ module _ (variables : ℕ) where
   pub signed_does : (s : Sign) (place : Place) (places : List Place) (operand : Written) → LawfulWritten places operand
       → LawfulWritten (place ∷ places) (record { first = place; typing = signed s place operand })
   unfolding signed
-  signed_does s place places operand law = record { types = λ least lead is. led_covers place places (led lead) (led_alone lead) (by least lead) }
+  signed_does s place places operand law = record { begins = (places, refl); types = λ least lead is. led_covers 2 place places (led lead) (led_alone lead is) (by least lead) }
     where
-      by : (least : ℕ) (lead : Option SiteKind) → Does variables least (Leads place (led lead) places) (signed s place operand lead) Types
+      by : (least : ℕ) (lead : Option SiteKind) → Does variables least (Leads 2 place (led lead) places) (signed s place operand lead) Types
       by least lead =
           quietly (pass_does place) λ _ _ _ _.
-          joins (leads_first place (led lead) places) (behind_does lead place) λ id now _ known.
-          quietly (enter_does (λ n. Operation n (sign_operation s)) (λ n. refl) (λ n m h. signs_formed s m)) λ _ next later _.
+          joins (leads_first 2 place (led lead) places) (behind_does lead place) λ id now _ known.
+          quietly (enter_does (λ n. Operation n (sign_operation s)) (λ n. refl) (λ n. refl) (λ n m h. signs_formed s m)) λ _ next later _.
           checks (law.types next None tt) λ types t b n more is _. fits_known (is_same t.type_id integer) place integer id b now n is known (omega arith)

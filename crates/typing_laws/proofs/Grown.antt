@@ -1,10 +1,10 @@
 -- What a form does to what is known: it adds sites and entries, and its marks are well formed. All else stays.
 use Rattle.std.proofs.Common.{◌≡◌, ℕ, zero, suc, ◌+◌, ◌≤◌, Bool, true, ◌&&◌, List, ◌∷◌, ◌++◌, length, append_assoc, length-append, sym, ap, subst, ◌∙◌, arith}
-use Rattle.std.specs.List.{range_with_len, list_all}
+use Rattle.std.specs.List.{range_with_len, list_all, flat_map}
 use Rattle.std.proofs.lemmas.List.Folds.{list_all-append}
 use Rattle.std.proofs.lemmas.Grind.{flat_map-append}
 use Rattle.typed_tree.specs.Ids.{Stands}
-use Rattle.typed_tree.specs.Look.{Look, mark_entries, entries_of_look, is_formed_mark}
+use Rattle.typed_tree.specs.Look.{Mark, Look, mark_entries, entries_of_look, mark_loops, loops_of_look, is_formed_mark}
 use Rattle.typing.specs.Passing.{Passed}
 use Rattle.typing.specs.Steps.{most_sites, most_entries}
 use Rattle.typing_laws.proofs.Sound.{AreSound}
@@ -27,6 +27,8 @@ pub record Grown (variables : ℕ) (Has : List Stands → Type 0) (look : Look) 
   pub numbered : entries_of_look look ≡ range_with_len old.entries (length (entries_of_look look))
   pub entered : new.entries ≡ old.entries + length (entries_of_look look)
   pub few_entries : new.entries ≤ most_entries
+  pub looped : loops_of_look look ≡ range_with_len old.loops (length (loops_of_look look))
+  pub begun : new.loops ≡ old.loops + length (loops_of_look look)
   pub formed : (n : ℕ) → length new.sites ≤ n → list_all (is_formed_mark variables n) look ≡ true
 
 pub range_joins : (a m n : ℕ) → range_with_len a (m + n) ≡ range_with_len a m ++ range_with_len (a + m) n
@@ -55,6 +57,21 @@ pub more_sites : {variables : ℕ} {Has : List Stands → Type 0} {look : Look} 
     → length old.sites ≤ length new.sites
 more_sites {old = old} g = omega (arith, ap length g.sites, length-append old.sites g.added)
 
+-- numbers that marks have
+module _ (numbers : Mark → List ℕ) (look more : Look) where
+  counted : length (flat_map numbers (look ++ more)) ≡ length (flat_map numbers look) + length (flat_map numbers more)
+  counted = ap length (flat_map-append numbers look more) ∙ length-append (flat_map numbers look) (flat_map numbers more)
+
+  -- they go on
+  go_on : (from next : ℕ) → flat_map numbers look ≡ range_with_len from (length (flat_map numbers look)) → next ≡ from + length (flat_map numbers look)
+      → flat_map numbers more ≡ range_with_len next (length (flat_map numbers more))
+      → flat_map numbers (look ++ more) ≡ range_with_len from (length (flat_map numbers (look ++ more)))
+  go_on from next one is two =
+      flat_map-append numbers look more ∙ ap (λ l. l ++ flat_map numbers more) one
+      ∙ ap (λ l. range_with_len from (length (flat_map numbers look)) ++ l) (two ∙ ap (λ n. range_with_len n (length (flat_map numbers more))) is)
+      ∙ sym (range_joins from (length (flat_map numbers look)) (length (flat_map numbers more)))
+      ∙ ap (range_with_len from) (sym counted)
+
 -- one form, and then another
 pub grown_then : {variables : ℕ} {First Second Both : List Stands → Type 0} {look more : Look} {old now new : Passed}
     → ((a b : List Stands) → First a → Second b → Both (a ++ b))
@@ -67,22 +84,12 @@ grown_then {variables} {First} {Second} {Both} {look} {more} {old} {now} {new} j
   sites = g.sites ∙ ap (λ l. l ++ g.added) f.sites ∙ append_assoc old.sites f.added g.added;
   covered = joined f.added g.added f.covered g.covered;
   few_sites = g.few_sites;
-  numbered = parts ∙ ap (λ l. l ++ entries_of_look more) f.numbered
-      ∙ ap (λ l. range_with_len old.entries (length (entries_of_look look)) ++ l) next
-      ∙ sym (range_joins old.entries (length (entries_of_look look)) (length (entries_of_look more)))
-      ∙ ap (range_with_len old.entries) (sym counted);
-  entered = omega (arith, f.entered, g.entered, counted);
+  numbered = go_on mark_entries look more old.entries now.entries f.numbered f.entered g.numbered;
+  entered = omega (arith, f.entered, g.entered, counted mark_entries look more);
   few_entries = g.few_entries;
+  looped = go_on mark_loops look more old.loops now.loops f.looped f.begun g.looped;
+  begun = omega (arith, f.begun, g.begun, counted mark_loops look more);
   formed = λ n h.
       list_all-append (is_formed_mark variables n) look more
       ∙ both_true _ _ (f.formed n (omega (arith, more_sites g, h))) (g.formed n h);
 }
-  where
-    next : entries_of_look more ≡ range_with_len (old.entries + length (entries_of_look look)) (length (entries_of_look more))
-    next = g.numbered ∙ ap (λ n. range_with_len n (length (entries_of_look more))) f.entered
-
-    parts : entries_of_look (look ++ more) ≡ entries_of_look look ++ entries_of_look more
-    parts = flat_map-append mark_entries look more
-
-    counted : length (entries_of_look (look ++ more)) ≡ length (entries_of_look look) + length (entries_of_look more)
-    counted = ap length parts ∙ length-append (entries_of_look look) (entries_of_look more)

@@ -1,12 +1,12 @@
 -- Sites that stand at places in their order stand by place and then by kind.
-use Rattle.std.proofs.Common.{◌<◌, IsTrue, List, [], ◌∷◌, ◌++◌, sym, subst, arith}
+use Rattle.std.proofs.Common.{ℕ, ◌<◌, IsTrue, List, [], ◌∷◌, ◌++◌, sym, subst, arith}
 use Rattle.std.proofs.lemmas.Bool.Decides.{nat_tests}
 use Rattle.place.specs.declared.Place.{Place}
 use Rattle.place.specs.Place.{comes_before, ArePlacesInOrder}
 use Rattle.typed_tree.specs.declared.site.SiteKind.{SiteKind}
 use Rattle.typed_tree.specs.Sites.{number_of}
 use Rattle.typed_tree.specs.Ids.{Stands, stands_before, AreByPlace}
-use Rattle.typing_laws.proofs.Covers.{AreAscending, at_place, Covers}
+use Rattle.typing_laws.proofs.Covers.{AreAbove, at_place, Covers}
 
 before_trans : (a b c : Place) → IsTrue (comes_before a b) → IsTrue (comes_before b c) → IsTrue (comes_before a c)
 before_trans a b c h k = grind (arith, nat_tests)
@@ -32,7 +32,7 @@ abbrev FirstBehind : Place → List Stands → Type 0
 FirstBehind place [] = Unit {0}
 FirstBehind place (one ∷ others) = IsTrue (comes_before place one.1)
 
-first_behind : (place : Place) (places : List Place) (sites : List Stands) → ArePlacesInOrder (place ∷ places) → Covers places sites → FirstBehind place sites
+first_behind : (place : Place) (places : List Place) (sites : List Stands) → ArePlacesInOrder (place ∷ places) → Covers 0 places sites → FirstBehind place sites
 first_behind place [] sites order none = subst (FirstBehind place) (sym none) tt
 first_behind place (next ∷ places) sites order covered =
     subst (FirstBehind place) (sym covered.2) (by covered.0 (first_behind place places covered.1 (order_without place next places order) covered.4))
@@ -43,17 +43,17 @@ first_behind place (next ∷ places) sites order covered =
 
 -- ---- sites by place
 
-group_by_place : (place : Place) (here : List SiteKind) (later : List Stands) → AreAscending here → FirstBehind place later → AreByPlace later
+group_by_place : (low : ℕ) (place : Place) (here : List SiteKind) (later : List Stands) → AreAbove low here → FirstBehind place later → AreByPlace later
     → AreByPlace (at_place place here ++ later)
-group_by_place place [] later ascending behind ordered = ordered
-group_by_place place (kind ∷ []) [] ascending behind ordered = tt
-group_by_place place (kind ∷ []) (one ∷ others) ascending behind ordered = (at_earlier (kind, place) one behind, ordered)
-group_by_place place (kind ∷ next ∷ here) later ascending behind ordered =
-    (at_same place kind next ascending.0, group_by_place place (next ∷ here) later ascending.1 behind ordered)
+group_by_place low place [] later ascending behind ordered = ordered
+group_by_place low place (kind ∷ []) [] ascending behind ordered = tt
+group_by_place low place (kind ∷ []) (one ∷ others) ascending behind ordered = (at_earlier (kind, place) one behind, ordered)
+group_by_place low place (kind ∷ next ∷ here) later ascending behind ordered =
+    (at_same place kind next ascending.1.0, group_by_place (number_of kind) place (next ∷ here) later ascending.1 behind ordered)
 
-pub covers_by_place : (places : List Place) (sites : List Stands) → ArePlacesInOrder places → Covers places sites → AreByPlace sites
+pub covers_by_place : (places : List Place) (sites : List Stands) → ArePlacesInOrder places → Covers 0 places sites → AreByPlace sites
 covers_by_place [] sites order none = subst AreByPlace (sym none) tt
 covers_by_place (place ∷ places) sites order covered =
     subst AreByPlace (sym covered.2)
-    (group_by_place place covered.0 covered.1 covered.3 (first_behind place places covered.1 order covered.4)
+    (group_by_place 0 place covered.0 covered.1 covered.3 (first_behind place places covered.1 order covered.4)
     (covers_by_place places covered.1 (order_tail place places order) covered.4))

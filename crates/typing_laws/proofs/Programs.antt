@@ -5,7 +5,7 @@ use Rattle.syntax_tree.specs.declared.Program.{Program}
 use Rattle.syntax_tree.specs.declared.Block.{Block}
 use Rattle.syntax_tree.specs.Places.{name_places, group_places, stmt_places, program_places}
 use Rattle.typed_tree.specs.Ids.{Stands, AreByPlace}
-use Rattle.typed_tree.specs.Look.{BlockEnds, entries_of_look, is_formed_mark}
+use Rattle.typed_tree.specs.Look.{BlockEnds, entries_of_look, loops_of_look, is_formed_mark}
 use Rattle.typing.specs.Passing.{Passed, After, after, behind_marks}
 use Rattle.typing.specs.Steps.{begins}
 use Rattle.typing.specs.Statements.{statement}
@@ -19,33 +19,34 @@ use Rattle.typing_laws.proofs.Statements.{compound_does, statements_lawful}
 use Rattle.typing_laws.proofs.Declarations.{IsReady, declarations_keep}
 
 -- the statements of a block
-statement_part_does : (variables : ℕ) (block : Block) → Does variables 0 (Covers (flat_map stmt_places block.statements.items)) (statement_part block) Anything
+statement_part_does : (variables : ℕ) (block : Block) → Does variables 0 (Covers 0 (flat_map stmt_places block.statements.items)) (statement_part block) Anything
 unfolding statement_part
 statement_part_does variables block =
     let items = block.statements.items in
     last ((compound_does variables (flat_map stmt_places items) (map statement items) (statements_lawful variables items)).passes 0) λ _ _ _ _.
-    mark_does (BlockEnds block.end) refl (λ n h. refl)
+    mark_does (BlockEnds block.end) refl refl (λ n h. refl)
 
 -- the places of the statements are among those of the program
-program_covers : (program : Program) (sites : List Stands) → Covers (flat_map stmt_places program.block.statements.items) sites
-    → Covers (program_places program) sites
+program_covers : (program : Program) (sites : List Stands) → Covers 0 (flat_map stmt_places program.block.statements.items) sites
+    → Covers 0 (program_places program) sites
 program_covers program sites has =
     let statements = flat_map stmt_places program.block.statements.items in
     let groups = flat_map group_places program.block.variables.items in
     let ends = program.block.end ∷ [] in
-    covers_skip program.name.place (name_places program.parameters.items ++ (groups ++ (statements ++ ends))) sites
-    (covers_behind (name_places program.parameters.items) (groups ++ (statements ++ ends)) sites
-    (covers_behind groups (statements ++ ends) sites (covers_more statements ends sites has)))
+    covers_skip 0 program.name.place (name_places program.parameters.items ++ (groups ++ (statements ++ ends))) sites
+    (covers_behind 0 (name_places program.parameters.items) (groups ++ (statements ++ ends)) sites
+    (covers_behind 0 groups (statements ++ ends) sites (covers_more 0 statements ends sites has)))
 
 -- behind the declarations
 fine_ready : (s : Passed) → IsReady s → Fine (length s.variables) s
 fine_ready s r = record { sound = r.sound; few_sites = omega (arith, ap length r.sites); few_entries = omega (arith, r.entries) }
 
 grown_lawful : (program : Program) (s : Passed) (a : After (Unit {0})) → IsReady s
-    → Grown (length s.variables) (Covers (flat_map stmt_places program.block.statements.items)) a.look s a.passed → Lawful program a
+    → Grown (length s.variables) (Covers 0 (flat_map stmt_places program.block.statements.items)) a.look s a.passed → Lawful program a
 grown_lawful program s a r g = record {
   numbered = g.numbered ∙ ap (λ n. range_with_len n (length (entries_of_look a.look))) r.entries;
   few_entries = omega (arith, g.entered, g.few_entries);
+  loops = g.looped ∙ ap (λ n. range_with_len n (length (loops_of_look a.look))) r.loops;
   formed = ap (λ n. list_all (is_formed_mark n (length a.passed.sites)) a.look) kept ∙ g.formed (length a.passed.sites) (omega arith);
   few_variables = omega (arith, kept, r.declared, r.room);
   declared = ap (list_all (λ variable. nat_eq variable.block 0)) g.variables_kept ∙ r.by_program;
@@ -71,6 +72,7 @@ typing_is_lawful program a is =
       types = refl;
       sites = refl;
       entries = refl;
+      loops = refl;
       by_program = refl;
       declared = omega arith;
       room = omega arith;

@@ -1,11 +1,12 @@
 -- What statements do, form by form, and the law of every statement, by induction over its form.
-use Rattle.std.proofs.Common.{◌≡◌, ℕ, ◌<◌, Bool, true, false, ◌&&◌, if◌then◌else◌, List, [], ◌∷◌, ◌++◌, map, Option, Some, None, Ok, Err, refl, sym, subst, arith}
+use Rattle.std.proofs.Common.{◌≡◌, ℕ, ◌<◌, Bool, true, false, ◌&&◌, if◌then◌else◌, List, [], ◌∷◌, ◌++◌, map, Option, Some, None, Ok, Err, refl, sym, subst, append_assoc, arith}
 use Rattle.std.specs.List.{flat_map}
 use Rattle.place.specs.declared.Place.{Place}
 use Rattle.syntax_tree.specs.declared.Name.{Name}
 use Rattle.syntax_tree.specs.declared.Expr.{Expr}
 use Rattle.syntax_tree.specs.declared.Actual.{Actual}
 use Rattle.syntax_tree.specs.declared.Link.{Link}
+use Rattle.syntax_tree.specs.declared.Direction.{Direction as SyntaxDirection}
 use Rattle.syntax_tree.specs.declared.Expr.TheOpen as expr_layer
 use Rattle.syntax_tree.specs.declared.Expr.TheViews.{out-Expr, out-Actual}
 use Rattle.syntax_tree.specs.declared.Stmt.{Stmt}
@@ -21,20 +22,22 @@ use Rattle.types.specs.Types.{integer, is_same, is_assignable, form_at, form_ran
 use Rattle.scopes.specs.declared.denotation.Denotation.{Denotation}
 use Rattle.scopes.specs.declared.denotation.Denotation.TheVariants as denotes
 use Rattle.scopes.specs.declared.denotation.RequiredProcedure.{RequiredProcedure}
+use Rattle.typed_tree.specs.declared.site.SiteKind.{SiteKind}
 use Rattle.typed_tree.specs.declared.site.SiteKind.TheVariants as kind
 use Rattle.typed_tree.specs.Ids.{Stands}
 use Rattle.typed_tree.specs.WellFormed.{is_whole}
-use Rattle.typed_tree.specs.Look.{Assign, Target, Fits, Write, Written as WrittenMark, Width, Empty, Compound, If, Then, Else, Ends}
+use Rattle.typed_tree.specs.Look.{Assign, Target, Fits, Write, Written as WrittenMark, Width, Empty, Compound, If, Then, Else, While, Do, Repeat, Until, For, Ends}
 use Rattle.typing.specs.Passing.{Checked, Passing, and_then, each}
 use Rattle.typing.specs.Expressions.{Typed, Written, WrittenActual, fits, or_mismatch, expression, written_actual}
 use Rattle.typing.specs.Statements.{as_variable, fitting, assignment, as_procedure, ends_line, is_output, names_file, unless_wide, is_file, written_values}
-use Rattle.typing.specs.Statements.{has_values, measured, width, parameter, write, procedure_call, compound, condition, alternative, tested, choice, statement_step, statement}
+use Rattle.typing.specs.Statements.{has_values, measured, width, parameter, write, procedure_call, compound, condition, alternative, tested, choice, while_loop}
+use Rattle.typing.specs.Statements.{repeat_loop, way, bound, for_head, for_body, for_loop, statement_step, statement}
 use Rattle.typing_laws.proofs.Sound.{IsSound}
-use Rattle.typing_laws.proofs.Covers.{Covers, covers_both, covers_none, covers_behind, covers_skip, leads_first}
+use Rattle.typing_laws.proofs.Covers.{Covers, covers_both, covers_none, covers_behind, covers_skip, covers_lower, covers_ahead, leads_first}
 use Rattle.typing_laws.proofs.Grown.{both_true}
 use Rattle.typing_laws.proofs.Steps.{Does, Anything, Nothing, joins, quietly, last, checks, sited, pure_does, given_does, find_does, pass_does, wants_output_does}
-use Rattle.typing_laws.proofs.Steps.{mark_does, enter_does, site_does, IsKnown}
-use Rattle.typing_laws.proofs.Expressions.{lt_true, LawfulWritten, led_covers}
+use Rattle.typing_laws.proofs.Steps.{mark_does, enter_does, enter_loop_does, may_change_does, begin_control_does, end_control_does, site_does, IsKnown}
+use Rattle.typing_laws.proofs.Expressions.{IsLed, Types, lt_true, LawfulWritten, led_covers}
 use Rattle.typing_laws.proofs.EveryExpression.{LawfulActual, IsLawfulWidth, expression_lawful, actual_lawful}
 
 -- ---- assignments
@@ -79,24 +82,29 @@ measured_is place t id is = by (is_same t.type_id integer) t.site is
 
 module _ (variables : ℕ) where
   pub record LawfulStatement (places : List Place) (p : Passing (Unit {0})) : Type 0 where
-    pub passes : (least : ℕ) → Does variables least (Covers places) p Anything
+    pub passes : (least : ℕ) → Does variables least (Covers 0 places) p Anything
+
+  typed_does : (least : ℕ) (places : List Place) (w : Written) (lead : Option SiteKind) → LawfulWritten variables places w → IsLed lead
+      → Does variables least (Covers 0 places) (w.typing lead) Types
+  typed_does least places w lead law is = sited (covers_lower 2 0 (omega arith) places) (law.types least lead is)
 
   assignment_does : (name : Name) (becomes : Place) (places : List Place) (value : Written) → LawfulWritten variables places value
       → LawfulStatement (name.place ∷ becomes ∷ places) (assignment name becomes value)
   unfolding assignment
   assignment_does name becomes places value law = record {
     passes = λ least.
-        quietly (enter_does (λ n. Assign n becomes) (λ n. refl) (λ n m h. refl)) λ _ _ _ _.
+        quietly (enter_does (λ n. Assign n becomes) (λ n. refl) (λ n. refl) (λ n m h. refl)) λ _ _ _ _.
         quietly (find_does name) λ d _ _ sound.
         quietly (given_does (as_variable name.place d)) λ target _ _ is.
         let within = variable_is variables name.place d target is sound in
-        quietly (enter_does (λ n. Target n target.0) (λ n. refl) (λ n m h. lt_true target.0 variables within)) λ _ now _ _.
-        sited (λ sites. covers_skip name.place (becomes ∷ places) sites)
-        (led_covers variables becomes places (kind.Subrange ∷ []) tt
-        (joins (leads_first becomes (kind.Subrange ∷ []) places) (site_does kind.Subrange becomes) λ id there _ known.
-        last (checks {L = λ range n. IsWholeRange range} (law.types there None tt) λ types t range n more whole _.
+        quietly (may_change_does name.place target.0) λ _ _ _ _.
+        quietly (enter_does (λ n. Target n target.0) (λ n. refl) (λ n. refl) (λ n m h. lt_true target.0 variables within)) λ _ now _ _.
+        sited (λ sites. covers_skip 0 name.place (becomes ∷ places) sites)
+        (led_covers variables 0 becomes places (kind.Subrange ∷ []) (omega arith, tt)
+        (joins (leads_first 0 becomes (kind.Subrange ∷ []) places) (site_does kind.Subrange becomes) λ id there _ known.
+        last (checks {L = λ range n. IsWholeRange range} (typed_does there places value None law tt) λ types t range n more whole _.
         fitting_whole becomes types target.1 t.type_id range whole) λ range n more whole.
-        mark_does (Fits (record { site = id; range = range })) refl (λ m h. both_true _ _ (lt_true id m (omega (arith, known, more, h))) whole)));
+        mark_does (Fits (record { site = id; range = range })) refl refl (λ m h. both_true _ _ (lt_true id m (omega (arith, known, more, h))) whole)));
   }
 
   -- ---- what is written
@@ -120,10 +128,10 @@ module _ (variables : ℕ) where
 
   -- sites at the places of these are sites at the places of all
   abbrev AreAmong : List Actual → List Actual → Type 0
-  AreAmong all values = (sites : List Stands) → Covers (flat_map actual_places values) sites → Covers (flat_map actual_places all) sites
+  AreAmong all values = (sites : List Stands) → Covers 0 (flat_map actual_places values) sites → Covers 0 (flat_map actual_places all) sites
 
   among : (file : Bool) (first : Actual) (rest : List Actual) → AreAmong (first ∷ rest) (if file then rest else first ∷ rest)
-  among true first rest = λ sites. covers_behind (actual_places first) (flat_map actual_places rest) sites
+  among true first rest = λ sites. covers_behind 0 (actual_places first) (flat_map actual_places rest) sites
   among false first rest = λ sites has. has
 
   written_values_do : {least : ℕ} (actuals : List Actual) → Does variables least Nothing (written_values actuals) (λ values now. AreAmong actuals values)
@@ -132,50 +140,50 @@ module _ (variables : ℕ) where
   written_values_do (first ∷ rest) = quietly (is_file_does first) λ file _ _ _. pure_does (if file then rest else first ∷ rest) (λ n h. among file first rest)
 
   width_does : (least : ℕ) (places : List Place) (w : Option Written) → IsLawfulWidth variables places w
-      → Does variables least (Covers places) (width w) Anything
+      → Does variables least (Covers 0 places) (width w) Anything
   unfolding width
   width_does least places None law =
-      sited (λ sites none. subst (Covers places) (sym none) (covers_none places))
+      sited (λ sites none. subst (Covers 0 places) (sym none) (covers_none 0 places))
       (pure_does {K = Anything} tt (λ n h. tt))
   width_does least places (Some w) law =
-      last (checks {L = λ id n. IsKnown (Some id) n} (law.types least (Some kind.Width) (omega arith)) λ types t id n more is known.
+      last (checks {L = λ id n. IsKnown (Some id) n} (typed_does least places w (Some kind.Width) law (omega arith)) λ types t id n more is known.
       subst (λ z. IsKnown z n) (measured_is w.first t id is) known) λ id n more known.
-      mark_does (Width id) refl (λ m h. lt_true id m (omega (arith, known, h)))
+      mark_does (Width id) refl refl (λ m h. lt_true id m (omega (arith, known, h)))
 
   parameter_does : (least : ℕ) (places : List Place) (a : WrittenActual) → LawfulActual variables places a
-      → Does variables least (Covers places) (parameter a) Anything
+      → Does variables least (Covers 0 places) (parameter a) Anything
   unfolding parameter
   parameter_does least places a law =
-      sited (λ sites. subst (λ p. Covers p sites) (sym law.places_are))
-      (joins (covers_both law.of_value law.of_width) (checks {L = Anything} (law.value.types least None tt) λ types t b n more is _. tt) λ written now _ _.
-      quietly (mark_does (WrittenMark written) refl (λ n h. refl)) λ _ next _ _.
+      sited (λ sites. subst (λ p. Covers 0 p sites) (sym law.places_are))
+      (joins (covers_both 0 law.of_value law.of_width) (checks {L = Anything} (typed_does least law.of_value a.value None law.value tt) λ types t b n more is _. tt) λ written now _ _.
+      quietly (mark_does (WrittenMark written) refl refl (λ n h. refl)) λ _ next _ _.
       width_does next law.of_width a.width law.width)
 
   parameters_do : (least : ℕ) (values : List Actual)
-      → Does variables least (Covers (flat_map actual_places values)) (each parameter (map written_actual values)) Anything
+      → Does variables least (Covers 0 (flat_map actual_places values)) (each parameter (map written_actual values)) Anything
   parameters_do least [] = pure_does tt (λ n h. tt)
   parameters_do least (value ∷ values) =
-      joins (covers_both (actual_places value) (flat_map actual_places values))
+      joins (covers_both 0 (actual_places value) (flat_map actual_places values))
       (parameter_does least (actual_places value) (written_actual value) (actual_lawful variables value)) λ _ now _ _.
       parameters_do now values
 
   write_does : (least : ℕ) (name : Name) (actuals : List Actual) (procedure : RequiredProcedure)
-      → Does variables least (Covers (flat_map actual_places actuals)) (write name actuals procedure) Anything
+      → Does variables least (Covers 0 (flat_map actual_places actuals)) (write name actuals procedure) Anything
   unfolding write
   write_does least name actuals procedure =
       quietly (wants_output_does name.place) λ _ _ _ _.
-      quietly (enter_does (λ n. Write n name.place (ends_line procedure)) (λ n. refl) (λ n m h. refl)) λ _ _ _ _.
+      quietly (enter_does (λ n. Write n name.place (ends_line procedure)) (λ n. refl) (λ n. refl) (λ n m h. refl)) λ _ _ _ _.
       quietly (written_values_do actuals) λ values now _ among.
       sited among
       (quietly (given_does (has_values name.place procedure values)) λ _ there _ _.
       last (parameters_do there values) λ _ m _ _.
-      mark_does Ends refl (λ n h. refl))
+      mark_does Ends refl refl (λ n h. refl))
 
   call_does : (name : Name) (actuals : List Actual) → LawfulStatement (name.place ∷ flat_map actual_places actuals) (procedure_call name actuals)
   unfolding procedure_call
   call_does name actuals = record {
     passes = λ least.
-        sited (λ sites. covers_skip name.place (flat_map actual_places actuals) sites)
+        sited (λ sites. covers_skip 0 name.place (flat_map actual_places actuals) sites)
         (quietly (find_does name) λ d _ _ _.
         quietly (given_does (as_procedure name.place d)) λ procedure now _ _.
         write_does now name actuals procedure);
@@ -184,41 +192,41 @@ module _ (variables : ℕ) where
   -- ---- compound statements
 
   pub compound_does : (places : List Place) (statements : List (Passing (Unit {0})))
-      → ((least : ℕ) → Does variables least (Covers places) (each (λ s. s) statements) Anything) → LawfulStatement places (compound statements)
+      → ((least : ℕ) → Does variables least (Covers 0 places) (each (λ s. s) statements) Anything) → LawfulStatement places (compound statements)
   unfolding compound
   compound_does places statements row = record {
     passes = λ least.
-        quietly (enter_does Compound (λ n. refl) (λ n m h. refl)) λ _ now _ _.
+        quietly (enter_does Compound (λ n. refl) (λ n. refl) (λ n m h. refl)) λ _ now _ _.
         last (row now) λ _ m _ _.
-        mark_does Ends refl (λ n h. refl);
+        mark_does Ends refl refl (λ n h. refl);
   }
 
   -- ---- branches
 
   condition_does : (least : ℕ) (places : List Place) (w : Written) → LawfulWritten variables places w
-      → Does variables least (Covers places) (condition w) Anything
+      → Does variables least (Covers 0 places) (condition w) Anything
   unfolding condition
-  condition_does least places w law = checks {L = Anything} (law.types least None tt) λ types t b n more is _. tt
+  condition_does least places w law = checks {L = Anything} (typed_does least places w None law tt) λ types t b n more is _. tt
 
   abbrev IsLawfulAlternative : List Place → Option (Passing (Unit {0})) → Type 0
   IsLawfulAlternative places None = Unit {0}
   IsLawfulAlternative places (Some other) = LawfulStatement places other
 
   alternative_does : (least : ℕ) (places : List Place) (other : Option (Passing (Unit {0}))) → IsLawfulAlternative places other
-      → Does variables least (Covers places) (alternative other) Anything
+      → Does variables least (Covers 0 places) (alternative other) Anything
   unfolding alternative
-  alternative_does least places None law = sited (λ sites none. subst (Covers places) (sym none) (covers_none places)) (pure_does {K = Anything} tt (λ n h. tt))
-  alternative_does least places (Some other) law = quietly (mark_does Else refl (λ n h. refl)) λ _ now _ _. law.passes now
+  alternative_does least places None law = sited (λ sites none. subst (Covers 0 places) (sym none) (covers_none 0 places)) (pure_does {K = Anything} tt (λ n h. tt))
+  alternative_does least places (Some other) law = quietly (mark_does Else refl refl (λ n h. refl)) λ _ now _ _. law.passes now
 
   tested_does : (least : ℕ) (place : Place) (places : List Place) (w : Written) → LawfulWritten variables places w
-      → Does variables least (Covers (place ∷ places)) (tested place w) Anything
+      → Does variables least (Covers 0 (place ∷ places)) (tested place w) Anything
   unfolding tested
   tested_does least place places w law =
-      sited (λ sites. covers_skip place places sites)
+      sited (λ sites. covers_skip 0 place places sites)
       (quietly (pass_does place) λ _ _ _ _.
-      quietly (enter_does If (λ n. refl) (λ n m h. refl)) λ _ now _ _.
+      quietly (enter_does If (λ n. refl) (λ n. refl) (λ n m h. refl)) λ _ now _ _.
       last (condition_does now places w law) λ _ _ _ _.
-      mark_does Then refl (λ n h. refl))
+      mark_does Then refl refl (λ n h. refl))
 
   choice_does : (place : Place) (tests first second : List Place) (w : Written) (consequence : Passing (Unit {0})) (other : Option (Passing (Unit {0})))
       → LawfulWritten variables tests w → LawfulStatement first consequence → IsLawfulAlternative second other
@@ -226,10 +234,88 @@ module _ (variables : ℕ) where
   unfolding choice
   choice_does place tests first second w consequence other law one two = record {
     passes = λ least.
-        joins (covers_both (place ∷ tests) (first ++ second)) (tested_does least place tests w law) λ _ there _ _.
-        joins (covers_both first second) (one.passes there) λ _ next _ _.
+        joins (covers_both 0 (place ∷ tests) (first ++ second)) (tested_does least place tests w law) λ _ there _ _.
+        joins (covers_both 0 first second) (one.passes there) λ _ next _ _.
         last (alternative_does next second other two) λ _ _ _ _.
-        mark_does Ends refl (λ n h. refl);
+        mark_does Ends refl refl (λ n h. refl);
+  }
+
+  -- ---- loops
+
+  while_does : (place : Place) (tests inside : List Place) (w : Written) (body : Passing (Unit {0})) → LawfulWritten variables tests w
+      → LawfulStatement inside body → LawfulStatement (place ∷ (tests ++ inside)) (while_loop place w body)
+  unfolding while_loop
+  while_does place tests inside w body law one = record {
+    passes = λ least.
+        sited (λ sites. covers_skip 0 place (tests ++ inside) sites)
+        (quietly (pass_does place) λ _ _ _ _.
+        quietly (enter_loop_does (λ n l. While n l place) (λ n l. refl) (λ n l. refl) (λ n l m h. refl)) λ _ now _ _.
+        joins (covers_both 0 tests inside) (condition_does now tests w law) λ _ _ _ _.
+        quietly (mark_does Do refl refl (λ n h. refl)) λ _ there _ _.
+        last (one.passes there) λ _ _ _ _.
+        mark_does Ends refl refl (λ n h. refl));
+  }
+
+  repeat_does : (place : Place) (inside tests : List Place) (statements : List (Passing (Unit {0}))) (w : Written)
+      → ((least : ℕ) → Does variables least (Covers 0 inside) (each (λ s. s) statements) Anything) → LawfulWritten variables tests w
+      → LawfulStatement (place ∷ (inside ++ tests)) (repeat_loop place statements w)
+  unfolding repeat_loop
+  repeat_does place inside tests statements w row law = record {
+    passes = λ least.
+        sited (λ sites. covers_skip 0 place (inside ++ tests) sites)
+        (quietly (pass_does place) λ _ _ _ _.
+        quietly (enter_loop_does (λ n l. Repeat n l place) (λ n l. refl) (λ n l. refl) (λ n l m h. refl)) λ _ now _ _.
+        joins (covers_both 0 inside tests) (row now) λ _ _ _ _.
+        quietly (mark_does Until refl refl (λ n h. refl)) λ _ there _ _.
+        last (condition_does there tests w law) λ _ _ _ _.
+        mark_does Ends refl refl (λ n h. refl));
+  }
+
+  -- the test of a bound stands before its first token's own sites
+  bound_does : (least : ℕ) (type_id : TypeId) (places : List Place) (w : Written) → LawfulWritten variables places w
+      → Does variables least (Covers 0 places) (bound type_id w) Anything
+  unfolding bound
+  bound_does least type_id places w law =
+      joins ahead (site_does kind.Subrange w.first) λ id there _ known.
+      last (checks {L = λ range n. IsWholeRange range} (law.types there None tt) λ types t range n more whole _.
+      fitting_whole w.first types type_id t.type_id range whole) λ range n more whole.
+      mark_does (Fits (record { site = id; range = range })) refl refl (λ m h. both_true _ _ (lt_true id m (omega (arith, known, more, h))) whole)
+    where
+      ahead : (a b : List Stands) → a ≡ (kind.Subrange, w.first) ∷ [] → Covers 2 places b → Covers 0 places (a ++ b)
+      ahead a b one has =
+          subst (λ l. Covers 0 places (l ++ b)) (sym one)
+          (subst (λ p. Covers 0 p ((kind.Subrange, w.first) ∷ b)) (sym law.begins.1)
+          (covers_ahead 0 kind.Subrange (omega arith) w.first law.begins.0 b (subst (λ p. Covers 2 p b) law.begins.1 has)))
+
+  for_head_does : (least : ℕ) (place : Place) (name : Name) (firsts lasts : List Place) (first : Written) (d : SyntaxDirection) (end : Written)
+      → LawfulWritten variables firsts first → LawfulWritten variables lasts end
+      → Does variables least (Covers 0 (place ∷ name.place ∷ (firsts ++ lasts))) (for_head place name first d end) Anything
+  unfolding for_head
+  for_head_does least place name firsts lasts first d end one two =
+      sited (λ sites has. covers_skip 0 place (name.place ∷ (firsts ++ lasts)) sites (covers_skip 0 name.place (firsts ++ lasts) sites has))
+      (quietly (pass_does place) λ _ _ _ _.
+      quietly (find_does name) λ denotation _ _ sound.
+      quietly (given_does (as_variable name.place denotation)) λ control _ _ is.
+      let within = variable_is variables name.place denotation control is sound in
+      quietly (may_change_does name.place control.0) λ _ _ _ _.
+      quietly (enter_loop_does (λ n l. For n l place control.0 (way d)) (λ n l. refl) (λ n l. refl) (λ n l m h. lt_true control.0 variables within)) λ _ now _ _.
+      joins (covers_both 0 firsts lasts) (bound_does now control.1 firsts first one) λ _ next _ _.
+      last (bound_does next control.1 lasts end two) λ _ _ _ _.
+      quietly (mark_does Do refl refl (λ n h. refl)) λ _ _ _ _.
+      pure_does control.0 (λ n h. tt))
+
+  for_does : (place : Place) (name : Name) (firsts lasts inside : List Place) (first : Written) (d : SyntaxDirection) (end : Written) (body : Passing (Unit {0}))
+      → LawfulWritten variables firsts first → LawfulWritten variables lasts end → LawfulStatement inside body
+      → LawfulStatement (place ∷ name.place ∷ (firsts ++ (lasts ++ inside))) (for_loop place name first d end body)
+  unfolding for_loop for_body
+  for_does place name firsts lasts inside first d end body one two three = record {
+    passes = λ least.
+        sited (λ sites. subst (λ p. Covers 0 (place ∷ name.place ∷ p) sites) (append_assoc firsts lasts inside))
+        (joins (covers_both 0 (place ∷ name.place ∷ (firsts ++ lasts)) inside) (for_head_does least place name firsts lasts first d end one two) λ control _ _ _.
+        quietly (begin_control_does control) λ _ now _ _.
+        last (three.passes now) λ _ _ _ _.
+        quietly end_control_does λ _ _ _ _.
+        mark_does Ends refl refl (λ n h. refl));
   }
 
   -- ---- every statement
@@ -254,14 +340,14 @@ module _ (variables : ℕ) where
   bare_row ys = map (λ (y : WithStmt). y.0) ys
 
   row_lawful : (ys : List WithStmt) (least : ℕ)
-      → Does variables least (Covers (joined_places (map stmt_places (bare_row ys)))) (each (λ s. s) (map statement (bare_row ys))) Anything
+      → Does variables least (Covers 0 (joined_places (map stmt_places (bare_row ys)))) (each (λ s. s) (map statement (bare_row ys))) Anything
   row_lawful [] least = pure_does tt (λ n h. tt)
   row_lawful (y ∷ ys) least =
-      joins (covers_both (stmt_places y.0) (joined_places (map stmt_places (bare_row ys)))) (y.1.passes least) λ _ now _ _.
+      joins (covers_both 0 (stmt_places y.0) (joined_places (map stmt_places (bare_row ys)))) (y.1.passes least) λ _ now _ _.
       row_lawful ys now
 
   statement_layer : (y : layer.Stmt-F WithStmt) → LawfulStmt (roll-Stmt (bare y))
-  statement_layer layer.Empty = from_layer layer.Empty (record { passes = λ least. enter_does Empty (λ n. refl) (λ n m h. refl) })
+  statement_layer layer.Empty = from_layer layer.Empty (record { passes = λ least. enter_does Empty (λ n. refl) (λ n. refl) (λ n m h. refl) })
   statement_layer (layer.Assign name becomes value) =
       from_layer (layer.Assign name becomes value)
       (assignment_does name becomes (expr_places value) (expression value) (expression_lawful variables value))
@@ -273,13 +359,23 @@ module _ (variables : ℕ) where
   statement_layer (layer.If place condition consequence (Some other)) =
       from_layer (bare (layer.If place condition consequence (Some other)))
       (choice_does place (expr_places condition) _ _ (expression condition) _ _ (expression_lawful variables condition) consequence.value.1 other.value.1)
+  statement_layer (layer.While place condition body) =
+      from_layer (bare (layer.While place condition body))
+      (while_does place (expr_places condition) _ (expression condition) _ (expression_lawful variables condition) body.value.1)
+  statement_layer (layer.Repeat place statements condition) =
+      from_layer (bare (layer.Repeat place statements condition))
+      (repeat_does place _ (expr_places condition) _ (expression condition) (row_lawful statements.items) (expression_lawful variables condition))
+  statement_layer (layer.For place name first d end body) =
+      from_layer (bare (layer.For place name first d end body))
+      (for_does place name (expr_places first) (expr_places end) _ (expression first) d (expression end) _ (expression_lawful variables first)
+      (expression_lawful variables end) body.value.1)
 
   -- every statement
   pub statement_lawful : (w : Stmt) → LawfulStmt w
   statement_lawful = ind-Stmt LawfulStmt (λ x y is. subst (λ z. LawfulStmt (roll-Stmt z)) is (statement_layer y))
 
-  pub statements_lawful : (ws : List Stmt) (least : ℕ) → Does variables least (Covers (flat_map stmt_places ws)) (each (λ s. s) (map statement ws)) Anything
+  pub statements_lawful : (ws : List Stmt) (least : ℕ) → Does variables least (Covers 0 (flat_map stmt_places ws)) (each (λ s. s) (map statement ws)) Anything
   statements_lawful [] least = pure_does tt (λ n h. tt)
   statements_lawful (w ∷ ws) least =
-      joins (covers_both (stmt_places w) (flat_map stmt_places ws)) ((statement_lawful w).passes least) λ _ now _ _.
+      joins (covers_both 0 (stmt_places w) (flat_map stmt_places ws)) ((statement_lawful w).passes least) λ _ now _ _.
       statements_lawful ws now

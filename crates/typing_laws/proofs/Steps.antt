@@ -1,7 +1,7 @@
 -- What the steps of typing do, and what they do one after another.
-use Rattle.std.proofs.Common.{◌≡◌, ℕ, ◌+◌, ◌<◌, ◌≤◌, Bool, true, false, nat_le, Result, List, [], ◌∷◌, ◌++◌, length, Option, Some, None, Ok, Err, if◌then◌else◌}
+use Rattle.std.proofs.Common.{◌≡◌, ℕ, ◌+◌, ◌-◌, ◌<◌, ◌≤◌, Bool, true, false, nat_eq, nat_le, take, Result, List, [], ◌∷◌, ◌++◌, length, Option, Some, None, Ok, Err, if◌then◌else◌}
 use Rattle.std.proofs.Common.{append-nil, length-append, refl, sym, ap, subst, ◌∙◌, arith}
-use Rattle.std.specs.List.{range_with_len}
+use Rattle.std.specs.List.{range_with_len, list_any}
 use Rattle.std.proofs.lemmas.Bool.Decides.{nat_tests}
 use Rattle.place.specs.declared.Place.{Place}
 use Rattle.syntax_tree.specs.declared.Name.{Name}
@@ -13,9 +13,10 @@ use Rattle.typed_tree.specs.declared.fault.TypeFault.{TypeFault}
 use Rattle.typed_tree.specs.declared.fault.TypeFault.TheVariants as fault
 use Rattle.typed_tree.specs.declared.site.SiteKind.{SiteKind}
 use Rattle.typed_tree.specs.Ids.{Stands}
-use Rattle.typed_tree.specs.Look.{Mark, Look, mark_entries, is_formed_mark}
+use Rattle.typed_tree.specs.Look.{Mark, Look, mark_entries, mark_loops, is_formed_mark}
 use Rattle.typing.specs.Passing.{Passed, Checked, After, Passing, and_then, after, pure, fail, given, mark, behind_marks, ◌>>=◌, ◌>>?◌}
-use Rattle.typing.specs.Steps.{most_sites, most_entries, pass, enter, enter_as, site, find, told, wants_output}
+use Rattle.typing.specs.Steps.{most_sites, most_entries, pass, enter, enter_as, number_loop, begin_loop, enter_loop, site, find, told, may_change}
+use Rattle.typing.specs.Steps.{begin_control, end_control, wants_output}
 use Rattle.typing.specs.Expressions.{behind}
 use Rattle.typing.specs.Names.{folded}
 use Rattle.typing_laws.proofs.Sound.{IsSound, found_sound}
@@ -124,6 +125,8 @@ sited {variables} {Has = Has} {Had = Had} has d = record {
       numbered = g.numbered;
       entered = g.entered;
       few_entries = g.few_entries;
+      looped = g.looped;
+      begun = g.begun;
       formed = g.formed;
     }
 
@@ -131,9 +134,9 @@ sited {variables} {Has = Has} {Had = Had} has d = record {
 
 -- what is known is the same, but for the latest token
 pub grown_silent : (variables : ℕ) (s new : Passed) → new.regions ≡ s.regions → new.types ≡ s.types → new.variables ≡ s.variables → new.sites ≡ s.sites
-    → new.entries ≡ s.entries → Fine variables s
+    → new.entries ≡ s.entries → new.loops ≡ s.loops → Fine variables s
     → Grown variables Nothing [] s new
-grown_silent variables s new regions types declared sites entries fine = record {
+grown_silent variables s new regions types declared sites entries loops fine = record {
   regions = regions;
   types = types;
   variables_kept = declared;
@@ -144,6 +147,8 @@ grown_silent variables s new regions types declared sites entries fine = record 
   numbered = refl;
   entered = omega (arith, entries);
   few_entries = omega (arith, entries, fine.few_entries);
+  looped = refl;
+  begun = omega (arith, loops);
   formed = λ n h. refl;
 }
 
@@ -152,14 +157,14 @@ unfolding pass
 pass_does {variables} place = record {
   does = λ s a is fine h.
       let same : after tt [] (record s { latest = place }) ≡ a = cc in
-      subst (Leaves variables Nothing s Anything) same (grown_silent variables s (record s { latest = place }) refl refl refl refl refl fine, tt);
+      subst (Leaves variables Nothing s Anything) same (grown_silent variables s (record s { latest = place }) refl refl refl refl refl refl fine, tt);
 }
 
 pub pure_does : {variables least : ℕ} {A : Type 0} {K : A → ℕ → Type 0} (x : A) → ((now : ℕ) → least ≤ now → K x now) → Does variables least Nothing (pure x) K
 pure_does {variables} {least} {A} {K} x known = record {
   does = λ s a is fine h.
       let same : after x [] s ≡ a = cc in
-      subst (Leaves variables Nothing s K) same (grown_silent variables s s refl refl refl refl refl fine, known (length s.sites) h);
+      subst (Leaves variables Nothing s K) same (grown_silent variables s s refl refl refl refl refl refl fine, known (length s.sites) h);
 }
 
 pub given_does : {variables least : ℕ} {A : Type 0} (checked : Checked A) → Does variables least Nothing (given checked) (λ x now. checked ≡ Ok x)
@@ -167,7 +172,7 @@ given_does {variables} {least} {A} checked = record {
   does = λ s a is fine h.
       let x = split checked (λ b. Ok (after b [] s)) a is in
       let same : after x.0 [] s ≡ a = cc in
-      subst (Leaves variables Nothing s (λ x now. checked ≡ Ok x)) same (grown_silent variables s s refl refl refl refl refl fine, x.1);
+      subst (Leaves variables Nothing s (λ x now. checked ≡ Ok x)) same (grown_silent variables s s refl refl refl refl refl refl fine, x.1);
 }
 
 pub fail_does : {variables least : ℕ} {A : Type 0} {Has : List Stands → Type 0} {K : A → ℕ → Type 0} (why : TypeFault)
@@ -184,7 +189,7 @@ find_does {variables} name = record {
       let same : after x.0 [] (record s { latest = name.place }) ≡ a = cc in
       let there = found_sound variables s.regions text x.0 fine.sound (by (found s.regions text) x.0 x.1) in
       subst (Leaves variables Nothing s (λ denotation now. IsSound variables denotation)) same
-      (grown_silent variables s (record s { latest = name.place }) refl refl refl refl refl fine, there);
+      (grown_silent variables s (record s { latest = name.place }) refl refl refl refl refl refl fine, there);
 }
   where
     by : (r : Result Denotation ScopeFault) (d : Denotation) → told name.place r ≡ Ok d → r ≡ Ok d
@@ -196,18 +201,19 @@ unfolding wants_output
 wants_output_does {variables} place = record {
   does = λ s a is fine h.
       let x = split_if s.has_output (fault.NotProgramParameter place) (after tt [] s) a is in
-      subst (Leaves variables Nothing s Anything) x.1 (grown_silent variables s s refl refl refl refl refl fine, tt);
+      subst (Leaves variables Nothing s Anything) x.1 (grown_silent variables s s refl refl refl refl refl refl fine, tt);
 }
 
 -- ---- marks
 
 -- no entry, but well formed
-pub mark_does : {variables least : ℕ} (one : Mark) → mark_entries one ≡ [] → ((n : ℕ) → least ≤ n → is_formed_mark variables n one ≡ true)
+pub mark_does : {variables least : ℕ} (one : Mark) → mark_entries one ≡ [] → mark_loops one ≡ [] → ((n : ℕ) → least ≤ n → is_formed_mark variables n one ≡ true)
     → Does variables least Nothing (mark one) Anything
-mark_does {variables} {least} one none formed = record {
+mark_does {variables} {least} one none no_loop formed = record {
   does = λ s a is fine h.
       let same : after tt (one ∷ []) s ≡ a = cc in
       let counted : length (mark_entries one ++ []) ≡ 0 = ap (λ (l : List ℕ). length (l ++ [])) none in
+      let loops_counted : length (mark_loops one ++ []) ≡ 0 = ap (λ (l : List ℕ). length (l ++ [])) no_loop in
       let g : Grown variables Nothing (one ∷ []) s s = record {
         regions = refl;
         types = refl;
@@ -219,16 +225,18 @@ mark_does {variables} {least} one none formed = record {
         numbered = subst (λ (l : List ℕ). l ++ [] ≡ range_with_len s.entries (length (l ++ []))) (sym none) refl;
         entered = omega (arith, counted);
         few_entries = fine.few_entries;
+        looped = subst (λ (l : List ℕ). l ++ [] ≡ range_with_len s.loops (length (l ++ []))) (sym no_loop) refl;
+        begun = omega (arith, loops_counted);
         formed = λ n more. both_true _ true (formed n (omega (arith, more, h))) refl;
       } in
       subst (Leaves variables Nothing s Anything) same (g, tt);
 }
 
 -- an entry, with the next number
-pub enter_does : {variables least : ℕ} (marked : ℕ → Mark) → ((k : ℕ) → mark_entries (marked k) ≡ k ∷ [])
+pub enter_does : {variables least : ℕ} (marked : ℕ → Mark) → ((k : ℕ) → mark_entries (marked k) ≡ k ∷ []) → ((k : ℕ) → mark_loops (marked k) ≡ [])
     → ((k n : ℕ) → least ≤ n → is_formed_mark variables n (marked k) ≡ true) → Does variables least Nothing (enter_as marked) Anything
 unfolding enter_as enter
-enter_does {variables} {least} marked one formed = record {
+enter_does {variables} {least} marked one no_loop formed = record {
   does = λ s a is fine h.
       let x = split (if nat_le most_entries s.entries then Err (fault.TooMany s.latest) else Ok (after s.entries [] (record s { entries = s.entries + 1 })))
       (λ b. behind_marks b.look (mark (marked b.answer) b.passed)) a is in
@@ -237,6 +245,7 @@ enter_does {variables} {least} marked one formed = record {
       let number = s.entries in
       let same : after tt (marked s.entries ∷ []) new ≡ a = by x.0 a y.1 x.2 in
       let counted : length (mark_entries (marked number) ++ []) ≡ 1 = ap (λ (l : List ℕ). length (l ++ [])) (one number) in
+      let loops_counted : length (mark_loops (marked number) ++ []) ≡ 0 = ap (λ (l : List ℕ). length (l ++ [])) (no_loop number) in
       let g : Grown variables Nothing (marked number ∷ []) s new = record {
         regions = refl;
         types = refl;
@@ -248,6 +257,8 @@ enter_does {variables} {least} marked one formed = record {
         numbered = subst (λ (l : List ℕ). l ++ [] ≡ range_with_len s.entries (length (l ++ []))) (sym (one number)) refl;
         entered = omega (arith, counted);
         few_entries = omega (arith, below most_entries s.entries y.0);
+        looped = subst (λ (l : List ℕ). l ++ [] ≡ range_with_len s.loops (length (l ++ []))) (sym (no_loop number)) refl;
+        begun = omega (arith, loops_counted);
         formed = λ n more. both_true _ true (formed number n (omega (arith, more, h))) refl;
       } in
       subst (Leaves variables Nothing s Anything) same (g, tt);
@@ -259,6 +270,72 @@ enter_does {variables} {least} marked one formed = record {
         let there : behind_marks [] (mark (marked number) new) ≡ Ok a =
         subst (λ (z : After ℕ). behind_marks z.look (mark (marked z.answer) z.passed) ≡ Ok a) (sym is) h in
         cc
+
+-- a loop, with the next two numbers
+pub enter_loop_does : {variables least : ℕ} (marked : ℕ → ℕ → Mark) → ((k l : ℕ) → mark_entries (marked k l) ≡ k ∷ [])
+    → ((k l : ℕ) → mark_loops (marked k l) ≡ l ∷ []) → ((k l n : ℕ) → least ≤ n → is_formed_mark variables n (marked k l) ≡ true)
+    → Does variables least Nothing (enter_loop marked) Anything
+unfolding enter_loop begin_loop enter number_loop
+enter_loop_does {variables} {least} marked one loop formed = record {
+  does = λ s a is fine h. by s a fine h (nat_le most_entries s.entries) refl is;
+}
+  where
+    by : (s : Passed) (a : After (Unit {0})) → Fine variables s → least ≤ length s.sites → (test : Bool) → nat_le most_entries s.entries ≡ test
+        → and_then (and_then (if test then Err (fault.TooMany s.latest) else Ok (after s.entries [] (record s { entries = s.entries + 1 })))
+        (λ b. behind_marks {A = ℕ × ℕ} b.look ((number_loop >>= (λ l. pure {A = ℕ × ℕ} (b.answer, l))) b.passed)))
+        (λ b. behind_marks b.look (mark (marked b.answer.0 b.answer.1) b.passed)) ≡ Ok a
+        → Leaves variables Nothing s Anything a
+    by s a fine h true test is = absurd cc
+    by s a fine h false test is =
+        let new : Passed = record s { entries = s.entries + 1; loops = s.loops + 1 } in
+        let made = marked s.entries s.loops in
+        let same : after tt (made ∷ []) new ≡ a = cc in
+        let counted : length (mark_entries made ++ []) ≡ 1 = ap (λ (l : List ℕ). length (l ++ [])) (one s.entries s.loops) in
+        let loops_counted : length (mark_loops made ++ []) ≡ 1 = ap (λ (l : List ℕ). length (l ++ [])) (loop s.entries s.loops) in
+        let g : Grown variables Nothing (made ∷ []) s new = record {
+          regions = refl;
+          types = refl;
+          variables_kept = refl;
+          added = [];
+          sites = sym (append-nil s.sites);
+          covered = refl;
+          few_sites = fine.few_sites;
+          numbered = subst (λ (l : List ℕ). l ++ [] ≡ range_with_len s.entries (length (l ++ []))) (sym (one s.entries s.loops)) refl;
+          entered = omega (arith, counted);
+          few_entries = omega (arith, below most_entries s.entries test);
+          looped = subst (λ (l : List ℕ). l ++ [] ≡ range_with_len s.loops (length (l ++ []))) (sym (loop s.entries s.loops)) refl;
+          begun = omega (arith, loops_counted);
+          formed = λ n more. both_true _ true (formed s.entries s.loops n (omega (arith, more, h))) refl;
+        } in
+        subst (Leaves variables Nothing s Anything) same (g, tt)
+
+-- ---- control variables
+
+pub may_change_does : {variables least : ℕ} (place : Place) (root : ℕ) → Does variables least Nothing (may_change place root) Anything
+unfolding may_change
+may_change_does {variables} place root = record {
+  does = λ s a is fine h.
+      let x = split_unless (list_any (λ control. nat_eq control root) s.controls) (fault.Threatened place) (after tt [] s) a is in
+      subst (Leaves variables Nothing s Anything) x.1 (grown_silent variables s s refl refl refl refl refl refl fine, tt);
+}
+
+pub begin_control_does : {variables least : ℕ} (root : ℕ) → Does variables least Nothing (begin_control root) Anything
+unfolding begin_control
+begin_control_does {variables} root = record {
+  does = λ s a is fine h.
+      let new : Passed = record s { controls = s.controls ++ root ∷ [] } in
+      let same : after tt [] new ≡ a = cc in
+      subst (Leaves variables Nothing s Anything) same (grown_silent variables s new refl refl refl refl refl refl fine, tt);
+}
+
+pub end_control_does : {variables least : ℕ} → Does variables least Nothing end_control Anything
+unfolding end_control
+end_control_does {variables} = record {
+  does = λ s a is fine h.
+      let new : Passed = record s { controls = take (length s.controls - 1) s.controls } in
+      let same : after tt [] new ≡ a = cc in
+      subst (Leaves variables Nothing s Anything) same (grown_silent variables s new refl refl refl refl refl refl fine, tt);
+}
 
 -- ---- sites
 
@@ -281,6 +358,8 @@ site_does {variables} {least} kind place = record {
         numbered = refl;
         entered = omega arith;
         few_entries = fine.few_entries;
+        looped = refl;
+        begun = omega arith;
         formed = λ n more. refl;
       } in
       subst (Leaves variables (λ added. added ≡ (kind, place) ∷ []) s (λ id now. id < now)) y.1 (g, omega (arith, counted));

@@ -7,7 +7,7 @@ use Rattle.syntax_tree.specs.declared.Program.{Program}
 use Rattle.syntax_tree.specs.Places.{program_places}
 use Rattle.types.specs.Types.{required_forms}
 use Rattle.typed_tree.specs.Ids.{AreByPlace}
-use Rattle.typed_tree.specs.Look.{entries_of_look, is_formed_mark}
+use Rattle.typed_tree.specs.Look.{entries_of_look, loops_of_look, is_formed_mark}
 use Rattle.typing.specs.Passing.{After}
 use Rattle.typing.specs.Steps.{most_sites, most_entries, most_cells}
 use Rattle.typing.specs.Typing.{typing}
@@ -17,6 +17,8 @@ pub record Lawful (program : Program) (a : After (Unit {0})) : Type 0 where
   -- its entries are numbered from 0, in the order of the text
   pub numbered : entries_of_look a.look ≡ range_with_len 0 (length (entries_of_look a.look))
   pub few_entries : length (entries_of_look a.look) ≤ most_entries
+  -- its loops are numbered from 0, in the order of their first words
+  pub loops : loops_of_look a.look ≡ range_with_len 0 (length (loops_of_look a.look))
   -- each form is well formed, with the program's variables and sites
   pub formed : list_all (is_formed_mark (length a.passed.variables) (length a.passed.sites)) a.look ≡ true
   pub few_variables : length a.passed.variables ≤ most_cells

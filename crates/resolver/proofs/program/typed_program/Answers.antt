@@ -6,6 +6,7 @@ use Rattle.typing.specs.Outcomes.{IsFault}
 use Rattle.typing.specs.Statements.{statement, compound}
 use Rattle.typing.specs.Typing.{typing}
 use Rattle.resolver.proofs.Programs.{is_resolved, stops_in_declarations, stops_in_statements}
+use Rattle.resolver.specs.Table.{row_of}
 use Rattle.resolver.proofs.program.typed_program.Goals as goal
 
 -- the declarations are refused
@@ -37,3 +38,4 @@ returns c =
     let blocks : c.tree.result.blocks.items ≡ block ∷ [] =
     ap (λ v. v.items) c.tree.ensures.blocks ∙ c.in_ok-push.ensures.items ∙ ap (λ l. l ++ block ∷ []) c.new-blocks.ensures.items in
     is_resolved program m c.in_ok-typer.ensures.passed n block c.tree.result ends refl blocks c.tree.ensures.left
+    (ap (λ rows. map row_of rows.items) c.tree.ensures.loops ∙ c.in_ok-loops.ensures)

@@ -1,0 +1,112 @@
+ghost use Rattle.std.specs.Prelude.{◌≡◌, ◌<◌, IfOk, MatchResult, OnOk, drop, length, map};
+ghost use Rattle.typed_tree.specs.Loops.{all_inside, inside_of};
+ghost use Rattle.typed_tree.specs.declared.fault.TypeFault.TheVariants.{Memory};
+ghost use Rattle.resolver.specs.Table.{seen, opened, closed, meets, IsTableOf};
+
+use std::alloc::{AllocError, Global};
+use typed_tree::fault::TypeFault;
+use typed_tree::tree::{Loop, Stmt};
+
+/// The table of the loops of a program's block, by its body.
+pub(crate) fn table_of(alloc: Global, body: &Stmt) -> Result<Vec<Loop>, TypeFault>
+    ensures { MatchResult result (λ rows. IsTableOf body.now rows.items) (λ why. why ≡ Memory) }
+{
+    let mut met = Met {
+        alloc,
+        loops: Vec::new(alloc),
+        controls: Vec::new(alloc),
+    };
+    meet(&mut met, body)?;
+    Ok(met.loops)
+}
+
+// The rows of the loops, and the control variables, that were met so far.
+#[derive(Drop)]
+struct Met {
+    alloc: Global,
+    loops: Vec<Loop>,
+    controls: Vec<u32>,
+}
+
+// Meets what stands inside a statement.
+#[cycle(meet)]
+#[tactic(auto, using(crate::proofs::Tables::met_forms))]
+fn meet(met: &mut Met, statement: &Stmt) -> Result<(), AllocError>
+    ensures { OnOk result (seen met.new ≡ meets (inside_of statement.now) (seen met.old)) }
+{
+    match statement {
+        Stmt::Empty { .. } | Stmt::Assign { .. } | Stmt::Write { .. } => Ok(()),
+        Stmt::Compound { statements, .. } => meet_all(met, statements),
+        Stmt::If {
+            consequence,
+            alternative: None,
+            ..
+        } => meet(met, consequence),
+        Stmt::If {
+            consequence,
+            alternative: Some(alternative),
+            ..
+        } => {
+            meet(met, consequence)?;
+            meet(met, alternative)
+        }
+        Stmt::While { body, .. } => {
+            let (row, start) = open(met)?;
+            meet(met, body)?;
+            close(met, row, start)
+        }
+        Stmt::Repeat { statements, .. } => {
+            let (row, start) = open(met)?;
+            meet_all(met, statements)?;
+            close(met, row, start)
+        }
+        Stmt::For { control, body, .. } => {
+            met.controls.push(*control)?;
+            let (row, start) = open(met)?;
+            meet(met, body)?;
+            close(met, row, start)
+        }
+    }
+}
+
+// The same of statements, one after another.
+#[cycle(meet)]
+fn meet_all(met: &mut Met, statements: &[Stmt]) -> Result<(), AllocError>
+    ensures { OnOk result (seen met.new ≡ meets (all_inside (map inside_of statements.now)) (seen met.old)) }
+{
+    for statement in statements {
+        meet(met, statement)?;
+    }
+    Ok(())
+}
+
+// A loop begins: its row, and how many control variables were met before it.
+fn open(met: &mut Met) -> Result<(usize, usize), AllocError>
+    ensures { IfOk result (λ at. (seen met.new ≡ opened (seen met.old))
+        × ((at.0 ≡ length (seen met.old).rows) × (at.1 ≡ length met.old.controls.items))) }
+{
+    let row = met.loops.len();
+    met.loops.push(Loop {
+        block: 0,
+        controls: Vec::new(met.alloc),
+    })?;
+    Ok((row, met.controls.len()))
+}
+
+// It ends: the control variables that were met since stand in its row.
+#[tactic(auto, using(crate::proofs::Tables::row_told))]
+fn close(met: &mut Met, row: usize, start: usize) -> Result<(), AllocError>
+    requires { row < length met.old.loops.items }
+    ensures { OnOk result (seen met.new ≡ closed row start (seen met.old)) }
+{
+    let controls = behind(met.alloc, &met.controls, start)?;
+    met.loops[row] = Loop { block: 0, controls };
+    Ok(())
+}
+
+// The numbers behind so many.
+fn behind(alloc: Global, numbers: &[u32], count: usize) -> Result<Vec<u32>, AllocError>
+    ensures { IfOk result (λ found. found.items ≡ drop count numbers.now) }
+{
+    numbers.iter().skip(count).copied().collect(alloc)
+}
