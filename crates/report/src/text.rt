@@ -181,6 +181,8 @@ fn typing_refusal(fault: TypeFault) -> Refusal
         TypeFault::Mismatch(place) => at(place, b'K', 1),
         TypeFault::NotVariable(place) => at(place, b'K', 2),
         TypeFault::WrongParameters(place) => at(place, b'K', 3),
+        TypeFault::Threatened(place) => at(place, b'K', 5),
+        TypeFault::CaseConstant(place) => at(place, b'K', 6),
         TypeFault::NotProgramParameter(place) => at(place, b'K', 8),
         TypeFault::TooMany(place) => at(place, b'K', 10),
         TypeFault::TooManyCells(place) => at(place, b'Y', 2),
