@@ -3,11 +3,17 @@
 #![tactic(auto)]
 
 #[cfg(test)]
+mod agreeing;
+#[cfg(test)]
+mod generated;
+#[cfg(test)]
 mod hostile;
 #[cfg(test)]
 mod large;
 #[cfg(test)]
 mod memory;
+#[cfg(test)]
+mod numbers;
 #[cfg(test)]
 mod programs;
 #[cfg(test)]

@@ -5,6 +5,7 @@ ghost use Rattle.std.specs.Prelude.{◌≤◌};
 use cert_checker::Verdict;
 use meaning::interpret;
 use meaning::outcome::{Ending, Outcome};
+use pcode_assembler::code::Code;
 use report::compile::compile;
 use report::fault::Fault;
 use report::text::{fault_text, lines, stop_text};
@@ -24,21 +25,39 @@ pub(crate) struct Shown {
     pub(crate) stop: Stop,
 }
 
-// Compiles and runs a source without input. The writer is a vector, so it fails for want of memory alone.
+// What a run of a code writes, and how it stops.
+#[derive(Drop)]
+pub(crate) struct Ran {
+    pub(crate) output: Vec<u8>,
+    pub(crate) stop: Stop,
+}
+
+// Runs a code without input. The writer is a vector, so it fails for want of memory alone.
+pub(crate) fn run(alloc: Global, code: &Code, cells: u32, budget: u64) -> Result<Ran, Fault>
+    requires { (1 ≤ cells) × (cells ≤ 16777216) }
+{
+    let mut machine = Machine::new(alloc, cells)?;
+    let mut reader = Counted::new(b"".as_slice());
+    let mut writer = Counted::new(Vec::new(alloc));
+    let stop = machine.run(code, &mut reader, &mut writer, budget);
+    if matches!(stop, Stop::WriteFailed) {
+        return Err(Fault::Memory);
+    }
+    Ok(Ran {
+        output: writer.into_inner(),
+        stop,
+    })
+}
+
+// Compiles and runs a source without input.
 pub(crate) fn show(alloc: Global, source: &[u8], cells: u32, budget: u64) -> Result<Shown, Fault>
     requires { (1 ≤ cells) × (cells ≤ 16777216) }
 {
     let compiled = compile(alloc, source, None)?;
-    let mut machine = Machine::new(alloc, cells)?;
-    let mut reader = Counted::new(b"".as_slice());
-    let mut writer = Counted::new(Vec::new(alloc));
-    let stop = machine.run(&compiled.stripped, &mut reader, &mut writer, budget);
-    if matches!(stop, Stop::WriteFailed) {
-        return Err(Fault::Memory);
-    }
+    let Ran { output, stop } = run(alloc, &compiled.stripped, cells, budget)?;
     Ok(Shown {
         verdict: compiled.verdict,
-        output: writer.into_inner(),
+        output,
         stop,
     })
 }
@@ -55,7 +74,7 @@ fn is_meant(outcome: &Outcome, shown: &Shown) -> bool {
 }
 
 // Whether a machine's stop and a meaning's ending are the same end.
-fn is_same_end(stop: Stop, ending: Ending) -> bool {
+pub(crate) fn is_same_end(stop: Stop, ending: Ending) -> bool {
     match (stop, ending) {
         (Stop::Finished, Ending::Finished) => true,
         (Stop::Error(site), Ending::Error(id)) => site.id == id,

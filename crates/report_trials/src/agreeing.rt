@@ -1,0 +1,99 @@
+//! Programs that look random: what the checker accepts errs at open sites alone, and the interpreter, the code with all
+//! checks and the code that is run agree.
+
+use crate::generated::{certificate, program};
+use crate::numbers::Numbers;
+use crate::shown::{Ran, is_same_end, run};
+use meaning::interpret;
+use meaning::outcome::{Ending, Outcome};
+use report::compile::{Compiled, compile};
+use report::fault::Fault;
+use std::alloc::Global;
+use std::test::Fail;
+
+// Turns of the interpreter, and more instructions than these take.
+const TURNS: u64 = 60;
+
+const BUDGET: u64 = 20_000;
+
+const CELLS: u32 = 1_000;
+
+// What became of the programs.
+#[derive(Clone, Copy, Default)]
+struct Counts {
+    refused: u32,
+    finished: u32,
+    erred: u32,
+    unended: u32,
+}
+
+// Whether a run does what the interpreter does; where the interpreter used up its turns, whether it wrote a beginning.
+fn is_meant(outcome: &Outcome, ran: &Ran) -> bool {
+    match outcome.ending {
+        Ending::More => ran.output.starts_with(outcome.output.as_slice()),
+        ending => {
+            outcome.output.as_slice() == ran.output.as_slice() && is_same_end(ran.stop, ending)
+        }
+    }
+}
+
+// Whether a site is among the open ones.
+fn is_open(compiled: &Compiled, id: u32) -> bool {
+    compiled.verdict.open_sites.iter().any(|site| site.id == id)
+}
+
+// What the interpreter does with a program. Fails where a code does something else, or a closed site errs.
+fn agreed(alloc: Global, compiled: &Compiled) -> Result<Ending, Fail> {
+    let outcome = interpret(alloc, &compiled.tree, b"", TURNS)?;
+    for code in [&compiled.full, &compiled.stripped] {
+        if !is_meant(&outcome, &run(alloc, code, CELLS, BUDGET)?) {
+            return Err(Fail::new("the machine does something else than the interpreter"));
+        }
+    }
+    match outcome.ending {
+        Ending::Error(id) if !is_open(compiled, id) => {
+            Err(Fail::new("an error at a site that isn't open"))
+        }
+        ending => Ok(ending),
+    }
+}
+
+// Counts what becomes of a program with a certificate; refused are certificates alone.
+fn count(alloc: Global, source: &[u8], claims: &[u8], counts: &mut Counts) -> Result<(), Fail> {
+    let compiled = match compile(alloc, source, Some(claims)) {
+        Ok(compiled) => compiled,
+        Err(Fault::Check(_)) => {
+            counts.refused = counts.refused.saturating_add(1);
+            return Ok(());
+        }
+        Err(fault) => return Err(fault.into()),
+    };
+    let counter = match agreed(alloc, &compiled)? {
+        Ending::Finished => &mut counts.finished,
+        Ending::Error(_) => &mut counts.erred,
+        _ => &mut counts.unended,
+    };
+    *counter = counter.saturating_add(1);
+    Ok(())
+}
+
+#[test]
+fn generated_programs_agree_and_err_at_open_sites_alone(rt: HostRuntime) -> Result<(), Fail> {
+    let alloc = rt.alloc();
+    let mut numbers = Numbers { state: 7185 };
+    let mut counts = Counts::default();
+    for _ in 0..600 {
+        let source = program(alloc, &mut numbers)?;
+        let claims = certificate(alloc, &mut numbers, &source)?;
+        count(alloc, &source, claims.as_bytes(), &mut counts)?;
+    }
+    // Each comes often.
+    let Counts {
+        refused,
+        finished,
+        erred,
+        unended,
+    } = counts;
+    assert!(rt; refused > 40 && finished > 90 && erred > 140 && unended > 20);
+    Ok(())
+}
