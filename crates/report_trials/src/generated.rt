@@ -54,9 +54,20 @@ static CHOICES: [(u8, &[&str]); 23] = [
             "for j := i Z G do begin M end; ",
         ],
     ),
-    (b'M', &["V := V - j; ", "write(j); ", "V := I; ", "V := V + 1; ", ""]),
+    (
+        b'M',
+        &["V := V - j; ", "write(j); ", "V := I; ", "V := V + 1; ", ""],
+    ),
     // Branches of a case.
-    (b'A', &["1: X", "0: X; 2, -3: X;", "3: X; 7, 8, 9: X; 4: X", "-1, 0, 1, 2, 3: X"]),
+    (
+        b'A',
+        &[
+            "1: X",
+            "0: X; 2, -3: X;",
+            "3: X; 7, 8, 9: X; 4: X",
+            "-1, 0, 1, 2, 3: X",
+        ],
+    ),
     // A width.
     (b'W', &[":3", ":a", ":b - 1", "", "", ""]),
     // A condition: often a relation of two bounds.
@@ -113,12 +124,12 @@ fn choice(numbers: &mut Numbers, letter: u8) -> &'static str {
     ""
 }
 
-// A program of a few statements over three integers and two Booleans.
+const BEGIN: &[u8] = b"program p(output); var a, b, c: integer; d, e: Boolean; i, j: integer;
+begin a := 3; b := 7; d := true; e := odd(a); ";
+
+// A program of a few statements over five integers and two Booleans.
 pub(crate) fn program(alloc: Global, numbers: &mut Numbers) -> Result<Vec<u8>, AllocError> {
-    let mut text = Vec::from_slice(
-        alloc,
-        b"program p(output); var a, b, c: integer; d, e: Boolean; i, j: integer; begin a := 3; b := 7; d := true; e := odd(a); ",
-    )?;
+    let mut text = Vec::from_slice(alloc, BEGIN)?;
     // What is still to be written, its end first.
     let mut rest = Vec::from_slice(alloc, b".dneP")?;
     for _ in 0..10_000 {
