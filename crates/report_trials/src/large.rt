@@ -1,6 +1,6 @@
 use crate::shown::{CELLS, agreed_told, repeated, show, shown_told, visits};
 use report::fault::Fault;
-use std::alloc::Global;
+use std::alloc::{AllocError, Global};
 use std::test::Fail;
 use test_words::rows::all_hold;
 
@@ -50,7 +50,7 @@ fn long_sources_run(rt: HostRuntime) -> Result<(), Fail> {
 }
 
 // Sources, and how many statements and expressions they have.
-static VISITS: [(Parts, &str); 5] = [
+static VISITS: [(Parts, &str); 8] = [
     // 4 statements, 2 targets, 6 factors, 2 operators and 1 sign.
     (
         &[(
@@ -71,6 +71,24 @@ static VISITS: [(Parts, &str); 5] = [
         "6",
     ),
     (COMPOUND, "100002"),
+    // 5 statements, a condition of 3 and one of 1, however often they are executed.
+    (
+        &[(
+            "program p; begin while 1 > 2 do repeat until true; if false then end.",
+            1,
+        )],
+        "10",
+    ),
+    // 3 statements and 2 bounds: a control variable isn't entered.
+    (
+        &[(
+            "program p; var i: integer; begin for i := 1 to 9 do end.",
+            1,
+        )],
+        "5",
+    ),
+    // 4 statements and the index.
+    (&[("program p; begin case 1 of 1: ; 2: end end.", 1)], "5"),
 ];
 
 fn visits_told(alloc: Global, parts: &Parts) -> Result<String, Fault> {
@@ -101,4 +119,64 @@ fn limited_told(alloc: Global, row: &(u32, u64)) -> Result<String, Fault> {
 #[test]
 fn cells_and_budget_run_out(rt: HostRuntime) -> Result<(), Fail> {
     all_hold(rt.alloc(), &RUNS, limited_told)
+}
+
+const ENDLESS: &str = "program p(output); begin while true do write(1:1) end.";
+
+const THREE_TURNS: &str =
+    "program p(output); var i: integer; begin for i := 1 to 3 do write(i:1) end.";
+
+// Sources with a budget that ends inside a loop, or just behind it. The first instruction enters the block. A turn of
+// the while takes 6, and the 5th of them writes. The for takes 8 before its turns and 14 a turn, of which the 5th
+// writes; the last turn takes 9, and then come 4 that end the loop, and the end of the run.
+static BUDGETS: [((&str, u64), &str); 9] = [
+    ((ENDLESS, 5), "||budget used up\n|3"),
+    ((ENDLESS, 6), "|1|budget used up\n|3"),
+    ((ENDLESS, 29), "|1111|budget used up\n|3"),
+    ((ENDLESS, 30), "|11111|budget used up\n|3"),
+    ((THREE_TURNS, 13), "||budget used up\n|3"),
+    ((THREE_TURNS, 14), "|1|budget used up\n|3"),
+    ((THREE_TURNS, 42), "|123|budget used up\n|3"),
+    ((THREE_TURNS, 50), "|123|budget used up\n|3"),
+    ((THREE_TURNS, 51), "|123||0"),
+];
+
+fn budget_told(alloc: Global, row: &(&str, u64)) -> Result<String, Fault> {
+    let shown = show(alloc, row.0.as_bytes(), CELLS, row.1)?;
+    Ok(shown_told(alloc, &shown)?)
+}
+
+#[test]
+fn budgets_end_inside_loops(rt: HostRuntime) -> Result<(), Fail> {
+    all_hold(rt.alloc(), &BUDGETS, budget_told)
+}
+
+// A case with a branch for each number below a thousand, which writes its number.
+fn wide_case(alloc: Global, index: &str) -> Result<String, AllocError> {
+    let mut source = format!(in alloc; "program p(output); begin case {index} of ")?;
+    for number in 0..1_000u32 {
+        source.push_str(format!(in alloc; "{number}: write({number}:1); ")?.as_str())?;
+    }
+    source.push_str("end end.")?;
+    Ok(source)
+}
+
+// The index of a wide case, and what is shown.
+static WIDE: [(&str, &str); 4] = [
+    ("0", "|0||0"),
+    ("777", "|777||0"),
+    ("999", "|999||0"),
+    (
+        "1000",
+        "1:26: possible error: case\n||1:26: error: case\n|4",
+    ),
+];
+
+fn wide_told(alloc: Global, index: &&str) -> Result<String, Fail> {
+    agreed_told(alloc, wide_case(alloc, index)?.as_bytes())
+}
+
+#[test]
+fn a_thousand_constants(rt: HostRuntime) -> Result<(), Fail> {
+    all_hold(rt.alloc(), &WIDE, wide_told)
 }
