@@ -71,13 +71,13 @@ static VISITS: [(Parts, &str); 8] = [
         "6",
     ),
     (COMPOUND, "100002"),
-    // 5 statements, a condition of 3 and one of 1, however often they are executed.
+    // 6 statements, a condition of 3 entries and two of 1, however often they are executed.
     (
         &[(
             "program p; begin while 1 > 2 do repeat until true; if false then end.",
             1,
         )],
-        "10",
+        "11",
     ),
     // 3 statements and 2 bounds: a control variable isn't entered.
     (
