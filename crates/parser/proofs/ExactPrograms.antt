@@ -16,7 +16,7 @@ use Rattle.grammar.specs.Spelling.{Reads, mark, identifier}
 use Rattle.grammar.specs.Nesting.{nesting}
 use Rattle.grammar.specs.Begins.{BeginsNames, BeginsParameters, BeginsGroup, BeginsVariables, BeginsCompound, BeginsBlock, BeginsProgram}
 use Rattle.grammar.specs.Following.{Anything, NoNext, BeginsStatementPart}
-use Rattle.parser.specs.Reading.{Stops, ReadsEach, ReadsDeep}
+use Rattle.expression_parser.specs.Reading.{Stops, ReadsEach, ReadsDeep}
 use Rattle.parser.specs.Syntax.{most, IsRefused}
 use Rattle.grammar.proofs.Rows.{begins}
 use Rattle.grammar.proofs.Programs.{group_begins, group_names_end, GroupBehindNames, GroupsLeft, EachGroupsLeft, GroupNext, NamesThenClosed, parameters_names_end, BlockParts, BlockBehindVariables, ProgramBehindSemicolon, ProgramBehindParameters, ProgramBehindName, program_parameters_end}

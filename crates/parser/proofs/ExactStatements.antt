@@ -17,7 +17,7 @@ use Rattle.syntax_tree.specs.declared.Stmt.{Stmt}
 use Rattle.grammar.specs.Spelling.{Reads, of_kind_at, word_symbol}
 use Rattle.grammar.specs.Following.{next_kind, NoNext, Anything, EndsStmt, EndsStatements, compound, repeated}
 use Rattle.grammar.specs.WellFormed.{relation_level}
-use Rattle.parser.specs.Reading.{ReadWithin, ReadsEach, ReadsDeep}
+use Rattle.expression_parser.specs.Reading.{ReadWithin, ReadsEach, ReadsDeep}
 use Rattle.grammar.specs.Begins.{BeginsExpr, BeginsGuard, BeginsStmt, BeginsAlternative, BeginsStatements, BeginsControl, BeginsInitial}
 use Rattle.grammar.proofs.Parts.{PartsLeft, PartThenOthers, ComesBehind, one_more, no_more, comes_behind}
 use Rattle.grammar.proofs.Rows.{begins, same_first}

@@ -1,14 +1,5 @@
-pub mod Chains
-pub mod Deep
-pub mod Exact
-pub mod ExactActuals
-pub mod ExactChains
-pub mod ExactExpressions
 pub mod ExactPrograms
 pub mod ExactStatements
-pub mod Kept
 pub mod Order
 pub mod Programs
-pub mod Reading
-pub mod Rules
 pub mod Statements

@@ -17,12 +17,12 @@ use Rattle.syntax_tree.specs.declared.Block.{Block}
 use Rattle.token_cursor.specs.Cursor.{Took}
 use Rattle.grammar.specs.Spelling.{of_kind_at, mark, word_symbol, identifier, identifiers, stmt_spelling, separated, joined, in_parentheses, group_spelling, variables_spelling, block_spelling}
 use Rattle.grammar.specs.WellFormed.{is_group, is_statement, has_items}
-use Rattle.parser.specs.Rules.{Read}
+use Rattle.expression_parser.specs.Rules.{Read}
 use Rattle.grammar.specs.Begins.{BeginsList, BeginsGroup, BeginsGroups, BeginsVariables, BeginsCompound, BeginsBlock, Stop}
 use Rattle.parser.specs.Syntax.{most, IsTreeOf}
 use Rattle.grammar.proofs.Lists.{map_push, all_push, and_true, length_map}
 use Rattle.grammar.proofs.Reading.{both, without_place, joined_push}
-use Rattle.parser.proofs.Statements.{list_goes_on, some_grown}
+use Rattle.expression_parser.proofs.Lists.{list_goes_on, some_grown}
 
 has : {A : Type 0} (xs : List A) → 0 < length xs → has_items xs ≡ true
 has xs h = lt-ltb 0 (length xs) h

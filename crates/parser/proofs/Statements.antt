@@ -1,4 +1,4 @@
--- What the rules of lists and statements give.
+-- What the rules of statements give.
 use Rattle.std.proofs.Common.{◌≡◌, ℕ, ◌+◌, ◌<◌, ◌≤◌, Bool, true, false, not, ◌&&◌, IsTrue, List, [], ◌∷◌, ◌++◌, length, map, Option, Some, None, subst, sym, ap, ◌∙◌, refl, arith}
 use Rattle.std.specs.List.{list_all}
 use Rattle.std.specs.declared.alloc.Global.{Global}
@@ -7,7 +7,6 @@ use Rattle.std.specs.declared.vec.Vec.{Vec}
 use Rattle.place.specs.declared.Place.{Place}
 use Rattle.std.proofs.lemmas.Bool.{lt-ltb}
 use Rattle.lexer.specs.declared.token.Kind.TheVariants as kind
-use Rattle.lexer.specs.declared.token.Symbol.{Symbol}
 use Rattle.lexer.specs.declared.token.Symbol.TheVariants as symbol
 use Rattle.lexer.specs.declared.token.Word.{Word}
 use Rattle.lexer.specs.declared.token.Word.TheVariants as word
@@ -21,84 +20,20 @@ use Rattle.syntax_tree.specs.declared.Stmt.{Stmt}
 use Rattle.syntax_tree.specs.declared.Stmt.TheVariants as statement
 use Rattle.token_cursor.specs.Cursor.{Took}
 use Rattle.grammar.specs.Spelling.{Spelling, Reads, expr_spelling, identifier, actual_spelling, stmt_spelling, of_kind_at, mark, word_symbol, direction_word, separated, in_parentheses}
-use Rattle.grammar.specs.WellFormed.{relation_level, is_expression, is_actual, stmt_form, is_statement, ends_open, has_items}
-use Rattle.grammar.specs.Nesting.{actual_levels, stmt_levels, deepest}
+use Rattle.grammar.specs.WellFormed.{relation_level, is_expression, stmt_form, is_statement, ends_open, has_items}
+use Rattle.grammar.specs.Nesting.{stmt_levels, deepest}
 use Rattle.grammar.specs.Following.{NoNext, LeavesNoElse}
-use Rattle.parser.specs.Rules.{Read}
-use Rattle.grammar.specs.Begins.{BeginsExpr, BeginsList, BeginsActual, BeginsActualList, BeginsActuals, BeginsGuard, BeginsStmt, BeginsAlternative, BeginsControl, BeginsInitial, BeginsStatements, BeginsCompound}
+use Rattle.expression_parser.specs.Rules.{Read}
+use Rattle.grammar.specs.Begins.{BeginsExpr, BeginsActuals, BeginsGuard, BeginsStmt, BeginsAlternative, BeginsControl, BeginsInitial, BeginsStatements, BeginsCompound}
 use Rattle.grammar.proofs.Equations.{spelling-Empty, form-Empty, levels-Empty, spelling-Assign, form-Assign, levels-Assign, spelling-Call, form-Call, levels-Call, spelling-Compound, form-Compound, levels-Compound, closed-Empty, closed-Assign, closed-Call, closed-Compound, spelling-If, form-If, levels-If, spelling-Else, form-Else, open-Else, levels-Else, spelling-While, form-While, open-While, levels-While, spelling-Repeat, form-Repeat, closed-Repeat, levels-Repeat, spelling-For, form-For, open-For, levels-For}
 use Rattle.grammar.proofs.Lists.{map_push, all_push, deepest_push, and_true, length_map}
 use Rattle.grammar.proofs.Rows.{begins}
-use Rattle.grammar.proofs.Reading.{both, without_place, without_last_place, separated_more, in_parentheses_some}
-
-pub some_grown : {A : Type 0} (xs : List A) (x : A) → 0 < length (xs ++ x ∷ [])
-some_grown [] x = omega arith
-some_grown (y ∷ ys) x = omega arith
+use Rattle.expression_parser.proofs.Lists.{list_goes_on}
+use Rattle.grammar.proofs.Reading.{both, without_place, without_last_place}
 
 has : (xs : List Stmt) → 0 < length xs → has_items (map stmt_form xs) ≡ true
 has [] h = absurd (omega arith)
 has (x ∷ xs) h = lt-ltb 0 (length (map stmt_form (x ∷ xs))) (omega arith)
-
--- one more part
-pub list_goes_on : (m : Symbol) (a b c d : Cursor) (parts grown : List Spelling) (p : Place) (last : Spelling)
-    → Read (BeginsList m) a b parts → Took b c (of_kind_at (kind.Symbol m) p ∷ []) → Took c d last → grown ≡ parts ++ last ∷ [] → Read (BeginsList m) a d grown
-list_goes_on m a b c d parts grown p last given comma taken e = record {
-  some = subst (λ x. 0 < length x) (sym e) (some_grown parts last);
-  spelled = subst (λ x. Took a d (separated m x)) (sym e) (subst (λ x. Took a d x) (sym (separated_more m parts last given.some))
-      (both (separated m parts) (mark m ∷ last) a.rest.now b.rest.now d.rest.now given.spelled
-      (both (mark m ∷ []) last b.rest.now c.rest.now d.rest.now (without_place (kind.Symbol m) p [] b.rest.now c.rest.now comma) taken)));
-}
-
--- one more actual
-pub actuals_go_on : (levels : ℕ) (a b c d : Cursor) (actuals grown : List Actual) (p : Place) (x : Actual)
-    → Read (BeginsActualList levels) a b actuals → Took b c (of_kind_at (kind.Symbol symbol.Comma) p ∷ []) → Read (BeginsActual levels) c d x
-    → grown ≡ actuals ++ x ∷ [] → Read (BeginsActualList levels) a d grown
-actuals_go_on levels a b c d actuals grown p x list comma given is = record {
-  list = list_goes_on symbol.Comma a b c d (map actual_spelling actuals) (map actual_spelling grown) p (actual_spelling x) list.list comma given.spelled
-      (ap (map actual_spelling) is ∙ map_push actual_spelling actuals x);
-  formed = subst (λ xs. list_all is_actual xs ≡ true) (sym is) (all_push is_actual actuals x list.formed given.formed);
-  nests = subst (λ xs. deepest xs ≤ levels) (sym (ap (map actual_levels) is ∙ map_push actual_levels actuals x))
-      (deepest_push levels (map actual_levels actuals) (actual_levels x) list.nests given.nests);
-}
-
--- with one more actual there is a list
-abbrev pub ActualsGrow : ℕ → Cursor → Cursor → List Actual → Type 0
-ActualsGrow levels old now actuals = (new : Cursor) (x : Actual) → Read (BeginsActual levels) now new x → Read (BeginsActualList levels) old new
-    (actuals ++ x ∷ [])
-
--- the first actual
-pub actuals_grow_first : (levels : ℕ) (a : Cursor) → ActualsGrow levels a a []
-actuals_grow_first levels a b x given = record {
-  list = record { some = omega arith; spelled = given.spelled };
-  formed = and_true (is_actual x) true given.formed refl;
-  nests = deepest_push levels [] (actual_levels x) (omega arith) given.nests;
-}
-
--- behind a comma
-pub actuals_grow : (levels : ℕ) (a b c : Cursor) (actuals : List Actual) (p : Place) → Read (BeginsActualList levels) a b actuals
-    → Took b c (of_kind_at (kind.Symbol symbol.Comma) p ∷ []) → ActualsGrow levels a c actuals
-actuals_grow levels a b c actuals p list comma d x given = actuals_go_on levels a b c d actuals (actuals ++ x ∷ []) p x list comma given refl
-
--- a list in its parentheses
-pub in_their_parentheses : (a b c d : Cursor) (p q : Place) (parts : List Spelling)
-    → Took a b (of_kind_at (kind.Symbol symbol.OpenParenthesis) p ∷ []) → Read (BeginsList symbol.Comma) b c parts
-    → Took c d (of_kind_at (kind.Symbol symbol.CloseParenthesis) q ∷ []) → Took a d (in_parentheses parts)
-in_their_parentheses a b c d p q parts opened list closed =
-    subst (λ x. Took a d x) (sym (in_parentheses_some parts list.some))
-    (both (mark symbol.OpenParenthesis ∷ []) (separated symbol.Comma parts ++ mark symbol.CloseParenthesis ∷ []) a.rest.now b.rest.now d.rest.now
-    (without_place (kind.Symbol symbol.OpenParenthesis) p [] a.rest.now b.rest.now opened)
-    (both (separated symbol.Comma parts) (mark symbol.CloseParenthesis ∷ []) b.rest.now c.rest.now d.rest.now list.spelled
-    (without_place (kind.Symbol symbol.CloseParenthesis) q [] c.rest.now d.rest.now closed)))
-
--- actuals in their parentheses
-pub actuals_closed : (levels : ℕ) (a b c d : Cursor) (p q : Place) (actuals : List Actual)
-    → Took a b (of_kind_at (kind.Symbol symbol.OpenParenthesis) p ∷ []) → Read (BeginsActualList levels) b c actuals
-    → Took c d (of_kind_at (kind.Symbol symbol.CloseParenthesis) q ∷ []) → Read (BeginsActuals levels) a d actuals
-actuals_closed levels a b c d p q actuals opened list closed = record {
-  spelled = in_their_parentheses a b c d p q (map actual_spelling actuals) opened list.list closed;
-  formed = list.formed;
-  nests = list.nests;
-}
 
 -- one more statement
 pub statements_go_on : (levels : ℕ) (a b c d : Cursor) (statements grown : List Stmt) (p : Place) (s : Stmt)

@@ -1,8 +1,6 @@
 //! The syntax of a Pascal program (ISO 7185:1990, 6.2 to 6.10), from its tokens.
 #![tactic(auto)]
 
-mod expression;
-mod memory;
 mod program;
 mod statement;
 

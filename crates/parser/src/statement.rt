@@ -1,12 +1,12 @@
 ghost use Rattle.std.specs.Prelude.{◌≡◌, ◌+◌, MatchResult, Some};
-ghost use Rattle.parser.specs.Refusing.{IsPlain, Refused};
+ghost use Rattle.expression_parser.specs.Refusing.{IsPlain, Refused};
 ghost use Rattle.grammar.specs.Following.{next_kind, EndsEach, EndsStmt, EndsStatements, Anything};
-ghost use Rattle.parser.specs.Reading.{ReadsEach, ReadsDeep};
-ghost use Rattle.parser.specs.Rules.{Read};
+ghost use Rattle.expression_parser.specs.Reading.{ReadsEach, ReadsDeep};
+ghost use Rattle.expression_parser.specs.Rules.{Read};
 ghost use Rattle.grammar.specs.Begins.{BeginsGuard, BeginsStmt, BeginsAlternative, BeginsStatements, BeginsControl, BeginsInitial, BeginsCompound};
 
-use crate::expression::{actuals, expression};
-use crate::memory::{boxed, put};
+use expression_parser::expression::{actuals, expression};
+use expression_parser::memory::{boxed, put};
 use lexer::token::{Kind, Symbol, Word};
 use place::Place;
 use std::alloc::Global;

@@ -1,10 +1,10 @@
 use Rattle.std.proofs.Common.{rules, ◌≡◌, ap, ◌∙◌, subst}
 use Rattle.grammar.specs.Spelling.{variables_spelling}
-use Rattle.parser.specs.Refusing.{Refused}
-use Rattle.parser.proofs.Deep.{refused_behind, refused_spent}
+use Rattle.expression_parser.specs.Refusing.{Refused}
+use Rattle.expression_parser.proofs.Deep.{refused_behind, refused_spent}
 use Rattle.token_cursor.specs.declared.fault.ParseFault.TheVariants.{Memory, TooDeep}
-use Rattle.parser.specs.Reading.{Stops}
-use Rattle.parser.proofs.Exact.{stops_above}
+use Rattle.expression_parser.specs.Reading.{Stops}
+use Rattle.expression_parser.proofs.Exact.{stops_above}
 use Rattle.grammar.proofs.Programs.{block_parts}
 use Rattle.parser.proofs.ExactPrograms.{block_behind_variables}
 use Rattle.parser.proofs.Programs.{block_stands}

@@ -2,7 +2,7 @@ use Rattle.std.proofs.Common.{[], ◌∷◌}
 use Rattle.lexer.specs.declared.token.Kind.TheVariants as kind
 use Rattle.lexer.specs.declared.token.Symbol.TheVariants as symbol
 use Rattle.grammar.specs.Spelling.{of_kind_at, identifier, mark}
-use Rattle.parser.proofs.Kept.{handed_on}
+use Rattle.expression_parser.proofs.Kept.{handed_on}
 use Rattle.grammar.proofs.Rows.{begins, same_first}
 use Rattle.grammar.proofs.Programs.{group_begins, group_names_end, group_behind_colon, group_behind_type}
 use Rattle.parser.proofs.ExactPrograms.{group_behind_names}

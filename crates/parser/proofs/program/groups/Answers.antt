@@ -1,12 +1,12 @@
 use Rattle.std.proofs.Common.{rules, ◌≡◌, refl, subst}
 use Rattle.lexer.specs.declared.token.Kind.TheVariants as kind
 use Rattle.token_cursor.specs.declared.fault.ParseFault.TheVariants.{Memory}
-use Rattle.parser.specs.Refusing.{IsPlain}
+use Rattle.expression_parser.specs.Refusing.{IsPlain}
 use Rattle.grammar.specs.Following.{Next, NoNext, Anything}
-use Rattle.parser.specs.Reading.{ReadsEach}
-use Rattle.parser.specs.Rules.{Read}
+use Rattle.expression_parser.specs.Reading.{ReadsEach}
+use Rattle.expression_parser.specs.Rules.{Read}
 use Rattle.grammar.specs.Begins.{BeginsGroup, BeginsGroups}
-use Rattle.parser.proofs.Kept.{handed_on, last, was_read, not_kept}
+use Rattle.expression_parser.proofs.Kept.{handed_on, last, was_read, not_kept}
 use Rattle.grammar.proofs.Lists.{pushed, emptied}
 use Rattle.grammar.proofs.Programs.{groups_begin_with, groups_go_on_with, groups_end, group_fewer}
 use Rattle.parser.proofs.ExactPrograms.{groups_left}

@@ -1,13 +1,13 @@
 use Rattle.std.proofs.Common.{[], arith, ◌∙◌, ap}
 use Rattle.lexer.specs.declared.token.Symbol.TheVariants as symbol
-use Rattle.parser.specs.Rules.{Read}
+use Rattle.expression_parser.specs.Rules.{Read}
 use Rattle.grammar.specs.Begins.{BeginsList}
 use Rattle.grammar.specs.Spelling.{identifier, identifiers}
 use Rattle.grammar.proofs.Lists.{pushed, emptied}
 use Rattle.grammar.proofs.Rows.{begins}
-use Rattle.parser.proofs.Kept.{last, rules_of, memory_out, was_taken, handed_on}
+use Rattle.expression_parser.proofs.Kept.{last, rules_of, memory_out, was_taken, handed_on}
 use Rattle.grammar.proofs.Reading.{reads_fewer}
-use Rattle.parser.proofs.Reading.{unchanged}
+use Rattle.expression_parser.proofs.Reading.{unchanged}
 use Rattle.grammar.proofs.Programs.{names_begin, names_go_on_with, names_left, names_end}
 use Rattle.parser.proofs.Programs.{NamesGrow, names_grow_first, names_grow}
 use Rattle.parser.proofs.program.names.Goals as goal

@@ -1,15 +1,15 @@
 use Rattle.std.proofs.Common.{[], ap, sym}
 use Rattle.lexer.specs.declared.token.Kind.TheVariants as kind
 use Rattle.lexer.specs.declared.token.Symbol.TheVariants as symbol
-use Rattle.parser.specs.Rules.{Read}
+use Rattle.expression_parser.specs.Rules.{Read}
 use Rattle.grammar.specs.Begins.{BeginsParameters}
 use Rattle.grammar.specs.Spelling.{identifiers, of_kind_at, mark}
-use Rattle.parser.proofs.Kept.{handed_on}
+use Rattle.expression_parser.proofs.Kept.{handed_on}
 use Rattle.grammar.proofs.Rows.{begins, same_first}
 use Rattle.grammar.proofs.Lists.{emptied}
 use Rattle.parser.proofs.ExactPrograms.{no_parameters, parameters_behind_names}
 use Rattle.grammar.proofs.Programs.{parameters_opened, parameters_names_end}
-use Rattle.parser.proofs.Statements.{in_their_parentheses}
+use Rattle.expression_parser.proofs.Lists.{in_their_parentheses}
 use Rattle.parser.proofs.program.parameters.Goals as goal
 
 pub returns-in_default-clause-given : goal.returns-in_default-clause-given

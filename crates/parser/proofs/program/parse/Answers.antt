@@ -1,5 +1,5 @@
 use Rattle.std.proofs.Common.{MatchResult, subst}
-use Rattle.parser.specs.Refusing.{Refused}
+use Rattle.expression_parser.specs.Refusing.{Refused}
 use Rattle.parser.specs.Syntax.{most, IsTreeOf}
 use Rattle.parser.proofs.Order.{answer_in_order}
 use Rattle.parser.proofs.program.parse.Goals as goal

@@ -1,12 +1,12 @@
 use Rattle.std.proofs.Common.{rules, ◌≡◌, [], ◌∷◌, subst, sym}
 use Rattle.lexer.specs.declared.token.Symbol.TheVariants as symbol
 use Rattle.token_cursor.specs.declared.fault.ParseFault.TheVariants.{Memory}
-use Rattle.parser.specs.Reading.{Stops}
+use Rattle.expression_parser.specs.Reading.{Stops}
 use Rattle.lexer.specs.declared.token.Kind.TheVariants as kind
 use Rattle.lexer.specs.declared.token.Word.TheVariants as word
 use Rattle.grammar.specs.Spelling.{mark, of_kind_at, identifier, identifiers, in_parentheses}
-use Rattle.parser.specs.Refusing.{Refused}
-use Rattle.parser.proofs.Deep.{refused_behind}
+use Rattle.expression_parser.specs.Refusing.{Refused}
+use Rattle.expression_parser.proofs.Deep.{refused_behind}
 use Rattle.parser.specs.Syntax.{most, IsRefused}
 use Rattle.grammar.proofs.Rows.{begins}
 use Rattle.grammar.proofs.Programs.{program_first, program_named, program_behind_name, program_parameters_end, program_behind_semicolon}

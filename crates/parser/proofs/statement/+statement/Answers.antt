@@ -7,18 +7,18 @@ use Rattle.token_cursor.specs.declared.fault.ParseFault.TheVariants.{TooDeep}
 use Rattle.grammar.specs.Spelling.{Reads, of_kind_at, word_symbol, mark, identifier, direction_word, expr_spelling, stmt_spelling, separated}
 use Rattle.grammar.specs.Following.{next_kind, EndsStmt}
 use Rattle.grammar.specs.Following as following
-use Rattle.parser.specs.Reading.{Stops, ReadWithin, ReadsDeep}
-use Rattle.parser.specs.Refusing.{Refused}
-use Rattle.parser.proofs.Deep.{front_none, front_on, refused_behind, refused_behind_front, memory_refused, refused_behind_opening, refused_behind_opened, refused_plain, refused_spent}
-use Rattle.parser.specs.Rules.{Read}
+use Rattle.expression_parser.specs.Reading.{Stops, ReadWithin, ReadsDeep}
+use Rattle.expression_parser.specs.Refusing.{Refused}
+use Rattle.expression_parser.proofs.Deep.{front_none, front_on, refused_behind, refused_behind_front, memory_refused, refused_behind_opening, refused_behind_opened, refused_plain, refused_spent}
+use Rattle.expression_parser.specs.Rules.{Read}
 use Rattle.grammar.specs.Begins.{BeginsStatements, BeginsStmt}
 use Rattle.grammar.proofs.Lists.{pushed, emptied}
-use Rattle.parser.proofs.Kept.{handed_on, last, was_read, not_kept}
+use Rattle.expression_parser.proofs.Kept.{handed_on, last, was_read, not_kept}
 use Rattle.grammar.proofs.Rows.{begins, same_first}
-use Rattle.parser.proofs.Exact.{stops_above, stops_memory, boxed_within}
+use Rattle.expression_parser.proofs.Exact.{stops_above, stops_memory, boxed_within}
 use Rattle.grammar.proofs.Parts.{parts_end}
 use Rattle.grammar.proofs.Reading.{reads_fewer, reads_no_more}
-use Rattle.parser.proofs.Reading.{unchanged}
+use Rattle.expression_parser.proofs.Reading.{unchanged}
 use Rattle.grammar.proofs.Chains.{then_ends, do_ends}
 use Rattle.grammar.proofs.Conditionals.{conditional_opened}
 use Rattle.grammar.proofs.Loops.{while_opened, repeat_opened, for_opened}

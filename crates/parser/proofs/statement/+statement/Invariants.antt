@@ -1,7 +1,7 @@
 use Rattle.std.proofs.Common.{◌+◌, ◌*◌}
 use Rattle.token_cursor.specs.Cursor.{left}
 use Rattle.grammar.proofs.Statements.{StatementNext}
-use Rattle.parser.proofs.Deep.{Front}
+use Rattle.expression_parser.proofs.Deep.{Front}
 use Rattle.parser.proofs.Statements.{StatementsGrow}
 use Rattle.parser.proofs.statement.+statement.Given as goal
 

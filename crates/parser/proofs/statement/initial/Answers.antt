@@ -3,7 +3,7 @@ use Rattle.grammar.specs.Spelling.{Reads, word_symbol, direction_word}
 use Rattle.grammar.specs.Following.{next_kind}
 use Rattle.grammar.proofs.Rows.{begins, same_first}
 use Rattle.grammar.proofs.Chains.{direction_ends}
-use Rattle.parser.proofs.Kept.{handed_on}
+use Rattle.expression_parser.proofs.Kept.{handed_on}
 use Rattle.parser.proofs.statement.initial.Goals as goal
 
 pub returns-in_err-first-clause-exact : goal.returns-in_err-first-clause-exact

@@ -1,12 +1,12 @@
 use Rattle.std.proofs.Common.{◌≡◌, ◌+◌, [], ◌∷◌, refl, subst}
 use Rattle.grammar.specs.Spelling.{identifier, of_kind_at}
-use Rattle.parser.specs.Refusing.{Refused}
-use Rattle.parser.proofs.Deep.{refused_behind}
+use Rattle.expression_parser.specs.Refusing.{Refused}
+use Rattle.expression_parser.proofs.Deep.{refused_behind}
 use Rattle.lexer.specs.declared.token.Kind.TheVariants as kind
 use Rattle.lexer.specs.declared.token.Symbol.TheVariants as symbol
 use Rattle.grammar.specs.Following.{NoNext}
-use Rattle.parser.proofs.Kept.{handed_on}
-use Rattle.parser.proofs.Exact.{stops_above}
+use Rattle.expression_parser.proofs.Kept.{handed_on}
+use Rattle.expression_parser.proofs.Exact.{stops_above}
 use Rattle.grammar.proofs.Statements.{ends_value, simple_parts, becomes_taken}
 use Rattle.parser.proofs.ExactStatements.{becomes_missed_at}
 use Rattle.parser.proofs.Statements.{gives-Assign, gives-Called}

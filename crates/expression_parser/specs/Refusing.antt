@@ -5,7 +5,7 @@ use Rattle.token_cursor.specs.declared.fault.ParseFault.{ParseFault}
 use Rattle.token_cursor.specs.declared.fault.ParseFault.TheVariants.{Memory, NoProgram}
 use Rattle.token_cursor.specs.declared.cursor.Cursor.{Cursor}
 use Rattle.token_cursor.specs.Cursor.{IsOfRules}
-use Rattle.parser.specs.Deep.{IsDeep}
+use Rattle.expression_parser.specs.Deep.{IsDeep}
 
 -- a fault that doesn't tell of nesting: memory ran out, or no program goes on
 abbrev pub IsPlain : ParseFault → Type 0

@@ -11,10 +11,10 @@ use Rattle.grammar.specs.Spelling.{mark}
 use Rattle.grammar.specs.WellFormed.{relation_level}
 use Rattle.grammar.specs.Nesting.{expr_levels}
 use Rattle.grammar.specs.Following.{Ends, EndsActual, Closes, NoNext}
-use Rattle.parser.specs.Reading.{ReadWithin, ReadsDeep}
+use Rattle.expression_parser.specs.Reading.{ReadWithin, ReadsDeep}
 use Rattle.grammar.specs.Begins.{BeginsExpr, BeginsActual, BeginsActuals}
 use Rattle.grammar.proofs.Rows.{begins}
-use Rattle.parser.proofs.Exact.{within_above}
+use Rattle.expression_parser.proofs.Exact.{within_above}
 use Rattle.grammar.proofs.Parts.{PartsLeft, PartThenOthers, comes_behind}
 use Rattle.grammar.proofs.Actuals.{IsWidth, IsValue, actual_parts, ends_expression, value_ends, IsWide, actual_list_parts, ActualsListLeft, actual_ends, ActualNext}
 

@@ -8,8 +8,8 @@ use Rattle.token_cursor.specs.declared.fault.ParseFault.TheVariants.{Memory, NoP
 use Rattle.token_cursor.specs.declared.cursor.Cursor.{Cursor}
 use Rattle.token_cursor.specs.Cursor.{IsOfRules, Took, place_of_next}
 use Rattle.grammar.specs.Spelling.{Spelling, Reads, of_kind_at}
-use Rattle.parser.specs.Deep.{opens, opened, StandsBetween, last, next, end, OpensUpTo}
-use Rattle.parser.specs.Refusing.{IsPlain, Refused}
+use Rattle.expression_parser.specs.Deep.{opens, opened, StandsBetween, last, next, end, OpensUpTo}
+use Rattle.expression_parser.specs.Refusing.{IsPlain, Refused}
 
 -- what was read stands before what is left
 pub record Front (a b : List Token) : Type 0 where

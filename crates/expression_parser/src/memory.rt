@@ -1,5 +1,5 @@
 ghost use Rattle.std.specs.Prelude.{◌≡◌, MatchResult, Ok};
-ghost use Rattle.parser.specs.Kept.{Added, NotKept};
+ghost use Rattle.expression_parser.specs.Kept.{Added, NotKept};
 
 use std::alloc::Global;
 use token_cursor::fault::ParseFault;

@@ -6,8 +6,8 @@ use Rattle.token_cursor.specs.declared.fault.ParseFault.TheVariants.{Memory, NoP
 use Rattle.token_cursor.specs.declared.cursor.Cursor.{Cursor}
 use Rattle.syntax_tree.specs.declared.Name.{Name}
 use Rattle.token_cursor.specs.Cursor.{Took}
-use Rattle.parser.specs.Refusing.{IsPlain}
-use Rattle.parser.specs.Kept.{Added, NotKept}
+use Rattle.expression_parser.specs.Refusing.{IsPlain}
+use Rattle.expression_parser.specs.Kept.{Added, NotKept}
 use Rattle.grammar.specs.Spelling.{identifier}
 
 -- what was read, now the last of a list

@@ -1,11 +1,11 @@
 use Rattle.std.proofs.Common.{◌+◌, ◌-◌, ◌*◌}
 use Rattle.token_cursor.specs.Cursor.{left}
 use Rattle.token_cursor.specs.Level.{level_number}
-use Rattle.parser.proofs.Chains.{LinksRead}
+use Rattle.expression_parser.proofs.Chains.{LinksRead}
 use Rattle.grammar.proofs.Actuals.{ActualNext}
-use Rattle.parser.proofs.Deep.{Front}
-use Rattle.parser.proofs.Statements.{ActualsGrow}
-use Rattle.parser.proofs.expression.+expression.Given as goal
+use Rattle.expression_parser.proofs.Deep.{Front}
+use Rattle.expression_parser.proofs.Actuals.{ActualsGrow}
+use Rattle.expression_parser.proofs.expression.+expression.Given as goal
 
 abbrev pub decreases-expression : goal.decreases-expression
 decreases-expression l = 20 * l.levels + 3 * (4 - level_number l.level) + 5

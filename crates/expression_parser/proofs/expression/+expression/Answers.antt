@@ -5,34 +5,34 @@ use Rattle.lexer.specs.declared.token.Word.TheVariants as word
 use Rattle.syntax_tree.specs.declared.Actual.{Actual}
 use Rattle.token_cursor.specs.declared.cursor.Cursor.{Cursor}
 use Rattle.token_cursor.specs.Cursor.{Took}
-use Rattle.parser.specs.Refusing.{Refused}
-use Rattle.parser.proofs.Deep.{front_none, front_on, refused_behind_front, memory_refused, refused_behind, refused_behind_opening, refused_spent, refused_spent_at}
+use Rattle.expression_parser.specs.Refusing.{Refused}
+use Rattle.expression_parser.proofs.Deep.{front_none, front_on, refused_behind_front, memory_refused, refused_behind, refused_behind_opening, refused_spent, refused_spent_at}
 use Rattle.token_cursor.specs.Level.{level_number}
-use Rattle.parser.specs.Rules.{Read, LinksEnd, LinksGoOn}
+use Rattle.expression_parser.specs.Rules.{Read, LinksEnd, LinksGoOn}
 use Rattle.grammar.specs.Begins.{BeginsExpr, BeginsActual, BeginsActualList}
 use Rattle.token_cursor.specs.declared.fault.ParseFault.TheVariants.{TooDeep}
 use Rattle.grammar.specs.Spelling.{Reads, mark, of_kind_at, sign, operator, identifier, joined, expr_spelling, actual_spelling, link_spelling}
 use Rattle.grammar.specs.Following.{next_kind, NoOperator, NoSign, NoNext, Ends, EndsActual}
-use Rattle.parser.specs.Reading.{Stops, ReadsDeep}
+use Rattle.expression_parser.specs.Reading.{Stops, ReadsDeep}
 use Rattle.grammar.specs.WellFormed.{relation_level, product_level, factor_level, first_level, operand_level}
 use Rattle.grammar.proofs.Lists.{pushed, emptied}
-use Rattle.parser.proofs.Kept.{handed_on, was_read, last, not_kept}
+use Rattle.expression_parser.proofs.Kept.{handed_on, was_read, last, not_kept}
 use Rattle.grammar.proofs.Rows.{same_first, begins}
-use Rattle.parser.proofs.Exact.{stops_spent}
+use Rattle.expression_parser.proofs.Exact.{stops_spent}
 use Rattle.grammar.proofs.Parts.{parts_end}
-use Rattle.parser.proofs.ExactChains.{level_is, first_answer}
+use Rattle.expression_parser.proofs.ExactChains.{level_is, first_answer}
 use Rattle.grammar.proofs.Chains.{chain_parts, links_of}
-use Rattle.parser.proofs.Chains.{links_first, links_more, operand_stops, links_end, links_given, alone_given, alone_exact, chain_from}
+use Rattle.expression_parser.proofs.Chains.{links_first, links_more, operand_stops, links_end, links_given, alone_given, alone_exact, chain_from}
 use Rattle.grammar.proofs.Expressions.{factor_parts, number_read, name_taken, opened, signed_parts, sign_taken}
-use Rattle.parser.proofs.ExactExpressions.{negated_behind, negated_answer, parenthesized_answer, inner_answer, sign_missed_at, term_answer}
+use Rattle.expression_parser.proofs.ExactExpressions.{negated_behind, negated_answer, parenthesized_answer, inner_answer, sign_missed_at, term_answer}
 use Rattle.grammar.proofs.Actuals.{actual_parts, width_absent, width_taken, actual_list_parts, actual_list_begins, actual_list_goes_on, opened_actuals}
-use Rattle.parser.proofs.ExactActuals.{value_answer, width_left, width_answer, actual_answer, actual_list_left, no_actuals}
-use Rattle.parser.proofs.Statements.{ActualsGrow, actuals_grow_first, actuals_grow, actuals_closed}
-use Rattle.parser.proofs.Rules.{gives-Number, gives-Not, gives-Signed, gives-Unsigned, gives-None, gives-Narrow, gives-Parenthesized, gives-Name, gives-Call, gives-Wide, gives-Chain}
+use Rattle.expression_parser.proofs.ExactActuals.{value_answer, width_left, width_answer, actual_answer, actual_list_left, no_actuals}
+use Rattle.expression_parser.proofs.Actuals.{ActualsGrow, actuals_grow_first, actuals_grow, actuals_closed}
+use Rattle.expression_parser.proofs.Rules.{gives-Number, gives-Not, gives-Signed, gives-Unsigned, gives-None, gives-Narrow, gives-Parenthesized, gives-Name, gives-Call, gives-Wide, gives-Chain}
 use Rattle.grammar.proofs.Reading.{reads_fewer, reads_no_more}
-use Rattle.parser.proofs.Reading.{unchanged}
-use Rattle.parser.proofs.expression.+expression.Goals as goal
-use Rattle.parser.proofs.expression.+expression.Goals.{factor-in-Some+in-Word-1, factor-in-None-1}
+use Rattle.expression_parser.proofs.Reading.{unchanged}
+use Rattle.expression_parser.proofs.expression.+expression.Goals as goal
+use Rattle.expression_parser.proofs.expression.+expression.Goals.{factor-in-Some+in-Word-1, factor-in-None-1}
 
 -- ---- chains
 

@@ -14,9 +14,9 @@ use Rattle.grammar.specs.Nesting.{expr_levels}
 use Rattle.token_cursor.specs.Cursor.{Took}
 use Rattle.grammar.specs.Begins.{BeginsExpr}
 use Rattle.grammar.specs.Following.{next_kind, Ends, NoSign, NoNext}
-use Rattle.parser.specs.Reading.{ReadWithin, ReadsDeep}
+use Rattle.expression_parser.specs.Reading.{ReadWithin, ReadsDeep}
 use Rattle.grammar.proofs.Rows.{begins}
-use Rattle.parser.proofs.Exact.{within_above}
+use Rattle.expression_parser.proofs.Exact.{within_above}
 use Rattle.grammar.proofs.Chains.{ends_above, close_ends}
 use Rattle.grammar.proofs.Expressions.{factor_parts, begins_parenthesized, IsNegated, not_taken_word, Opened, signed_parts, IsBehindSign, sign_missed}
 

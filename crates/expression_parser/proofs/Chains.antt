@@ -12,12 +12,12 @@ use Rattle.syntax_tree.specs.declared.Expr.TheViews.{roll-Link}
 use Rattle.token_cursor.specs.Level.{level_number}
 use Rattle.grammar.specs.WellFormed.{first_level, operand_level}
 use Rattle.grammar.specs.Following.{Ends, NoOperator}
-use Rattle.parser.specs.Reading.{Stops, ReadsDeep}
-use Rattle.parser.specs.Rules.{Read, ReadLinks, LinksEnd, missed, related, LinksGoOn}
+use Rattle.expression_parser.specs.Reading.{Stops, ReadsDeep}
+use Rattle.expression_parser.specs.Rules.{Read, ReadLinks, LinksEnd, missed, related, LinksGoOn}
 use Rattle.grammar.specs.Begins.{BeginsExpr, BeginsLinks}
 use Rattle.grammar.proofs.Chains.{Chain, chain_parts, goes_on, chain_ends, LinksLeft, links_begin}
-use Rattle.parser.proofs.ExactChains.{level_is, first_answer, operand_answer, chain_behind, links_left}
-use Rattle.parser.proofs.Rules.{links_go_on, gives-Alone}
+use Rattle.expression_parser.proofs.ExactChains.{level_is, first_answer, operand_answer, chain_behind, links_left}
+use Rattle.expression_parser.proofs.Rules.{links_go_on, gives-Alone}
 
 -- these operators were read, and each that may stand there go on so
 pub record LinksRead (level : Level) (levels : ℕ) (start now : Cursor) (links : List Link) : Type 0 where

@@ -1,9 +1,9 @@
 ghost use Rattle.std.specs.Prelude.{◌≡◌, ◌+◌, MatchResult, IfSome, IfNone, Some};
-ghost use Rattle.parser.specs.Refusing.{Refused};
+ghost use Rattle.expression_parser.specs.Refusing.{Refused};
 ghost use Rattle.token_cursor.specs.Level.{level_number};
 ghost use Rattle.grammar.specs.Following.{next_kind, Ends, EndsActual, Closes, NoNext};
-ghost use Rattle.parser.specs.Reading.{ReadsDeep};
-ghost use Rattle.parser.specs.Rules.{Read, ReadLinks, LinksEnd, LinksGoOn};
+ghost use Rattle.expression_parser.specs.Reading.{ReadsDeep};
+ghost use Rattle.expression_parser.specs.Rules.{Read, ReadLinks, LinksEnd, LinksGoOn};
 ghost use Rattle.grammar.specs.Begins.{BeginsExpr, BeginsActual, BeginsActualList, BeginsActuals, BeginsLinks};
 ghost use Rattle.grammar.specs.WellFormed.{first_level, operand_level, signed_level, factor_level};
 

@@ -21,11 +21,11 @@ use Rattle.syntax_tree.specs.declared.Link.{Link}
 use Rattle.syntax_tree.specs.declared.Expr.TheVariants as tree
 use Rattle.syntax_tree.specs.declared.Expr.TheViews.{roll-Link, roll-Actual}
 use Rattle.token_cursor.specs.Cursor.{Took}
-use Rattle.parser.specs.Refusing.{Refused}
+use Rattle.expression_parser.specs.Refusing.{Refused}
 use Rattle.grammar.specs.Spelling.{expr_spelling, link_spelling, actual_spelling, joined, in_parentheses, of_kind_at, mark, identifier, operator, sign}
 use Rattle.grammar.specs.WellFormed.{LinkForm, expr_form, link_form, chain_form, is_actual, is_expression, has_items, is_link, fits, operator_level, first_level, operand_level, relation_level, signed_level, product_level, factor_level}
 use Rattle.grammar.specs.Nesting.{expr_levels, link_levels, deepest}
-use Rattle.parser.specs.Rules.{Read}
+use Rattle.expression_parser.specs.Rules.{Read}
 use Rattle.grammar.specs.Begins.{BeginsExpr, BeginsActual, BeginsActuals, BeginsLinks}
 use Rattle.grammar.proofs.Equations.{spelling-Number, form-Number, levels-Number, spelling-Not, form-Not, levels-Not, spelling-Signed, form-Signed, levels-Signed, spelling-Alone, form-Alone, levels-Alone, spelling-Name, form-Name, levels-Name, spelling-Function, form-Function, levels-Function, spelling-Parenthesized, form-Parenthesized, levels-Parenthesized, spelling-Chain, form-Chain, levels-Chain, spelling-Link, form-Link, levels-Link, spelling-Wide, form-Wide, levels-Wide}
 use Rattle.grammar.proofs.Lists.{map_push, all_push, deepest_push, all_mapped, and_true}

@@ -7,9 +7,9 @@ use Rattle.place.specs.declared.Place.{Place}
 use Rattle.token_cursor.specs.declared.fault.ParseFault.{ParseFault}
 use Rattle.token_cursor.specs.declared.fault.ParseFault.TheVariants.{Memory, NoProgram, TooDeep, LeftOut}
 use Rattle.token_cursor.specs.declared.cursor.Cursor.{Cursor}
-use Rattle.parser.specs.Kept.{NotKept}
-use Rattle.parser.specs.Reading.{Stops, ReadWithin}
-use Rattle.parser.proofs.Kept.{was_read, not_kept}
+use Rattle.expression_parser.specs.Kept.{NotKept}
+use Rattle.expression_parser.specs.Reading.{Stops, ReadWithin}
+use Rattle.expression_parser.proofs.Kept.{was_read, not_kept}
 
 -- what stops a rule one level below stops the rule
 pub stops_above : (levels inner depth below : ℕ) (fault : ParseFault) → inner + 1 ≡ levels → below < depth → Stops inner below fault → Stops levels depth fault

@@ -14,7 +14,7 @@ use Rattle.grammar.specs.Spelling.{Reads, operator}
 use Rattle.grammar.specs.WellFormed.{operator_level, first_level, operand_level}
 use Rattle.token_cursor.specs.Level.{level_number}
 use Rattle.grammar.specs.Following.{Ends}
-use Rattle.parser.specs.Reading.{ReadWithin, ReadsDeep}
+use Rattle.expression_parser.specs.Reading.{ReadWithin, ReadsDeep}
 use Rattle.grammar.specs.Begins.{BeginsExpr}
 use Rattle.grammar.proofs.Chains.{IsLevel, relation, sum, product, level_below, operand_above, operand_below, Chain, IsChained, chain_parts, GoesOn, goes_on, operand_ends, LinksLeft}
 

@@ -1,0 +1,11 @@
+pub mod Actuals
+pub mod Chains
+pub mod Deep
+pub mod Exact
+pub mod ExactActuals
+pub mod ExactChains
+pub mod ExactExpressions
+pub mod Kept
+pub mod Lists
+pub mod Reading
+pub mod Rules

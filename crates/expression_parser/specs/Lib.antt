@@ -1,0 +1,5 @@
+pub mod Deep
+pub mod Kept
+pub mod Reading
+pub mod Refusing
+pub mod Rules
