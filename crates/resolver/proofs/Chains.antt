@@ -15,7 +15,8 @@ use Rattle.typed_tree.specs.Look.{Look, Begins, Ends}
 use Rattle.typing.specs.Passing.{Passed, Passing, after, and_then, behind_marks, pure, mark, ◌>>=◌, ◌>>◌}
 use Rattle.typing.specs.Outcomes.{IsFault}
 use Rattle.typing.specs.Expressions.{Typed, typed, Written, WrittenLink, expression, written_link, written_actual, chain, links, only, without_width}
-use Rattle.typing.proofs.Written.{typing_chain, typing_actual}
+use Rattle.typed_tree.proofs.Looks.{look_linked}
+use Rattle.typing.proofs.Written.{typing_chain, typing_link, typing_actual}
 
 -- ---- the one actual
 
@@ -92,3 +93,6 @@ module _ (w : Expr) (first : Box Expr Global) (rest : Vec Link Global) (is : w �
     passes_chain type_id looks new ends =
         written_chain ∙ chain_ends (expression operand) (map written_link rest.items) lead old f look now passes type_id looks new
         (ap (λ l. links f.type_id (map written_link l) now) (sym items) ∙ ends)
+
+-- an operator and its right operand
+pub ruleset linked = (typing_link, look_linked)

@@ -16,7 +16,8 @@ use Rattle.typed_tree.specs.declared.tree.Stmt.{Stmt}
 use Rattle.typed_tree.specs.declared.tree.WriteParameter.{WriteParameter}
 use Rattle.typed_tree.specs.declared.tree.Width.{Width}
 use Rattle.types.specs.declared.form.TypeId.{TypeId}
-use Rattle.typed_tree.specs.Look.{Look, Begins, Ends, Fits, If, Then, Else, Do, For, look_expr, look_link, look_stmt, look_parameter, look_width}
+use Rattle.typed_tree.specs.Look.{Look, Begins, Ends, Fits, If, Then, Else, Do, For, look_expr, look_link, look_stmt}
+use Rattle.typed_tree.specs.Look.{look_parameter, look_width}
 use Rattle.typing.specs.Passing.{Passed, Checked, After}
 use Rattle.typing.specs.Expressions.{Typed, typed}
 use Rattle.typing.specs.Outcomes.{Makes}

@@ -43,7 +43,7 @@ pub(crate) fn expression(
 }
 
 // A number, which is at most maxint.
-#[tactic(auto, unfolding(typing::specs::Expressions::number, typing::specs::Steps::enter_as))]
+#[tactic(auto, unfolding(typing::specs::Expressions::number))]
 fn number(
     typer: &mut Typer,
     value: u32,
@@ -75,7 +75,7 @@ fn named(typer: &mut Typer, name: &syntax::Name, lead: Option<SiteKind>) -> Resu
 }
 
 // What a name denotes, as an expression: a constant or a variable.
-#[tactic(auto, unfolding(typing::specs::Expressions::denoted, typing::specs::Steps::enter_as))]
+#[tactic(auto, unfolding(typing::specs::Expressions::denoted))]
 fn denoted(
     typer: &mut Typer,
     denotation: Denotation,
@@ -132,7 +132,7 @@ fn parenthesized(
 
 // `not` and its operand.
 #[cycle(expressions)]
-#[tactic(auto, unfolding(typing::specs::Expressions::negation, typing::specs::Steps::enter_as))]
+#[tactic(auto, unfolding(typing::specs::Expressions::negation))]
 fn negation(
     typer: &mut Typer,
     place: Place,
@@ -157,7 +157,7 @@ fn negation(
 
 // A sign and the term that it covers.
 #[cycle(expressions)]
-#[tactic(auto, unfolding(typing::specs::Expressions::signed, typing::specs::Steps::enter_as))]
+#[tactic(auto, unfolding(typing::specs::Expressions::signed))]
 fn signed(
     typer: &mut Typer,
     sign: syntax::Sign,
@@ -213,7 +213,7 @@ fn links(typer: &mut Typer, left: TypeId, rest: &[syntax::Link]) -> Result<Typed
 
 // An operator and its right operand, where a value of type `left` stands before it.
 #[cycle(expressions)]
-#[tactic(auto, using(typing::proofs::Written::typing_link, typed_tree::proofs::Looks::look_linked), unfolding(typing::specs::Expressions::link, typing::specs::Steps::enter_as))]
+#[tactic(auto, using(crate::proofs::Chains::linked), unfolding(typing::specs::Expressions::link))]
 fn link(typer: &mut Typer, left: TypeId, written: &syntax::Link) -> Result<TypedLink, TypeFault>
     ensures { MakesLink (spec.written_link written.now left typer.old) result typer.new }
 {
@@ -233,7 +233,7 @@ fn link(typer: &mut Typer, left: TypeId, written: &syntax::Link) -> Result<Typed
 
 // The call of a function, whose argument is an integer.
 #[cycle(expressions)]
-#[tactic(auto, unfolding(typing::specs::Expressions::call, typing::specs::Steps::enter_as))]
+#[tactic(auto, unfolding(typing::specs::Expressions::call))]
 fn call(
     typer: &mut Typer,
     name: &syntax::Name,

@@ -3,7 +3,9 @@ ghost use Rattle.typing.specs.Passing.{each, behind_marks};
 ghost use Rattle.typing.specs.Expressions.{expression, written_actual};
 ghost use Rattle.typing.specs.Statements as spec;
 ghost use Rattle.typing.specs.Outcomes.{Takes};
-ghost use Rattle.resolver.specs.Made.{MakesStmt, MakesStmts, MakesBoxed, MakesAlternative, MakesCondition, MakesTested, MakesBound, MakesForHead, for_head_look, MakesParameter, MakesParameters, MakesWidth, MakesOwnWidth, MakesValues};
+ghost use Rattle.resolver.specs.Made.{MakesStmt, MakesStmts, MakesBoxed, MakesAlternative, MakesCondition, MakesTested};
+ghost use Rattle.resolver.specs.Made.{MakesBound, MakesForHead, for_head_look, MakesParameter, MakesParameters};
+ghost use Rattle.resolver.specs.Made.{MakesWidth, MakesOwnWidth, MakesValues};
 
 use crate::expressions::{expression, first_place};
 use crate::typed::{Bound, ForHead};
@@ -19,7 +21,7 @@ use typing::rules::{as_procedure, as_variable, ends_line, is_output, way};
 
 /// A statement.
 #[cycle(statements)]
-#[tactic(auto, using(typing::proofs::Written::written_statements, typed_tree::proofs::Looks::look_empty, crate::proofs::Branches::look_choice), unfolding(typing::specs::Steps::enter_as, typing::specs::Statements::choice, typing::specs::Statements::for_loop))]
+#[tactic(auto, using(crate::proofs::Branches::made_statements), unfolding(typing::specs::Statements::choice))]
 pub(crate) fn statement(typer: &mut Typer, written: &syntax::Stmt) -> Result<Stmt, TypeFault>
     ensures { MakesStmt (spec.statement written.now typer.old) result typer.new }
 {
@@ -76,7 +78,7 @@ pub(crate) fn statement(typer: &mut Typer, written: &syntax::Stmt) -> Result<Stm
 
 /// Statements between `begin` and `end`.
 #[cycle(statements)]
-#[tactic(auto, using(typed_tree::proofs::Looks::look_compound), unfolding(typing::specs::Statements::compound, typing::specs::Steps::enter_as))]
+#[tactic(auto, using(typed_tree::proofs::Looks::look_compound), unfolding(typing::specs::Statements::compound))]
 pub(crate) fn compound(typer: &mut Typer, written: &[syntax::Stmt]) -> Result<Stmt, TypeFault>
     ensures { MakesStmt (spec.compound (map spec.statement written.now) typer.old) result typer.new }
 {
@@ -98,7 +100,7 @@ fn statements(typer: &mut Typer, written: &[syntax::Stmt]) -> Result<Vec<Stmt>, 
 }
 
 // An if as far as its `then`.
-#[tactic(auto, unfolding(typing::specs::Statements::tested, typing::specs::Steps::enter_as))]
+#[tactic(auto, unfolding(typing::specs::Statements::tested))]
 fn tested(typer: &mut Typer, place: Place, written: &syntax::Expr) -> Result<(u32, Expr), TypeFault>
     ensures { MakesTested (spec.tested place (expression written.now) typer.old) result typer.new }
 {
@@ -109,7 +111,7 @@ fn tested(typer: &mut Typer, place: Place, written: &syntax::Expr) -> Result<(u3
 
 // A while (6.8.3.8).
 #[cycle(statements)]
-#[tactic(auto, using(typed_tree::proofs::Looks::look_while), unfolding(typing::specs::Statements::while_loop, typing::specs::Steps::enter_loop))]
+#[tactic(auto, using(typed_tree::proofs::Looks::look_while), unfolding(typing::specs::Statements::while_loop))]
 fn while_loop(
     typer: &mut Typer,
     body: &syntax::Stmt,
@@ -134,7 +136,7 @@ fn while_loop(
 
 // A repeat (6.8.3.7).
 #[cycle(statements)]
-#[tactic(auto, using(typed_tree::proofs::Looks::look_repeat), unfolding(typing::specs::Statements::repeat_loop, typing::specs::Steps::enter_loop))]
+#[tactic(auto, using(typed_tree::proofs::Looks::look_repeat), unfolding(typing::specs::Statements::repeat_loop))]
 fn repeat_loop(
     typer: &mut Typer,
     place: Place,
@@ -182,7 +184,7 @@ fn for_body(typer: &mut Typer, body: &syntax::Stmt, head: ForHead) -> Result<Stm
 }
 
 // A for as far as its `do`.
-#[tactic(auto, unfolding(typing::specs::Statements::for_head, typing::specs::Steps::enter_loop))]
+#[tactic(auto, unfolding(typing::specs::Statements::for_head))]
 fn for_head(
     typer: &mut Typer,
     place: Place,
@@ -265,7 +267,7 @@ fn boxed(typer: &mut Typer, written: &syntax::Stmt) -> Result<Box<Stmt>, TypeFau
 }
 
 // The variable is accessed first, then comes the value, then its test (6.8.2.2).
-#[tactic(auto, using(typed_tree::proofs::Looks::look_assign), unfolding(typing::specs::Statements::assignment, typing::specs::Steps::enter_as))]
+#[tactic(auto, using(typed_tree::proofs::Looks::look_assign), unfolding(typing::specs::Statements::assignment))]
 fn assignment(
     typer: &mut Typer,
     name: &syntax::Name,
@@ -311,7 +313,7 @@ fn procedure_call(
 }
 
 // A write or writeln.
-#[tactic(auto, using(typed_tree::proofs::Looks::look_write), unfolding(typing::specs::Statements::write, typing::specs::Steps::enter_as))]
+#[tactic(auto, using(typed_tree::proofs::Looks::look_write), unfolding(typing::specs::Statements::write))]
 fn write(
     typer: &mut Typer,
     name: &syntax::Name,

@@ -2,7 +2,8 @@
 -- typed form looks, and its sites. What asks for a site of its own at an expression's first token (a width) hands its
 -- kind in, as the leading kind: that site stands behind the token's own, and before all others. It says nothing of what
 -- a program does.
-use Rattle.std.specs.Prelude.{ℕ, ◌&&◌, Bool, true, false, List, [], ◌∷◌, Option, Some, None, Ok, Err, pos, if◌then◌else◌, nat_le}
+use Rattle.std.specs.Prelude.{ℕ, ◌&&◌, Bool, true, false, List, [], ◌∷◌, Option, Some, None, Ok, Err, pos}
+use Rattle.std.specs.Prelude.{if◌then◌else◌, nat_le}
 use Rattle.place.specs.declared.Place.{Place}
 use Rattle.syntax_tree.specs.declared.Name.{Name}
 use Rattle.syntax_tree.specs.declared.Sign.{Sign}
@@ -13,7 +14,9 @@ use Rattle.syntax_tree.specs.declared.Expr.{Expr}
 use Rattle.syntax_tree.specs.declared.Link.{Link}
 use Rattle.syntax_tree.specs.declared.Actual.{Actual}
 use Rattle.syntax_tree.specs.declared.Expr.TheOpen.{Expr-F, Link-F, Actual-F}
-use Rattle.syntax_tree.specs.declared.Expr.TheOpen.Expr-F.{Number as NumberOf, Name as NameOf, Call as CallOf, Parenthesized as ParenthesizedOf, Not as NotOf, Signed as SignedOf, Chain as ChainOf}
+use Rattle.syntax_tree.specs.declared.Expr.TheOpen.Expr-F.{Number as NumberOf, Name as NameOf, Call as CallOf}
+use Rattle.syntax_tree.specs.declared.Expr.TheOpen.Expr-F.{Parenthesized as ParenthesizedOf, Not as NotOf}
+use Rattle.syntax_tree.specs.declared.Expr.TheOpen.Expr-F.{Signed as SignedOf, Chain as ChainOf}
 use Rattle.syntax_tree.specs.declared.Expr.TheFolds.{fold-Expr, fold-Link, fold-Actual}
 use Rattle.types.specs.declared.form.TypeForm.{TypeForm}
 use Rattle.types.specs.declared.form.TypeId.{TypeId}

@@ -1,7 +1,8 @@
 -- The names of a program (ISO 7185:1990, 6.1.3, 6.2.2, 6.10): small and capital letters are alike; the required
 -- identifiers stand in a region round the program, and its block defines its parameters and its variables.
 -- It says nothing of the order in which definitions are passed.
-use Rattle.std.specs.Prelude.{ℕ, pos, ◌+◌, ◌&&◌, ◌++◌, Bool, List, [], ◌∷◌, Some, if◌then◌else◌, nat_le, nat_eq, map, codes, flat_map}
+use Rattle.std.specs.Prelude.{ℕ, pos, ◌+◌, ◌&&◌, ◌++◌, Bool, List, [], ◌∷◌, Some, if◌then◌else◌, nat_le, nat_eq, map}
+use Rattle.std.specs.Prelude.{codes, flat_map}
 use Rattle.std.specs.List.{list_any}
 use Rattle.std.specs.Cmp.Lexicographic.{pointwise}
 use Rattle.syntax_tree.specs.declared.Program.{Program}

@@ -1,19 +1,24 @@
 -- The typing of statements (ISO 7185:1990, 6.8, 6.9): of each form the first rule that it breaks, or how its typed form
 -- looks, and its sites. It says nothing of what a program does.
-use Rattle.std.specs.Prelude.{ℕ, Bool, true, false, List, [], ◌∷◌, Option, Some, None, Ok, Err, if◌then◌else◌, map, option_map}
+use Rattle.std.specs.Prelude.{ℕ, Bool, true, false, List, [], ◌∷◌, Option, Some, None, Ok, Err, if◌then◌else◌, map}
+use Rattle.std.specs.Prelude.{option_map}
 use Rattle.place.specs.declared.Place.{Place}
 use Rattle.syntax_tree.specs.declared.Name.{Name}
 use Rattle.syntax_tree.specs.declared.Expr.{Expr}
 use Rattle.syntax_tree.specs.declared.Actual.{Actual}
 use Rattle.syntax_tree.specs.declared.Expr.TheOpen.{Expr-F}
-use Rattle.syntax_tree.specs.declared.Expr.TheOpen.Expr-F.{Number as NumberOf, Name as NameOf, Call as FunctionOf, Parenthesized as ParenthesizedOf, Not as NotOf, Signed as SignedOf, Chain as ChainOf}
+use Rattle.syntax_tree.specs.declared.Expr.TheOpen.Expr-F.{Number as NumberOf, Name as NameOf, Call as FunctionOf}
+use Rattle.syntax_tree.specs.declared.Expr.TheOpen.Expr-F.{Parenthesized as ParenthesizedOf, Not as NotOf}
+use Rattle.syntax_tree.specs.declared.Expr.TheOpen.Expr-F.{Signed as SignedOf, Chain as ChainOf}
 use Rattle.syntax_tree.specs.declared.Expr.TheViews.{out-Expr, out-Actual}
 use Rattle.syntax_tree.specs.declared.Link.{Link}
 use Rattle.syntax_tree.specs.declared.Direction.{Direction as SyntaxDirection}
 use Rattle.syntax_tree.specs.declared.Direction.TheVariants as written
 use Rattle.syntax_tree.specs.declared.Stmt.{Stmt}
 use Rattle.syntax_tree.specs.declared.Stmt.TheOpen.{Stmt-F}
-use Rattle.syntax_tree.specs.declared.Stmt.TheOpen.Stmt-F.{Empty as EmptyOf, Assign as AssignOf, Call as CallOf, Compound as CompoundOf, If as IfOf, While as WhileOf, Repeat as RepeatOf, For as ForOf}
+use Rattle.syntax_tree.specs.declared.Stmt.TheOpen.Stmt-F.{Empty as EmptyOf, Assign as AssignOf, Call as CallOf}
+use Rattle.syntax_tree.specs.declared.Stmt.TheOpen.Stmt-F.{Compound as CompoundOf, If as IfOf, While as WhileOf}
+use Rattle.syntax_tree.specs.declared.Stmt.TheOpen.Stmt-F.{Repeat as RepeatOf, For as ForOf}
 use Rattle.syntax_tree.specs.declared.Stmt.TheFolds.{fold-Stmt}
 use Rattle.types.specs.declared.form.TypeForm.{TypeForm}
 use Rattle.types.specs.declared.form.TypeForm.TheVariants as form
@@ -30,9 +35,11 @@ use Rattle.typed_tree.specs.declared.tree.Direction.{Direction}
 use Rattle.typed_tree.specs.declared.tree.Direction.TheVariants as direction
 use Rattle.typed_tree.specs.declared.tree.Representation.{Representation}
 use Rattle.typed_tree.specs.declared.tree.Representation.TheVariants as representation
-use Rattle.typed_tree.specs.Look.{Assign, Target, Fits, Write, Written as WrittenMark, Width, Empty, Compound, If, Then, Else, While, Do, Repeat, Until, For, Ends}
+use Rattle.typed_tree.specs.Look.{Assign, Target, Fits, Write, Written as WrittenMark, Width, Empty, Compound, If, Then}
+use Rattle.typed_tree.specs.Look.{Else, While, Do, Repeat, Until, For, Ends}
 use Rattle.typing.specs.Passing.{Checked, Passing, and_then, pure, given, mark, each, ◌>>=◌, ◌>>◌, ◌>>?◌}
-use Rattle.typing.specs.Steps.{pass, enter_as, enter_loop, site, find, may_change, begin_control, end_control, wants_output}
+use Rattle.typing.specs.Steps.{pass, enter_as, enter_loop, site, find, may_change, begin_control, end_control}
+use Rattle.typing.specs.Steps.{wants_output}
 use Rattle.typing.specs.Expressions.{Typed, Written, WrittenActual, fits, or_mismatch, expression, written_actual}
 
 -- the variable that a name denotes: its root and its type
@@ -238,7 +245,7 @@ for_body control body = do
   mark Ends
 
 -- a for (6.8.3.9)
-unfoldable pub for_loop : Place → Name → Written → SyntaxDirection → Written → Passing (Unit {0}) → Passing (Unit {0})
+abbrev pub for_loop : Place → Name → Written → SyntaxDirection → Written → Passing (Unit {0}) → Passing (Unit {0})
 for_loop place variable first direction last body =
     for_head place variable first direction last >>= (λ control. for_body control body)
 

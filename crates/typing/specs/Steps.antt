@@ -1,6 +1,7 @@
 -- The steps of typing: a token that is passed, a form that is entered, a loop, a site, a name that is found, a control
 -- variable, a region, a definition, a variable. It says nothing of the forms that take them.
-use Rattle.std.specs.Prelude.{ℕ, ◌+◌, ◌-◌, ◌++◌, true, false, List, [], ◌∷◌, Result, Ok, Err, if◌then◌else◌, nat_eq, nat_le, nat_lt, length, take}
+use Rattle.std.specs.Prelude.{ℕ, ◌+◌, ◌-◌, ◌++◌, true, false, List, [], ◌∷◌, Result, Ok, Err, if◌then◌else◌, nat_eq}
+use Rattle.std.specs.Prelude.{nat_le, nat_lt, length, take}
 use Rattle.std.specs.List.{list_any}
 use Rattle.place.specs.declared.Place.{Place}
 use Rattle.syntax_tree.specs.declared.Name.{Name}
@@ -55,11 +56,11 @@ enter = λ s.
     else Ok (after s.entries [] (record s { entries = s.entries + 1 }))
 
 -- a form that looks so is entered
-unfoldable pub enter_as : (ℕ → Mark) → Passing (Unit {0})
+abbrev pub enter_as : (ℕ → Mark) → Passing (Unit {0})
 enter_as marked = enter >>= (λ number. mark (marked number))
 
 -- the number of a loop that begins
-unfoldable pub number_loop : Passing ℕ
+abbrev pub number_loop : Passing ℕ
 number_loop = λ s. Ok (after s.loops [] (record s { loops = s.loops + 1 }))
 
 -- a loop is entered, by its number among the entries and its number among the loops
@@ -67,7 +68,7 @@ unfoldable pub begin_loop : Passing (ℕ × ℕ)
 begin_loop = enter >>= (λ number. number_loop >>= (λ loop_number. pure (number, loop_number)))
 
 -- a loop that looks so is entered
-unfoldable pub enter_loop : (ℕ → ℕ → Mark) → Passing (Unit {0})
+abbrev pub enter_loop : (ℕ → ℕ → Mark) → Passing (Unit {0})
 enter_loop marked = begin_loop >>= (λ numbers. mark (marked numbers.0 numbers.1))
 
 -- a site, by its id

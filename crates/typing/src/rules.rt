@@ -2,7 +2,8 @@
 ghost use Rattle.std.specs.Prelude.{◌≡◌, nat_eq};
 ghost use Rattle.typing.specs.Steps.{told};
 ghost use Rattle.typing.specs.Expressions.{sign_operation, both_of, result_type, function_type, as_function};
-ghost use Rattle.typing.specs.Statements.{as_variable, as_procedure, fitting, ends_line, is_output, representation_of, way};
+ghost use Rattle.typing.specs.Statements.{as_variable, as_procedure, fitting, ends_line, is_output};
+ghost use Rattle.typing.specs.Statements.{representation_of, way};
 
 use place::Place;
 use scopes::{Denotation, RequiredFunction, RequiredProcedure, ScopeFault};

@@ -38,7 +38,7 @@ impl Typer {
     }
 
     /// The numbers of the loop that is entered: among the statements and expressions, and among the loops.
-    #[tactic(auto, unfolding(crate::specs::Steps::begin_loop, crate::specs::Steps::enter, crate::specs::Steps::number_loop))]
+    #[tactic(auto, unfolding(crate::specs::Steps::begin_loop, crate::specs::Steps::enter))]
     pub fn enter_loop(&mut self) -> Result<(u32, u32), TypeFault>
         ensures { Tells (spec.begin_loop self.old) result self.new }
     {
@@ -73,8 +73,8 @@ impl Typer {
         Ok(denotation)
     }
 
-    /// A variable may be changed, if it isn't the control variable of a for statement round the place (6.8.3.9); else it
-    /// is K5 at its name.
+    /// A variable may be changed, if it isn't the control variable of a for statement round the place (6.8.3.9); else
+    /// it is K5 at its name.
     #[tactic(auto, unfolding(crate::specs::Steps::may_change))]
     pub fn may_change(&self, place: Place, root: u32) -> Result<(), TypeFault>
         ensures { Tells (spec.may_change place root self.now) result self.now }

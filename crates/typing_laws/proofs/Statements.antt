@@ -307,7 +307,7 @@ module _ (variables : ℕ) where
   for_does : (place : Place) (name : Name) (firsts lasts inside : List Place) (first : Written) (d : SyntaxDirection) (end : Written) (body : Passing (Unit {0}))
       → LawfulWritten variables firsts first → LawfulWritten variables lasts end → LawfulStatement inside body
       → LawfulStatement (place ∷ name.place ∷ (firsts ++ (lasts ++ inside))) (for_loop place name first d end body)
-  unfolding for_loop for_body
+  unfolding for_body
   for_does place name firsts lasts inside first d end body one two three = record {
     passes = λ least.
         sited (λ sites. subst (λ p. Covers 0 (place ∷ name.place ∷ p) sites) (append_assoc firsts lasts inside))

@@ -235,7 +235,7 @@ mark_does {variables} {least} one none no_loop formed = record {
 -- an entry, with the next number
 pub enter_does : {variables least : ℕ} (marked : ℕ → Mark) → ((k : ℕ) → mark_entries (marked k) ≡ k ∷ []) → ((k : ℕ) → mark_loops (marked k) ≡ [])
     → ((k n : ℕ) → least ≤ n → is_formed_mark variables n (marked k) ≡ true) → Does variables least Nothing (enter_as marked) Anything
-unfolding enter_as enter
+unfolding enter
 enter_does {variables} {least} marked one no_loop formed = record {
   does = λ s a is fine h.
       let x = split (if nat_le most_entries s.entries then Err (fault.TooMany s.latest) else Ok (after s.entries [] (record s { entries = s.entries + 1 })))
@@ -275,7 +275,7 @@ enter_does {variables} {least} marked one no_loop formed = record {
 pub enter_loop_does : {variables least : ℕ} (marked : ℕ → ℕ → Mark) → ((k l : ℕ) → mark_entries (marked k l) ≡ k ∷ [])
     → ((k l : ℕ) → mark_loops (marked k l) ≡ l ∷ []) → ((k l n : ℕ) → least ≤ n → is_formed_mark variables n (marked k l) ≡ true)
     → Does variables least Nothing (enter_loop marked) Anything
-unfolding enter_loop begin_loop enter number_loop
+unfolding begin_loop enter
 enter_loop_does {variables} {least} marked one loop formed = record {
   does = λ s a is fine h. by s a fine h (nat_le most_entries s.entries) refl is;
 }
