@@ -1,5 +1,6 @@
 -- The line that says something is read again.
-use Rattle.std.proofs.Common.{◌≡◌, ℕ, suc, ◌^◌, ◌<◌, ℤ, pos, negsuc, Bool, true, false, ◌&&◌, ◌||◌, nat_lt, int_le, int_lt, ◌==◌, List, [], ◌∷◌, ◌++◌, length, drop, Some, Ok, refl, ap, ◌∙◌, arith, decimal}
+use Rattle.std.proofs.Common.{◌≡◌, ℕ, suc, ◌^◌, ◌<◌, ℤ, pos, negsuc, Bool, true, false, ◌&&◌, ◌||◌, nat_lt, int_le, int_lt, ◌==◌, List, [], ◌∷◌, ◌++◌, length}
+use Rattle.std.proofs.Common.{drop, Some, Ok, refl, ap, ◌∙◌, arith, decimal}
 use Rattle.std.specs.List.{list_all, position, position_or_len}
 use Rattle.std.specs.Char.{is_ascii_digit}
 use Rattle.std.specs.Ordering.{int_eq}
@@ -15,7 +16,8 @@ use Rattle.domain.specs.declared.facts.Fact.TheVariants.{Range, Defined, Order}
 use Rattle.certificate.specs.declared.claim.Claim.{Claim}
 use Rattle.certificate.specs.declared.claim.Claim.TheVariants.{Block, Loop, Change, Fact}
 use Rattle.certificate.specs.Contents.{is_constant, is_fact, is_plain, is_small}
-use Rattle.certificate.specs.Lines.{fact_of, fact_words, line_of, most, number_of, order_fact, parted, parted_at, range_fact, range_of, reading, variable, variable_of}
+use Rattle.certificate.specs.Lines.{fact_of, fact_words, line_of, most, number_of, order_fact, parted, parted_at, range_fact, range_of, reading, variable}
+use Rattle.certificate.specs.Lines.{variable_of}
 use Rattle.certificate.specs.Text.{lines}
 use Rattle.certificate.specs.Building.{is_claim, said_line}
 use Rattle.certificate.proofs.Numerals.{at_most-again, constant_again, constant_is, own}

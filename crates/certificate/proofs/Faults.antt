@@ -54,7 +54,8 @@ no_heading (Fact fact) = refl
 -- the fault of claims' lines goes on behind the first
 fault_step : (number : ℕ) (above : Above) (claim : Claim) (more : List Claim) → list_all is_claim (claim ∷ more) ≡ true
     → fault_from number above (map said_line (claim ∷ more))
-    ≡ or_else (if admits above claim && has_line claim more then None else Some (OutOfOrder number)) (fault_from (suc number) (below above claim) (map said_line more))
+    ≡ or_else (if admits above claim && has_line claim more then None else Some (OutOfOrder number))
+    (fault_from (suc number) (below above claim) (map said_line more))
 fault_step number above claim more fits =
     let parts = and_parts (is_claim claim) (list_all is_claim more) fits in
     rw (no_heading claim, line_again claim parts.0, same_below claim more parts.1) refl

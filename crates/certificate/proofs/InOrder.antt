@@ -7,7 +7,8 @@ use Rattle.certificate.specs.declared.claim.Claim.{Claim}
 use Rattle.certificate.specs.declared.claim.Claim.TheVariants.{Block, Loop, Change, Fact}
 use Rattle.certificate.specs.declared.order.Above.{Above}
 use Rattle.certificate.specs.Building.{is_claim}
-use Rattle.certificate.specs.Contents.{LoopClaims, Section, are_in_order, are_listed, claims_of, claims_of_loop, claims_of_section, comes_behind, is_empty, is_fact, is_loop, is_section, is_small, subjects}
+use Rattle.certificate.specs.Contents.{LoopClaims, Section, are_in_order, are_listed, claims_of, claims_of_loop, claims_of_section, comes_behind, is_empty}
+use Rattle.certificate.specs.Contents.{is_fact, is_loop, is_section, is_small, subjects}
 use Rattle.certificate.specs.Text.{admits, below, nothing}
 
 -- a heading has below it what it needs there
@@ -117,9 +118,11 @@ loop_in_order : (b : ℕ) (n c : Option ℕ) (f : Option VariableFact) (claims :
     → orderly (at (Some b) n c f) (claims_of_loop claims ++ rest)
     ≡ (comes_behind nat_cmp n claims.number && (is_loop claims && orderly (at (Some b) (Some claims.number) None None) rest))
 loop_in_order b n c f claims rest ends =
-    ap (λ more. is_small claims.number && (comes_behind nat_cmp n claims.number && (has_line (Loop claims.number) more && orderly (at (Some b) (Some claims.number) None None) more)))
+    ap (λ more. is_small claims.number && (comes_behind nat_cmp n claims.number &&
+    (has_line (Loop claims.number) more && orderly (at (Some b) (Some claims.number) None None) more)))
     (append_assoc (map Change claims.changes) (map Fact claims.facts) rest)
-    ∙ ap (λ some. is_small claims.number && (comes_behind nat_cmp n claims.number && (some && orderly (at (Some b) (Some claims.number) None None) (map Change claims.changes ++ (map Fact claims.facts ++ rest)))))
+    ∙ ap (λ some. is_small claims.number && (comes_behind nat_cmp n claims.number &&
+    (some && orderly (at (Some b) (Some claims.number) None None) (map Change claims.changes ++ (map Fact claims.facts ++ rest)))))
     (loop_has_line claims.number claims.changes claims.facts rest ends)
     ∙ ap (λ more. is_small claims.number && (comes_behind nat_cmp n claims.number && (not (is_empty claims.changes && is_empty claims.facts) && more)))
     (changes_in_order (Some b) claims.number None claims.changes claims.facts rest ends)
@@ -177,7 +180,8 @@ section_in_order : (b n c : Option ℕ) (f : Option VariableFact) (section : Sec
     → orderly (at b n c f) (claims_of_section section ++ rest)
     ≡ (comes_behind nat_cmp b section.block && (is_section section && orderly (at (Some section.block) None None None) rest))
 section_in_order b n c f section rest ends =
-    ap (λ some. is_small section.block && (comes_behind nat_cmp b section.block && (some && orderly (at (Some section.block) None None None) (flat_map claims_of_loop section.loops ++ rest))))
+    ap (λ some. is_small section.block && (comes_behind nat_cmp b section.block &&
+    (some && orderly (at (Some section.block) None None None) (flat_map claims_of_loop section.loops ++ rest))))
     (section_has_line section.block section.loops rest ends)
     ∙ ap (λ more. is_small section.block && (comes_behind nat_cmp b section.block && (not (is_empty section.loops) && more)))
     (loops_in_order section.block None None None section.loops rest ends)

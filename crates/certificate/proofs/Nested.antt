@@ -43,7 +43,8 @@ built_changes : (front : List Section) (block : ℕ) (loops : List LoopClaims) (
 built_changes front block loops number changes [] =
     ap (λ (c : List ℕ). ending front block loops (record { number = number; changes = c; facts = [] })) (sym (append-nil changes))
 built_changes front block loops number changes (root ∷ more) =
-    ap (λ sections. built sections (map Change more)) (loop_added (Change root) front block loops (record { number = number; changes = changes; facts = [] }) refl)
+    ap (λ sections. built sections (map Change more))
+    (loop_added (Change root) front block loops (record { number = number; changes = changes; facts = [] }) refl)
     ∙ built_changes front block loops number (changes ++ root ∷ []) more
     ∙ ap (λ (c : List ℕ). ending front block loops (record { number = number; changes = c; facts = [] })) (append_assoc changes (root ∷ []) more)
 
@@ -53,7 +54,8 @@ built_facts : (front : List Section) (block : ℕ) (loops : List LoopClaims) (nu
 built_facts front block loops number changes facts [] =
     ap (λ (f : List VariableFact). ending front block loops (record { number = number; changes = changes; facts = f })) (sym (append-nil facts))
 built_facts front block loops number changes facts (fact ∷ more) =
-    ap (λ sections. built sections (map Fact more)) (loop_added (Fact fact) front block loops (record { number = number; changes = changes; facts = facts }) refl)
+    ap (λ sections. built sections (map Fact more))
+    (loop_added (Fact fact) front block loops (record { number = number; changes = changes; facts = facts }) refl)
     ∙ built_facts front block loops number changes (facts ++ fact ∷ []) more
     ∙ ap (λ (f : List VariableFact). ending front block loops (record { number = number; changes = changes; facts = f })) (append_assoc facts (fact ∷ []) more)
 
@@ -61,13 +63,15 @@ built_loop : (front : List Section) (block : ℕ) (loops : List LoopClaims) (cla
     → built (front ++ record { block = block; loops = loops } ∷ []) (claims_of_loop claims) ≡ ending front block loops claims
 built_loop front block loops claims =
     let opened : LoopClaims = record { number = claims.number; changes = []; facts = [] } in
-    ap (λ sections. built sections (map Change claims.changes ++ map Fact claims.facts)) (last_snoc (in_section (Loop claims.number)) front (record { block = block; loops = loops }))
+    ap (λ sections. built sections (map Change claims.changes ++ map Fact claims.facts))
+    (last_snoc (in_section (Loop claims.number)) front (record { block = block; loops = loops }))
     ∙ built-append (ending front block loops opened) (map Change claims.changes) (map Fact claims.facts)
     ∙ ap (λ sections. built sections (map Fact claims.facts)) (built_changes front block loops claims.number [] claims.changes)
     ∙ built_facts front block loops claims.number claims.changes [] claims.facts
 
 built_loops : (front : List Section) (block : ℕ) (loops more : List LoopClaims)
-    → built (front ++ record { block = block; loops = loops } ∷ []) (flat_map claims_of_loop more) ≡ front ++ record { block = block; loops = loops ++ more } ∷ []
+    → built (front ++ record { block = block; loops = loops } ∷ []) (flat_map claims_of_loop more)
+    ≡ front ++ record { block = block; loops = loops ++ more } ∷ []
 built_loops front block loops [] =
     ap (λ (l : List LoopClaims). front ++ record { block = block; loops = l } ∷ []) (sym (append-nil loops))
 built_loops front block loops (claims ∷ more) =
@@ -109,7 +113,12 @@ abbrev with_claim : Claim → Parts → Parts
 with_claim (Block number) parts =
     record { changes = []; facts = []; loops = []; sections = record { block = number; loops = parts.loops } ∷ parts.sections }
 with_claim (Loop number) parts =
-    record { changes = []; facts = []; loops = record { number = number; changes = parts.changes; facts = parts.facts } ∷ parts.loops; sections = parts.sections }
+    record {
+      changes = [];
+      facts = [];
+      loops = record { number = number; changes = parts.changes; facts = parts.facts } ∷ parts.loops;
+      sections = parts.sections;
+    }
 with_claim (Change root) parts = record parts { changes = root ∷ parts.changes }
 with_claim (Fact fact) parts = record parts { facts = fact ∷ parts.facts }
 

@@ -1,5 +1,6 @@
 -- Numbers as the words of a line.
-use Rattle.std.proofs.Common.{◌≡◌, ℕ, suc, zero, ◌+◌, ◌*◌, ◌-◌, ◌<◌, ◌≤◌, true, nat_lt, ◌==◌, List, [], ◌∷◌, length, take, drop, fold, get_or, Some, None, Ok, Err, refl, arith}
+use Rattle.std.proofs.Common.{◌≡◌, ℕ, suc, zero, ◌+◌, ◌*◌, ◌-◌, ◌<◌, ◌≤◌, true, nat_lt, ◌==◌, List, [], ◌∷◌, length, take, drop, fold, get_or, Some, None, Ok}
+use Rattle.std.proofs.Common.{Err, refl, arith}
 use Rattle.std.specs.List.{list_all, position}
 use Rattle.std.specs.Char.{is_ascii_digit}
 use Rattle.std.proofs.lemmas.Bool.{ne_eqb}

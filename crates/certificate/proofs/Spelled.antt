@@ -1,5 +1,6 @@
 -- What a line says, and the line that says it.
-use Rattle.std.proofs.Common.{◌≡◌, ℕ, suc, ◌+◌, ◌≤◌, ℤ, pos, Bool, true, false, not, ◌&&◌, int_le, int_lt, ◌==◌, List, ◌∷◌, ◌++◌, take, drop, get_or, Option, Some, None, Result, Ok, Err, refl, sym, ap, subst, ◌∙◌, arith, inl, inr, decimal, codes}
+use Rattle.std.proofs.Common.{◌≡◌, ℕ, suc, ◌+◌, ◌≤◌, ℤ, pos, Bool, true, false, not, ◌&&◌, int_le, int_lt, ◌==◌, List, ◌∷◌, ◌++◌, take, drop, get_or, Option}
+use Rattle.std.proofs.Common.{Some, None, Result, Ok, Err, refl, sym, ap, subst, ◌∙◌, arith, inl, inr, decimal, codes}
 use Rattle.std.specs.Bool.{if◌then◌else◌}
 use Rattle.std.specs.List.{position}
 use Rattle.std.specs.Ordering.{int_eq}
@@ -18,7 +19,8 @@ use Rattle.certificate.specs.declared.claim.LineFault.{LineFault}
 use Rattle.certificate.specs.declared.claim.LineFault.TheVariants.{NotInGrammar, OutOfRange}
 use Rattle.certificate.specs.Building.{is_claim}
 use Rattle.certificate.specs.Contents.{is_constant, is_fact, is_plain, is_small}
-use Rattle.certificate.specs.Lines.{◌>>=◌, behind, both, constant_of, fact_of, fact_words, line_of, most, number_of, order_fact, parted, parted_at, range_fact, range_of, reading, variable, variable_of}
+use Rattle.certificate.specs.Lines.{◌>>=◌, behind, both, constant_of, fact_of, fact_words, line_of, most, number_of, order_fact, parted, parted_at, range_fact}
+use Rattle.certificate.specs.Lines.{range_of, reading, variable, variable_of}
 use Rattle.certificate.proofs.Numerals.{at_most-spelled, behind_some, bound_ok, constant_spelled, ok_is, when_ok}
 
 -- ---- what is read is spelled so
@@ -103,8 +105,10 @@ three_parts words a rest b c x y z is rest_is a_is b_is c_is = rw (is, rest_is, 
 range_fact_spelled : (words : List ℕ) (fact : VariableFact) → range_fact words ≡ Ok fact
     → (codes "range " ++ words ≡ fact_words fact) × (is_fact fact ≡ true)
 range_fact_spelled words fact e =
-    let first = bound_ok (parted words) (λ first. parted first.1 >>= λ second. both (variable_of first.0) (both (constant_of second.0) (constant_of second.1)) >>= range_of) fact e in
-    let second = bound_ok (parted first.0.1) (λ second. both (variable_of first.0.0) (both (constant_of second.0) (constant_of second.1)) >>= range_of) fact first.2 in
+    let first = bound_ok (parted words) (λ first. parted first.1 >>= λ second. both (variable_of first.0)
+    (both (constant_of second.0) (constant_of second.1)) >>= range_of) fact e in
+    let second = bound_ok (parted first.0.1) (λ second. both (variable_of first.0.0)
+    (both (constant_of second.0) (constant_of second.1)) >>= range_of) fact first.2 in
     let parts = bound_ok (both (variable_of first.0.0) (both (constant_of second.0.0) (constant_of second.0.1))) range_of fact second.2 in
     let ends = both_ok (variable_of first.0.0) (both (constant_of second.0.0) (constant_of second.0.1)) parts.0.0 parts.0.1 parts.1 in
     let numbers = both_ok (constant_of second.0.0) (constant_of second.0.1) parts.0.1.0 parts.0.1.1 ends.1 in
@@ -112,22 +116,26 @@ range_fact_spelled words fact e =
     let low = constant_spelled second.0.0 parts.0.1.0 numbers.0 in
     let high = constant_spelled second.0.1 parts.0.1.1 numbers.1 in
     let told = range_test parts.0.0 parts.0.1.0 parts.0.1.1 fact _ refl parts.2 root.1 low.1 high.1 in
-    let whole = three_parts words first.0.0 first.0.1 second.0.0 second.0.1 _ _ _ (parted_spelled words first.0.0 first.0.1 first.1) (parted_spelled first.0.1 second.0.0 second.0.1 second.1) root.0 low.0 high.0 in
+    let whole = three_parts words first.0.0 first.0.1 second.0.0 second.0.1 _ _ _ (parted_spelled words first.0.0 first.0.1 first.1)
+    (parted_spelled first.0.1 second.0.0 second.0.1 second.1) root.0 low.0 high.0 in
     (ap (λ more. codes "range " ++ more) whole ∙ told.0, told.1)
 
 order_fact_spelled : (words : List ℕ) (fact : VariableFact) → order_fact words ≡ Ok fact
     → (codes "order " ++ words ≡ fact_words fact) × (is_fact fact ≡ true)
 order_fact_spelled words fact e =
     let made : ℕ × (ℕ × ℤ) → Result VariableFact LineFault = λ parts. Ok (Order parts.0 parts.1.0 parts.1.1) in
-    let first = bound_ok (parted words) (λ first. parted first.1 >>= λ second. both (variable_of first.0) (both (variable_of second.0) (constant_of second.1)) >>= made) fact e in
-    let second = bound_ok (parted first.0.1) (λ second. both (variable_of first.0.0) (both (variable_of second.0) (constant_of second.1)) >>= made) fact first.2 in
+    let first = bound_ok (parted words) (λ first. parted first.1 >>= λ second. both (variable_of first.0)
+    (both (variable_of second.0) (constant_of second.1)) >>= made) fact e in
+    let second = bound_ok (parted first.0.1) (λ second. both (variable_of first.0.0)
+    (both (variable_of second.0) (constant_of second.1)) >>= made) fact first.2 in
     let parts = bound_ok (both (variable_of first.0.0) (both (variable_of second.0.0) (constant_of second.0.1))) made fact second.2 in
     let ends = both_ok (variable_of first.0.0) (both (variable_of second.0.0) (constant_of second.0.1)) parts.0.0 parts.0.1 parts.1 in
     let bound = both_ok (variable_of second.0.0) (constant_of second.0.1) parts.0.1.0 parts.0.1.1 ends.1 in
     let root = variable_spelled first.0.0 parts.0.0 ends.0 in
     let other = variable_spelled second.0.0 parts.0.1.0 bound.0 in
     let number = constant_spelled second.0.1 parts.0.1.1 bound.1 in
-    let whole = three_parts words first.0.0 first.0.1 second.0.0 second.0.1 _ _ _ (parted_spelled words first.0.0 first.0.1 first.1) (parted_spelled first.0.1 second.0.0 second.0.1 second.1) root.0 other.0 number.0 in
+    let whole = three_parts words first.0.0 first.0.1 second.0.0 second.0.1 _ _ _ (parted_spelled words first.0.0 first.0.1 first.1)
+    (parted_spelled first.0.1 second.0.0 second.0.1 second.1) root.0 other.0 number.0 in
     subst (λ fact. (codes "order " ++ words ≡ fact_words fact) × (is_fact fact ≡ true))
     (ok_is (Order parts.0.0 parts.0.1.0 parts.0.1.1) fact parts.2)
     (ap (λ more. codes "order " ++ more) whole, and_from _ _ root.1 (and_from _ _ other.1 number.1))

@@ -1,4 +1,5 @@
-use Rattle.std.proofs.Common.{◌≡◌, ℕ, suc, ◌+◌, ◌<◌, ◌≤◌, Bool, true, false, nat_lt, ◌==◌, cond, not, List, [], ◌∷◌, ◌++◌, length, take, drop, Option, Some, None, refl, sym, ap, ◌∙◌, arith}
+use Rattle.std.proofs.Common.{◌≡◌, ℕ, suc, ◌+◌, ◌<◌, ◌≤◌, Bool, true, false, nat_lt, ◌==◌, cond, not, List, [], ◌∷◌, ◌++◌, length, take, drop, Option, Some}
+use Rattle.std.proofs.Common.{None, refl, sym, ap, ◌∙◌, arith}
 use Rattle.std.proofs.lemmas.Grind.{common_steps}
 use Rattle.std.proofs.lemmas.Bool.Decides.{nat_tests}
 use Rattle.std.specs.Bool.{if◌then◌else◌}
@@ -12,7 +13,10 @@ one_more : (n : ℕ) → 1 + n ≡ suc n
 one_more n = omega arith
 
 -- one byte more before a line, where e says that it is a line end
-front-at_end : (e : Bool) (byte n : ℕ) (more : List ℕ) → (n < length more → lines more ≡ record { bytes = take n more; ended = true } ∷ lines (drop (suc n) more)) → cond (not e) (1 + n) 0 < suc (length more) → (if e then record { bytes = []; ended = true } ∷ lines more else with_front byte (lines more)) ≡ record { bytes = take (cond (not e) (1 + n) 0) (byte ∷ more); ended = true } ∷ lines (drop (suc (cond (not e) (1 + n) 0)) (byte ∷ more))
+front-at_end : (e : Bool) (byte n : ℕ) (more : List ℕ)
+    → (n < length more → lines more ≡ record { bytes = take n more; ended = true } ∷ lines (drop (suc n) more)) → cond (not e) (1 + n) 0 < suc (length more)
+    → (if e then record { bytes = []; ended = true } ∷ lines more else with_front byte (lines more))
+    ≡ record { bytes = take (cond (not e) (1 + n) 0) (byte ∷ more); ended = true } ∷ lines (drop (suc (cond (not e) (1 + n) 0)) (byte ∷ more))
 front-at_end true byte n more more_is within = refl
 front-at_end false byte n more more_is within =
     let at_end : n < length more = omega arith in

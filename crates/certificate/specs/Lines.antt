@@ -1,6 +1,8 @@
 -- The lines of a certificate below its heading: how a line spells what it says, and what a line says, if it is in the
 -- grammar and its numbers are in range. ISO 7185:1990 knows no certificates. It does not say where a line may stand.
-use Rattle.std.specs.Prelude.{ℕ, zero, suc, ◌+◌, ◌*◌, ◌-◌, ℤ, pos, neg_ℤ, Bool, false, not, ◌&&◌, nat_eq, nat_lt, ◌==◌, int_lt, if◌then◌else◌, List, [], ◌∷◌, ◌++◌, length, take, drop, fold, position, Option, Some, None, Result, Ok, Err, codes, decimal}
+use Rattle.std.specs.Prelude.{ℕ, zero, suc, ◌+◌, ◌*◌, ◌-◌, ℤ, pos, neg_ℤ, Bool, false, not, ◌&&◌, nat_eq, nat_lt, ◌==◌}
+use Rattle.std.specs.Prelude.{int_lt, if◌then◌else◌, List, [], ◌∷◌, ◌++◌, length, take, drop, fold, position, Option}
+use Rattle.std.specs.Prelude.{Some, None, Result, Ok, Err, codes, decimal}
 use Rattle.std.specs.Ordering.{int_eq}
 use Rattle.std.specs.Fmt.{signed_decimal}
 use Rattle.std.specs.Cmp.Lexicographic.{pointwise}

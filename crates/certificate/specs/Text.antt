@@ -1,6 +1,7 @@
 -- The lines of a text, and the first fault of one that is no certificate's. ISO 7185:1990 knows no certificates. It
 -- does not say what a certificate claims of a program.
-use Rattle.std.specs.Prelude.{ℕ, suc, Bool, true, false, not, ◌&&◌, if◌then◌else◌, ◌==◌, List, [], ◌∷◌, Option, Some, None, Result, Ok, Err, codes}
+use Rattle.std.specs.Prelude.{ℕ, suc, Bool, true, false, not, ◌&&◌, if◌then◌else◌, ◌==◌, List, [], ◌∷◌, Option, Some}
+use Rattle.std.specs.Prelude.{None, Result, Ok, Err, codes}
 use Rattle.std.specs.Str.{bytes_eq}
 use Rattle.std.specs.Option.{is_some, is_none}
 use Rattle.std.specs.Ordering.{nat_cmp}
@@ -11,7 +12,8 @@ use Rattle.certificate.specs.declared.claim.LineFault.{LineFault}
 use Rattle.certificate.specs.declared.claim.LineFault.TheVariants as line
 use Rattle.certificate.specs.declared.order.Above.{Above}
 use Rattle.certificate.specs.declared.fault.ReadFault.{ReadFault}
-use Rattle.certificate.specs.declared.fault.ReadFault.TheVariants.{FirstLine, NotInGrammar, OutOfOrder, OutOfRange, Unended}
+use Rattle.certificate.specs.declared.fault.ReadFault.TheVariants.{FirstLine, NotInGrammar, OutOfOrder, OutOfRange}
+use Rattle.certificate.specs.declared.fault.ReadFault.TheVariants.{Unended}
 use Rattle.certificate.specs.Lines.{behind, is_number, reading}
 use Rattle.certificate.specs.Contents.{comes_behind, heading, subjects}
 

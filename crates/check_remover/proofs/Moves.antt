@@ -1,5 +1,6 @@
 -- The new places of a list are those of the definition.
-use Rattle.std.proofs.Common.{◌≡◌, ℕ, ◌+◌, ◌-◌, ◌<◌, ◌≤◌, Bool, true, false, cond, List, [], ◌∷◌, ◌++◌, length, take, get_or, min, ap, sym, ◌∙◌, ⊎_elim, length-append, arith, slice_index}
+use Rattle.std.proofs.Common.{◌≡◌, ℕ, ◌+◌, ◌-◌, ◌<◌, ◌≤◌, Bool, true, false, cond, List, [], ◌∷◌, ◌++◌, length, take, get_or, min, ap, sym, ◌∙◌, ⊎_elim}
+use Rattle.std.proofs.Common.{length-append, arith, slice_index}
 use Rattle.std.specs.Prelude.{count_by, map, filter}
 use Rattle.std.proofs.Math.Path.{fun_ext}
 use Rattle.std.proofs.lemmas.Bool.{cases_lt}

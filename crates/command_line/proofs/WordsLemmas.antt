@@ -1,12 +1,14 @@
 -- What clap answers, as the words of `pcom` have it.
-use Rattle.std.proofs.Common.{◌≡◌, ◌∙◌, Bool, true, false, List, [], ◌∷◌, Option, Some, None, zero, suc, arith, slice_index, sym, ℕ, option_map, is_some, codes, inl, inr, refl, ap}
+use Rattle.std.proofs.Common.{◌≡◌, ◌∙◌, Bool, true, false, List, [], ◌∷◌, Option, Some, None, zero, suc, arith, slice_index, sym, ℕ, option_map, is_some, codes}
+use Rattle.std.proofs.Common.{inl, inr, refl, ap}
 use Rattle.std.specs.Prelude.{unwrap_or}
 use Rattle.std.specs.Borrow.{Bor}
 use Rattle.std.specs.List.{All}
 use Rattle.std.specs.Str.{bytes_eq}
 use Rattle.clap.specs.Built.{FitsChain, HasDistinctIds, IsPlainArg}
 use Rattle.clap.specs.declared.builder.arg.Arg.{Arg}
-use Rattle.clap.specs.Words.{App, HasMatchesOf, IsAmong, Text, first_of, first_value, found_of, is_simple, kind_of, matches_of, new_app, one_of, one_text, Rule, rows_of, with_rule}
+use Rattle.clap.specs.Words.{App, HasMatchesOf, IsAmong, Text, first_of, first_value, found_of, is_simple, kind_of, matches_of, new_app, one_of, one_text, Rule}
+use Rattle.clap.specs.Words.{rows_of, with_rule}
 use Rattle.clap.specs.Simple.{on_top}
 use Rattle.clap.specs.declared.parser.matches.ArgMatches.{ArgMatches}
 use Rattle.clap.proofs.WalkLemmas.{first_value-rows, one_text-rows}

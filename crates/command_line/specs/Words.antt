@@ -1,7 +1,8 @@
 -- What the words `pcom [--cert FILE] [--go] SOURCE` say: the matches that a command of these three arguments has on
 -- them, by clap's own definitions.
 use Rattle.std.specs.Prelude.{◌≡◌, ⊤, Bool, true, false, codes, List, [], Option, Some, None, option_map}
-use Rattle.clap.specs.Words.{App, IsAmong, Rule, Text, first_of, kind_of, matches_of, new_app, new_rule, one_of, rule_of, with_rule}
+use Rattle.clap.specs.Words.{App, IsAmong, Rule, Text, first_of, kind_of, matches_of, new_app, new_rule, one_of}
+use Rattle.clap.specs.Words.{rule_of, with_rule}
 use Rattle.clap.specs.Built.{IsPlainArg}
 use Rattle.clap.specs.declared.builder.arg.Arg.{Arg}
 use Rattle.clap.specs.Simple.{on_top}

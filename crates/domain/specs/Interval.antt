@@ -1,7 +1,8 @@
 -- Ranges of whole numbers: their members, their order, their join and meet, and the ranges of the operators of integer
 -- and Boolean (ISO 7185:1990, 6.7.2.2, 6.7.2.3) and of abs and sqr (6.6.6.2), here over all whole numbers.
 -- It does not say which ranges a type has, nor what an operation of a program does outside integer.
-use Rattle.std.specs.Prelude.{◌≡◌, ◌⊎◌, Bool, true, false, ◌||◌, ◌&&◌, not, if◌then◌else◌, ℤ, pos, ◌+ℤ◌, ◌-ℤ◌, ◌*ℤ◌, neg_ℤ, ◌≤ℤ◌, ◌<ℤ◌, int_lt, int_le, int_div}
+use Rattle.std.specs.Prelude.{◌≡◌, ◌⊎◌, Bool, true, false, ◌||◌, ◌&&◌, not, if◌then◌else◌, ℤ, pos, ◌+ℤ◌, ◌-ℤ◌, ◌*ℤ◌}
+use Rattle.std.specs.Prelude.{neg_ℤ, ◌≤ℤ◌, ◌<ℤ◌, int_lt, int_le, int_div}
 use Rattle.std.specs.Int.{int_min, int_max}
 use Rattle.std.specs.Ordering.{int_eq}
 

@@ -1,5 +1,6 @@
 -- How products, squares, quotients and remainders of whole numbers stand in the order (ISO 7185:1990, 6.7.2.2).
-use Rattle.std.proofs.Common.{◌≡◌, ℕ, zero, suc, ◌*◌, ◌/◌, ◌≤◌, ◌<◌, ℤ, pos, negsuc, ◌*ℤ◌, ◌≤ℤ◌, ◌<ℤ◌, neg_ℤ, int_div, unsigned_abs, arith, refl}
+use Rattle.std.proofs.Common.{◌≡◌, ℕ, zero, suc, ◌*◌, ◌/◌, ◌≤◌, ◌<◌, ℤ, pos, negsuc, ◌*ℤ◌, ◌≤ℤ◌, ◌<ℤ◌, neg_ℤ, int_div}
+use Rattle.std.proofs.Common.{unsigned_abs, arith, refl}
 use Rattle.std.proofs.lemmas.Int.{ints, clamps}
 use Rattle.std.proofs.lemmas.Nat.{le-div}
 use Rattle.std.proofs.Math.IntN.{*ℤ-negsuc, *ℤ_comm}

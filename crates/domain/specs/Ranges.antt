@@ -1,12 +1,21 @@
 -- Proofs of the laws of ranges, which the `impl` of `Domain` and the methods of `Interval` name. No promise rests on
 -- reading them.
-use Rattle.std.proofs.Common.{◌≡◌, ◌⊎◌, inl, inr, ⊎_elim, ℤ, pos, negsuc, ◌+ℤ◌, ◌-ℤ◌, ◌*ℤ◌, neg_ℤ, ◌≤ℤ◌, ◌<ℤ◌, int_le, int_lt, int_div, Bool, true, false, cond, not, ◌||◌, ◌&&◌, arith, refl, ap, sym, ◌∙◌, ◌↔◌, IsTrue, w64, to_z, of_z}
+use Rattle.std.proofs.Common.{◌≡◌, ◌⊎◌, inl, inr, ⊎_elim, ℤ, pos, negsuc, ◌+ℤ◌, ◌-ℤ◌, ◌*ℤ◌, neg_ℤ, ◌≤ℤ◌, ◌<ℤ◌, int_le}
+use Rattle.std.proofs.Common.{int_lt, int_div, Bool, true, false, cond, not, ◌||◌, ◌&&◌, arith, refl, ap, sym, ◌∙◌, ◌↔◌}
+use Rattle.std.proofs.Common.{IsTrue, w64, to_z, of_z}
 use Rattle.std.proofs.lemmas.Int.{ints, clamps, by_lt_z, to_z-of_z}
-use Rattle.std.proofs.lemmas.Bool.{cond_both, false_from_ne_true, false≢true, not-true, not_from_false, and_parts, and_from, and_left, and_right, or_parts, or_from, or_left, or_right, or_cases}
+use Rattle.std.proofs.lemmas.Bool.{cond_both, false_from_ne_true, false≢true, not-true, not_from_false, and_parts}
+use Rattle.std.proofs.lemmas.Bool.{and_from, and_left, and_right, or_parts, or_from, or_left, or_right, or_cases}
 use Rattle.std.specs.Int.{int_min, int_max, int_rem_euclid}
 use Rattle.std.specs.Ordering.{int_eq}
-use Rattle.domain.specs.Interval.{Interval, vacant, IsPlain, IsInner, IsEnd, limit, nearest_end, HasMember, Includes, has_number, is_vacant, is_included, joined, between, common, sum, difference, negated, hull, product, magnitude, size, squared, absolute, without_zero_end, at_least, at_most, quotient, remainder, truth, is_true, always_true, never_true, truths, both, either, complement, held}
-use Rattle.domain.specs.Order.{span, span-ascending, span-descending, product-between, product-between_right, square-le, quotient-between, quotient-between_positive, quotient-between_negative, quotient-le_magnitude, remainder-below, remainder-le}
+use Rattle.domain.specs.Interval.{Interval, vacant, IsPlain, IsInner, IsEnd, limit, nearest_end, HasMember, Includes}
+use Rattle.domain.specs.Interval.{has_number, is_vacant, is_included, joined, between, common, sum, difference, negated}
+use Rattle.domain.specs.Interval.{hull, product, magnitude, size, squared, absolute, without_zero_end, at_least}
+use Rattle.domain.specs.Interval.{at_most, quotient, remainder, truth, is_true, always_true, never_true, truths, both}
+use Rattle.domain.specs.Interval.{either, complement, held}
+use Rattle.domain.specs.Order.{span, span-ascending, span-descending, product-between, product-between_right, square-le}
+use Rattle.domain.specs.Order.{quotient-between, quotient-between_positive, quotient-between_negative}
+use Rattle.domain.specs.Order.{quotient-le_magnitude, remainder-below, remainder-le}
 
 not-vacant : (first last : ℤ) → first ≤ℤ last → int_lt last first ≡ false
 not-vacant first last ordered = grind (arith, ints)

@@ -1,6 +1,9 @@
 ghost use Rattle.std.specs.Prelude.{◌≡◌, ◌↔◌, ℤ, pos, ◌+ℤ◌, ◌-ℤ◌, neg_ℤ, ◌≤ℤ◌, IsTrue};
-ghost use Rattle.domain.specs.Interval.{Interval as Range, IsEnd, HasMember, Includes, has_number, is_vacant, is_included, joined, common, between, sum, difference, negated, held, nearest_end};
-ghost use Rattle.domain.specs.Ranges.{included-has, joined-has_left, joined-has_right, common-has, common-has_left, common-has_right, has-present};
+ghost use Rattle.domain.specs.Interval.{Interval as Range, IsEnd, HasMember, Includes, has_number, is_vacant};
+ghost use Rattle.domain.specs.Interval.{is_included, joined, common, between, sum, difference, negated, held};
+ghost use Rattle.domain.specs.Interval.{nearest_end};
+ghost use Rattle.domain.specs.Ranges.{included-has, joined-has_left, joined-has_right, common-has, common-has_left};
+ghost use Rattle.domain.specs.Ranges.{common-has_right, has-present};
 
 use crate::Domain;
 use std::marker::Model;

@@ -1,5 +1,6 @@
 -- The shapes that bytes can have by the first of them.
-use Rattle.std.proofs.Common.{◌≡◌, ℕ, ◌<◌, ◌≤◌, ◌+◌, zero, suc, Bool, true, false, not, ◌&&◌, ◌||◌, ◌==◌, nat_eq, List, [], ◌∷◌, ◌++◌, Some, None, codes, refl, ◌⊎◌, inl, inr, arith, sym, subst, if◌then◌else◌}
+use Rattle.std.proofs.Common.{◌≡◌, ℕ, ◌<◌, ◌≤◌, ◌+◌, zero, suc, Bool, true, false, not, ◌&&◌, ◌||◌, ◌==◌, nat_eq, List, [], ◌∷◌, ◌++◌, Some, None, codes, refl}
+use Rattle.std.proofs.Common.{◌⊎◌, inl, inr, arith, sym, subst, if◌then◌else◌}
 use Rattle.std.specs.Option.{option_map}
 use Rattle.std.specs.List.{list_all}
 use Rattle.std.specs.Char.{is_ascii_digit, is_ascii_alphabetic}
@@ -7,7 +8,8 @@ use Rattle.std.proofs.lemmas.Bool.{false≢true}
 use Rattle.std.proofs.Math.Dec.{eqb-suc-zero}
 use Rattle.std.proofs.Math.Nat.{eq-or-lt_of_le}
 use Rattle.lexer.specs.Spelling.{entry, symbol_of, symbol_table}
-use Rattle.lexer.specs.Shape.{Separator, Letters, Digits, Quoted, Mark, shape_of, is_comment, is_letters, is_digits, ends_comment, ends_string, opens_comment, begins}
+use Rattle.lexer.specs.Shape.{Separator, Letters, Digits, Quoted, Mark, shape_of, is_comment, is_letters, is_digits, ends_comment, ends_string, opens_comment}
+use Rattle.lexer.specs.Shape.{begins}
 
 pub and_no : (a : Bool) → (a && false) ≡ false
 and_no true = refl

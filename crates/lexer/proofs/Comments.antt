@@ -1,5 +1,6 @@
 -- Where a comment ends.
-use Rattle.std.proofs.Common.{◌≡◌, ℕ, ◌<◌, ◌≤◌, ◌+◌, zero, suc, Bool, true, false, ◌&&◌, ◌==◌, nat_eq, List, [], ◌∷◌, length, take, drop, inl, inr, Result, Ok, Err, Option, Some, None, codes, add-one, refl, subst, arith, sym, ◌∙◌, ap, if◌then◌else◌}
+use Rattle.std.proofs.Common.{◌≡◌, ℕ, ◌<◌, ◌≤◌, ◌+◌, zero, suc, Bool, true, false, ◌&&◌, ◌==◌, nat_eq, List, [], ◌∷◌, length, take, drop, inl, inr, Result, Ok}
+use Rattle.std.proofs.Common.{Err, Option, Some, None, codes, add-one, refl, subst, arith, sym, ◌∙◌, ap, if◌then◌else◌}
 use Rattle.std.specs.Option.{option_map}
 use Rattle.std.proofs.lemmas.Bool.{false≢true, false_from_ne_true, eqb-true}
 use Rattle.std.proofs.Math.Dec.{eqb-suc-zero}
@@ -19,12 +20,14 @@ abbrev pub comment_end : List ℕ → Option ℕ
 comment_end [] = None
 comment_end (b ∷ bs) = if begins (codes "}") (b ∷ bs) then Some 1 else (if begins (codes "*)") (b ∷ bs) then Some 2 else option_map suc (comment_end bs))
 
-last_only : (t u : Bool) → (if t && true then true else (if u && false then false else false)) ≡ true → (if t && true then counted 1 else (if u && false then counted 2 else None)) ≡ counted 1
+last_only : (t u : Bool) → (if t && true then true else (if u && false then false else false)) ≡ true
+    → (if t && true then counted 1 else (if u && false then counted 2 else None)) ≡ counted 1
 last_only true u h = refl
 last_only false true h = absurd (false≢true h)
 last_only false false h = absurd (false≢true h)
 
-first_only : (t u v : Bool) (o : Option ℕ) → (if t && true then true else (if u && false then false else false)) ≡ true → (if t && true then counted 1 else (if u && v then counted 2 else o)) ≡ counted 1
+first_only : (t u v : Bool) (o : Option ℕ) → (if t && true then true else (if u && false then false else false)) ≡ true
+    → (if t && true then counted 1 else (if u && v then counted 2 else o)) ≡ counted 1
 first_only true u v o h = refl
 first_only false true v o h = absurd (false≢true h)
 first_only false false v o h = absurd (false≢true h)
@@ -48,7 +51,8 @@ comment_unique (b ∷ []) (suc zero) p h = last_only (nat_eq 125 b) (nat_eq 42 b
 comment_unique (b ∷ []) (suc (suc k)) p h = absurd (omega arith)
 comment_unique (b ∷ c ∷ cs) (suc zero) p h = first_only (nat_eq 125 b) (nat_eq 42 b) (nat_eq 41 c && true) (option_map suc (comment_end (c ∷ cs))) h
 comment_unique (b ∷ c ∷ cs) (suc (suc j)) p h =
-    later (nat_eq 125 b) (nat_eq 42 b) (nat_eq 41 c) j cs (ends_comment (c ∷ take j cs)) (comment_end (c ∷ cs)) (omega arith) (comment_unique (c ∷ cs) (suc j) (omega arith)) h
+    later (nat_eq 125 b) (nat_eq 42 b) (nat_eq 41 c) j cs (ends_comment (c ∷ take j cs)) (comment_end (c ∷ cs)) (omega arith)
+    (comment_unique (c ∷ cs) (suc j) (omega arith)) h
 
 abbrev Sound : List ℕ → ℕ → Type 0
 Sound bs k = (0 < k) × (k ≤ length bs) × (ends_comment (take k bs) ≡ true)
@@ -63,7 +67,8 @@ sound_last b false true et eu k h =
 sound_last b false false et eu k h =
     let none : ◌≡◌ {A = Option ℕ} None (Some k) = rw (et, eu) at h in cc
 
-sound_rest : (b c : ℕ) (cs : List ℕ) → nat_eq 125 b ≡ false → (nat_eq 42 b && (nat_eq 41 c && true)) ≡ false → (o : Option ℕ) → ((n : ℕ) → o ≡ Some n → Sound (c ∷ cs) n)
+sound_rest : (b c : ℕ) (cs : List ℕ) → nat_eq 125 b ≡ false → (nat_eq 42 b && (nat_eq 41 c && true)) ≡ false → (o : Option ℕ)
+    → ((n : ℕ) → o ≡ Some n → Sound (c ∷ cs) n)
     → (k : ℕ) → option_map suc o ≡ Some k → Sound (b ∷ c ∷ cs) k
 sound_rest b c cs et ev None ih k h = cc
 sound_rest b c cs et ev (Some zero) ih k h = let s = ih 0 refl in absurd (omega arith)
@@ -72,7 +77,8 @@ sound_rest b c cs et ev (Some (suc m)) ih k h =
     let next : k ≡ suc (suc m) = cc in
     (omega arith, omega arith, rw (next, et, ev) s.2)
 
-sound_step : (b c : ℕ) (cs : List ℕ) (t u : Bool) → nat_eq 125 b ≡ t → (nat_eq 42 b && (nat_eq 41 c && true)) ≡ u → ((n : ℕ) → comment_end (c ∷ cs) ≡ Some n → Sound (c ∷ cs) n)
+sound_step : (b c : ℕ) (cs : List ℕ) (t u : Bool) → nat_eq 125 b ≡ t → (nat_eq 42 b && (nat_eq 41 c && true)) ≡ u
+    → ((n : ℕ) → comment_end (c ∷ cs) ≡ Some n → Sound (c ∷ cs) n)
     → (k : ℕ) → comment_end (b ∷ c ∷ cs) ≡ Some k → Sound (b ∷ c ∷ cs) k
 sound_step b c cs true u et ev ih k h =
     let first : counted 1 ≡ Some k = rw et at h in
@@ -163,7 +169,8 @@ passes (b ∷ bs) (suc at) p h k n = passes bs at (omega arith) h k n
 
 pub comment_passes : (text : List ℕ) (at : ℕ) → at < length text → begins (codes "}") (drop at text) ≡ false → begins (codes "*)") (drop at text) ≡ false
     → shifted (at + 1) (comment_end (drop (at + 1) text)) ≡ shifted at (comment_end (drop at text))
-comment_passes text at p h k = subst (λ m. shifted m (comment_end (drop m text)) ≡ shifted at (comment_end (drop at text))) (sym (add-one at)) (passes text at p h k at)
+comment_passes text at p h k = subst (λ m. shifted m (comment_end (drop m text)) ≡ shifted at (comment_end (drop at text))) (sym (add-one at))
+    (passes text at p h k at)
 
 -- a byte that begins a closing mark ends the comment
 pub comment_closes_one : (text : List ℕ) (at : ℕ) → at < length text → begins (codes "}") (drop at text) ≡ true → comment_end (drop at text) ≡ Some 1
@@ -171,7 +178,8 @@ comment_closes_one [] at p h = absurd (omega arith)
 comment_closes_one (b ∷ bs) zero p h = rw h refl
 comment_closes_one (b ∷ bs) (suc at) p h = comment_closes_one bs at (omega arith) h
 
-pub comment_closes_two : (text : List ℕ) (at : ℕ) → at < length text → begins (codes "}") (drop at text) ≡ false → begins (codes "*)") (drop at text) ≡ true → comment_end (drop at text) ≡ Some 2
+pub comment_closes_two : (text : List ℕ) (at : ℕ) → at < length text → begins (codes "}") (drop at text) ≡ false → begins (codes "*)") (drop at text) ≡ true
+    → comment_end (drop at text) ≡ Some 2
 comment_closes_two [] at p h k = absurd (omega arith)
 comment_closes_two (b ∷ bs) zero p h k = rw (h, k) refl
 comment_closes_two (b ∷ bs) (suc at) p h k = comment_closes_two bs at (omega arith) h k

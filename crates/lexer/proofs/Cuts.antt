@@ -1,5 +1,6 @@
 -- How long the piece is that a text begins with, and where its fault stands.
-use Rattle.std.proofs.Common.{◌≡◌, ℕ, ◌<◌, ◌≤◌, zero, suc, List, length, take, drop, Bool, true, false, Option, Some, None, Result, Ok, Err, ◌==◌, codes, nat_lt, refl, arith, sym, ap, if◌then◌else◌}
+use Rattle.std.proofs.Common.{◌≡◌, ℕ, ◌<◌, ◌≤◌, zero, suc, List, length, take, drop, Bool, true, false, Option, Some, None, Result, Ok, Err, ◌==◌, codes}
+use Rattle.std.proofs.Common.{nat_lt, refl, arith, sym, ap, if◌then◌else◌}
 use Rattle.std.specs.Option.{option_map, option_or, option_map_or}
 use Rattle.std.proofs.lemmas.List.{length-take}
 use Rattle.std.proofs.lemmas.List.Quantifiers.{position-Some}
@@ -11,7 +12,8 @@ use Rattle.lexer.specs.declared.token.Kind.TheVariants as kind
 use Rattle.lexer.specs.Shape.{Shape, Separator, Letters, Digits, Quoted, Mark, shape_of, opens_comment, begins}
 use Rattle.lexer.specs.Piece.{longest, piece_at, piece_from, piece_of, with_length, shapeless, offset_of, bad_byte, begins_with_letter, value_of}
 
-front_step : (o : Option Shape) (n : ℕ) (below : Option (ℕ × Shape)) (found : ℕ × Shape) → ((shorter : ℕ × Shape) → below ≡ Some shorter → (0 < shorter.0) × (shorter.0 ≤ n))
+front_step : (o : Option Shape) (n : ℕ) (below : Option (ℕ × Shape)) (found : ℕ × Shape)
+    → ((shorter : ℕ × Shape) → below ≡ Some shorter → (0 < shorter.0) × (shorter.0 ≤ n))
     → option_or (option_map (λ s. (suc n, s)) o) below ≡ Some found → (0 < found.0) × (found.0 ≤ suc n)
 front_step None n below found h e = let shorter = h found e in (shorter.0, omega arith)
 front_step (Some s) n below found h e =
@@ -29,7 +31,8 @@ length_kept : (n : ℕ) (r : Result Piece Refusal) (found : Piece × ℕ) → wi
 length_kept n (Ok p) found e = let same : ◌≡◌ {A = Piece × ℕ} (p, n) found = cc in λ i. (same i).1
 length_kept n (Err why) found e = cc
 
-cut_from : (text : List ℕ) (o : Option (ℕ × Shape)) (found : Piece × ℕ) → longest (length text) text ≡ o → piece_from text o ≡ Ok found → (0 < found.1) × (found.1 ≤ length text)
+cut_from : (text : List ℕ) (o : Option (ℕ × Shape)) (found : Piece × ℕ) → longest (length text) text ≡ o → piece_from text o ≡ Ok found
+    → (0 < found.1) × (found.1 ≤ length text)
 cut_from text None found h e = cc
 cut_from text (Some front) found h e =
     let within = front_within (length text) text front h in
@@ -41,18 +44,21 @@ unfolding piece_at
 piece_cut text found e = cut_from text (longest (length text) text) found refl e
 
 -- no fault but that of a byte in a string stands behind the front
-shapeless_offset : (comment string : Bool) (why : Refusal) → (if comment then OpenComment else (if string then OpenString else UnknownByte)) ≡ why → offset_of why ≡ 0
+shapeless_offset : (comment string : Bool) (why : Refusal) → (if comment then OpenComment else (if string then OpenString else UnknownByte)) ≡ why
+    → offset_of why ≡ 0
 shapeless_offset true string why e = ap offset_of (sym e)
 shapeless_offset false true why e = ap offset_of (sym e)
 shapeless_offset false false why e = ap offset_of (sym e)
 
-digits_offset : (large touching : Bool) (p : Piece) (why : Refusal) → ◌≡◌ {A = Result Piece Refusal} (if large then Err LargeNumber else (if touching then Err TouchingLetter else Ok p)) (Err why) → offset_of why ≡ 0
+digits_offset : (large touching : Bool) (p : Piece) (why : Refusal)
+    → ◌≡◌ {A = Result Piece Refusal} (if large then Err LargeNumber else (if touching then Err TouchingLetter else Ok p)) (Err why) → offset_of why ≡ 0
 digits_offset true touching p why e = let same : why ≡ LargeNumber = cc in ap offset_of same
 digits_offset false true p why e = let same : why ≡ TouchingLetter = cc in ap offset_of same
 digits_offset false false p why e = cc
 
 string_offset : (empty : Bool) (o : Option ℕ) (n : ℕ) (p : Piece) (why : Refusal) → ((i : ℕ) → o ≡ Some i → i ≤ n)
-    → ◌≡◌ {A = Result Piece Refusal} (if empty then Err EmptyString else option_map_or (λ offset. Err (StringByte offset)) o (Ok p)) (Err why) → offset_of why ≤ n
+    → ◌≡◌ {A = Result Piece Refusal} (if empty then Err EmptyString else option_map_or (λ offset. Err (StringByte offset)) o (Ok p)) (Err why)
+    → offset_of why ≤ n
 string_offset true o n p why h e =
     let same : why ≡ EmptyString = cc in
     let first : offset_of why ≡ 0 = ap offset_of same in
@@ -71,7 +77,8 @@ piece_offset Digits bytes behind why e =
     let first = digits_offset (nat_lt 2147483647 (value_of bytes)) (begins_with_letter behind) (piece.Token (kind.Number (value_of bytes))) why e in
     omega arith
 piece_offset Quoted bytes behind why e =
-    string_offset (length bytes == 2) (bad_byte bytes) (length bytes) (piece.Token kind.Text) why (λ i h. let at = position-Some _ bytes i 0 h in omega (arith, at.0)) e
+    string_offset (length bytes == 2) (bad_byte bytes) (length bytes) (piece.Token kind.Text) why
+    (λ i h. let at = position-Some _ bytes i 0 h in omega (arith, at.0)) e
 piece_offset (Mark s) bytes behind why e = cc
 
 fault_kept : (n : ℕ) (r : Result Piece Refusal) (why : Refusal) → with_length n r ≡ Err why → r ≡ Err why

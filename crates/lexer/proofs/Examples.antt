@@ -81,8 +81,12 @@ a_range_of_numbers : IsTokenList (codes "1..2")
     ∷ record { kind = kind.Symbol symbol.Range; text = codes ".."; place = record { line = 1; column = 2 } }
     ∷ record { kind = kind.Number 2; text = codes "2"; place = record { line = 1; column = 4 } } ∷ [])
 unfolding piece_at shape_of symbol_of word_of
-a_range_of_numbers =
-    (lit≤ tt, (piece.Token (kind.Number 1), 1) ∷ (piece.Token (kind.Symbol symbol.Range), 2) ∷ (piece.Token (kind.Number 2), 1) ∷ [], (refl, (refl, (refl, refl))), refl)
+a_range_of_numbers = (
+  lit≤ tt,
+  (piece.Token (kind.Number 1), 1) ∷ (piece.Token (kind.Symbol symbol.Range), 2) ∷ (piece.Token (kind.Number 2), 1) ∷ [],
+  (refl, (refl, (refl, refl))),
+  refl,
+)
 
 -- `a.)` is a name and a bracket
 a_name_and_a_bracket : IsTokenList (codes "a.)")
@@ -96,4 +100,15 @@ a_name_and_a_bracket =
 the_place_of_a_carriage_return : IsFirstFault (97 ∷ 10 ∷ 39 ∷ 13 ∷ 39 ∷ []) (fault.StringByte (record { line = 2; column = 2 }))
 unfolding piece_at shape_of symbol_of word_of
 the_place_of_a_carriage_return =
-    inr (lit≤ tt, ((piece.Token kind.Identifier, 1) ∷ (piece.Separator, 1) ∷ [], 39 ∷ 13 ∷ 39 ∷ [], (refl, (refl, refl)), (λ e. cc), refusal.StringByte 1, refl, refl))
+    inr (
+      lit≤ tt,
+      (
+        (piece.Token kind.Identifier, 1) ∷ (piece.Separator, 1) ∷ [],
+        39 ∷ 13 ∷ 39 ∷ [],
+        (refl, (refl, refl)),
+        (λ e. cc),
+        refusal.StringByte 1,
+        refl,
+        refl,
+      ),
+    )

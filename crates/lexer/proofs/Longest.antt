@@ -14,7 +14,8 @@ longest_none (suc n) text h =
     let e : shape_of (take (suc n) text) (drop (suc n) text) ≡ None = h (suc n) (omega arith) (omega arith) in
     rw e (longest_none n text (λ k p q. h k p (omega arith)))
 
-pub longest_is : (n m : ℕ) (text : List ℕ) (s : Shape) → 0 < m → m ≤ n → shape_of (take m text) (drop m text) ≡ Some s → NoLonger m n text → longest n text ≡ Some (m, s)
+pub longest_is : (n m : ℕ) (text : List ℕ) (s : Shape) → 0 < m → m ≤ n → shape_of (take m text) (drop m text) ≡ Some s → NoLonger m n text
+    → longest n text ≡ Some (m, s)
 longest_is zero m text s p q e h = absurd (omega arith)
 longest_is (suc n) m text s p q e h = elim (eq-or-lt_of_le q) [
   | inl same ↦

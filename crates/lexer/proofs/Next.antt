@@ -30,11 +30,13 @@ blank_here (b ∷ bs) p h = blank_at b bs (blank_is b h)
 no_opening : (text : List ℕ) → begins (codes "{") text ≡ false → begins (codes "(*") text ≡ false → opens_comment text ≡ false
 no_opening text h k = rw (h, k) refl
 
-pub symbol_here : (text : List ℕ) → (length text ≡ 0 → ⊥) → is_blank_byte (slice_index text 0) ≡ false → begins (codes "{") text ≡ false → begins (codes "(*") text ≡ false
+pub symbol_here : (text : List ℕ) → (length text ≡ 0 → ⊥) → is_blank_byte (slice_index text 0) ≡ false → begins (codes "{") text ≡ false
+    → begins (codes "(*") text ≡ false
     → (slice_index text 0 ≡ 39 → ⊥) → is_ascii_digit (slice_index text 0) ≡ false → is_ascii_alphabetic (slice_index text 0) ≡ false
     → piece_at text ≡ symbol_piece (symbol_at text)
 symbol_here [] p blank brace star quote digit letter = absurd (p refl)
-symbol_here (b ∷ bs) p blank brace star quote digit letter = other_at b bs (blank, letter, digit, false_from_ne_true _ (λ e. quote (eqb-true b 39 e))) (no_opening (b ∷ bs) brace star)
+symbol_here (b ∷ bs) p blank brace star quote digit letter = other_at b bs (blank, letter, digit, false_from_ne_true _ (λ e. quote (eqb-true b 39 e)))
+    (no_opening (b ∷ bs) brace star)
 
 pub nothing_here : (text : List ℕ) → length text ≡ 0 → piece_at text ≡ Err UnknownByte
 nothing_here [] h = nothing_at

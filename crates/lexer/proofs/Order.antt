@@ -45,7 +45,8 @@ places_of [] = refl
 places_of (t ∷ ts) = ap (λ ps. t.place ∷ ps) (places_of ts)
 
 -- the places of the tokens among pieces of a text are in order
-pub tokens_in_order : (text : List ℕ) (tokens : List Token) (ps : List (Piece × ℕ)) (rest : List ℕ) → Leaves text ps rest → map lexeme_of tokens ≡ lexemes start text ps
+pub tokens_in_order : (text : List ℕ) (tokens : List Token) (ps : List (Piece × ℕ)) (rest : List ℕ) → Leaves text ps rest
+    → map lexeme_of tokens ≡ lexemes start text ps
     → ArePlacesInOrder (map (λ token. token.place) tokens)
 tokens_in_order text tokens ps rest h e =
     subst ArePlacesInOrder (places_of tokens)

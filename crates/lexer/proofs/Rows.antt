@@ -1,5 +1,6 @@
 -- A text as a row of pieces: one more of them, and that there is one such row.
-use Rattle.std.proofs.Common.{◌≡◌, ℕ, ◌+◌, ◌-◌, List, [], ◌∷◌, ◌++◌, length, map, take, drop, Ok, Err, Result, inl, inr, refl, arith, sym, ◌∙◌, ap, subst, append_assoc}
+use Rattle.std.proofs.Common.{◌≡◌, ℕ, ◌+◌, ◌-◌, List, [], ◌∷◌, ◌++◌, length, map, take, drop, Ok, Err, Result, inl, inr, refl, arith, sym, ◌∙◌, ap, subst}
+use Rattle.std.proofs.Common.{append_assoc}
 use Rattle.std.proofs.lemmas.List.{append-nil, map_push, length-append, take-append-drop}
 use Rattle.std.proofs.lemmas.List.Sums.{fold-append}
 use Rattle.std.proofs.Math.Seq.{take-append-add}
@@ -21,7 +22,8 @@ abbrev pub place_behind : Place → List ℕ → List (Piece × ℕ) → Place
 place_behind place text [] = place
 place_behind place text (p ∷ ps) = place_behind (place_after place (take p.1 text)) (drop p.1 text) ps
 
-pub leaves_more : (text : List ℕ) (ps : List (Piece × ℕ)) (rest : List ℕ) (p : Piece × ℕ) → Leaves text ps rest → piece_at rest ≡ Ok p → Leaves text (ps ++ p ∷ []) (drop p.1 rest)
+pub leaves_more : (text : List ℕ) (ps : List (Piece × ℕ)) (rest : List ℕ) (p : Piece × ℕ) → Leaves text ps rest → piece_at rest ≡ Ok p
+    → Leaves text (ps ++ p ∷ []) (drop p.1 rest)
 leaves_more text [] rest p h e = (ap piece_at h ∙ e, ap (drop p.1) h)
 leaves_more text (q ∷ qs) rest p h e = (h.0, leaves_more (drop q.1 text) qs rest p h.1 e)
 
@@ -39,8 +41,10 @@ place_more place text [] rest p h = ap (λ r. place_after place (take p.1 r)) h
 place_more place text (q ∷ qs) rest p h = place_more (place_after place (take q.1 text)) (drop q.1 text) qs rest p h.1
 
 -- a token is kept, and a separator is not
-pub kept_token : (items new : List Token) (k : Kind) (token : Token) (text : List ℕ) (ps : List (Piece × ℕ)) (rest : List ℕ) (p : Piece × ℕ) → Leaves text ps rest
-    → map lexeme_of items ≡ lexemes start text ps → new ≡ items ++ token ∷ [] → lexeme_of token ≡ record { kind = k; text = take p.1 rest; place = place_behind start text ps }
+pub kept_token : (items new : List Token) (k : Kind) (token : Token) (text : List ℕ) (ps : List (Piece × ℕ)) (rest : List ℕ) (p : Piece × ℕ)
+    → Leaves text ps rest
+    → map lexeme_of items ≡ lexemes start text ps → new ≡ items ++ token ∷ []
+    → lexeme_of token ≡ record { kind = k; text = take p.1 rest; place = place_behind start text ps }
     → p.0 ≡ piece.Token k → map lexeme_of new ≡ lexemes start text (ps ++ p ∷ [])
 kept_token items new k token text ps rest p h before grown same is =
     ap (map lexeme_of) grown ∙ map_push lexeme_of items token ∙ (λ i. before i ++ same i ∷ [])
@@ -49,7 +53,8 @@ kept_token items new k token text ps rest p h before grown same is =
 pub kept_separator : (items : List Token) (text : List ℕ) (ps : List (Piece × ℕ)) (rest : List ℕ) (p : Piece × ℕ) → Leaves text ps rest
     → map lexeme_of items ≡ lexemes start text ps → p.0 ≡ piece.Separator → map lexeme_of items ≡ lexemes start text (ps ++ p ∷ [])
 kept_separator items text ps rest p h before is =
-    before ∙ sym (append-nil _) ∙ ap (λ q. lexemes start text ps ++ lexemes_of q (take p.1 rest) (place_behind start text ps)) (sym is) ∙ sym (lexemes_more start text ps rest p h)
+    before ∙ sym (append-nil _) ∙ ap (λ q. lexemes start text ps ++ lexemes_of q (take p.1 rest) (place_behind start text ps)) (sym is) ∙ sym
+    (lexemes_more start text ps rest p h)
 
 -- the bytes of the pieces
 place_front : (place : Place) (text : List ℕ) (ps : List (Piece × ℕ)) (rest : List ℕ) → Leaves text ps rest
@@ -70,11 +75,13 @@ place_stops text ps rest n h =
     let f = place_front start text ps rest h in
     let total : length text ≡ length f.0 + length rest = ap length f.1 ∙ length-append f.0 rest in
     let count : length text - length rest + n ≡ length f.0 + n = omega arith in
-    let bytes : take (length text - length rest + n) text ≡ f.0 ++ take n rest = ap (λ m. take m text) count ∙ ap (take (length f.0 + n)) f.1 ∙ take-append-add f.0 rest n in
+    let bytes : take (length text - length rest + n) text ≡ f.0 ++ take n rest = ap (λ m. take m text) count ∙ ap (take (length f.0 + n)) f.1
+    ∙ take-append-add f.0 rest n in
     ap (λ q. place_after q (take n rest)) f.2 ∙ sym (fold-append past start f.0 (take n rest)) ∙ ap place_of (sym bytes)
 
 -- one row of pieces, and one rest
-once : (text : List ℕ) (ps qs : List (Piece × ℕ)) (r s : List ℕ) (v w : Refusal) → Leaves text ps r → piece_at r ≡ Err v → Leaves text qs s → piece_at s ≡ Err w → (ps ≡ qs) × (r ≡ s)
+once : (text : List ℕ) (ps qs : List (Piece × ℕ)) (r s : List ℕ) (v w : Refusal) → Leaves text ps r → piece_at r ≡ Err v → Leaves text qs s
+    → piece_at s ≡ Err w → (ps ≡ qs) × (r ≡ s)
 once text [] [] r s v w h e k f = (refl, sym h ∙ k)
 once text [] (q ∷ qs) r s v w h e k f = let clash : ◌≡◌ {A = Result (Piece × ℕ) Refusal} (Ok q) (Err v) = sym k.0 ∙ ap piece_at h ∙ e in cc
 once text (p ∷ ps) [] r s v w h e k f = let clash : ◌≡◌ {A = Result (Piece × ℕ) Refusal} (Ok p) (Err w) = sym h.0 ∙ ap piece_at k ∙ f in cc

@@ -1,5 +1,6 @@
 -- The digits, or the letters and digits, that a text begins with.
-use Rattle.std.proofs.Common.{◌≡◌, ℕ, ◌<◌, ◌≤◌, zero, suc, Bool, true, false, List, [], ◌∷◌, length, take, drop, slice_index, Some, None, ◌⊎◌, inl, inr, refl, arith, sym, ◌∙◌, ap, if◌then◌else◌}
+use Rattle.std.proofs.Common.{◌≡◌, ℕ, ◌<◌, ◌≤◌, zero, suc, Bool, true, false, List, [], ◌∷◌, length, take, drop, slice_index, Some, None, ◌⊎◌, inl, inr, refl}
+use Rattle.std.proofs.Common.{arith, sym, ◌∙◌, ap, if◌then◌else◌}
 use Rattle.std.specs.List.{list_all, prefix_len, take_while}
 use Rattle.std.specs.Char.{is_ascii_digit, is_ascii_alphabetic, is_ascii_alphanumeric}
 use Rattle.std.proofs.lemmas.Bool.Decides.{nat_tests}
@@ -13,7 +14,8 @@ use Rattle.lexer.proofs.Classes.{plain, shape_plain, digit_plain, capital_plain,
 run_step : (p : ℕ → Bool) (x : ℕ) (xs : List ℕ) → p x ≡ true → prefix_len p (x ∷ xs) ≡ suc (prefix_len p xs)
 run_step p x xs e = rw e (omega arith)
 
-all_step : (p : ℕ → Bool) (x : ℕ) (xs : List ℕ) (t : Bool) → p x ≡ t → list_all p (take (prefix_len p xs) xs) ≡ true → list_all p (take (prefix_len p (x ∷ xs)) (x ∷ xs)) ≡ true
+all_step : (p : ℕ → Bool) (x : ℕ) (xs : List ℕ) (t : Bool) → p x ≡ t → list_all p (take (prefix_len p xs) xs) ≡ true
+    → list_all p (take (prefix_len p (x ∷ xs)) (x ∷ xs)) ≡ true
 all_step p x xs true e ih = rw (run_step p x xs e) (rw e ih)
 all_step p x xs false e ih = rw e refl
 
@@ -21,7 +23,8 @@ run_all : (p : ℕ → Bool) (xs : List ℕ) → list_all p (take (prefix_len p 
 run_all p [] = refl
 run_all p (x ∷ xs) = all_step p x xs (p x) refl (run_all p xs)
 
-longer_step : (p : ℕ → Bool) (x : ℕ) (xs : List ℕ) (k : ℕ) (t : Bool) → p x ≡ t → prefix_len p (x ∷ xs) < suc k → (prefix_len p xs < k → list_all p (take k xs) ≡ false) → list_all p (x ∷ take k xs) ≡ false
+longer_step : (p : ℕ → Bool) (x : ℕ) (xs : List ℕ) (k : ℕ) (t : Bool) → p x ≡ t → prefix_len p (x ∷ xs) < suc k
+    → (prefix_len p xs < k → list_all p (take k xs) ≡ false) → list_all p (x ∷ take k xs) ≡ false
 longer_step p x xs k true e q ih = let s = run_step p x xs e in rw e (ih (omega arith))
 longer_step p x xs k false e q ih = rw e refl
 
@@ -34,17 +37,20 @@ run_longer p (x ∷ xs) (suc k) q r = longer_step p x xs k (p x) refl q (λ h. r
 abbrev RunShape : (ℕ → Bool) → Shape → ℕ → Type 0
 RunShape p s b = (bs behind : List ℕ) → shape_of (b ∷ bs) behind ≡ (if list_all p (b ∷ bs) then Some s else None)
 
-run_longest : (p : ℕ → Bool) (s : Shape) (b : ℕ) (bs : List ℕ) → RunShape p s b → p b ≡ true → longest (length (b ∷ bs)) (b ∷ bs) ≡ Some (prefix_len p (b ∷ bs), s)
+run_longest : (p : ℕ → Bool) (s : Shape) (b : ℕ) (bs : List ℕ) → RunShape p s b → p b ≡ true
+    → longest (length (b ∷ bs)) (b ∷ bs) ≡ Some (prefix_len p (b ∷ bs), s)
 run_longest p s b bs shape first =
     let n : prefix_len p (b ∷ bs) ≡ suc (prefix_len p bs) = run_step p b bs first in
     let all : list_all p (b ∷ take (prefix_len p bs) bs) ≡ true = rw first (run_all p bs) in
     let fits = prefix_len-le-length p bs in
-    let here : shape_of (take (suc (prefix_len p bs)) (b ∷ bs)) (drop (suc (prefix_len p bs)) (b ∷ bs)) ≡ Some s = shape (take (prefix_len p bs) bs) (drop (prefix_len p bs) bs) ∙ ap (λ t. if t then Some s else None) all in
+    let here : shape_of (take (suc (prefix_len p bs)) (b ∷ bs)) (drop (suc (prefix_len p bs)) (b ∷ bs)) ≡ Some s = shape (take (prefix_len p bs) bs)
+    (drop (prefix_len p bs) bs) ∙ ap (λ t. if t then Some s else None) all in
     rw n (longest_is (length (b ∷ bs)) (suc (prefix_len p bs)) (b ∷ bs) s (omega arith) (omega arith) here longer)
   where
     longer : NoLonger (suc (prefix_len p bs)) (length (b ∷ bs)) (b ∷ bs)
     longer zero q r = absurd (omega arith)
-    longer (suc k) q r = shape (take k bs) (drop k bs) ∙ ap (λ t. if t then Some s else None) (run_longer p (b ∷ bs) (suc k) (let n = run_step p b bs first in omega arith) r)
+    longer (suc k) q r = shape (take k bs) (drop k bs) ∙ ap (λ t. if t then Some s else None)
+        (run_longer p (b ∷ bs) (suc k) (let n = run_step p b bs first in omega arith) r)
 
 letter_plain : (b : ℕ) → is_ascii_alphabetic b ≡ true → plain b ≡ true
 letter_plain b h = go (letter_cases b h)
@@ -88,7 +94,8 @@ unfolding piece_at
 digits_at [] n h e = cc
 digits_at (b ∷ bs) n h e =
     let m : prefix_len is_ascii_digit (b ∷ bs) ≡ n = sym (e ∙ run_length is_ascii_digit (b ∷ bs)) in
-    let found : longest (length (b ∷ bs)) (b ∷ bs) ≡ Some (n, Digits) = run_longest is_ascii_digit Digits b bs (shape_digits b h) h ∙ ap (λ k. Some (k, Digits)) m in
+    let found : longest (length (b ∷ bs)) (b ∷ bs) ≡ Some (n, Digits) = run_longest is_ascii_digit Digits b bs (shape_digits b h) h ∙ ap
+    (λ k. Some (k, Digits)) m in
     rw found refl
 
 pub letters_at : (text : List ℕ) (n : ℕ) → is_ascii_alphabetic (slice_index text 0) ≡ true → n ≡ length (take_while is_ascii_alphanumeric text)

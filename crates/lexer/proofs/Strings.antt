@@ -1,5 +1,6 @@
 -- Where a string ends.
-use Rattle.std.proofs.Common.{◌≡◌, ℕ, ◌<◌, ◌≤◌, ◌+◌, zero, suc, Bool, true, false, not, ◌&&◌, ◌==◌, nat_eq, List, [], ◌∷◌, length, take, drop, slice_index, Ok, Err, Option, Some, None, codes, refl, subst, arith, sym, ◌∙◌, ap, if◌then◌else◌}
+use Rattle.std.proofs.Common.{◌≡◌, ℕ, ◌<◌, ◌≤◌, ◌+◌, zero, suc, Bool, true, false, not, ◌&&◌, ◌==◌, nat_eq, List, [], ◌∷◌, length, take, drop, slice_index, Ok}
+use Rattle.std.proofs.Common.{Err, Option, Some, None, codes, refl, subst, arith, sym, ◌∙◌, ap, if◌then◌else◌}
 use Rattle.std.specs.Option.{option_map}
 use Rattle.std.proofs.lemmas.Bool.{false≢true, false_from_ne_true, eqb-true, eq-eqb}
 use Rattle.std.proofs.lemmas.List.{drop-drop, length-take}
@@ -59,7 +60,8 @@ string_unique (b ∷ c ∷ cs) (suc zero) p h =
     unique_one (b == 39) (c == 39) (option_map (λ m. suc (suc m)) (string_end cs)) (if b == 10 then None else option_map suc (string_end (c ∷ cs)))
     (subst (λ u. ((b == 39) && not (u && true)) ≡ true) (sym (swap c 39)) h)
 string_unique (b ∷ c ∷ cs) (suc (suc j)) p h =
-    unique_later (b == 39) (c == 39) (b == 10) (ends_string (take j cs)) (ends_string (c ∷ take j cs)) (not (begins (codes "'") (drop j cs))) (string_end cs) (string_end (c ∷ cs)) j
+    unique_later (b == 39) (c == 39) (b == 10) (ends_string (take j cs)) (ends_string (c ∷ take j cs)) (not (begins (codes "'") (drop j cs))) (string_end cs)
+    (string_end (c ∷ cs)) j
     (string_unique cs j (omega arith)) (string_unique (c ∷ cs) (suc j) (omega arith)) h
 
 abbrev Sound : List ℕ → ℕ → Type 0
@@ -184,17 +186,22 @@ shift_one at (Some n) = let same : at + 1 + n ≡ at + suc n = omega arith in ap
 more : (text : List ℕ) (at n : ℕ) → drop (at + n) text ≡ drop n (drop at text)
 more text at n = sym (drop-drop n at text)
 
-pub string_pairs : (text : List ℕ) (at : ℕ) → begins (codes "''") (drop at text) ≡ true → shifted (at + 2) (string_end (drop (at + 2) text)) ≡ shifted at (string_end (drop at text))
-string_pairs text at h = shift_two at (string_end (drop (at + 2) text)) ∙ ap (λ ys. shifted at (option_map (λ n. suc (suc n)) (string_end ys))) (more text at 2) ∙ ap (shifted at) (sym (pair_is (drop at text) h))
+pub string_pairs : (text : List ℕ) (at : ℕ) → begins (codes "''") (drop at text) ≡ true
+    → shifted (at + 2) (string_end (drop (at + 2) text)) ≡ shifted at (string_end (drop at text))
+string_pairs text at h = shift_two at (string_end (drop (at + 2) text)) ∙ ap (λ ys. shifted at (option_map (λ n. suc (suc n)) (string_end ys)))
+    (more text at 2) ∙ ap (shifted at) (sym (pair_is (drop at text) h))
 
 pub string_passes : (text : List ℕ) (at : ℕ) → begins (codes "'") (drop at text) ≡ false → begins (10 ∷ []) (drop at text) ≡ false
     → shifted (at + 1) (string_end (drop (at + 1) text)) ≡ shifted at (string_end (drop at text))
-string_passes text at h k = shift_one at (string_end (drop (at + 1) text)) ∙ ap (λ ys. shifted at (option_map suc (string_end ys))) (more text at 1) ∙ ap (shifted at) (sym (pass_is (drop at text) h k))
+string_passes text at h k = shift_one at (string_end (drop (at + 1) text)) ∙ ap (λ ys. shifted at (option_map suc (string_end ys))) (more text at 1) ∙ ap
+    (shifted at) (sym (pass_is (drop at text) h k))
 
-pub string_closes : (text : List ℕ) (at : ℕ) → begins (codes "''") (drop at text) ≡ false → begins (codes "'") (drop at text) ≡ true → Some (at + 1) ≡ shifted at (string_end (drop at text))
+pub string_closes : (text : List ℕ) (at : ℕ) → begins (codes "''") (drop at text) ≡ false → begins (codes "'") (drop at text) ≡ true
+    → Some (at + 1) ≡ shifted at (string_end (drop at text))
 string_closes text at h k = ap (shifted at) (sym (close_is (drop at text) h k))
 
-pub string_breaks : (text : List ℕ) (at : ℕ) → begins (codes "'") (drop at text) ≡ false → begins (10 ∷ []) (drop at text) ≡ true → None ≡ shifted at (string_end (drop at text))
+pub string_breaks : (text : List ℕ) (at : ℕ) → begins (codes "'") (drop at text) ≡ false → begins (10 ∷ []) (drop at text) ≡ true
+    → None ≡ shifted at (string_end (drop at text))
 string_breaks text at h k = ap (shifted at) (sym (line_is (drop at text) h k))
 
 pub string_stops : (text : List ℕ) (at : ℕ) → length text ≤ at → None ≡ shifted at (string_end (drop at text))
@@ -210,8 +217,10 @@ string_empty text n h e = let two : (length (take n text) == 2) ≡ true = eq-eq
 not_two : (text : List ℕ) (n : ℕ) → n ≤ length text → (n ≡ 2 → ⊥) → (length (take n text) == 2) ≡ false
 not_two text n h ne = false_from_ne_true _ (λ e. ne (sym (long n text h) ∙ eqb-true _ _ e))
 
-pub string_bad : (text : List ℕ) (n offset : ℕ) → n ≤ length text → (n ≡ 2 → ⊥) → bad_byte (take n text) ≡ Some offset → string_piece text (Some n) ≡ Err (StringByte offset)
+pub string_bad : (text : List ℕ) (n offset : ℕ) → n ≤ length text → (n ≡ 2 → ⊥) → bad_byte (take n text) ≡ Some offset
+    → string_piece text (Some n) ≡ Err (StringByte offset)
 string_bad text n offset h ne e = rw (not_two text n h ne, e) refl
 
-pub string_good : (text : List ℕ) (n : ℕ) → n ≤ length text → (n ≡ 2 → ⊥) → bad_byte (take n text) ≡ None → string_piece text (Some n) ≡ Ok (piece.Token kind.Text, n)
+pub string_good : (text : List ℕ) (n : ℕ) → n ≤ length text → (n ≡ 2 → ⊥) → bad_byte (take n text) ≡ None
+    → string_piece text (Some n) ≡ Ok (piece.Token kind.Text, n)
 string_good text n h ne e = rw (not_two text n h ne, e) refl

@@ -1,5 +1,6 @@
 -- The special symbols that a text begins with.
-use Rattle.std.proofs.Common.{◌≡◌, ℕ, zero, suc, Bool, true, false, ◌||◌, ◌==◌, List, [], ◌∷◌, length, take, drop, ◌++◌, Result, Ok, Err, Option, Some, None, codes, refl, arith, ◌∙◌, ap}
+use Rattle.std.proofs.Common.{◌≡◌, ℕ, zero, suc, Bool, true, false, ◌||◌, ◌==◌, List, [], ◌∷◌, length, take, drop, ◌++◌, Result, Ok, Err, Option, Some, None}
+use Rattle.std.proofs.Common.{codes, refl, arith, ◌∙◌, ap}
 use Rattle.std.specs.Option.{option_map, option_or}
 use Rattle.std.specs.List.{list_all}
 use Rattle.std.specs.Char.{is_ascii_digit, is_ascii_alphabetic}
@@ -23,7 +24,8 @@ is_short (x ∷ []) = true
 is_short (x ∷ y ∷ []) = true
 is_short (x ∷ y ∷ z ∷ zs) = false
 
-entry_long : {A : Type 0} (table : List (List ℕ × A)) (b c d : ℕ) (ds : List ℕ) → list_all (λ row. is_short row.0) table ≡ true → entry table (b ∷ c ∷ d ∷ ds) ≡ None
+entry_long : {A : Type 0} (table : List (List ℕ × A)) (b c d : ℕ) (ds : List ℕ) → list_all (λ row. is_short row.0) table ≡ true
+    → entry table (b ∷ c ∷ d ∷ ds) ≡ None
 unfolding is_short
 entry_long [] b c d ds h = refl
 entry_long (([], a) ∷ rows) b c d ds h = entry_long rows b c d ds h
@@ -46,10 +48,12 @@ symbol_piece (Some found) = Ok (piece.Token (kind.Symbol found.0), found.1)
 no_quote : (b : ℕ) (bs : List ℕ) → (b == 39) ≡ false → begins (codes "'") (b ∷ bs) ≡ false
 no_quote b bs h = let other = swap 39 b ∙ h in rw other refl
 
-shape_here : (b : ℕ) (bs behind : List ℕ) → IsOther b → opens_comment ((b ∷ bs) ++ behind) ≡ false → shape_of (b ∷ bs) behind ≡ option_map Mark (symbol_of (b ∷ bs))
+shape_here : (b : ℕ) (bs behind : List ℕ) → IsOther b → opens_comment ((b ∷ bs) ++ behind) ≡ false
+    → shape_of (b ∷ bs) behind ≡ option_map Mark (symbol_of (b ∷ bs))
 shape_here b bs behind o opens = shape_other b bs behind o.0 opens o.1 o.2 o.3
 
-one_from : (b : ℕ) → IsOther b → opens_comment (b ∷ []) ≡ false → (s : Option Symbol) → symbol_of (b ∷ []) ≡ s → piece_at (b ∷ []) ≡ symbol_piece (option_map (λ v. (v, 1)) s)
+one_from : (b : ℕ) → IsOther b → opens_comment (b ∷ []) ≡ false → (s : Option Symbol) → symbol_of (b ∷ []) ≡ s
+    → piece_at (b ∷ []) ≡ symbol_piece (option_map (λ v. (v, 1)) s)
 unfolding piece_at
 one_from b o opens None e =
     let quote = no_quote b [] o.3 in
@@ -74,7 +78,8 @@ no_longer b c [] o opens (suc (suc (suc k))) p q = absurd (omega arith)
 no_longer b c (d ∷ ds) o opens (suc (suc (suc k))) p q =
     shape_here b (c ∷ d ∷ take k ds) (drop k ds) o opens ∙ ap (option_map Mark) (symbol_long b c d (take k ds))
 
-two_from : (b c : ℕ) (bs : List ℕ) → IsOther b → opens_comment (b ∷ c ∷ bs) ≡ false → (s t : Option Symbol) → symbol_of (b ∷ c ∷ []) ≡ s → symbol_of (b ∷ []) ≡ t
+two_from : (b c : ℕ) (bs : List ℕ) → IsOther b → opens_comment (b ∷ c ∷ bs) ≡ false → (s t : Option Symbol) → symbol_of (b ∷ c ∷ []) ≡ s
+    → symbol_of (b ∷ []) ≡ t
     → piece_at (b ∷ c ∷ bs) ≡ symbol_piece (option_or (option_map (λ v. (v, 2)) s) (option_map (λ v. (v, 1)) t))
 unfolding piece_at
 two_from b c bs o opens (Some s) t e f =

@@ -3,7 +3,8 @@
 use Rattle.std.specs.Prelude.{ℕ, Option, Some, None}
 use Rattle.place.specs.declared.Place.{Place}
 use Rattle.lexer.specs.declared.fault.LexFault.{LexFault}
-use Rattle.lexer.specs.declared.fault.LexFault.TheVariants.{Memory, UnknownByte, OpenComment, OpenString, EmptyString, LargeNumber, TouchingLetter, LongText, StringByte}
+use Rattle.lexer.specs.declared.fault.LexFault.TheVariants.{Memory, UnknownByte, OpenComment, OpenString, EmptyString}
+use Rattle.lexer.specs.declared.fault.LexFault.TheVariants.{LargeNumber, TouchingLetter, LongText, StringByte}
 
 -- the number of a fault behind the letter L, and 0 for want of memory
 abbrev pub number_of : LexFault → ℕ

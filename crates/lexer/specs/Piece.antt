@@ -1,14 +1,16 @@
 -- What a text begins with: a separator or a token, as long as can be, or else a fault (ISO 7185:1990, 6.1).
 -- Digits never take a point, as numbers with a fraction are no part of the language.
 -- This doesn't say where in a whole text a piece stands.
-use Rattle.std.specs.Prelude.{ℕ, zero, suc, ◌+◌, ◌-◌, ◌*◌, List, [], ◌∷◌, length, take, drop, fold, position, Bool, false, not, ◌==◌, nat_lt, Option, Some, None, Result, Ok, Err, codes, if◌then◌else◌}
+use Rattle.std.specs.Prelude.{ℕ, zero, suc, ◌+◌, ◌-◌, ◌*◌, List, [], ◌∷◌, length, take, drop, fold, position, Bool}
+use Rattle.std.specs.Prelude.{false, not, ◌==◌, nat_lt, Option, Some, None, Result, Ok, Err, codes, if◌then◌else◌}
 use Rattle.std.specs.Option.{option_map, option_or, option_map_or}
 use Rattle.std.specs.Char.{is_ascii_alphabetic}
 use Rattle.std.specs.Int.{is_in_range}
 use Rattle.lexer.specs.declared.piece.Piece.{Piece}
 use Rattle.lexer.specs.declared.piece.Piece.TheVariants as piece
 use Rattle.lexer.specs.declared.piece.Refusal.{Refusal}
-use Rattle.lexer.specs.declared.piece.Refusal.TheVariants.{UnknownByte, OpenComment, OpenString, EmptyString, LargeNumber, TouchingLetter, StringByte}
+use Rattle.lexer.specs.declared.piece.Refusal.TheVariants.{UnknownByte, OpenComment, OpenString, EmptyString}
+use Rattle.lexer.specs.declared.piece.Refusal.TheVariants.{LargeNumber, TouchingLetter, StringByte}
 use Rattle.lexer.specs.declared.token.Kind.{Kind}
 use Rattle.lexer.specs.declared.token.Kind.TheVariants as kind
 use Rattle.lexer.specs.Spelling.{word_of}

@@ -1,7 +1,8 @@
 -- The shapes of what a text is made of, each of a whole row of bytes: separators (ISO 7185:1990, 6.1.8),
 -- identifiers and word symbols (6.1.2, 6.1.3), digits (6.1.5), character strings (6.1.7), special symbols.
 -- This doesn't say which values a number may have, which characters a string, nor where a shape stands.
-use Rattle.std.specs.Prelude.{◌≡◌, ℕ, ◌⊎◌, List, [], ◌∷◌, ◌++◌, length, drop, Bool, true, false, not, ◌==◌, ◌||◌, ◌&&◌, nat_eq, Option, Some, None, codes, if◌then◌else◌}
+use Rattle.std.specs.Prelude.{◌≡◌, ℕ, ◌⊎◌, List, [], ◌∷◌, ◌++◌, length, drop, Bool, true, false, not, ◌==◌, ◌||◌, ◌&&◌}
+use Rattle.std.specs.Prelude.{nat_eq, Option, Some, None, codes, if◌then◌else◌}
 use Rattle.std.specs.Option.{option_map}
 use Rattle.std.specs.List.{list_all, starts_with}
 use Rattle.std.specs.Char.{is_ascii_digit, is_ascii_alphabetic, is_ascii_alphanumeric}

@@ -1,5 +1,6 @@
 -- Places that come one before another.
-use Rattle.std.proofs.Common.{◌≡◌, ℕ, ◌+◌, ◌<◌, ◌⊎◌, inl, inr, Bool, true, false, ◌==◌, if◌then◌else◌, ◌&&◌, ◌||◌, nat_eq, nat_lt, IsTrue, List, [], ◌∷◌, length, refl, sym, subst, arith}
+use Rattle.std.proofs.Common.{◌≡◌, ℕ, ◌+◌, ◌<◌, ◌⊎◌, inl, inr, Bool, true, false, ◌==◌, if◌then◌else◌, ◌&&◌, ◌||◌, nat_eq, nat_lt, IsTrue, List, [], ◌∷◌}
+use Rattle.std.proofs.Common.{length, refl, sym, subst, arith}
 use Rattle.std.proofs.lemmas.Bool.{ltb-true, lt-ltb, eqb-true, eq-eqb}
 use Rattle.place.specs.declared.Place.{Place}
 use Rattle.place.specs.Place.{past, place_after, comes_before, ArePlacesInOrder}
@@ -56,9 +57,11 @@ without_first a [] h = tt
 without_first a (b ∷ others) h = h.1
 
 past_moves : (p : Place) (b : ℕ) (ends : Bool) → (b == 10) ≡ ends → IsTrue (comes_before p (past p b))
-past_moves p b true e = subst (λ x. IsTrue (comes_before p (if x then record { line = p.line + 1; column = 1 } else record { line = p.line; column = p.column + 1 }))) (sym e)
+past_moves p b true e = subst (λ x. IsTrue
+    (comes_before p (if x then record { line = p.line + 1; column = 1 } else record { line = p.line; column = p.column + 1 }))) (sym e)
     (comes_if p (record { line = p.line + 1; column = 1 }) (inl (omega arith)))
-past_moves p b false e = subst (λ x. IsTrue (comes_before p (if x then record { line = p.line + 1; column = 1 } else record { line = p.line; column = p.column + 1 }))) (sym e)
+past_moves p b false e = subst (λ x. IsTrue
+    (comes_before p (if x then record { line = p.line + 1; column = 1 } else record { line = p.line; column = p.column + 1 }))) (sym e)
     (comes_if p (record { line = p.line; column = p.column + 1 }) (inr (refl, omega arith)))
 
 -- a byte moves its place on

@@ -1,7 +1,8 @@
 -- Where a byte of a text stands: its line and its column in bytes, both counted from 1. A line ends with
 -- byte 10 (ISO 7185:1990, 6.1.8, leaves the form of a line's end open).
 -- This says nothing of which bytes a text may have.
-use Rattle.std.specs.Prelude.{ℕ, ◌+◌, ◌&&◌, ◌||◌, Bool, IsTrue, List, [], ◌∷◌, ◌++◌, if◌then◌else◌, ◌==◌, nat_eq, nat_lt, fold, decimal, codes}
+use Rattle.std.specs.Prelude.{ℕ, ◌+◌, ◌&&◌, ◌||◌, Bool, IsTrue, List, [], ◌∷◌, ◌++◌, if◌then◌else◌, ◌==◌, nat_eq}
+use Rattle.std.specs.Prelude.{nat_lt, fold, decimal, codes}
 use Rattle.place.specs.declared.Place.{Place}
 
 -- the place of a text's first byte

@@ -7,7 +7,8 @@ use Rattle.stack_machine.specs.declared.stop.Stop.{Stop}
 use Rattle.stack_machine.specs.Does.{cell_count}
 use Rattle.report.specs.declared.prepared.Reported.{Reported}
 use Rattle.report.specs.Messages.{Page, Gets}
-use Rattle.report.specs.Program.{End, Refused, Listed, Ran, Comes, Does, Finishes, HasMachine, IsPrepared, budget, cells, last_line, messages, report_of, report_status, status_of}
+use Rattle.report.specs.Program.{End, Refused, Listed, Ran, Comes, Does, Finishes, HasMachine, IsPrepared, budget, cells, last_line, messages, report_of}
+use Rattle.report.specs.Program.{report_status, status_of}
 use Rattle.report.specs.Text.{stop_status}
 use Rattle.report.specs.Whole.{RunsStripped}
 use Rattle.report.proofs.MessagesLemmas.{Gets-then}

@@ -1,6 +1,7 @@
 -- What the program of the compiler does with a source: how it ends, what standard error gets, the status, and what is
 -- run. It does not say what a writer that fails does not take.
-use Rattle.std.specs.Prelude.{◌≡◌, ℕ, ◌+◌, ◌-◌, ◌^◌, ◌==◌, if◌then◌else◌, Bool, true, false, List, [], ◌∷◌, ◌++◌, Option, Some, None}
+use Rattle.std.specs.Prelude.{◌≡◌, ℕ, ◌+◌, ◌-◌, ◌^◌, ◌==◌, if◌then◌else◌, Bool, true, false, List, [], ◌∷◌, ◌++◌}
+use Rattle.std.specs.Prelude.{Option, Some, None}
 use Rattle.std.specs.List.{flat_map}
 use Rattle.typed_tree.specs.declared.site.Site.{Site}
 use Rattle.stack_machine.specs.declared.machine.Machine.{Machine}

@@ -1,5 +1,6 @@
 ghost use Rattle.std.specs.Prelude.{◌≡◌};
-ghost use Rattle.report.specs.Faults.{lexer_fault, parser_fault, typing_fault, certificate_fault, checker_fault, generator_fault};
+ghost use Rattle.report.specs.Faults.{lexer_fault, parser_fault, typing_fault, certificate_fault, checker_fault};
+ghost use Rattle.report.specs.Faults.{generator_fault};
 ghost use Rattle.report.specs.declared.fault.Fault.TheVariants.{Memory};
 
 use cert_checker::fault::CheckFault;

@@ -1,8 +1,11 @@
 ghost use Rattle.std.specs.Prelude.{◌≡◌, ℕ, ◌+◌, ◌*◌, ◌<◌, ◌≤◌, ◌^◌, [], ◌∷◌, ◌++◌, length, decimal, codes, IfOk};
 ghost use Rattle.std.specs.List.{flat_map};
 ghost use Rattle.report.specs.declared.text.TheConstants.{LINE_SIZE};
-ghost use Rattle.report.specs.Text.{name_size, number_size, place_text, open_line, refusal_of, refusal_line, refusal_status, stop_line, stop_status, error_name, input_name, machine_text, code_text};
-ghost use Rattle.report.specs.Text.{lexer_refusal, parser_refusal, typing_refusal, certificate_refusal, checker_refusal, rule_number, generator_refusal};
+ghost use Rattle.report.specs.Text.{name_size, number_size, place_text, open_line, refusal_of, refusal_line};
+ghost use Rattle.report.specs.Text.{refusal_status, stop_line, stop_status, error_name, input_name, machine_text};
+ghost use Rattle.report.specs.Text.{code_text};
+ghost use Rattle.report.specs.Text.{lexer_refusal, parser_refusal, typing_refusal, certificate_refusal};
+ghost use Rattle.report.specs.Text.{checker_refusal, rule_number, generator_refusal};
 
 use crate::fault::Fault;
 use cert_checker::Verdict;

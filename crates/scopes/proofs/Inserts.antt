@@ -1,5 +1,6 @@
 -- A table as the region that it is: what it says of a name, and what it is after an insert.
-use Rattle.std.proofs.Common.{◌≡◌, ℕ, ◌+◌, ◌-◌, ◌<◌, Bool, true, false, cond, if◌then◌else◌, List, [], ◌∷◌, ◌++◌, Option, Some, None, Vec, nat_eq, map, take, length, slice_index_or, slice_set, get_or, reverse, Ok, Err, refl, sym, ap, ◌∙◌, arith}
+use Rattle.std.proofs.Common.{◌≡◌, ℕ, ◌+◌, ◌-◌, ◌<◌, Bool, true, false, cond, if◌then◌else◌, List, [], ◌∷◌, ◌++◌, Option, Some, None, Vec, nat_eq, map, take}
+use Rattle.std.proofs.Common.{length, slice_index_or, slice_set, get_or, reverse, Ok, Err, refl, sym, ap, ◌∙◌, arith}
 use Rattle.std.specs.Map.{lookup}
 use Rattle.std.specs.HashMap.{HashMap, get, get_by}
 use Rattle.std.specs.Cmp.Lexicographic.{pointwise}
@@ -129,7 +130,8 @@ module _ {S : Type 0} where
         ∙ ap Ok (sym (written_last region_of tables n after len some))
 
     -- the innermost region is written again, with the same entries
-    pub written_again : (after : Table S) → after.entries ≡ before.entries → reverse (map region_of (slice_set tables (n - 1) after)) ≡ reverse (map region_of tables)
+    pub written_again : (after : Table S) → after.entries ≡ before.entries
+        → reverse (map region_of (slice_set tables (n - 1) after)) ≡ reverse (map region_of tables)
     unfolding outer
     written_again after same =
         written_last region_of tables n after len some

@@ -1,5 +1,6 @@
 -- Of regions: what one says after a definition, and that a name that is known stays known.
-use Rattle.std.proofs.Common.{◌≡◌, ℕ, Bool, true, false, cond, if◌then◌else◌, List, [], ◌∷◌, ◌++◌, Option, Some, None, IsSome, Ok, Err, IfOk, nat_eq, fold, refl, sym, subst, true≢false}
+use Rattle.std.proofs.Common.{◌≡◌, ℕ, Bool, true, false, cond, if◌then◌else◌, List, [], ◌∷◌, ◌++◌, Option, Some, None, IsSome, Ok, Err, IfOk, nat_eq, fold}
+use Rattle.std.proofs.Common.{refl, sym, subst, true≢false}
 use Rattle.std.specs.Map.{lookup}
 use Rattle.std.specs.Cmp.Lexicographic.{pointwise}
 use Rattle.std.proofs.lemmas.Slice.Eq.{bytes_eq-Decides}
@@ -27,7 +28,8 @@ put_keeps [] name says other known = elim (true≢false (sym known)) [ ]
 put_keeps (entry ∷ entries) name says other known =
     by (put_keeps entries name says other) (pointwise nat_eq name entry.0) (pointwise nat_eq other entry.0) refl known
   where
-    by : (IsSome (said entries other) → IsSome (said (put entries name says) other)) → (b c : Bool) → pointwise nat_eq other entry.0 ≡ c → IsSome (cond c (Some entry.1) (said entries other))
+    by : (IsSome (said entries other) → IsSome (said (put entries name says) other)) → (b c : Bool) → pointwise nat_eq other entry.0 ≡ c
+        → IsSome (cond c (Some entry.1) (said entries other))
         → IsSome (said (if b then (entry.0, says) ∷ entries else entry ∷ put entries name says) other)
     by rest true true same known = subst (λ b. IsSome (cond b (Some says) (said entries other))) (sym same) refl
     by rest true false apart known = subst (λ b. IsSome (cond b (Some says) (said entries other))) (sym apart) known

@@ -1,7 +1,8 @@
 -- What a name denotes (ISO 7185:1990, 6.2.2): the innermost region that defines it decides, and there a use before
 -- the definition has no meaning. A region opens with the names that its block defines, and then the definitions are
 -- passed one after another. It says nothing of how names are spelled; here they are in small letters.
-use Rattle.std.specs.Prelude.{ℕ, Bool, true, false, List, [], ◌∷◌, Option, Some, None, IsSome, Result, Ok, Err, Vec, if◌then◌else◌, nat_eq, map, fold}
+use Rattle.std.specs.Prelude.{ℕ, Bool, true, false, List, [], ◌∷◌, Option, Some, None, IsSome, Result, Ok, Err, Vec}
+use Rattle.std.specs.Prelude.{if◌then◌else◌, nat_eq, map, fold}
 use Rattle.std.specs.Cmp.Lexicographic.{pointwise}
 use Rattle.std.specs.Map.{lookup}
 use Rattle.std.specs.HashMap.{HashMap}

@@ -1,5 +1,6 @@
 -- What a writer holds, and what is held back for it.
-use Rattle.std.proofs.Common.{◌≡◌, ℕ, ◌+◌, ◌<◌, List, [], ◌∷◌, ◌++◌, length, take, drop, refl, ap, sym, ◌∙◌, append_assoc, append-nil, Option, Some, None, Result, Ok, Err, arith, length-set, length-drop, length-append, get_or, subst, replicate, ◌≤◌, ◌-◌, ◌⊎◌, inl, inr, zero, suc}
+use Rattle.std.proofs.Common.{◌≡◌, ℕ, ◌+◌, ◌<◌, List, [], ◌∷◌, ◌++◌, length, take, drop, refl, ap, sym, ◌∙◌, append_assoc, append-nil, Option, Some, None}
+use Rattle.std.proofs.Common.{Result, Ok, Err, arith, length-set, length-drop, length-append, get_or, subst, replicate, ◌≤◌, ◌-◌, ◌⊎◌, inl, inr, zero, suc}
 use Rattle.std.proofs.lemmas.Bool.Decides.{nat_tests}
 use Rattle.std.specs.Prelude.{◌/◌, ◌%◌, IfOk, slice_set, IsErr, ◌==◌, ◌&&◌, nat_lt, if◌then◌else◌}
 use Rattle.std.proofs.Math.ListN.{take-append-drop}

@@ -19,7 +19,8 @@ returns-in_err-matches c =
     (c.in_ok-arg.ensures.shape c.cert_argument.ensures.own) (c.in_ok-arg-2.ensures.shape c.go_argument.ensures.own)
     (c.in_ok-command.ensures.shape c.source_argument.ensures.argument.own)
     c.cert_argument.ensures.rule c.go_argument.ensures.rule c.source_argument.ensures.argument.rule in
-    let kinds : HasKind (fault_of pcom words) error = subst (λ a. HasKind (fault_of a words) error) app_is (c.in_err-matches.ensures.kinds (ap is_simple_and_free app_is ∙ pcom_is_free)) in
+    let kinds : HasKind (fault_of pcom words) error = subst (λ a. HasKind (fault_of a words) error) app_is
+    (c.in_err-matches.ensures.kinds (ap is_simple_and_free app_is ∙ pcom_is_free)) in
     let sent = err_from_is_err_and c.from_residual-in_err-matches.result c.from_residual-in_err-matches.ensures.1 in
     rw (sent.1) (rw sent.2 (told words error kinds))
 
@@ -49,15 +50,19 @@ returns c =
     let has : is_some (first_value (found_of m) path_argument.id.now) ≡ true =
     required_in_chain start c.in_ok-command.command xs 2 path_argument m chain (search rules) (search rules) (search rules) (search rules)
     (all_three FitsChain option_argument flag_argument path_argument
-    (fits option_argument 99 (codes "ert") cert_id (λ h. absurd (omega (arith, h))) (λ h. absurd (omega (arith, h))) c.cert_argument.ensures.plain c.cert_argument.ensures.own)
-    (fits flag_argument 103 (codes "o") go_id (λ h. absurd (omega (arith, h))) (λ h. absurd (omega (arith, h))) c.go_argument.ensures.plain c.go_argument.ensures.own)
-    (fits path_argument 115 (codes "ource") source_id (λ h. absurd (omega (arith, h))) (λ h. absurd (omega (arith, h))) c.source_argument.ensures.argument.plain c.source_argument.ensures.argument.own))
+    (fits option_argument 99 (codes "ert") cert_id (λ h. absurd (omega (arith, h)))
+    (λ h. absurd (omega (arith, h))) c.cert_argument.ensures.plain c.cert_argument.ensures.own)
+    (fits flag_argument 103 (codes "o") go_id (λ h. absurd (omega (arith, h)))
+    (λ h. absurd (omega (arith, h))) c.go_argument.ensures.plain c.go_argument.ensures.own)
+    (fits path_argument 115 (codes "ource") source_id (λ h. absurd (omega (arith, h)))
+    (λ h. absurd (omega (arith, h))) c.source_argument.ensures.argument.plain c.source_argument.ensures.argument.own))
     (three_ids option_argument flag_argument path_argument (rw (cert_id, go_id) refl, rw (cert_id, go_id) refl)
     (rw (cert_id, source_id) refl, rw (cert_id, source_id) refl) (rw (go_id, source_id) refl, rw (go_id, source_id) refl))
     (omega arith) c.source_argument.ensures.value c.in_ok-matches.ensures.parsed in
     record {
       faultless = subst (λ a. fault_of a words ≡ []) app_is (c.in_ok-matches.ensures.kinds (ap is_simple_and_free app_is ∙ pcom_is_free));
-      source = sym path ∙ (sym c.get_str.ensures ∙ there c.unwrap_or.result c.get_str.result _ c.unwrap_or.ensures (rw c.get_str.ensures (subst (λ t. is_some (first_value (found_of m) t) ≡ true) source_id has)));
+      source = sym path ∙ (sym c.get_str.ensures ∙ there c.unwrap_or.result c.get_str.result _ c.unwrap_or.ensures
+          (rw c.get_str.ensures (subst (λ t. is_some (first_value (found_of m) t) ≡ true) source_id has)));
       certificate = sym certificate ∙ sym c.get_str-2.ensures;
       go = record {
         given = λ h. c.get_flag.ensures.value (flag ∙ h);

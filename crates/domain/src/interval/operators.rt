@@ -2,7 +2,8 @@ ghost use Rattle.std.specs.Prelude.{◌≡◌, if◌then◌else◌, true, ℤ, p
 ghost use Rattle.std.specs.Int.{int_rem_euclid};
 ghost use Rattle.std.specs.Ordering.{int_eq};
 ghost use Rattle.domain.specs.Order.{span};
-ghost use Rattle.domain.specs.Interval.{IsEnd, HasMember, held, nearest_end, hull, product, squared, magnitude, size, absolute, without_zero_end, at_least, at_most, quotient, remainder, is_true};
+ghost use Rattle.domain.specs.Interval.{IsEnd, HasMember, held, nearest_end, hull, product, squared, magnitude, size};
+ghost use Rattle.domain.specs.Interval.{absolute, without_zero_end, at_least, at_most, quotient, remainder, is_true};
 
 use crate::Domain;
 use crate::interval::{Interval, LIMIT};

@@ -1,5 +1,6 @@
 ghost use Rattle.std.specs.Prelude.{◌≡◌, not, ◌&&◌, ◌||◌, ℤ};
-ghost use Rattle.domain.specs.Interval.{HasMember, truth, is_true, always_true, never_true, truths, both, either, complement};
+ghost use Rattle.domain.specs.Interval.{HasMember, truth, is_true, always_true, never_true, truths, both, either};
+ghost use Rattle.domain.specs.Interval.{complement};
 
 use crate::Domain;
 use crate::interval::Interval;

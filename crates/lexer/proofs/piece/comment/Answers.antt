@@ -13,16 +13,21 @@ loop-at-preserved c =
 
 pub returns-then-starts_with : goal.returns-then-starts_with
 returns-then-starts_with c =
-    let close = comment_closes_one c.args.text.now c.loop-at.at c.loop-at-test.true (begins_rest (codes "}") c.args.text.now c.loop-at.at true c.if-starts_with.ensures.value) in
-    ap (λ o. comment_piece (shifted c.loop-at.at o)) (sym close) ∙ ap comment_piece c.loop-at.invariant ∙ sym (comment_at c.args.text.now c.args.opening c.requires)
+    let close = comment_closes_one c.args.text.now c.loop-at.at c.loop-at-test.true
+    (begins_rest (codes "}") c.args.text.now c.loop-at.at true c.if-starts_with.ensures.value) in
+    ap (λ o. comment_piece (shifted c.loop-at.at o)) (sym close) ∙ ap comment_piece c.loop-at.invariant ∙ sym
+    (comment_at c.args.text.now c.args.opening c.requires)
 
 pub returns-then-starts_with-2 : goal.returns-then-starts_with-2
 returns-then-starts_with-2 c =
-    let close = comment_closes_two c.args.text.now c.loop-at.at c.loop-at-test.true (begins_rest (codes "}") c.args.text.now c.loop-at.at false c.if-starts_with.ensures.value)
+    let close = comment_closes_two c.args.text.now c.loop-at.at c.loop-at-test.true
+    (begins_rest (codes "}") c.args.text.now c.loop-at.at false c.if-starts_with.ensures.value)
     (begins_rest (codes "*)") c.args.text.now c.loop-at.at true c.if-starts_with-2.ensures.value) in
-    ap (λ o. comment_piece (shifted c.loop-at.at o)) (sym close) ∙ ap comment_piece c.loop-at.invariant ∙ sym (comment_at c.args.text.now c.args.opening c.requires)
+    ap (λ o. comment_piece (shifted c.loop-at.at o)) (sym close) ∙ ap comment_piece c.loop-at.invariant ∙ sym
+    (comment_at c.args.text.now c.args.opening c.requires)
 
 pub returns : goal.returns
 returns c =
     let none = drop_of_length-le c.args.text.now c.loop-at-test.false in
-    ap (λ bs. comment_piece (shifted c.loop-at.at (comment_end bs))) (sym none) ∙ ap comment_piece c.loop-at.invariant ∙ sym (comment_at c.args.text.now c.args.opening c.requires)
+    ap (λ bs. comment_piece (shifted c.loop-at.at (comment_end bs))) (sym none) ∙ ap comment_piece c.loop-at.invariant ∙ sym
+    (comment_at c.args.text.now c.args.opening c.requires)

@@ -15,7 +15,8 @@ returns-then-is_blank c =
 pub returns-in-Some : goal.returns-in-Some
 returns-in-Some c =
     let some : length c.args.text.now ≡ 0 → ⊥ = search rules in
-    let at = symbol_here c.args.text.now some (sym c.if-is_blank.ensures) (sym c.if-starts_with.ensures.value) (sym c.if-starts_with-2.ensures.value) c.if-first-eq39.false
+    let at = symbol_here c.args.text.now some (sym c.if-is_blank.ensures) (sym c.if-starts_with.ensures.value)
+    (sym c.if-starts_with-2.ensures.value) c.if-first-eq39.false
     (sym c.if-is_ascii_digit.ensures.value) (sym c.if-is_ascii_alphabetic.ensures.value) in
     let found : Some (c.in-Some.symbol, c.in-Some.length) ≡ symbol_at c.args.text.now = cc in
     ap symbol_piece found ∙ sym at
@@ -23,6 +24,7 @@ returns-in-Some c =
 pub returns-in-None : goal.returns-in-None
 returns-in-None c =
     let some : length c.args.text.now ≡ 0 → ⊥ = search rules in
-    let at = symbol_here c.args.text.now some (sym c.if-is_blank.ensures) (sym c.if-starts_with.ensures.value) (sym c.if-starts_with-2.ensures.value) c.if-first-eq39.false
+    let at = symbol_here c.args.text.now some (sym c.if-is_blank.ensures) (sym c.if-starts_with.ensures.value)
+    (sym c.if-starts_with-2.ensures.value) c.if-first-eq39.false
     (sym c.if-is_ascii_digit.ensures.value) (sym c.if-is_ascii_alphabetic.ensures.value) in
     ap symbol_piece c.in-None.ensures ∙ sym at

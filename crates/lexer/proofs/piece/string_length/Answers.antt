@@ -14,14 +14,16 @@ pub returns-then-starts_with-2-clause-exact : goal.returns-then-starts_with-2-cl
 returns-then-starts_with-2-clause-exact c =
     let text = c.args.text.now in
     let at = c.loop-at.at in
-    ap (string_piece text) (string_closes text at (begins_rest (codes "''") text at false c.if-starts_with.ensures.value) (begins_rest (codes "'") text at true c.if-starts_with-2.ensures.value)
+    ap (string_piece text) (string_closes text at (begins_rest (codes "''") text at false c.if-starts_with.ensures.value)
+    (begins_rest (codes "'") text at true c.if-starts_with-2.ensures.value)
     ∙ c.loop-at.invariant.1) ∙ sym (string_at text c.requires)
 
 pub returns-then-starts_with-3-clause-exact : goal.returns-then-starts_with-3-clause-exact
 returns-then-starts_with-3-clause-exact c =
     let text = c.args.text.now in
     let at = c.loop-at.at in
-    ap (string_piece text) (string_breaks text at (begins_rest (codes "'") text at false c.if-starts_with-2.ensures.value) (begins_rest (10 ∷ []) text at true c.if-starts_with-3.ensures.value)
+    ap (string_piece text) (string_breaks text at (begins_rest (codes "'") text at false c.if-starts_with-2.ensures.value)
+    (begins_rest (10 ∷ []) text at true c.if-starts_with-3.ensures.value)
     ∙ c.loop-at.invariant.1) ∙ sym (string_at text c.requires)
 
 pub loop-at-preserved : goal.loop-at-preserved
@@ -29,7 +31,8 @@ loop-at-preserved c =
     let text = c.args.text.now in
     let at = c.loop-at.at in (
       omega arith,
-      string_passes text at (begins_rest (codes "'") text at false c.if-starts_with-2.ensures.value) (begins_rest (10 ∷ []) text at false c.if-starts_with-3.ensures.value)
+      string_passes text at (begins_rest (codes "'") text at false c.if-starts_with-2.ensures.value)
+          (begins_rest (10 ∷ []) text at false c.if-starts_with-3.ensures.value)
           ∙ c.loop-at.invariant.1,
     )
 

@@ -49,10 +49,19 @@ returns-in-Err-clause-fault c =
     let rest = c.loop-rest.rest.now in
     let why = c.in-Err.refusal in
     let pieces = c.loop-rest.invariant.2 in
-    let place = ap (λ q. place_after q (take (offset_of why) rest)) c.loop-rest.invariant.5 ∙ place_stops text pieces rest (offset_of why) c.loop-rest.invariant.3 in
+    let place = ap (λ q. place_after q (take (offset_of why) rest)) c.loop-rest.invariant.5 ∙ place_stops text pieces rest
+    (offset_of why) c.loop-rest.invariant.3 in
     λ _. inr (
       c.if-text-gt-MAX_TEXT.false,
-      (pieces, rest, c.loop-rest.invariant.3, (λ e. false≢true (c.loop-rest-test.ensures ∙ ap (λ r. length r == 0) e)), why, sym c.in-Err.ensures, c.fault_of.ensures ∙ ap (fault_of why) place),
+      (
+        pieces,
+        rest,
+        c.loop-rest.invariant.3,
+        (λ e. false≢true (c.loop-rest-test.ensures ∙ ap (λ r. length r == 0) e)),
+        why,
+        sym c.in-Err.ensures,
+        c.fault_of.ensures ∙ ap (fault_of why) place,
+      ),
     )
 
 pub loop-rest-preserved : goal.loop-rest-preserved
@@ -64,7 +73,8 @@ loop-rest-preserved c =
     let found = c.in-Ok.found in
     let behind : c.split_at.result.1.now ≡ drop found.1 rest = search rules in
     let front : c.split_at.result.0.now ≡ take found.1 rest = search rules in
-    let same : (w : Kind) → ◌≡◌ {A = Lexeme} (record { kind = w; text = c.split_at.result.0.now; place = c.loop-rest.place }) (record { kind = w; text = take found.1 rest; place = place_behind start text pieces }) =
+    let same : (w : Kind) → ◌≡◌ {A = Lexeme} (record { kind = w; text = c.split_at.result.0.now; place = c.loop-rest.place })
+    (record { kind = w; text = take found.1 rest; place = place_behind start text pieces }) =
     λ w i. record { kind = w; text = front i; place = c.loop-rest.invariant.5 i } in (
       search rules,
       search rules,
@@ -72,7 +82,8 @@ loop-rest-preserved c =
       subst (λ r. Leaves text (pieces ++ found ∷ []) r) (sym behind) (leaves_more text pieces rest found leaves (sym c.in-Ok.ensures)),
       elim c.match-piece.branch [
         | in-Token+in_ok-push w ↦
-            rw w.tokens-is (kept_token c.loop-rest.tokens.items w.push.new.self.items w.in-Token.kind _ text pieces rest found leaves c.loop-rest.invariant.4 w.in_ok-push.ensures.items (same w.in-Token.kind) w.in-Token.is)
+            rw w.tokens-is (kept_token c.loop-rest.tokens.items w.push.new.self.items w.in-Token.kind _ text pieces rest found leaves c.loop-rest.invariant.4
+            w.in_ok-push.ensures.items (same w.in-Token.kind) w.in-Token.is)
         | in_default w ↦ rw w.tokens-is (kept_separator c.loop-rest.tokens.items text pieces rest found leaves c.loop-rest.invariant.4 w.in_default.is)
       ],
       c.after-place.ensures.place ∙ (λ i. place_after (c.loop-rest.invariant.5 i) (front i)) ∙ sym (place_more start text pieces rest found leaves),

@@ -32,7 +32,8 @@ loop-number-preserved g c =
       given =
           AllWithin-more gives rows 0 index c.loop-number.invariant.given
           (at_read rows gives index row (omega arith) c.index-rows-number.is
-          (gave post _ c.told.result text row.1.now c.told.ensures c.in_ok-found.was (sym c.as_str.ensures.value ∙ same_text c.as_str.result.now row.1.now c.ne.result _ refl c.ne.ensures c.if-ne.false)));
+          (gave post _ c.told.result text row.1.now c.told.ensures c.in_ok-found.was
+          (sym c.as_str.ensures.value ∙ same_text c.as_str.result.now row.1.now c.ne.result _ refl c.ne.ensures c.if-ne.false)));
     }
 
 -- all rows were taken

@@ -17,7 +17,8 @@ returns-then-is_empty-clause-ends c =
 
 pub returns-then-is_empty-clause-members : goal.returns-then-is_empty-clause-members
 returns-then-is_empty-clause-members c = λ x y left right.
-    subst (λ (i : Interval). HasMember i (truth (is_true x && is_true y))) (sym (returns-then-is_empty-clause-ends c)) (both-has c.args.self.now c.args.other.now x y left right)
+    subst (λ (i : Interval). HasMember i (truth (is_true x && is_true y))) (sym (returns-then-is_empty-clause-ends c))
+    (both-has c.args.self.now c.args.other.now x y left right)
 
 pub returns-clause-ends : goal.returns-clause-ends
 returns-clause-ends c = search rules

@@ -18,12 +18,14 @@ returns-then-is_empty-clause-ends c =
 
 pub returns-then-is_empty-clause-members : goal.returns-then-is_empty-clause-members
 returns-then-is_empty-clause-members c = λ x y left right present.
-    subst (λ (i : Interval). HasMember i (int_div x y)) (sym (returns-then-is_empty-clause-ends c)) (quotient-has c.args.self.now c.args.divisor.now x y left right present)
+    subst (λ (i : Interval). HasMember i (int_div x y)) (sym (returns-then-is_empty-clause-ends c))
+    (quotient-has c.args.self.now c.args.divisor.now x y left right present)
 
 pub returns-then-has-clause-ends : goal.returns-then-has-clause-ends
 returns-then-has-clause-ends c =
     quotient-by_zero c.args.self.now c.args.divisor.now _ _
-    (sym c.is_empty.ensures.answer ∙ c.if-is_empty.false) (sym c.is_empty-else-is_empty.ensures.answer ∙ c.if-is_empty-2.false) (sym c.has.ensures.answer ∙ c.if-has.true)
+    (sym c.is_empty.ensures.answer ∙ c.if-is_empty.false) (sym c.is_empty-else-is_empty.ensures.answer ∙ c.if-is_empty-2.false)
+    (sym c.has.ensures.answer ∙ c.if-has.true)
     (omega (arith, ints)) (omega (arith, ints))
 
 pub returns-then-has-clause-members : goal.returns-then-has-clause-members
@@ -55,7 +57,8 @@ pub returns-clause-ends : goal.returns-clause-ends
 returns-clause-ends c =
     quotient-present c.args.self.now c.args.divisor.now c.hull.result
     c.quotient.result c.quotient-2.result c.quotient-3.result c.quotient-4.result
-    (sym c.is_empty.ensures.answer ∙ c.if-is_empty.false) (sym c.is_empty-else-is_empty.ensures.answer ∙ c.if-is_empty-2.false) (sym c.has.ensures.answer ∙ c.if-has.false) (search rules)
+    (sym c.is_empty.ensures.answer ∙ c.if-is_empty.false) (sym c.is_empty-else-is_empty.ensures.answer ∙ c.if-is_empty-2.false)
+    (sym c.has.ensures.answer ∙ c.if-has.false) (search rules)
     (search rules) (search rules) (search rules) (search rules)
 
 pub returns-clause-members : goal.returns-clause-members

@@ -17,7 +17,8 @@ returns-then-is_empty-clause-ends c =
 
 pub returns-then-is_empty-clause-members : goal.returns-then-is_empty-clause-members
 returns-then-is_empty-clause-members c = λ x y left right fits.
-    subst (λ (i : Interval). HasMember i (x *ℤ y)) (sym (returns-then-is_empty-clause-ends c)) (held-has (product c.args.self.now c.args.other.now) (x *ℤ y) fits (product-has c.args.self.now c.args.other.now x y left right))
+    subst (λ (i : Interval). HasMember i (x *ℤ y)) (sym (returns-then-is_empty-clause-ends c))
+    (held-has (product c.args.self.now c.args.other.now) (x *ℤ y) fits (product-has c.args.self.now c.args.other.now x y left right))
 
 pub returns-clause-ends : goal.returns-clause-ends
 returns-clause-ends c =

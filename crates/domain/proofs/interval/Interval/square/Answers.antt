@@ -13,7 +13,8 @@ returns-then-not-has-clause-ends c =
     squared-present a c.span.result _ _
     (sym c.is_empty.ensures.answer ∙ c.if-is_empty.false) (sym c.has.ensures.answer ∙ c.if-not-has.true) c.span.ensures
     (as_is c.nearest_product.result c.nearest_product.ensures.bounds ∙ c.nearest_product.ensures.value ∙ same_product _ _ a.first a.first first first')
-    (as_is c.nearest_product-then-not-has.result c.nearest_product-then-not-has.ensures.bounds ∙ c.nearest_product-then-not-has.ensures.value ∙ same_product _ _ a.last a.last last last')
+    (as_is c.nearest_product-then-not-has.result c.nearest_product-then-not-has.ensures.bounds ∙ c.nearest_product-then-not-has.ensures.value
+    ∙ same_product _ _ a.last a.last last last')
 
 pub returns-then-not-has-clause-members : goal.returns-then-not-has-clause-members
 returns-then-not-has-clause-members c = λ x has fits.
@@ -25,7 +26,8 @@ returns-clause-ends c =
     let greatest = as_is c.size-size.result c.size-size.ensures.bounds ∙ c.size-size.ensures.value in
     squared-with_zero a c.span-2.result _
     (sym c.is_empty.ensures.answer ∙ c.if-is_empty.false) (sym c.has.ensures.answer ∙ c.if-not-has.false) c.span-2.ensures
-    (as_is c.nearest_product-2.result c.nearest_product-2.ensures.bounds ∙ c.nearest_product-2.ensures.value ∙ same_product _ _ (size a) (size a) greatest greatest)
+    (as_is c.nearest_product-2.result c.nearest_product-2.ensures.bounds ∙ c.nearest_product-2.ensures.value ∙ same_product _ _ (size a)
+    (size a) greatest greatest)
 
 pub returns-clause-members : goal.returns-clause-members
 returns-clause-members c = λ x has fits.

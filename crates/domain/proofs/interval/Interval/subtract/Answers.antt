@@ -18,7 +18,8 @@ returns-then-is_empty-clause-ends c =
 
 pub returns-then-is_empty-clause-members : goal.returns-then-is_empty-clause-members
 returns-then-is_empty-clause-members c = λ x y left right fits.
-    subst (λ (i : Interval). HasMember i (x -ℤ y)) (sym (returns-then-is_empty-clause-ends c)) (held-has (difference c.args.self.now c.args.other.now) (x -ℤ y) fits (difference-has c.args.self.now c.args.other.now x y left right))
+    subst (λ (i : Interval). HasMember i (x -ℤ y)) (sym (returns-then-is_empty-clause-ends c))
+    (held-has (difference c.args.self.now c.args.other.now) (x -ℤ y) fits (difference-has c.args.self.now c.args.other.now x y left right))
 
 pub returns-clause-ends : goal.returns-clause-ends
 returns-clause-ends c =
@@ -30,4 +31,5 @@ returns-clause-ends c =
 
 pub returns-clause-members : goal.returns-clause-members
 returns-clause-members c = λ x y left right fits.
-    rw (returns-clause-ends c) (held-has (difference c.args.self.now c.args.other.now) (x -ℤ y) fits (difference-has c.args.self.now c.args.other.now x y left right))
+    rw (returns-clause-ends c) (held-has (difference c.args.self.now c.args.other.now) (x -ℤ y) fits
+    (difference-has c.args.self.now c.args.other.now x y left right))

@@ -13,7 +13,8 @@ returns-clause-defined c =
     let new : is_defined (get key_eq region c.args.name) ≡ false =
     ap (λ name. is_defined (get_by (is_key name) region)) (sym c.deref.ensures.value) ∙ sym c.is_defined.ensures ∙ c.if-is_defined.false in
     let some : 0 < vec_len blocks = c.last_mut.ensures.variant.0 (search rules) in
-    subst (λ old. define c.args.name.items c.args.denotation old ≡ Ok (reverse (map region_of (slice_set blocks.items (vec_len blocks - 1) c.insert.new.self)))) c.self.view_is
+    subst (λ old. define c.args.name.items c.args.denotation old ≡ Ok
+    (reverse (map region_of (slice_set blocks.items (vec_len blocks - 1) c.insert.new.self)))) c.self.view_is
     (defines_last blocks.items (vec_len blocks) region blocks.ok.0 some c.in-Some.ensures.value c.args.name c.args.denotation
     c.insert.new.self c.in_ok-insert.ensures.entries new)
 
