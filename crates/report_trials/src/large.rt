@@ -1,6 +1,6 @@
 use crate::shown::{CELLS, agreed_told, repeated, show, shown_told, visits};
 use report::fault::Fault;
-use std::alloc::{AllocError, Global};
+use std::alloc::Global;
 use std::test::Fail;
 use test_words::rows::all_hold;
 
@@ -149,34 +149,4 @@ fn budget_told(alloc: Global, row: &(&str, u64)) -> Result<String, Fault> {
 #[test]
 fn budgets_end_inside_loops(rt: HostRuntime) -> Result<(), Fail> {
     all_hold(rt.alloc(), &BUDGETS, budget_told)
-}
-
-// A case with a branch for each number below a thousand, which writes its number.
-fn wide_case(alloc: Global, index: &str) -> Result<String, AllocError> {
-    let mut source = format!(in alloc; "program p(output); begin case {index} of ")?;
-    for number in 0..1_000u32 {
-        source.push_str(format!(in alloc; "{number}: write({number}:1); ")?.as_str())?;
-    }
-    source.push_str("end end.")?;
-    Ok(source)
-}
-
-// The index of a wide case, and what is shown.
-static WIDE: [(&str, &str); 4] = [
-    ("0", "|0||0"),
-    ("777", "|777||0"),
-    ("999", "|999||0"),
-    (
-        "1000",
-        "1:26: possible error: case\n||1:26: error: case\n|4",
-    ),
-];
-
-fn wide_told(alloc: Global, index: &&str) -> Result<String, Fail> {
-    agreed_told(alloc, wide_case(alloc, index)?.as_bytes())
-}
-
-#[test]
-fn a_thousand_constants(rt: HostRuntime) -> Result<(), Fail> {
-    all_hold(rt.alloc(), &WIDE, wide_told)
 }
