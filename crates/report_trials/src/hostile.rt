@@ -3,7 +3,7 @@ use crate::shown::refusal;
 use std::alloc::{AllocError, Global};
 use std::test::Fail;
 
-const PIECES: [&str; 44] = [
+const PIECES: [&str; 55] = [
     "program ",
     "p",
     "(output)",
@@ -48,12 +48,23 @@ const PIECES: [&str; 44] = [
     ": 1",
     "Boolean",
     "odd",
+    " if ",
+    " then ",
+    " else ",
+    " while ",
+    " do ",
+    " repeat ",
+    " until ",
+    " for ",
+    " to ",
+    " case ",
+    " of ",
 ];
 
 fn text_of_pieces(alloc: Global, numbers: &mut Numbers) -> Result<Vec<u8>, AllocError> {
     let mut text = Vec::new(alloc);
     for _ in 0..numbers.below(30) {
-        let piece = PIECES[numbers.below(44)];
+        let piece = PIECES[numbers.below(55)];
         text.extend_from_slice(piece.as_bytes())?;
     }
     Ok(text)
