@@ -1,17 +1,34 @@
 use crate::programs::{Told, run};
-use report::compile::PLAIN_CERTIFICATE;
 use std::test::Fail;
 
-// A program of every form, in small.
+// A program of every form, in small, and its certificate.
 const EVERY_FORM: &str = "program p(output); var x, y: integer; b: boolean;
     begin
       x := 7 div 2; y := -x + sqr(x) * abs(3) mod 5;
       b := not (x < y) or odd(x) and true;
-      begin write(x:3, b); ; writeln(y:x, b:2) end
+      begin write(x:3, b); ; writeln(y:x, b:2) end;
+      if b then x := 2 else x := 9;
+      while x < 3 do x := x + 1;
+      repeat y := x until true;
+      for y := 1 to 2 do case y of 1: x := 4; 2: x := y + 3 end;
+      write(x:2)
     end.";
 
-// By hand: x is 3; sqr(3) * abs(3) is 27 and mod 5 gives 2, so y is -1; 3 < -1 is false, so b is true.
-const WRITTEN: &str = "  3 true -1tr\n";
+const CLAIMS: &str = "pcert 1
+proc 0
+loop 0
+change v0
+loop 1
+change v1
+loop 2
+change v0
+fact range v0 3 2147483647
+fact defined v0
+";
+
+// By hand: x is 3; sqr(3) * abs(3) is 27 and mod 5 gives 2, so y is -1; 3 < -1 is false, so b is true. Then x is 2, and 3
+// behind the while; the for makes it 4 and then 5.
+const WRITTEN: &str = "  3 true -1tr\n 5";
 
 // Whether a run that had ample memory did what it should, and one that had not said so and wrote nothing else.
 fn is_as_it_should(told: &Told) -> bool {
@@ -32,7 +49,7 @@ fn a_refused_allocation_is_want_of_memory(rt: HostRuntime) -> Result<(), Fail> {
     else {
         return Ok(());
     };
-    let (source, certificate) = (EVERY_FORM.as_bytes(), Some(PLAIN_CERTIFICATE));
+    let (source, certificate) = (EVERY_FORM.as_bytes(), Some(CLAIMS.as_bytes()));
     assert!(rt; is_as_it_should(&run(alloc, source, certificate, true, output, errors)));
     Ok(())
 }
