@@ -12,9 +12,9 @@ ghost use Rattle.expression_parser.specs.Deep.{IsDeep};
 ghost use Rattle.expression_parser.specs.Refusing.{IsPlain, Refused};
 ghost use Rattle.parser.specs.Syntax.{most, IsTreeOf, IsRefused, Answers};
 
-use crate::statement::compound;
 use expression_parser::memory::put;
 use lexer::token::{Kind, Symbol, Token, Word};
+use statement_parser::statement::compound;
 use std::alloc::Global;
 use syntax_tree::{Block, Name, Program, TypeDenoter, VariableGroup};
 use token_cursor::cursor::Cursor;
