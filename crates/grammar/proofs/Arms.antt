@@ -1,5 +1,6 @@
 -- The rules of the arms of cases read each spelling of their form.
-use Rattle.std.proofs.Common.{◌≡◌, ℕ, ◌<◌, ◌≤◌, Bool, true, false, ◌&&◌, max, fold, List, [], ◌∷◌, ◌++◌, map, length, Option, Some, None, IfNone, refl, subst, sym, ap, ◌∙◌, append_assoc, arith}
+use Rattle.std.proofs.Common.{◌≡◌, ℕ, ◌<◌, ◌≤◌, Bool, true, false, ◌&&◌, max, fold, List, [], ◌∷◌, ◌++◌, map, length, Option, Some, None, IfNone, refl, subst}
+use Rattle.std.proofs.Common.{sym, ap, ◌∙◌, append_assoc, arith}
 use Rattle.std.specs.List.{list_all}
 use Rattle.place.specs.declared.Place.{Place}
 use Rattle.lexer.specs.declared.token.Kind.{Kind}
@@ -14,7 +15,8 @@ use Rattle.syntax_tree.specs.declared.Sign.{Sign}
 use Rattle.syntax_tree.specs.declared.Sign.TheVariants.{Plus, Minus}
 use Rattle.syntax_tree.specs.declared.SignAt.{SignAt}
 use Rattle.syntax_tree.specs.declared.Stmt.{Stmt}
-use Rattle.grammar.specs.Spelling.{Lexeme, Spelling, Reads, of_kind_at, mark, word_symbol, sign, sign_spelling, value_lexeme, constant_spelling, stmt_spelling, case_end, separated}
+use Rattle.grammar.specs.Spelling.{Lexeme, Spelling, Reads, of_kind_at, mark, word_symbol, sign, sign_spelling, value_lexeme, constant_spelling, stmt_spelling}
+use Rattle.grammar.specs.Spelling.{case_end, separated}
 use Rattle.grammar.specs.WellFormed.{is_statement, has_items}
 use Rattle.grammar.specs.Nesting.{stmt_levels, deepest}
 use Rattle.grammar.specs.Following.{next_kind, NoNext, NoSign, EndsStmt, semicolon, end}
@@ -74,7 +76,8 @@ pub constant_list_goes_on : (p : Place) (start a b : List Token) → Reads a (of
 constant_list_goes_on p start a b k left constants others h ends =
     parts_go_on CaseConstant constant_list_parts 0 p a b others k ends (left constants others h ends)
 
-pub constant_list_ends : (start a : List Token) → NoNext (kind.Symbol symbol.Comma) a → ConstantsLeft start a → (constants : List CaseConstant) (others : List Token)
+pub constant_list_ends : (start a : List Token) → NoNext (kind.Symbol symbol.Comma) a → ConstantsLeft start a
+    → (constants : List CaseConstant) (others : List Token)
     → BeginsConstants start others constants → NoNext (kind.Symbol symbol.Comma) others → a ≡ others
 constant_list_ends start a missed left constants others h ends =
     parts_end CaseConstant constant_list_parts 0 a others missed (left constants others h ends)

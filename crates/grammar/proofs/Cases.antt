@@ -1,5 +1,6 @@
 -- The parts of case statements.
-use Rattle.std.proofs.Common.{◌≡◌, ℕ, ◌+◌, ◌<◌, ◌≤◌, Bool, true, false, ◌&&◌, max, nat_eq, List, [], ◌∷◌, ◌++◌, map, length, Option, Some, None, refl, subst, sym, ap, ◌∙◌, arith}
+use Rattle.std.proofs.Common.{◌≡◌, ℕ, ◌+◌, ◌<◌, ◌≤◌, Bool, true, false, ◌&&◌, max, nat_eq, List, [], ◌∷◌, ◌++◌, map, length, Option, Some, None, refl, subst}
+use Rattle.std.proofs.Common.{sym, ap, ◌∙◌, arith}
 use Rattle.std.proofs.lemmas.List.{append-nil}
 use Rattle.std.proofs.lemmas.Bool.{eqb-true, lt-ltb}
 use Rattle.std.specs.List.{list_all}
@@ -22,7 +23,8 @@ use Rattle.syntax_tree.specs.declared.Stmt.{Stmt}
 use Rattle.syntax_tree.specs.declared.Stmt.TheOpen as stmt
 use Rattle.syntax_tree.specs.declared.Stmt.TheViews.{out-Stmt}
 use Rattle.syntax_tree.specs.Places.{arms_of}
-use Rattle.grammar.specs.Spelling.{Spelling, Reads, identifier, sign, sign_spelling, value_lexeme, constant_spelling, expr_spelling, stmt_spelling, of_kind_at, word_symbol, arm_spelling, case_end, separated}
+use Rattle.grammar.specs.Spelling.{Spelling, Reads, identifier, sign, sign_spelling, value_lexeme, constant_spelling, expr_spelling, stmt_spelling, of_kind_at}
+use Rattle.grammar.specs.Spelling.{word_symbol, arm_spelling, case_end, separated}
 use Rattle.grammar.specs.WellFormed.{StmtForm, stmt_form, is_expression, is_statement, has_items, are_rows}
 use Rattle.grammar.specs.Nesting.{expr_levels, stmt_levels, deepest}
 use Rattle.grammar.specs.Following.{next_kind, EndsStmt}
@@ -136,7 +138,8 @@ case_parts levels a b c p e rows v semicolon h k =
     let same : length rows.items ≡ length v.items =
     eqb-true (length rows.items) (length (map stmt_form v.items)) (and_left size filled paired) ∙ length_map stmt_form v.items in
     let statements = sym (all_computed (λ (f : StmtForm). f.well) stmt_form v.items) ∙ and_right some all formed in
-    let g = guard_parted word.Of below e (separated symbol.Semicolon (map arm_spelling (arms_of rows.items (map stmt_spelling v.items))) ++ case_end semicolon) b
+    let g = guard_parted word.Of below e (separated symbol.Semicolon (map arm_spelling (arms_of rows.items (map stmt_spelling v.items)))
+    ++ case_end semicolon) b
     c k (and_left (is_expression e) (in_rows && (some && all)) h.formed) (omega arith) in
     record {
       below = below;
@@ -146,7 +149,8 @@ case_parts levels a b c p e rows v semicolon h k =
       arms = record {
         some = let l = length_map stmt_form v.items in let m = some_items (map stmt_form v.items) (and_left some all formed) in
             let j = arms_length rows.items v.items same in omega arith;
-        spelled = subst (λ x. Reads g.0 (separated symbol.Semicolon x ++ case_end semicolon) c) (arms_computed arm_spelling stmt_spelling rows.items v.items) g.2;
+        spelled = subst (λ x. Reads g.0 (separated symbol.Semicolon x ++ case_end semicolon) c)
+            (arms_computed arm_spelling stmt_spelling rows.items v.items) g.2;
         formed = arms_formed rows.items v.items same
             ∙ and_true filled (list_all is_statement v.items) (and_right size filled paired) statements;
         nests = subst (λ x. deepest x ≤ below) (sym (arms_levels rows.items v.items same)) (omega arith);

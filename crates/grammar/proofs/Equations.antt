@@ -285,7 +285,8 @@ pub form-Repeat : (p : Place) (v : Vec Stmt Global) (e : Expr)
     ≡ form.is_expression e && (form.has_items (map form.stmt_form v.items) && list_all form.is_statement v.items)
 form-Repeat p v e =
     ap form.is_statement (sym (statement.rolls-Repeat p v e)) ∙ stmt_well_of (stmt.Repeat p v e)
-    ∙ ap (λ all. form.is_expression e && (form.has_items (map form.stmt_form v.items) && all)) (all_computed (λ (f : form.StmtForm). f.well) form.stmt_form v.items)
+    ∙ ap (λ all. form.is_expression e && (form.has_items (map form.stmt_form v.items) && all))
+    (all_computed (λ (f : form.StmtForm). f.well) form.stmt_form v.items)
 
 pub closed-Repeat : (p : Place) (v : Vec Stmt Global) (e : Expr) → form.ends_open (statement.Repeat p v e) ≡ false
 closed-Repeat p v e = ap form.ends_open (sym (statement.rolls-Repeat p v e)) ∙ stmt_open_of (stmt.Repeat p v e)
@@ -328,7 +329,8 @@ pub form-Case : (p : Place) (e : Expr) (rows : Vec (Vec CaseConstant Global) Glo
     && (form.has_items (map form.stmt_form v.items) && list_all form.is_statement v.items))
 form-Case p e rows v b =
     ap form.is_statement (sym (statement.rolls-Case p e rows v b)) ∙ stmt_well_of (stmt.Case p e rows v b)
-    ∙ ap (λ all. form.is_expression e && (form.are_rows rows.items (length (map form.stmt_form v.items)) && (form.has_items (map form.stmt_form v.items) && all)))
+    ∙ ap (λ all. form.is_expression e && (form.are_rows rows.items (length (map form.stmt_form v.items))
+    && (form.has_items (map form.stmt_form v.items) && all)))
     (all_computed (λ (f : form.StmtForm). f.well) form.stmt_form v.items)
 
 pub closed-Case : (p : Place) (e : Expr) (rows : Vec (Vec CaseConstant Global) Global) (v : Vec Stmt Global) (b : Bool)

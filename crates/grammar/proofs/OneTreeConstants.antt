@@ -24,7 +24,13 @@ any_constant c = true
 
 -- the parts of a row of constants
 unfoldable pub constant_parts : Parts CaseConstant
-constant_parts = record { symbol = symbol.Comma; closer = kind.Symbol symbol.Colon; spelling = constant_spelling; well = any_constant; written = constant_notation }
+constant_parts = record {
+  symbol = symbol.Comma;
+  closer = kind.Symbol symbol.Colon;
+  spelling = constant_spelling;
+  well = any_constant;
+  written = constant_notation;
+}
 
 value_is_one : (v w : ConstantValue) (t : Token) → IsSpelledBy (value_lexeme v) t → IsSpelledBy (value_lexeme w) t → value_lexeme v ≡ value_lexeme w
 value_is_one (constant.Number m p) (constant.Number n q) t h i = at_is_one (kind.Number m) (kind.Number n) p q t h i

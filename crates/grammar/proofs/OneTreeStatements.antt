@@ -1,5 +1,6 @@
 -- Two statements from the same tokens are written alike: by how many tokens there are, and the first of them.
-use Rattle.std.proofs.Common.{◌≡◌, ℕ, zero, suc, ◌+◌, ◌<◌, ◌≤◌, true, ◌&&◌, List, [], ◌∷◌, ◌++◌, map, length, Option, Some, None, refl, subst, sym, ap, ◌∙◌, arith, Bool, false, append_assoc}
+use Rattle.std.proofs.Common.{◌≡◌, ℕ, zero, suc, ◌+◌, ◌<◌, ◌≤◌, true, ◌&&◌, List, [], ◌∷◌, ◌++◌, map, length, Option, Some, None, refl, subst, sym, ap, ◌∙◌}
+use Rattle.std.proofs.Common.{arith, Bool, false, append_assoc}
 use Rattle.std.proofs.lemmas.List.{append-nil}
 use Rattle.std.specs.List.{list_all}
 use Rattle.std.specs.declared.alloc.Global.{Global}
@@ -27,7 +28,9 @@ use Rattle.syntax_tree.specs.declared.Stmt.{Stmt}
 use Rattle.syntax_tree.specs.declared.Stmt.TheOpen as stmt
 use Rattle.syntax_tree.specs.declared.Stmt.TheViews.{out-Stmt, roll-out-Stmt}
 use Rattle.syntax_tree.specs.declared.Stmt.TheFolds.{map-Stmt, fold-roll-Stmt}
-use Rattle.grammar.specs.Spelling.{Spelling, Reads, expr_spelling, actual_spelling, stmt_spelling, of_kind_at, word_symbol, identifier, separated, in_parentheses, Lexeme, IsSpelledBy, of_kind, mark, direction_word, sign, sign_spelling, value_lexeme, constant_spelling, case_end}
+use Rattle.grammar.specs.Spelling.{Spelling, Reads, expr_spelling, actual_spelling, stmt_spelling, of_kind_at, word_symbol, identifier, separated}
+use Rattle.grammar.specs.Spelling.{in_parentheses, Lexeme, IsSpelledBy, of_kind, mark, direction_word, sign, sign_spelling, value_lexeme, constant_spelling}
+use Rattle.grammar.specs.Spelling.{case_end}
 use Rattle.grammar.specs.WellFormed.{StmtForm, stmt_form, is_statement, has_items}
 use Rattle.grammar.specs.Nesting.{stmt_levels}
 use Rattle.grammar.specs.Following.{next_kind, NoNext, Next, EndsEach, EndsStatements, compound, repeated, EndsStmt, semicolon, end, until}
@@ -394,7 +397,8 @@ arms_alike n a c d x y one few h k ends_one ends_two =
     (subst (λ u. Reads u (mark symbol.Colon ∷ []) k.behind) (sym lists.left) k.closed) in
     let no_more = reads_no_more (separated symbol.Comma (map constant_spelling x.0)) a h.middle h.list.spelled in
     let fewer = reads_fewer (mark symbol.Colon) [] h.middle h.behind h.closed in
-    let r = one h.behind c d (stmt_levels x.1) (stmt_levels y.1) x.1 y.1 (omega arith) h.begun (subst (λ u. BeginsStmt (stmt_levels y.1) u d y.1) (sym colon) k.begun)
+    let r = one h.behind c d (stmt_levels x.1) (stmt_levels y.1) x.1 y.1 (omega arith) h.begun
+    (subst (λ u. BeginsStmt (stmt_levels y.1) u d y.1) (sym colon) k.begun)
     (ends_listed word.End c end_closes ends_one) (ends_listed word.End d end_closes ends_two) in
     let constants = lists.written in
     let bodies = r.written in
@@ -537,7 +541,8 @@ cases_alike n l m a c d p r e f x y v w b g one few h k =
     record {
       written = ap (λ u. bracketed note.case (token (of_kind_at (kind.Word word.Case) p) ∷ expr_notation e ++ (row u ++ map token (case_end b)))) one_arms
           ∙ case_is_written (of_kind_at (kind.Word word.Case) p) (of_kind_at (kind.Word word.Case) r) (expr_notation e) (expr_notation f)
-          (row (map arm_written (arms_of x.items v.items)) ++ map token (case_end b)) (row (map arm_written (arms_of y.items w.items)) ++ map token (case_end g))
+          (row (map arm_written (arms_of x.items v.items)) ++ map token (case_end b))
+          (row (map arm_written (arms_of y.items w.items)) ++ map token (case_end g))
           places indexes.written lists.written
           ∙ ap (λ u. bracketed note.case (token (of_kind_at (kind.Word word.Case) r) ∷ expr_notation f ++ (row u ++ map token (case_end g)))) (sym two_arms);
       left = lists.left;

@@ -32,9 +32,12 @@ use Rattle.syntax_tree.specs.declared.Stmt.TheViews.{roll-Stmt}
 use Rattle.syntax_tree.specs.declared.Stmt.TheFolds.{map-Stmt, fold-roll-Stmt, ind-Stmt}
 use Rattle.syntax_tree.specs.Places.{Places, name_places, expr_places, actual_places, stmt_places, denoter_places, group_places, block_places, program_places}
 use Rattle.syntax_tree.specs.Places as place
-use Rattle.grammar.specs.Spelling.{Lexeme, Spelling, IsSpelledBy, Reads, Spells, joined, separated, in_parentheses, mark, word_symbol, of_kind_at, identifier, identifiers, direction_word, sign, sign_spelling, value_lexeme, constant_spelling, arm_spelling, case_end, expr_spelling, actual_spelling, stmt_spelling, denoter_spelling, group_spelling, variables_spelling, block_spelling, program_spelling}
+use Rattle.grammar.specs.Spelling.{Lexeme, Spelling, IsSpelledBy, Reads, Spells, joined, separated, in_parentheses, mark, word_symbol, of_kind_at, identifier}
+use Rattle.grammar.specs.Spelling.{identifiers, direction_word, sign, sign_spelling, value_lexeme, constant_spelling, arm_spelling, case_end, expr_spelling}
+use Rattle.grammar.specs.Spelling.{actual_spelling, stmt_spelling, denoter_spelling, group_spelling, variables_spelling, block_spelling, program_spelling}
 use Rattle.grammar.specs.Spelling as spell
-use Rattle.grammar.proofs.TreePlaces.{kept, kept_places, kept_both, AllKept, each_kept, all_kept, joined_kept, separated_kept, parenthesized_kept, expr_kept, actual_kept}
+use Rattle.grammar.proofs.TreePlaces.{kept, kept_places, kept_both, AllKept, each_kept, all_kept, joined_kept, separated_kept, parenthesized_kept, expr_kept}
+use Rattle.grammar.proofs.TreePlaces.{actual_kept}
 
 -- ---- statements
 

@@ -1,7 +1,8 @@
 -- What tokens begin with: a spelling of a form, well formed and nested within so many levels. Each of these says: the
 -- tokens begin with such a thing, and then the others are left.
 -- This doesn't say what a parser answers to them.
-use Rattle.std.specs.Prelude.{◌≡◌, ℕ, ◌+◌, ◌<◌, ◌≤◌, true, List, [], ◌∷◌, ◌++◌, map, length, Bool, ◌&&◌, Option, Some, None}
+use Rattle.std.specs.Prelude.{◌≡◌, ℕ, ◌+◌, ◌<◌, ◌≤◌, true, List, [], ◌∷◌, ◌++◌, map, length, Bool, ◌&&◌, Option, Some}
+use Rattle.std.specs.Prelude.{None}
 use Rattle.std.specs.List.{list_all}
 use Rattle.std.specs.declared.alloc.Global.{Global}
 use Rattle.std.specs.declared.boxed.Box.{Box}
@@ -22,8 +23,12 @@ use Rattle.syntax_tree.specs.declared.Name.{Name}
 use Rattle.syntax_tree.specs.declared.VariableGroup.{VariableGroup}
 use Rattle.syntax_tree.specs.declared.Block.{Block}
 use Rattle.syntax_tree.specs.declared.Program.{Program}
-use Rattle.grammar.specs.Spelling.{Spelling, Reads, expr_spelling, link_spelling, actual_spelling, stmt_spelling, joined, identifiers, group_spelling, variables_spelling, block_spelling, program_spelling, separated, in_parentheses, word_symbol, identifier, direction_word, constant_spelling, arm_spelling, case_end, of_kind_at, mark}
-use Rattle.grammar.specs.WellFormed.{expr_form, link_form, fits, relation_level, is_link, has_items, is_actual, is_statement, is_group, is_block, is_program}
+use Rattle.grammar.specs.Spelling.{Spelling, Reads, expr_spelling, link_spelling, actual_spelling, stmt_spelling}
+use Rattle.grammar.specs.Spelling.{joined, identifiers, group_spelling, variables_spelling, block_spelling}
+use Rattle.grammar.specs.Spelling.{program_spelling, separated, in_parentheses, word_symbol, identifier, direction_word}
+use Rattle.grammar.specs.Spelling.{constant_spelling, arm_spelling, case_end, of_kind_at, mark}
+use Rattle.grammar.specs.WellFormed.{expr_form, link_form, fits, relation_level, is_link, has_items, is_actual}
+use Rattle.grammar.specs.WellFormed.{is_statement, is_group, is_block, is_program}
 use Rattle.grammar.specs.Following.{NoNext, LeavesNoElse}
 use Rattle.grammar.specs.Nesting.{expr_levels, link_levels, actual_levels, stmt_levels, deepest, nesting}
 

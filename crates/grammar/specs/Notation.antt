@@ -25,7 +25,8 @@ use Rattle.syntax_tree.specs.declared.Stmt.{Stmt}
 use Rattle.syntax_tree.specs.declared.Stmt.TheOpen.{Stmt-F}
 use Rattle.syntax_tree.specs.declared.Stmt.TheOpen as stmt
 use Rattle.syntax_tree.specs.declared.Stmt.TheFolds.{fold-Stmt}
-use Rattle.grammar.specs.Spelling.{Lexeme, of_kind_at, word_symbol, identifier, sign, operator, direction_word, constant_spelling, case_end}
+use Rattle.grammar.specs.Spelling.{Lexeme, of_kind_at, word_symbol, identifier, sign, operator, direction_word}
+use Rattle.grammar.specs.Spelling.{constant_spelling, case_end}
 
 -- the forms of expressions, of statements and of declarations
 pub data Shape : Type 0 where

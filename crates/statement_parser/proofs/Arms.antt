@@ -1,5 +1,6 @@
 -- What the rules of the arms of cases give.
-use Rattle.std.proofs.Common.{◌≡◌, ℕ, ◌+◌, ◌<◌, ◌≤◌, Bool, true, ◌&&◌, List, [], ◌∷◌, ◌++◌, map, length, Some, Ok, refl, subst, sym, ap, ◌∙◌, arith, nat_eq, false}
+use Rattle.std.proofs.Common.{◌≡◌, ℕ, ◌+◌, ◌<◌, ◌≤◌, Bool, true, ◌&&◌, List, [], ◌∷◌, ◌++◌, map, length, Some, Ok, refl, subst, sym, ap, ◌∙◌, arith, nat_eq}
+use Rattle.std.proofs.Common.{false}
 use Rattle.std.specs.declared.alloc.Global.{Global}
 use Rattle.std.specs.declared.vec.Vec.{Vec}
 use Rattle.place.specs.declared.Place.{Place}
@@ -11,13 +12,15 @@ use Rattle.syntax_tree.specs.declared.Stmt.TheVariants as statement
 use Rattle.syntax_tree.specs.declared.CaseConstant.{CaseConstant}
 use Rattle.token_cursor.specs.declared.cursor.Cursor.{Cursor}
 use Rattle.token_cursor.specs.Cursor.{Took}
-use Rattle.grammar.specs.Spelling.{of_kind_at, mark, constant_spelling, Spelling, Reads, word_symbol, separated, expr_spelling, stmt_spelling, arm_spelling, case_end}
+use Rattle.grammar.specs.Spelling.{of_kind_at, mark, constant_spelling, Spelling, Reads, word_symbol, separated, expr_spelling, stmt_spelling, arm_spelling}
+use Rattle.grammar.specs.Spelling.{case_end}
 use Rattle.grammar.specs.Following.{Anything, NoNext, EndsStmt}
 use Rattle.grammar.specs.Begins.{BeginsConstant, BeginsConstants, BeginsRow, BeginsGuard, BeginsStmt, Arm, arm_spelled, arm_well, BeginsArms}
 use Rattle.grammar.proofs.Lists.{map_push, all_push, deepest_push, and_true, and_left, and_right, length_map}
 use Rattle.grammar.proofs.Parts.{PartsLeft}
 use Rattle.grammar.proofs.Reading.{both, without_place, separated_more}
-use Rattle.grammar.proofs.Arms.{constant_list_parts, ConstantsLeft, ConstantNext, ArmsLeft, ArmThenOthers, EachArmsLeft, ArmNext, ends_alone, BehindSemicolon, ended, going, behind_semicolon}
+use Rattle.grammar.proofs.Arms.{constant_list_parts, ConstantsLeft, ConstantNext, ArmsLeft, ArmThenOthers, EachArmsLeft, ArmNext, ends_alone, BehindSemicolon}
+use Rattle.grammar.proofs.Arms.{ended, going, behind_semicolon}
 use Rattle.expression_parser.specs.Reading.{ReadsEach, ReadsDeep}
 use Rattle.expression_parser.specs.Rules.{Read}
 use Rattle.statement_parser.specs.Arms.{ReadArms}

@@ -4,7 +4,8 @@ ghost use Rattle.grammar.specs.Following.{next_kind, EndsEach, EndsStmt, EndsSta
 ghost use Rattle.expression_parser.specs.Reading.{ReadsEach, ReadsDeep};
 ghost use Rattle.expression_parser.specs.Rules.{Read};
 ghost use Rattle.statement_parser.specs.Arms.{ReadArms};
-ghost use Rattle.grammar.specs.Begins.{BeginsGuard, BeginsStmt, BeginsAlternative, BeginsStatements, BeginsControl, BeginsInitial, BeginsArms, BeginsCompound};
+ghost use Rattle.grammar.specs.Begins.{BeginsGuard, BeginsStmt, BeginsAlternative, BeginsStatements, BeginsControl};
+ghost use Rattle.grammar.specs.Begins.{BeginsInitial, BeginsArms, BeginsCompound};
 
 use crate::arm::{behind_arm, row};
 use expression_parser::expression::{actuals, expression};

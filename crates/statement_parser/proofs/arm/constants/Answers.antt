@@ -24,7 +24,8 @@ pub loop-constants-preserved : goal.loop-constants-preserved
 loop-constants-preserved c =
     let start = c.args.cursor.now in
     let now = last c.loop-constants.constants.items c.put.new.list.items c.constant.result c.in_ok-put.ensures.given in
-    let taken = was_read (Read BeginsConstant c.loop-constants.cursor c.constant.new.cursor) IsPlain c.constant.result now.item now.is c.constant.ensures.given in
+    let taken = was_read (Read BeginsConstant c.loop-constants.cursor c.constant.new.cursor) IsPlain c.constant.result now.item now.is
+    c.constant.ensures.given in
     let list = pushed (λ xs. Read BeginsConstants start c.constant.new.cursor xs) c.loop-constants.constants.items c.put.new.list.items now.item now.grown
     (c.loop-constants.invariant.0 c.constant.new.cursor now.item taken) in (
       constants_grow start c.constant.new.cursor c.take_symbol.new.self c.put.new.list.items c.in-Some.field-0 list c.in-Some.ensures.spelled,
@@ -59,7 +60,8 @@ pub returns-in_default-clause-given : goal.returns-in_default-clause-given
 returns-in_default-clause-given c =
     let start = c.args.cursor.now in
     let now = last c.loop-constants.constants.items c.put.new.list.items c.constant.result c.in_ok-put.ensures.given in
-    let taken = was_read (Read BeginsConstant c.loop-constants.cursor c.constant.new.cursor) IsPlain c.constant.result now.item now.is c.constant.ensures.given in
+    let taken = was_read (Read BeginsConstant c.loop-constants.cursor c.constant.new.cursor) IsPlain c.constant.result now.item now.is
+    c.constant.ensures.given in
     let list = pushed (λ xs. Read BeginsConstants start c.constant.new.cursor xs) c.loop-constants.constants.items c.put.new.list.items now.item now.grown
     (c.loop-constants.invariant.0 c.constant.new.cursor now.item taken) in
     unchanged (λ k. Read BeginsConstants start k c.put.new.list.items) c.constant.new.cursor c.take_symbol.new.self c.in_default.ensures.kept list

@@ -9,7 +9,8 @@ use Rattle.grammar.specs.Following.{next_kind, EndsStmt}
 use Rattle.grammar.specs.Following as following
 use Rattle.expression_parser.specs.Reading.{Stops, ReadWithin, ReadsDeep}
 use Rattle.expression_parser.specs.Refusing.{Refused}
-use Rattle.expression_parser.proofs.Deep.{front_none, front_on, refused_behind, refused_behind_front, memory_refused, refused_behind_opening, refused_behind_opened, refused_plain, refused_spent}
+use Rattle.expression_parser.proofs.Deep.{front_none, front_on, refused_behind, refused_behind_front, memory_refused, refused_behind_opening}
+use Rattle.expression_parser.proofs.Deep.{refused_behind_opened, refused_plain, refused_spent}
 use Rattle.expression_parser.specs.Rules.{Read}
 use Rattle.grammar.specs.Begins.{BeginsStatements, BeginsStmt}
 use Rattle.grammar.proofs.Lists.{pushed, emptied}
@@ -23,7 +24,8 @@ use Rattle.grammar.proofs.Chains.{then_ends, do_ends, of_ends}
 use Rattle.grammar.proofs.Conditionals.{conditional_opened}
 use Rattle.grammar.proofs.Loops.{while_opened, repeat_opened, for_opened}
 use Rattle.grammar.proofs.Cases.{case_opened}
-use Rattle.statement_parser.proofs.Arms.{gives-Case, case_arms_left, row_spelled, ArmList, ArmsGrow, arms_grow_first, arms_grow, arms_close, arm_stmt_next, arms_left, no_arms_left, arms_stop, arms_go_on}
+use Rattle.statement_parser.proofs.Arms.{gives-Case, case_arms_left, row_spelled, ArmList, ArmsGrow, arms_grow_first, arms_grow, arms_close, arm_stmt_next}
+use Rattle.statement_parser.proofs.Arms.{arms_left, no_arms_left, arms_stop, arms_go_on}
 use Rattle.grammar.proofs.Arms.{arms_begin}
 use Rattle.grammar.specs.Begins.{BeginsRow}
 use Rattle.expression_parser.specs.Refusing.{IsPlain}
@@ -34,8 +36,10 @@ use Rattle.grammar.specs.Following.{Anything}
 use Rattle.std.proofs.Common.{None}
 use Rattle.grammar.specs.Spelling.{constant_spelling}
 use Rattle.grammar.proofs.Statements.{ends_value, compounded, opened_compound, statement_list_parts, statement_list_begins, statement_list_goes_on}
-use Rattle.statement_parser.proofs.ExactStatements.{statement_answer, statement_list_left, branches_left, alternative_left, alternative_taken, while_body_left, until_left, until_taken, bounds_left, final_left, for_body_left}
-use Rattle.statement_parser.proofs.Statements.{gives-Empty, StatementsGrow, statements_grow_first, statements_grow, compound_closed, compound_stands, guard_spelled, gives-If, gives-While, gives-Repeat, gives-For}
+use Rattle.statement_parser.proofs.ExactStatements.{statement_answer, statement_list_left, branches_left, alternative_left, alternative_taken, while_body_left}
+use Rattle.statement_parser.proofs.ExactStatements.{until_left, until_taken, bounds_left, final_left, for_body_left}
+use Rattle.statement_parser.proofs.Statements.{gives-Empty, StatementsGrow, statements_grow_first, statements_grow, compound_closed, compound_stands}
+use Rattle.statement_parser.proofs.Statements.{guard_spelled, gives-If, gives-While, gives-Repeat, gives-For}
 use Rattle.statement_parser.proofs.statement.+statement.Goals as goal
 
 pub compound-returns-clause-given : goal.compound-returns-clause-given
@@ -201,13 +205,15 @@ statement-returns-in-Some-Word-If-clause-exact t c = λ depth s others h ends.
 
 pub body-returns-clause-exact : goal.body-returns-clause-exact
 body-returns-clause-exact t c = λ depth s others h ends.
-    boxed_within c.args.levels depth others c.statement.new.cursor c.statement.result c.boxed.result c.boxed.ensures.given (c.statement.ensures.exact depth s others h ends)
+    boxed_within c.args.levels depth others c.statement.new.cursor c.statement.result c.boxed.result c.boxed.ensures.given
+    (c.statement.ensures.exact depth s others h ends)
 
 pub alternative-returns-in_err-body-clause-given : goal.alternative-returns-in_err-body-clause-given
 alternative-returns-in_err-body-clause-given t c =
     let fault = c.in_err-body.field-0.0 in
     handed_on _ _ c.from_residual.result fault c.from_residual.ensures
-    (refused_behind c.args.levels c.args.cursor.now c.take_word.new.self (of_kind_at (kind.Word word.Else) c.in-Some.field-0 ∷ []) fault c.in-Some.ensures.spelled
+    (refused_behind c.args.levels c.args.cursor.now c.take_word.new.self (of_kind_at (kind.Word word.Else) c.in-Some.field-0 ∷ []) fault
+    c.in-Some.ensures.spelled
     c.in_err-body.ensures.given)
 
 pub alternative-returns-in_err-body-clause-exact : goal.alternative-returns-in_err-body-clause-exact
@@ -259,7 +265,8 @@ conditional-returns-clause-given t c =
 
 pub conditional-returns-in_err-condition-clause-exact : goal.conditional-returns-in_err-condition-clause-exact
 conditional-returns-in_err-condition-clause-exact t c = λ first depth s others h ends.
-    let o = conditional_opened depth c.in_ok-place.place c.args.cursor.now.rest.now c.expect_word.new.self.rest.now others s c.in_ok-place.ensures.spelled h ends in
+    let o = conditional_opened depth c.in_ok-place.place c.args.cursor.now.rest.now c.expect_word.new.self.rest.now others s
+    c.in_ok-place.ensures.spelled h ends in
     let p = o.parts in
     let fault = c.in_err-condition.field-0.0 in
     handed_on _ _ c.from_residual-in_err-condition.result fault c.from_residual-in_err-condition.ensures
@@ -268,7 +275,8 @@ conditional-returns-in_err-condition-clause-exact t c = λ first depth s others 
 
 pub conditional-returns-in_err-consequence-clause-exact : goal.conditional-returns-in_err-consequence-clause-exact
 conditional-returns-in_err-consequence-clause-exact t c = λ first depth s others h ends.
-    let o = conditional_opened depth c.in_ok-place.place c.args.cursor.now.rest.now c.expect_word.new.self.rest.now others s c.in_ok-place.ensures.spelled h ends in
+    let o = conditional_opened depth c.in_ok-place.place c.args.cursor.now.rest.now c.expect_word.new.self.rest.now others s
+    c.in_ok-place.ensures.spelled h ends in
     let l = branches_left c.args.levels depth c.expect_word.new.self c.guard.new.cursor c.in_ok-condition.condition others
     (c.in_ok-condition.ensures.exact then_ends) o in
     let fault = c.in_err-consequence.field-0.0 in
@@ -278,20 +286,24 @@ conditional-returns-in_err-consequence-clause-exact t c = λ first depth s other
 
 pub conditional-returns-in_err-alternative-clause-exact : goal.conditional-returns-in_err-alternative-clause-exact
 conditional-returns-in_err-alternative-clause-exact t c = λ first depth s others h ends.
-    let o = conditional_opened depth c.in_ok-place.place c.args.cursor.now.rest.now c.expect_word.new.self.rest.now others s c.in_ok-place.ensures.spelled h ends in
+    let o = conditional_opened depth c.in_ok-place.place c.args.cursor.now.rest.now c.expect_word.new.self.rest.now others s
+    c.in_ok-place.ensures.spelled h ends in
     let l = branches_left c.args.levels depth c.expect_word.new.self c.guard.new.cursor c.in_ok-condition.condition others
     (c.in_ok-condition.ensures.exact then_ends) o in
-    let k = alternative_left c.args.levels depth c.guard.new.cursor c.body.new.cursor c.in_ok-consequence.consequence others c.in_ok-consequence.ensures.exact l in
+    let k = alternative_left c.args.levels depth c.guard.new.cursor c.body.new.cursor c.in_ok-consequence.consequence others
+    c.in_ok-consequence.ensures.exact l in
     let fault = c.in_err-alternative.field-0.0 in
     handed_on _ _ c.from_residual-in_err-alternative.result fault c.from_residual-in_err-alternative.ensures
     (stops_above (c.args.levels + 1) c.args.levels depth k.below fault refl k.less (c.in_err-alternative.ensures.exact k.below k.other others k.behind ends))
 
 pub conditional-returns-clause-exact : goal.conditional-returns-clause-exact
 conditional-returns-clause-exact t c = λ first depth s others h ends.
-    let o = conditional_opened depth c.in_ok-place.place c.args.cursor.now.rest.now c.expect_word.new.self.rest.now others s c.in_ok-place.ensures.spelled h ends in
+    let o = conditional_opened depth c.in_ok-place.place c.args.cursor.now.rest.now c.expect_word.new.self.rest.now others s
+    c.in_ok-place.ensures.spelled h ends in
     let l = branches_left c.args.levels depth c.expect_word.new.self c.guard.new.cursor c.in_ok-condition.condition others
     (c.in_ok-condition.ensures.exact then_ends) o in
-    let k = alternative_left c.args.levels depth c.guard.new.cursor c.body.new.cursor c.in_ok-consequence.consequence others c.in_ok-consequence.ensures.exact l in
+    let k = alternative_left c.args.levels depth c.guard.new.cursor c.body.new.cursor c.in_ok-consequence.consequence others
+    c.in_ok-consequence.ensures.exact l in
     c.in_ok-alternative.ensures.exact k.below k.other others k.behind ends
 
 pub statement-returns-in-Some-Word-While-clause-exact : goal.statement-returns-in-Some-Word-While-clause-exact
@@ -435,7 +447,8 @@ for_loop-returns-in_err-first-clause-given t c =
     let fault = c.in_err-first.field-0.0 in
     handed_on _ _ c.from_residual-in_err-first.result fault c.from_residual-in_err-first.ensures
     (refused_behind (c.args.levels + 1) c.args.cursor.now c.control.new.cursor
-    (of_kind_at (kind.Word word.For) c.in_ok-place.place ∷ identifier c.in_ok-place.variable ∷ mark symbol.Becomes ∷ []) fault c.in_ok-place.ensures.given c.in_err-first.ensures.given)
+    (of_kind_at (kind.Word word.For) c.in_ok-place.place ∷ identifier c.in_ok-place.variable ∷ mark symbol.Becomes ∷ []) fault
+    c.in_ok-place.ensures.given c.in_err-first.ensures.given)
 
 pub for_loop-returns-in_err-last-clause-given : goal.for_loop-returns-in_err-last-clause-given
 for_loop-returns-in_err-last-clause-given t c =
@@ -463,8 +476,9 @@ for_loop-returns-in_err-body-clause-given t c =
 
 pub for_loop-returns-clause-given : goal.for_loop-returns-clause-given
 for_loop-returns-clause-given t c =
-    gives-For c.args.levels c.args.cursor.now c.control.new.cursor c.initial.new.cursor c.guard.new.cursor c.body.new.cursor c.in_ok-place.place c.in_ok-place.variable
-    c.in_ok-first.first c.in_ok-first.direction c.in_ok-last.last c.in_ok-body.body c.in_ok-place.ensures.given c.in_ok-first.ensures.given c.in_ok-last.ensures.given
+    gives-For c.args.levels c.args.cursor.now c.control.new.cursor c.initial.new.cursor c.guard.new.cursor c.body.new.cursor c.in_ok-place.place
+    c.in_ok-place.variable c.in_ok-first.first c.in_ok-first.direction c.in_ok-last.last c.in_ok-body.body c.in_ok-place.ensures.given
+    c.in_ok-first.ensures.given c.in_ok-last.ensures.given
     c.in_ok-body.ensures.given
 
 pub for_loop-returns-in_err-place-clause-exact : goal.for_loop-returns-in_err-place-clause-exact
@@ -486,7 +500,8 @@ pub for_loop-returns-in_err-last-clause-exact : goal.for_loop-returns-in_err-las
 for_loop-returns-in_err-last-clause-exact t c = λ first depth s others h ends.
     let o = for_opened depth c.args.cursor.now.rest.now others s first h ends in
     let b = bounds_left depth c.args.cursor.now c.control.new.cursor (c.in_ok-place.place, c.in_ok-place.variable) others c.in_ok-place.ensures.exact o in
-    let f = final_left c.args.levels depth c.control.new.cursor c.initial.new.cursor (c.in_ok-first.first, c.in_ok-first.direction) others c.in_ok-first.ensures.exact b in
+    let f = final_left c.args.levels depth c.control.new.cursor c.initial.new.cursor (c.in_ok-first.first, c.in_ok-first.direction) others
+    c.in_ok-first.ensures.exact b in
     let fault = c.in_err-last.field-0.0 in
     handed_on _ _ c.from_residual-in_err-last.result fault c.from_residual-in_err-last.ensures
     (stops_above (c.args.levels + 1) c.args.levels depth f.below fault refl f.less (c.in_err-last.ensures.exact do_ends f.below f.final f.behind f.guarded tt))
@@ -495,7 +510,8 @@ pub for_loop-returns-in_err-body-clause-exact : goal.for_loop-returns-in_err-bod
 for_loop-returns-in_err-body-clause-exact t c = λ first depth s others h ends.
     let o = for_opened depth c.args.cursor.now.rest.now others s first h ends in
     let b = bounds_left depth c.args.cursor.now c.control.new.cursor (c.in_ok-place.place, c.in_ok-place.variable) others c.in_ok-place.ensures.exact o in
-    let f = final_left c.args.levels depth c.control.new.cursor c.initial.new.cursor (c.in_ok-first.first, c.in_ok-first.direction) others c.in_ok-first.ensures.exact b in
+    let f = final_left c.args.levels depth c.control.new.cursor c.initial.new.cursor (c.in_ok-first.first, c.in_ok-first.direction) others
+    c.in_ok-first.ensures.exact b in
     let l = for_body_left c.args.levels depth c.initial.new.cursor c.guard.new.cursor c.in_ok-last.last others (c.in_ok-last.ensures.exact do_ends) f in
     let fault = c.in_err-body.field-0.0 in
     handed_on _ _ c.from_residual-in_err-body.result fault c.from_residual-in_err-body.ensures
@@ -505,7 +521,8 @@ pub for_loop-returns-clause-exact : goal.for_loop-returns-clause-exact
 for_loop-returns-clause-exact t c = λ first depth s others h ends.
     let o = for_opened depth c.args.cursor.now.rest.now others s first h ends in
     let b = bounds_left depth c.args.cursor.now c.control.new.cursor (c.in_ok-place.place, c.in_ok-place.variable) others c.in_ok-place.ensures.exact o in
-    let f = final_left c.args.levels depth c.control.new.cursor c.initial.new.cursor (c.in_ok-first.first, c.in_ok-first.direction) others c.in_ok-first.ensures.exact b in
+    let f = final_left c.args.levels depth c.control.new.cursor c.initial.new.cursor (c.in_ok-first.first, c.in_ok-first.direction) others
+    c.in_ok-first.ensures.exact b in
     let l = for_body_left c.args.levels depth c.initial.new.cursor c.guard.new.cursor c.in_ok-last.last others (c.in_ok-last.ensures.exact do_ends) f in
     c.in_ok-body.ensures.exact l.below l.body others l.begun ends
 
@@ -593,7 +610,8 @@ arms-loop-arms-preserved t c =
     (front_on (stmt_spelling now.item) c.args.cursor.now.rest.now c.row.new.cursor.rest.now c.statement.new.cursor.rest.now
     (front_on (separated symbol.Comma (map constant_spelling rows.item.items) ++ mark symbol.Colon ∷ []) c.args.cursor.now.rest.now c.loop-arms.cursor.rest.now
     c.row.new.cursor.rest.now c.loop-arms.invariant.2 (row_spelled c.loop-arms.cursor c.row.new.cursor rows.item.items headed)) given.spelled) behind.0 in (
-      arms_grow c.args.levels c.args.cursor.now c.statement.new.cursor c.behind_arm.new.cursor c.put.new.list.items c.put-in-loop-arms.new.list.items list behind.0,
+      arms_grow c.args.levels c.args.cursor.now c.statement.new.cursor c.behind_arm.new.cursor c.put.new.list.items c.put-in-loop-arms.new.list.items
+          list behind.0,
       arms_go_on c.args.cursor.now.rest.now c.statement.new.cursor.rest.now c.behind_arm.new.cursor.rest.now behind.0 behind.1 left,
       front,
     )
@@ -617,7 +635,8 @@ pub arms-returns-in_err-put-clause-given : goal.arms-returns-in_err-put-clause-g
 arms-returns-in_err-put-clause-given t c =
     let fault = c.in_err-put.field-0.0 in
     handed_on _ _ c.from_residual.result fault c.from_residual.ensures
-    (refused_plain c.args.levels c.args.cursor.now fault (not_kept (λ r. Read BeginsRow c.loop-arms.cursor c.row.new.cursor r.items) IsPlain c.row.result fault tt
+    (refused_plain c.args.levels c.args.cursor.now fault (not_kept (λ r. Read BeginsRow c.loop-arms.cursor c.row.new.cursor r.items) IsPlain
+    c.row.result fault tt
     c.row.ensures.given c.in_err-put.ensures.given))
 
 pub arms-returns-in_err-put-clause-exact : goal.arms-returns-in_err-put-clause-exact
@@ -685,7 +704,8 @@ arms-returns-in-Some-clause-given t c =
     c.put-in-loop-arms.new.list.items now.item now.grown (c.loop-arms.invariant.0.1 c.row.new.cursor c.statement.new.cursor rows.item now.item headed given)) in
     let is : c.in_ok-semicolon.field-0 ≡ Some c.in-Some.semicolon = search rules in
     let behind = subst (λ o. ReadBehindArm c.statement.new.cursor c.behind_arm.new.cursor o) is c.in_ok-semicolon.ensures.given in
-    arms_close c.args.levels c.args.cursor.now c.statement.new.cursor c.behind_arm.new.cursor c.put.new.list.items c.put-in-loop-arms.new.list.items c.in-Some.semicolon list
+    arms_close c.args.levels c.args.cursor.now c.statement.new.cursor c.behind_arm.new.cursor c.put.new.list.items c.put-in-loop-arms.new.list.items
+    c.in-Some.semicolon list
     behind
 
 pub arms-returns-in-Some-clause-exact : goal.arms-returns-in-Some-clause-exact
