@@ -32,7 +32,8 @@ pub stops_memory : (levels depth : ℕ) (fault : ParseFault) → fault ≡ Memor
 stops_memory levels depth fault e = subst (λ f. Stops levels depth f) (sym e) tt
 
 -- what was read, in a box
-pub boxed_within : {A : Type 0} → (levels depth : ℕ) (others : List Token) (new : Cursor) (found : Result A ParseFault) (answer : Result (Box A Global) ParseFault)
+pub boxed_within : {A : Type 0} → (levels depth : ℕ) (others : List Token) (new : Cursor) (found : Result A ParseFault)
+    (answer : Result (Box A Global) ParseFault)
     → MatchResult answer (λ kept. found ≡ Ok kept.value) (NotKept found) → ReadWithin levels depth others new found → ReadWithin levels depth others new answer
 boxed_within levels depth others new found (Ok box) given h = was_read (λ _. new.rest.now ≡ others) (Stops levels depth) found box.value given h
 boxed_within levels depth others new found (Err fault) given h = not_kept (λ _. new.rest.now ≡ others) (Stops levels depth) found fault tt h given

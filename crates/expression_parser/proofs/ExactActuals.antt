@@ -16,7 +16,8 @@ use Rattle.grammar.specs.Begins.{BeginsExpr, BeginsActual, BeginsActuals}
 use Rattle.grammar.proofs.Rows.{begins}
 use Rattle.expression_parser.proofs.Exact.{within_above}
 use Rattle.grammar.proofs.Parts.{PartsLeft, PartThenOthers, comes_behind}
-use Rattle.grammar.proofs.Actuals.{IsWidth, IsValue, actual_parts, ends_expression, value_ends, IsWide, actual_list_parts, ActualsListLeft, actual_ends, ActualNext}
+use Rattle.grammar.proofs.Actuals.{IsWidth, IsValue, actual_parts, ends_expression, value_ends, IsWide, actual_list_parts, ActualsListLeft, actual_ends}
+use Rattle.grammar.proofs.Actuals.{ActualNext}
 
 -- what the rule of expressions answers to the value
 pub value_answer : (levels inner depth : ℕ) (a b : Cursor) (others : List Token) (answer : Result Expr ParseFault) → inner + 1 ≡ levels → EndsActual others

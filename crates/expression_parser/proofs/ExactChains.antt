@@ -16,7 +16,8 @@ use Rattle.token_cursor.specs.Level.{level_number}
 use Rattle.grammar.specs.Following.{Ends}
 use Rattle.expression_parser.specs.Reading.{ReadWithin, ReadsDeep}
 use Rattle.grammar.specs.Begins.{BeginsExpr}
-use Rattle.grammar.proofs.Chains.{IsLevel, relation, sum, product, level_below, operand_above, operand_below, Chain, IsChained, chain_parts, GoesOn, goes_on, operand_ends, LinksLeft}
+use Rattle.grammar.proofs.Chains.{IsLevel, relation, sum, product, level_below, operand_above, operand_below, Chain, IsChained, chain_parts, GoesOn, goes_on}
+use Rattle.grammar.proofs.Chains.{operand_ends, LinksLeft}
 
 pub level_is : (level : Level) → IsLevel (level_number level)
 level_is Relation = relation

@@ -1,5 +1,6 @@
 -- What the rules give, form by form.
-use Rattle.std.proofs.Common.{◌≡◌, ℕ, ◌+◌, ◌≤◌, max, true, nat_eq, List, [], ◌∷◌, ◌++◌, map, length, Some, refl, subst, sym, ap, ◌∙◌, arith, Result, Ok, Err, None, MatchResult}
+use Rattle.std.proofs.Common.{◌≡◌, ℕ, ◌+◌, ◌≤◌, max, true, nat_eq, List, [], ◌∷◌, ◌++◌, map, length, Some, refl, subst, sym, ap, ◌∙◌, arith, Result, Ok, Err}
+use Rattle.std.proofs.Common.{None, MatchResult}
 use Rattle.std.proofs.lemmas.Bool.{eq-eqb}
 use Rattle.std.proofs.lemmas.List.{append-nil}
 use Rattle.std.specs.List.{list_all}
@@ -23,11 +24,15 @@ use Rattle.syntax_tree.specs.declared.Expr.TheViews.{roll-Link, roll-Actual}
 use Rattle.token_cursor.specs.Cursor.{Took}
 use Rattle.expression_parser.specs.Refusing.{Refused}
 use Rattle.grammar.specs.Spelling.{expr_spelling, link_spelling, actual_spelling, joined, in_parentheses, of_kind_at, mark, identifier, operator, sign}
-use Rattle.grammar.specs.WellFormed.{LinkForm, expr_form, link_form, chain_form, is_actual, is_expression, has_items, is_link, fits, operator_level, first_level, operand_level, relation_level, signed_level, product_level, factor_level}
+use Rattle.grammar.specs.WellFormed.{LinkForm, expr_form, link_form, chain_form, is_actual, is_expression, has_items, is_link, fits, operator_level}
+use Rattle.grammar.specs.WellFormed.{first_level, operand_level, relation_level, signed_level, product_level, factor_level}
 use Rattle.grammar.specs.Nesting.{expr_levels, link_levels, deepest}
 use Rattle.expression_parser.specs.Rules.{Read}
 use Rattle.grammar.specs.Begins.{BeginsExpr, BeginsActual, BeginsActuals, BeginsLinks}
-use Rattle.grammar.proofs.Equations.{spelling-Number, form-Number, levels-Number, spelling-Not, form-Not, levels-Not, spelling-Signed, form-Signed, levels-Signed, spelling-Alone, form-Alone, levels-Alone, spelling-Name, form-Name, levels-Name, spelling-Function, form-Function, levels-Function, spelling-Parenthesized, form-Parenthesized, levels-Parenthesized, spelling-Chain, form-Chain, levels-Chain, spelling-Link, form-Link, levels-Link, spelling-Wide, form-Wide, levels-Wide}
+use Rattle.grammar.proofs.Equations.{spelling-Number, form-Number, levels-Number, spelling-Not, form-Not, levels-Not, spelling-Signed, form-Signed}
+use Rattle.grammar.proofs.Equations.{levels-Signed, spelling-Alone, form-Alone, levels-Alone, spelling-Name, form-Name, levels-Name, spelling-Function}
+use Rattle.grammar.proofs.Equations.{form-Function, levels-Function, spelling-Parenthesized, form-Parenthesized, levels-Parenthesized, spelling-Chain}
+use Rattle.grammar.proofs.Equations.{form-Chain, levels-Chain, spelling-Link, form-Link, levels-Link, spelling-Wide, form-Wide, levels-Wide}
 use Rattle.grammar.proofs.Lists.{map_push, all_push, deepest_push, all_mapped, and_true}
 use Rattle.grammar.proofs.Reading.{both, without_place, joined_push}
 use Rattle.grammar.proofs.Chains.{fits_if, fits_level, fits_well}

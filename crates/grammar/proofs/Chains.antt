@@ -1,6 +1,7 @@
 -- The rules of chains read each spelling of their form: what comes behind an operand, and where a chain goes on or ends.
 -- All levels are alike.
-use Rattle.std.proofs.Common.{◌≡◌, ℕ, ◌+◌, ◌≤◌, max, Bool, true, false, ◌&&◌, ◌||◌, nat_le, nat_lt, nat_eq, List, [], ◌∷◌, ◌++◌, map, length, Some, refl, subst, sym, ap, ◌∙◌, arith}
+use Rattle.std.proofs.Common.{◌≡◌, ℕ, ◌+◌, ◌≤◌, max, Bool, true, false, ◌&&◌, ◌||◌, nat_le, nat_lt, nat_eq, List, [], ◌∷◌, ◌++◌, map, length, Some, refl, subst}
+use Rattle.std.proofs.Common.{sym, ap, ◌∙◌, arith}
 use Rattle.std.specs.List.{list_all}
 use Rattle.std.proofs.lemmas.Bool.{le-leb, leb-true, leb-false, ltb-true, eqb-true}
 use Rattle.place.specs.declared.Place.{Place}
@@ -21,7 +22,8 @@ use Rattle.syntax_tree.specs.declared.Expr.TheViews.{out-Expr, roll-out-Expr, ou
 use Rattle.syntax_tree.specs.declared.Expr.TheFolds.{map-Expr}
 use Rattle.grammar.specs.Spelling.{Spelling, Reads, expr_spelling, actual_spelling, link_spelling, joined, operator_kind, operator, direction_word}
 use Rattle.grammar.specs.Spelling as spell
-use Rattle.grammar.specs.WellFormed.{Form, LinkForm, expr_form, is_actual, link_form, chain_form, fits, is_link, operator_level, first_level, operand_level, relation_level, sum_level, product_level}
+use Rattle.grammar.specs.WellFormed.{Form, LinkForm, expr_form, is_actual, link_form, chain_form, fits, is_link, operator_level, first_level, operand_level}
+use Rattle.grammar.specs.WellFormed.{relation_level, sum_level, product_level}
 use Rattle.grammar.specs.WellFormed as form
 use Rattle.grammar.specs.Nesting.{expr_levels, actual_levels, link_levels, deepest}
 use Rattle.grammar.specs.Nesting as nest
@@ -148,6 +150,10 @@ then_ends a h = ends_before (kind.Word word.Then) relation_level a h (omega arit
 pub do_ends : EndsEach word.Do
 unfolding binds
 do_ends a h = ends_before (kind.Word word.Do) relation_level a h (omega arith) (omega arith)
+
+pub of_ends : EndsEach word.Of
+unfolding binds
+of_ends a h = ends_before (kind.Word word.Of) relation_level a h (omega arith) (omega arith)
 
 to_ends : EndsEach word.To
 unfolding binds

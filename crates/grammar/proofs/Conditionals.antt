@@ -57,7 +57,8 @@ not_open : (b : Bool) → not b ≡ true → b ≡ true → ⊥
 not_open true h k = let no : false ≡ true = h in cc
 not_open false h k = let no : false ≡ true = k in cc
 
-branch_and_other : (levels : ℕ) (a c : List Token) (s : Stmt) (t : Box Stmt Global) → Reads a (stmt_spelling s ++ (word_symbol word.Else ∷ stmt_spelling t.value)) c
+branch_and_other : (levels : ℕ) (a c : List Token) (s : Stmt) (t : Box Stmt Global)
+    → Reads a (stmt_spelling s ++ (word_symbol word.Else ∷ stmt_spelling t.value)) c
     → is_statement s && (not (ends_open s) && is_statement t.value) ≡ true → stmt_levels s ≤ levels → stmt_levels t.value ≤ levels
     → (IsTrue (ends_open t.value) → NoNext (kind.Word word.Else) c) → Branches levels a c s (Some t)
 branch_and_other levels a c s t h f n m whole =

@@ -18,7 +18,8 @@ use Rattle.syntax_tree.specs.declared.Expr.TheViews.{out-Expr, roll-Expr, roll-o
 use Rattle.syntax_tree.specs.declared.Expr.TheFolds.{map-Expr}
 use Rattle.grammar.specs.Spelling.{Spelling, Reads, expr_spelling, actual_spelling, link_spelling, of_kind_at, mark, identifier, sign, in_parentheses}
 use Rattle.grammar.specs.Spelling as spell
-use Rattle.grammar.specs.WellFormed.{Form, LinkForm, expr_form, is_actual, link_form, chain_form, fits, has_items, relation_level, signed_level, product_level, factor_level}
+use Rattle.grammar.specs.WellFormed.{Form, LinkForm, expr_form, is_actual, link_form, chain_form, fits, has_items, relation_level, signed_level, product_level}
+use Rattle.grammar.specs.WellFormed.{factor_level}
 use Rattle.grammar.specs.WellFormed as form
 use Rattle.grammar.specs.Nesting.{expr_levels, actual_levels, link_levels, deepest}
 use Rattle.grammar.specs.Nesting as nest

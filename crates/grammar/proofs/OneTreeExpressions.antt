@@ -1,5 +1,6 @@
 -- Two expressions from the same tokens are written alike: by how many tokens there are, and level by level.
-use Rattle.std.proofs.Common.{◌≡◌, ℕ, zero, suc, ◌+◌, ◌<◌, ◌≤◌, Bool, true, false, nat_le, ◌&&◌, List, [], ◌∷◌, ◌++◌, map, length, Option, Some, None, refl, subst, sym, ap, ◌∙◌, arith}
+use Rattle.std.proofs.Common.{◌≡◌, ℕ, zero, suc, ◌+◌, ◌<◌, ◌≤◌, Bool, true, false, nat_le, ◌&&◌, List, [], ◌∷◌, ◌++◌, map, length, Option, Some, None, refl}
+use Rattle.std.proofs.Common.{subst, sym, ap, ◌∙◌, arith}
 use Rattle.std.specs.List.{list_all}
 use Rattle.std.specs.Option.{option_map}
 use Rattle.std.proofs.lemmas.Bool.{leb-true, leb-false}
@@ -19,9 +20,11 @@ use Rattle.syntax_tree.specs.declared.Link.{Link}
 use Rattle.syntax_tree.specs.declared.Expr.TheOpen as expr
 use Rattle.syntax_tree.specs.declared.Expr.TheViews.{out-Expr, roll-Expr, roll-out-Expr, out-Link, roll-out-Link, out-Actual, roll-Actual, roll-out-Actual}
 use Rattle.syntax_tree.specs.declared.Expr.TheFolds.{map-Expr, fold-roll-Expr, fold-roll-Link, fold-roll-Actual}
-use Rattle.grammar.specs.Spelling.{Lexeme, Spelling, IsSpelledBy, Reads, expr_spelling, actual_spelling, link_spelling, of_kind_at, mark, identifier, sign, operator, operator_kind, in_parentheses, joined}
+use Rattle.grammar.specs.Spelling.{Lexeme, Spelling, IsSpelledBy, Reads, expr_spelling, actual_spelling, link_spelling, of_kind_at, mark, identifier, sign}
+use Rattle.grammar.specs.Spelling.{operator, operator_kind, in_parentheses, joined}
 use Rattle.grammar.specs.Spelling as spell
-use Rattle.grammar.specs.WellFormed.{Form, LinkForm, expr_form, is_actual, is_expression, link_form, chain_form, fits, has_items, is_link, first_level, operand_level, relation_level, sum_level, signed_level, product_level, factor_level}
+use Rattle.grammar.specs.WellFormed.{Form, LinkForm, expr_form, is_actual, is_expression, link_form, chain_form, fits, has_items, is_link, first_level}
+use Rattle.grammar.specs.WellFormed.{operand_level, relation_level, sum_level, signed_level, product_level, factor_level}
 use Rattle.grammar.specs.WellFormed as form
 use Rattle.grammar.specs.Following.{next_kind, Ends}
 use Rattle.grammar.specs.Nesting.{expr_levels}
@@ -31,7 +34,8 @@ use Rattle.grammar.proofs.Lists.{and_left, and_right, all_mapped}
 use Rattle.grammar.proofs.Reading.{reads_no_more}
 use Rattle.grammar.proofs.Equations.{spelling_of, form_of, spelling-Alone, spelling-Wide, form-Alone, form-Wide}
 use Rattle.grammar.proofs.Rows.{parted, begins}
-use Rattle.grammar.proofs.Chains.{IsLevel, relation, sum, product, level_below, level_unsigned, operand_above, operand_below, fits_level, fits_well, fits_if, ends_above, close_ends, comma_ends, colon_ends, link_spelled, operator_of_link, operand_of_link, parts_of, behind_with}
+use Rattle.grammar.proofs.Chains.{IsLevel, relation, sum, product, level_below, level_unsigned, operand_above, operand_below, fits_level, fits_well, fits_if}
+use Rattle.grammar.proofs.Chains.{ends_above, close_ends, comma_ends, colon_ends, link_spelled, operator_of_link, operand_of_link, parts_of, behind_with}
 use Rattle.grammar.proofs.Expressions.{chain_no_factor, chain_unsigned, term_unsigned}
 use Rattle.grammar.proofs.OneTree.{Alike, first_is_one, last_is_one, at_is_one, name_is_one}
 use Rattle.grammar.proofs.OneTreeLists.{Parts, EndsPart, more, last, Part, OnePart, InParentheses, in_commas, parenthesized_alike}
@@ -227,7 +231,7 @@ chain_one level n is first operand a c d e f few h k ends_one ends_two =
 
 -- ---- signed terms
 
-sign_is_one : (s t : Sign) (p q : Place) (x : Token) → IsSpelledBy (sign s p) x → IsSpelledBy (sign t q) x → sign s p ≡ sign t q
+pub sign_is_one : (s t : Sign) (p q : Place) (x : Token) → IsSpelledBy (sign s p) x → IsSpelledBy (sign t q) x → sign s p ≡ sign t q
 sign_is_one Plus Plus p q x h i = at_is_one (kind.Symbol symbol.Plus) (kind.Symbol symbol.Plus) p q x h i
 sign_is_one Plus Minus p q x h i = at_is_one (kind.Symbol symbol.Plus) (kind.Symbol symbol.Minus) p q x h i
 sign_is_one Minus Plus p q x h i = at_is_one (kind.Symbol symbol.Minus) (kind.Symbol symbol.Plus) p q x h i

@@ -14,7 +14,8 @@ use Rattle.syntax_tree.specs.declared.VariableGroup.{VariableGroup}
 use Rattle.syntax_tree.specs.declared.Stmt.{Stmt}
 use Rattle.syntax_tree.specs.declared.Block.{Block}
 use Rattle.syntax_tree.specs.declared.Program.{Program}
-use Rattle.grammar.specs.Spelling.{Lexeme, Spelling, Reads, Spells, of_kind_at, mark, word_symbol, identifier, identifiers, separated, joined, in_parentheses, denoter_spelling, group_spelling, variables_spelling, stmt_spelling, block_spelling, program_spelling}
+use Rattle.grammar.specs.Spelling.{Lexeme, Spelling, Reads, Spells, of_kind_at, mark, word_symbol, identifier, identifiers, separated, joined, in_parentheses}
+use Rattle.grammar.specs.Spelling.{denoter_spelling, group_spelling, variables_spelling, stmt_spelling, block_spelling, program_spelling}
 use Rattle.grammar.specs.WellFormed.{is_group, is_statement, is_block, is_program, has_items}
 use Rattle.grammar.specs.Following.{next_kind, NoNext, Next}
 use Rattle.grammar.specs.Notation.{Notation, bracketed, token, row, names_notation, denoter_notation, group_notation, block_notation, notation}
@@ -252,7 +253,8 @@ block_alike a c d b e x y =
     let p = body begin.behind c b.statements.items b.end begin.one_behind x.some x.formed in
     let q = body begin.behind d e.statements.items e.end begin.two_behind y.some y.formed in
     let n = length begin.behind + 1 in
-    let statements = list_alike Stmt (statement_parts word.End) n begin.behind p.middle q.middle b.statements.items e.statements.items (λ f. cc) (one_statement word.End n end_closes)
+    let statements = list_alike Stmt (statement_parts word.End) n begin.behind p.middle q.middle b.statements.items e.statements.items (λ f. cc)
+    (one_statement word.End n end_closes)
     (omega arith) p.begun q.begun in
     let closed = subst (λ u. Reads u (of_kind_at (kind.Word word.End) e.end ∷ []) d) (sym statements.left) q.closed in
     let end = first_is_one (of_kind_at (kind.Word word.End) b.end) (of_kind_at (kind.Word word.End) e.end) [] [] p.middle c d p.closed closed in

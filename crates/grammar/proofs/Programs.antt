@@ -14,7 +14,8 @@ use Rattle.syntax_tree.specs.declared.VariableGroup.{VariableGroup}
 use Rattle.syntax_tree.specs.declared.Stmt.{Stmt}
 use Rattle.syntax_tree.specs.declared.Block.{Block}
 use Rattle.syntax_tree.specs.declared.Program.{Program}
-use Rattle.grammar.specs.Spelling.{Spelling, Reads, of_kind_at, mark, word_symbol, identifier, identifiers, separated, joined, in_parentheses, group_spelling, denoter_spelling, variables_spelling, stmt_spelling, block_spelling}
+use Rattle.grammar.specs.Spelling.{Spelling, Reads, of_kind_at, mark, word_symbol, identifier, identifiers, separated, joined, in_parentheses, group_spelling}
+use Rattle.grammar.specs.Spelling.{denoter_spelling, variables_spelling, stmt_spelling, block_spelling}
 use Rattle.grammar.specs.WellFormed.{is_group, is_statement, has_items}
 use Rattle.grammar.specs.Nesting.{stmt_levels, deepest}
 use Rattle.grammar.specs.Begins.{BeginsNames, BeginsParameters, BeginsGroup, BeginsGroups, BeginsVariables, BeginsCompound, BeginsBlock, BeginsProgram}

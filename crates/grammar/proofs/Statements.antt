@@ -13,7 +13,8 @@ use Rattle.syntax_tree.specs.declared.Name.{Name}
 use Rattle.syntax_tree.specs.declared.Stmt.{Stmt}
 use Rattle.syntax_tree.specs.declared.Stmt.TheOpen as stmt
 use Rattle.syntax_tree.specs.declared.Stmt.TheViews.{out-Stmt}
-use Rattle.grammar.specs.Spelling.{Spelling, Reads, expr_spelling, actual_spelling, stmt_spelling, of_kind, of_kind_at, mark, word_symbol, identifier, separated, in_parentheses}
+use Rattle.grammar.specs.Spelling.{Spelling, Reads, expr_spelling, actual_spelling, stmt_spelling, of_kind, of_kind_at, mark, word_symbol, identifier}
+use Rattle.grammar.specs.Spelling.{separated, in_parentheses}
 use Rattle.grammar.specs.WellFormed.{relation_level, is_expression, is_actual, StmtForm, stmt_form, is_statement, has_items}
 use Rattle.grammar.specs.Nesting.{expr_levels, actual_levels, stmt_levels, deepest}
 use Rattle.grammar.specs.Following.{next_kind, NoNext, Next, Ends, EndsStmt, EndsStatements, compound, repeated, semicolon, end, until, alternative}

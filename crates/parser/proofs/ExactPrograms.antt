@@ -19,7 +19,9 @@ use Rattle.grammar.specs.Following.{Anything, NoNext, BeginsStatementPart}
 use Rattle.expression_parser.specs.Reading.{Stops, ReadsEach, ReadsDeep}
 use Rattle.parser.specs.Syntax.{most, IsRefused}
 use Rattle.grammar.proofs.Rows.{begins}
-use Rattle.grammar.proofs.Programs.{group_begins, group_names_end, GroupBehindNames, GroupsLeft, EachGroupsLeft, GroupNext, NamesThenClosed, parameters_names_end, BlockParts, BlockBehindVariables, ProgramBehindSemicolon, ProgramBehindParameters, ProgramBehindName, program_parameters_end}
+use Rattle.grammar.proofs.Programs.{group_begins, group_names_end, GroupBehindNames, GroupsLeft, EachGroupsLeft, GroupNext, NamesThenClosed}
+use Rattle.grammar.proofs.Programs.{parameters_names_end, BlockParts, BlockBehindVariables, ProgramBehindSemicolon, ProgramBehindParameters, ProgramBehindName}
+use Rattle.grammar.proofs.Programs.{program_parameters_end}
 
 -- behind the names read
 pub group_behind_names : (a b : Cursor) (names : Vec Name Global) → ReadsEach BeginsNames (NoNext (kind.Symbol symbol.Comma)) a b (Ok names)

@@ -15,7 +15,8 @@ use Rattle.syntax_tree.specs.declared.TypeDenoter.TheVariants as denoter
 use Rattle.syntax_tree.specs.declared.VariableGroup.{VariableGroup}
 use Rattle.syntax_tree.specs.declared.Block.{Block}
 use Rattle.token_cursor.specs.Cursor.{Took}
-use Rattle.grammar.specs.Spelling.{of_kind_at, mark, word_symbol, identifier, identifiers, stmt_spelling, separated, joined, in_parentheses, group_spelling, variables_spelling, block_spelling}
+use Rattle.grammar.specs.Spelling.{of_kind_at, mark, word_symbol, identifier, identifiers, stmt_spelling, separated, joined, in_parentheses, group_spelling}
+use Rattle.grammar.specs.Spelling.{variables_spelling, block_spelling}
 use Rattle.grammar.specs.WellFormed.{is_group, is_statement, has_items}
 use Rattle.expression_parser.specs.Rules.{Read}
 use Rattle.grammar.specs.Begins.{BeginsList, BeginsGroup, BeginsGroups, BeginsVariables, BeginsCompound, BeginsBlock, Stop}

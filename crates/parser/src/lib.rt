@@ -2,6 +2,5 @@
 #![tactic(auto)]
 
 mod program;
-mod statement;
 
 pub use program::parse;

@@ -6,7 +6,8 @@ use Rattle.syntax_tree.specs.declared.Actual.{Actual}
 use Rattle.token_cursor.specs.declared.cursor.Cursor.{Cursor}
 use Rattle.token_cursor.specs.Cursor.{Took}
 use Rattle.expression_parser.specs.Refusing.{Refused}
-use Rattle.expression_parser.proofs.Deep.{front_none, front_on, refused_behind_front, memory_refused, refused_behind, refused_behind_opening, refused_spent, refused_spent_at}
+use Rattle.expression_parser.proofs.Deep.{front_none, front_on, refused_behind_front, memory_refused, refused_behind, refused_behind_opening, refused_spent}
+use Rattle.expression_parser.proofs.Deep.{refused_spent_at}
 use Rattle.token_cursor.specs.Level.{level_number}
 use Rattle.expression_parser.specs.Rules.{Read, LinksEnd, LinksGoOn}
 use Rattle.grammar.specs.Begins.{BeginsExpr, BeginsActual, BeginsActualList}
@@ -28,7 +29,8 @@ use Rattle.expression_parser.proofs.ExactExpressions.{negated_behind, negated_an
 use Rattle.grammar.proofs.Actuals.{actual_parts, width_absent, width_taken, actual_list_parts, actual_list_begins, actual_list_goes_on, opened_actuals}
 use Rattle.expression_parser.proofs.ExactActuals.{value_answer, width_left, width_answer, actual_answer, actual_list_left, no_actuals}
 use Rattle.expression_parser.proofs.Actuals.{ActualsGrow, actuals_grow_first, actuals_grow, actuals_closed}
-use Rattle.expression_parser.proofs.Rules.{gives-Number, gives-Not, gives-Signed, gives-Unsigned, gives-None, gives-Narrow, gives-Parenthesized, gives-Name, gives-Call, gives-Wide, gives-Chain}
+use Rattle.expression_parser.proofs.Rules.{gives-Number, gives-Not, gives-Signed, gives-Unsigned, gives-None, gives-Narrow, gives-Parenthesized, gives-Name}
+use Rattle.expression_parser.proofs.Rules.{gives-Call, gives-Wide, gives-Chain}
 use Rattle.grammar.proofs.Reading.{reads_fewer, reads_no_more}
 use Rattle.expression_parser.proofs.Reading.{unchanged}
 use Rattle.expression_parser.proofs.expression.+expression.Goals as goal

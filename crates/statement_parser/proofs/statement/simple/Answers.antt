@@ -8,9 +8,9 @@ use Rattle.grammar.specs.Following.{NoNext}
 use Rattle.expression_parser.proofs.Kept.{handed_on}
 use Rattle.expression_parser.proofs.Exact.{stops_above}
 use Rattle.grammar.proofs.Statements.{ends_value, simple_parts, becomes_taken}
-use Rattle.parser.proofs.ExactStatements.{becomes_missed_at}
-use Rattle.parser.proofs.Statements.{gives-Assign, gives-Called}
-use Rattle.parser.proofs.statement.simple.Goals as goal
+use Rattle.statement_parser.proofs.ExactStatements.{becomes_missed_at}
+use Rattle.statement_parser.proofs.Statements.{gives-Assign, gives-Called}
+use Rattle.statement_parser.proofs.statement.simple.Goals as goal
 
 pub returns-in_err-name-clause-exact : goal.returns-in_err-name-clause-exact
 returns-in_err-name-clause-exact c = λ first depth s others h ends. absurd (c.in_err-name.ensures.missed first)

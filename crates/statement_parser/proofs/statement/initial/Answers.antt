@@ -4,7 +4,7 @@ use Rattle.grammar.specs.Following.{next_kind}
 use Rattle.grammar.proofs.Rows.{begins, same_first}
 use Rattle.grammar.proofs.Chains.{direction_ends}
 use Rattle.expression_parser.proofs.Kept.{handed_on}
-use Rattle.parser.proofs.statement.initial.Goals as goal
+use Rattle.statement_parser.proofs.statement.initial.Goals as goal
 
 pub returns-in_err-first-clause-exact : goal.returns-in_err-first-clause-exact
 returns-in_err-first-clause-exact c = λ depth found others h _.

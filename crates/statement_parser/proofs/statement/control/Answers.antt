@@ -5,11 +5,12 @@ use Rattle.lexer.specs.declared.token.Word.TheVariants as word
 use Rattle.grammar.specs.Spelling.{of_kind_at, mark, identifier}
 use Rattle.grammar.proofs.Rows.{begins, same_first}
 use Rattle.grammar.proofs.Reading.{both, without_place}
-use Rattle.parser.proofs.statement.control.Goals as goal
+use Rattle.statement_parser.proofs.statement.control.Goals as goal
 
 pub returns-in_err-place-clause-exact : goal.returns-in_err-place-clause-exact
 returns-in_err-place-clause-exact c = λ found others h _. absurd
-    (c.in_err-place.ensures.missed (begins (of_kind_at (kind.Word word.For) found.0) (identifier found.1 ∷ mark symbol.Becomes ∷ []) c.args.cursor.now.rest.now others h))
+    (c.in_err-place.ensures.missed (begins (of_kind_at (kind.Word word.For) found.0) (identifier found.1 ∷ mark symbol.Becomes ∷ [])
+    c.args.cursor.now.rest.now others h))
 
 pub returns-in_err-variable-clause-exact : goal.returns-in_err-variable-clause-exact
 returns-in_err-variable-clause-exact c = λ found others h _.

@@ -1,5 +1,6 @@
 -- What the rules of statements give.
-use Rattle.std.proofs.Common.{◌≡◌, ℕ, ◌+◌, ◌<◌, ◌≤◌, Bool, true, false, not, ◌&&◌, IsTrue, List, [], ◌∷◌, ◌++◌, length, map, Option, Some, None, subst, sym, ap, ◌∙◌, refl, arith}
+use Rattle.std.proofs.Common.{◌≡◌, ℕ, ◌+◌, ◌<◌, ◌≤◌, Bool, true, false, not, ◌&&◌, IsTrue, List, [], ◌∷◌, ◌++◌, length, map, Option, Some, None, subst, sym, ap}
+use Rattle.std.proofs.Common.{◌∙◌, refl, arith}
 use Rattle.std.specs.List.{list_all}
 use Rattle.std.specs.declared.alloc.Global.{Global}
 use Rattle.std.specs.declared.boxed.Box.{Box}
@@ -19,13 +20,18 @@ use Rattle.syntax_tree.specs.declared.Name.{Name}
 use Rattle.syntax_tree.specs.declared.Stmt.{Stmt}
 use Rattle.syntax_tree.specs.declared.Stmt.TheVariants as statement
 use Rattle.token_cursor.specs.Cursor.{Took}
-use Rattle.grammar.specs.Spelling.{Spelling, Reads, expr_spelling, identifier, actual_spelling, stmt_spelling, of_kind_at, mark, word_symbol, direction_word, separated, in_parentheses}
+use Rattle.grammar.specs.Spelling.{Spelling, Reads, expr_spelling, identifier, actual_spelling, stmt_spelling, of_kind_at, mark, word_symbol, direction_word}
+use Rattle.grammar.specs.Spelling.{separated, in_parentheses}
 use Rattle.grammar.specs.WellFormed.{relation_level, is_expression, stmt_form, is_statement, ends_open, has_items}
 use Rattle.grammar.specs.Nesting.{stmt_levels, deepest}
 use Rattle.grammar.specs.Following.{NoNext, LeavesNoElse}
 use Rattle.expression_parser.specs.Rules.{Read}
-use Rattle.grammar.specs.Begins.{BeginsExpr, BeginsActuals, BeginsGuard, BeginsStmt, BeginsAlternative, BeginsControl, BeginsInitial, BeginsStatements, BeginsCompound}
-use Rattle.grammar.proofs.Equations.{spelling-Empty, form-Empty, levels-Empty, spelling-Assign, form-Assign, levels-Assign, spelling-Call, form-Call, levels-Call, spelling-Compound, form-Compound, levels-Compound, closed-Empty, closed-Assign, closed-Call, closed-Compound, spelling-If, form-If, levels-If, spelling-Else, form-Else, open-Else, levels-Else, spelling-While, form-While, open-While, levels-While, spelling-Repeat, form-Repeat, closed-Repeat, levels-Repeat, spelling-For, form-For, open-For, levels-For}
+use Rattle.grammar.specs.Begins.{BeginsExpr, BeginsActuals, BeginsGuard, BeginsStmt, BeginsAlternative, BeginsControl, BeginsInitial, BeginsStatements}
+use Rattle.grammar.specs.Begins.{BeginsCompound}
+use Rattle.grammar.proofs.Equations.{spelling-Empty, form-Empty, levels-Empty, spelling-Assign, form-Assign, levels-Assign, spelling-Call, form-Call}
+use Rattle.grammar.proofs.Equations.{levels-Call, spelling-Compound, form-Compound, levels-Compound, closed-Empty, closed-Assign, closed-Call, closed-Compound}
+use Rattle.grammar.proofs.Equations.{spelling-If, form-If, levels-If, spelling-Else, form-Else, open-Else, levels-Else, spelling-While, form-While, open-While}
+use Rattle.grammar.proofs.Equations.{levels-While, spelling-Repeat, form-Repeat, closed-Repeat, levels-Repeat, spelling-For, form-For, open-For, levels-For}
 use Rattle.grammar.proofs.Lists.{map_push, all_push, deepest_push, and_true, length_map}
 use Rattle.grammar.proofs.Rows.{begins}
 use Rattle.expression_parser.proofs.Lists.{list_goes_on}
@@ -81,7 +87,7 @@ compound_closed levels a b c d p end statements opened list closed = record {
 }
 
 -- a statement that doesn't end in an if without else
-closed_whole : (s : Stmt) (others : List Token) → ends_open s ≡ false → LeavesNoElse s others
+pub closed_whole : (s : Stmt) (others : List Token) → ends_open s ≡ false → LeavesNoElse s others
 closed_whole s others closed e = let no : false ≡ true = sym closed ∙ e in cc
 
 -- a compound statement as a statement

@@ -4,7 +4,7 @@ use Rattle.grammar.specs.Spelling.{Reads, of_kind_at, word_symbol}
 use Rattle.grammar.specs.Following.{next_kind}
 use Rattle.grammar.proofs.Rows.{begins, same_first}
 use Rattle.expression_parser.proofs.Kept.{handed_on}
-use Rattle.parser.proofs.statement.guard.Goals as goal
+use Rattle.statement_parser.proofs.statement.guard.Goals as goal
 
 pub returns-in_err-expression-clause-exact : goal.returns-in_err-expression-clause-exact
 returns-in_err-expression-clause-exact c = λ each depth e others h _.

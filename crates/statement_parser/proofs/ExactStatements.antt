@@ -43,7 +43,8 @@ pub statement_answer : (levels depth : ℕ) (a b : Cursor) (others : List Token)
 statement_answer levels depth a b others answer p ends reads =
     let behind = comes_behind Stmt statement_list_parts depth p.middle others p.left in
     reads depth p.first p.middle
-    (record { spelled = p.spelled; formed = p.formed; nests = p.nests; whole = λ _. no_else p.middle others behind ends }) (stmt_ends p.middle others behind ends)
+    (record { spelled = p.spelled; formed = p.formed; nests = p.nests; whole = λ _. no_else p.middle others behind ends })
+    (stmt_ends p.middle others behind ends)
 
 -- behind a statement
 pub statement_list_left : (levels : ℕ) (start : List Token) (a b : Cursor) (s : Stmt) → ReadsDeep levels BeginsStmt EndsStmt a b (Ok s)
@@ -157,7 +158,12 @@ pub until_taken : (depth : ℕ) (p : Place) (a b others : List Token) → Reads 
     → IsTested depth b others
 until_taken depth p a b others k h =
     let same : b ≡ h.behind = (same_first (of_kind_at (kind.Word word.Until) p) (word_symbol word.Until) [] a b h.behind k h.closed).1 in
-    record { below = h.below; less = h.less; condition = h.condition; tested = subst (λ x. BeginsExpr relation_level h.below x others h.condition) (sym same) h.tested }
+    record {
+      below = h.below;
+      less = h.less;
+      condition = h.condition;
+      tested = subst (λ x. BeginsExpr relation_level h.below x others h.condition) (sym same) h.tested;
+    }
 
 -- the bounds and the body that stand behind the `:=` of a for statement
 pub record IsBounded (levels : ℕ) (a c : List Token) : Type 0 where

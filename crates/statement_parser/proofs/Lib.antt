@@ -1,0 +1,3 @@
+pub mod Arms
+pub mod ExactStatements
+pub mod Statements
