@@ -237,11 +237,14 @@ for_code control first first_fits way last last_fits body scope place =
     first ++ (last ++ (for_entry scope first_fits way last_fits out
     ++ (for_begin scope control ++ (inside ++ (for_next scope way head out ++ for_end scope control)))))
 
--- the index is compared with each constant of a row, and a jump to the arm is taken where it is the same
+-- the index is compared with a constant, and a jump to the arm is taken where it is the same
+abbrev pub comparison : Scope → ℕ → ℤ → List Instr
+comparison scope arm constant =
+    instr.LoadConstant constant ∷ instr.Load 0 (held_offset scope 0) ∷ instr.NotEqual ∷ instr.JumpIfFalse arm ∷ []
+
+-- it is compared with each constant of a row
 abbrev pub row_code : Scope → ℕ → List ℤ → List Instr
-row_code scope arm row =
-    flat_map (λ constant. instr.LoadConstant constant ∷ instr.Load 0 (held_offset scope 0) ∷ instr.NotEqual
-    ∷ instr.JumpIfFalse arm ∷ []) row
+row_code scope arm row = flat_map (comparison scope arm) row
 
 -- one arm behind another: its constants, a jump over it, the arm, and a jump out of the statement
 abbrev pub arms_code : Scope → ℕ → List (Vec ℤ) → List Placed → ℕ → List Instr
@@ -314,6 +317,12 @@ abbrev pub alternative_depth : Option (Box ℕ Global) → ℕ
 alternative_depth None = 0
 alternative_depth (Some depth) = depth.value
 
+-- the same of the arms of a case statement, each of which stands behind a row of constants
+abbrev pub arms_depth : List (Vec ℤ) → List ℕ → ℕ
+arms_depth [] depths = 0
+arms_depth (row ∷ rows) [] = 0
+arms_depth (row ∷ rows) (depth ∷ depths) = max depth (arms_depth rows depths)
+
 abbrev pub stmt_depth_step : Stmt-F ℕ → ℕ
 stmt_depth_step (Empty number) = 0
 stmt_depth_step (Assign number becomes target fits value) = expr_depth value
@@ -326,7 +335,8 @@ stmt_depth_step (Repeat number loop_number word statements condition) =
     max (greatest statements.items) (expr_depth condition)
 stmt_depth_step (For number loop_number word control first first_fits way last last_fits body) =
     max (max (expr_depth first) (expr_depth last + 1)) (max 4 (body.value + 2))
-stmt_depth_step (Case number site index constants arms) = max (expr_depth index) (max 3 (greatest arms.items + 1))
+stmt_depth_step (Case number site index constants arms) =
+    max (expr_depth index) (max 3 (arms_depth constants.items arms.items + 1))
 
 -- how many cells the evaluation of a statement needs at once
 abbrev pub stmt_depth : Stmt → ℕ

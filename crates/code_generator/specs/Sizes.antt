@@ -104,3 +104,8 @@ IsTold answer before after m told = IfOk answer (λ size. (size ≡ capped m.siz
 abbrev pub AreTold : Result ℕ AllocError → List ℕ → List ℕ → List Measured → Type 0
 AreTold answer before after ms =
     IfOk answer (λ size. (size ≡ capped (all_sizes ms)) × (after ≡ before ++ all_tables ms))
+
+-- the same of the arms of a case statement behind their rows of constants
+abbrev pub ArmsAreTold : Result ℕ AllocError → List ℕ → List ℕ → List (Vec ℤ) → List Measured → Type 0
+ArmsAreTold answer before after rows ms =
+    IfOk answer (λ size. (size ≡ capped (arms_size rows ms)) × (after ≡ before ++ arms_table rows ms))
