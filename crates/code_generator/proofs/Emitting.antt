@@ -363,8 +363,8 @@ repeat_emitted answer statements test before done after sizes left table head em
 
 -- a case statement: its index, the arms, and what comes behind them
 pub case_emitted : (answer : Result (Unit {0}) AllocError) (site : ℕ) (index : List Instr) (rows : List (Vec ℤ)) (arms : List Stmt) (scope : Scope)
-    (before tested done after : List Instr) (sizes now left : List ℕ) (out : ℕ) → now ≡ rest_of sizes → out ≡ capped (capped (length before) + first_of sizes) - 1
-    → tested ≡ before ++ index
+    (before tested done after : List Instr) (sizes now left : List ℕ) (out : ℕ) → now ≡ rest_of sizes
+    → out ≡ capped (capped (length before) + first_of sizes) - 1 → tested ≡ before ++ index
     → Emits (Ok tt) tested done now left (arms_code scope out rows (map stmt_code arms) (length tested)) (arms_table rows
     (map (λ s. measured s (holding 1 scope)) arms)) → OnOk answer (after ≡ done ++ instr.Fail site ∷ instr.JumpIfFalse (capped (out + 1)) ∷ [])
     → Emits answer before after sizes left (case_code site index rows (map stmt_code arms) scope (length before))

@@ -283,7 +283,8 @@ module _ (g : Setting) where
         let in_frame = linked g store base (held ++ Number n ∷ []) based in
         let differs = truth (not (int_eq constant n)) in
         let a = pushes_number index constant place output at1 (omega arith) in
-        let b = loads_held store base held (Number n ∷ []) (Number constant ∷ []) (index ++ Number constant ∷ []) 0 (Number n) (place + 1) output based high refl
+        let b = loads_held store base held (Number n ∷ []) (Number constant ∷ []) (index ++ Number constant ∷ []) 0 (Number n) (place + 1) output based high
+        refl
         refl (omega arith) at2 in
         let c = operates instr.NotEqual (frames.of_two dyadic.NotEqual) index constant n (place + 1 + 1) output at3 (λ s. refl) in_frame (omega arith) in
         let d = branches_on g arm index differs (place + 1 + 1 + 1) output at4 in_frame in

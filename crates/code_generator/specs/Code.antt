@@ -1,7 +1,8 @@
 -- The code of a typed tree: of an expression (ISO 7185:1990, 6.7), of a statement (6.8) and of a program (6.10), as
 -- functions of the tree, of where in a frame its variables lie and, for a statement, of its place in the code. It does
 -- not say what the code does: that is for the machine to say.
-use Rattle.std.specs.Prelude.{ℕ, ℤ, pos, ◌+◌, max, min, Bool, true, false, List, [], ◌∷◌, ◌++◌, Option, Some, None, length, map, slice_get, fold}
+use Rattle.std.specs.Prelude.{ℕ, ℤ, pos, ◌+◌, max, min, Bool, true, false, List, [], ◌∷◌, ◌++◌, Option, Some, None}
+use Rattle.std.specs.Prelude.{length, map, slice_get, fold}
 use Rattle.std.specs.Global.{Vec}
 use Rattle.std.specs.List.{flat_map}
 use Rattle.std.specs.declared.alloc.Global.{Global}
@@ -31,7 +32,8 @@ use Rattle.typed_tree.specs.declared.tree.Expr.TheOpen.Expr-F.{Constant, Variabl
 use Rattle.typed_tree.specs.declared.tree.Expr.TheFolds.{fold-Expr, fold-Link}
 use Rattle.typed_tree.specs.declared.tree.Stmt.{Stmt}
 use Rattle.typed_tree.specs.declared.tree.Stmt.TheOpen.{Stmt-F}
-use Rattle.typed_tree.specs.declared.tree.Stmt.TheOpen.Stmt-F.{Empty, Assign, Write, Compound, If, While, Repeat, For, Case}
+use Rattle.typed_tree.specs.declared.tree.Stmt.TheOpen.Stmt-F.{Empty, Assign, Write, Compound, If, While, Repeat, For}
+use Rattle.typed_tree.specs.declared.tree.Stmt.TheOpen.Stmt-F.{Case}
 use Rattle.typed_tree.specs.declared.tree.Stmt.TheFolds.{fold-Stmt}
 
 -- the pieces one after another
@@ -201,8 +203,8 @@ abbrev pub next_instr : Direction → Instr
 next_instr direction.To = instr.Add
 next_instr direction.DownTo = instr.Subtract
 
--- The code behind both bounds, whose values are held from then on: a jump out of the loop where they leave no value, and
--- the tests of the first and of the last.
+-- The code behind both bounds, whose values are held from then on: a jump out of the loop where they leave no value,
+-- and the tests of the first and of the last.
 abbrev pub for_entry : Scope → RangeTest → Direction → RangeTest → ℕ → List Instr
 for_entry scope first_fits way last_fits out =
     instr.Load 0 (held_offset scope 0) ∷ instr.Load 0 (held_offset scope 1) ∷ order_instr way ∷ instr.JumpIfFalse out

@@ -1,5 +1,10 @@
 ghost use Rattle.std.specs.Prelude.{◌≡◌, ◌≤◌, ◌+◌, ◌*◌, ℕ, List, [], ◌∷◌, ◌++◌, OnOk, length, map, vec_len};
-ghost use Rattle.code_generator.specs.Code.{arms_code, assign_code, check_positive, default_width, dyadic_code, expr_code, for_begin, for_end, for_entry, for_next, held_offset as offset_of_held, holding, line_end_code, next_instr, order_instr, range_check, link_code, monadic_code, parameter_code, relation_instr, row_code, stmt_code, variable_code, variable_offset, width_code, write_code, write_instr};
+ghost use Rattle.code_generator.specs.Code.{arms_code, assign_code, check_positive, default_width, dyadic_code};
+ghost use Rattle.code_generator.specs.Code.{expr_code, for_begin, for_end, for_entry, for_next};
+ghost use Rattle.code_generator.specs.Code.{held_offset as offset_of_held, holding, line_end_code, next_instr};
+ghost use Rattle.code_generator.specs.Code.{order_instr, range_check, link_code, monadic_code, parameter_code};
+ghost use Rattle.code_generator.specs.Code.{relation_instr, row_code, stmt_code, variable_code, variable_offset};
+ghost use Rattle.code_generator.specs.Code.{width_code, write_code, write_instr};
 ghost use Rattle.code_generator.specs.Emitted.{Emits, statements_code, statements_table};
 ghost use Rattle.pcode_assembler.specs.declared.instr.Instr.TheVariants.{Fail, Jump, JumpIfFalse};
 ghost use Rattle.code_generator.specs.Sizes.{arms_table, capped, measured, table_of};
@@ -360,13 +365,11 @@ fn emit_comparisons(
     ensures { OnOk result (code.new.items ≡ code.old.items ++ row_code scope arm row.now) }
 {
     let offset = held_offset(scope, 0);
+    let value = Instr::Load { level: 0, offset };
+    let choice = Instr::JumpIfFalse { target: arm };
     for constant in row {
-        code.extend_from_slice(&[
-            Instr::LoadConstant { value: *constant },
-            Instr::Load { level: 0, offset },
-            Instr::NotEqual,
-            Instr::JumpIfFalse { target: arm },
-        ])?;
+        let constant = Instr::LoadConstant { value: *constant };
+        code.extend_from_slice(&[constant, value, Instr::NotEqual, choice])?;
     }
     Ok(())
 }

@@ -1,9 +1,11 @@
 ghost use Rattle.std.specs.Prelude.{◌≡◌, ◌+◌, ◌*◌, ℕ, length, map};
 ghost use Rattle.std.specs.List.{flat_map};
 ghost use Rattle.code_generator.specs.declared.scope.Scope.{Scope};
-ghost use Rattle.code_generator.specs.Code.{dyadic_code, expr_code, line_end_code, monadic_code, parameter_code, program_code, stmt_code, width_code, write_code};
+ghost use Rattle.code_generator.specs.Code.{dyadic_code, expr_code, line_end_code, monadic_code, parameter_code};
+ghost use Rattle.code_generator.specs.Code.{program_code, stmt_code, width_code, write_code};
 ghost use Rattle.code_generator.specs.Emitted.{statements_code};
-ghost use Rattle.code_generator.specs.Sizes.{arms_size as size_of_arms, capped, measured, table_of, AreTold, ArmsAreTold, IsTold};
+ghost use Rattle.code_generator.specs.Sizes.{arms_size as size_of_arms, capped, measured, table_of, AreTold};
+ghost use Rattle.code_generator.specs.Sizes.{ArmsAreTold, IsTold};
 
 use std::alloc::AllocError;
 use typed_tree::tree::{Dyadic, Expr, Monadic, Stmt, Tree, WriteParameter};
