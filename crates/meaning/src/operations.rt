@@ -1,7 +1,7 @@
 ghost use Rattle.std.specs.Prelude.{◌≡◌, pos};
 ghost use Rattle.meaning.specs.Effect.{is_in, is_positive};
 ghost use Rattle.meaning.specs.Meaning.{combined, default_width, is_so, number_of, operated, relates, whole};
-ghost use Rattle.meaning.specs.Pending.{Answers, IsConstant, bound_tested, bounds_tested, checked, positive, value_before};
+ghost use Rattle.meaning.specs.Pending.{Answers, bound_tested, bounds_tested, checked, positive, value_before};
 
 use crate::store::{Ordinal, Value};
 use typed_tree::tree::{Direction, Dyadic, Monadic, RangeTest, Relation, Representation};
@@ -150,12 +150,12 @@ pub fn value_toward(direction: Direction, last: i32, value: i32) -> Option<i32>
     }
 }
 
-/// The number of a value, if a case constant can have it.
-pub fn constant_of(value: Value) -> Option<i32>
-    ensures { IsConstant (number_of value) result }
+/// The number of a value.
+pub fn number_of(value: Value) -> Ordinal
+    ensures { result ≡ number_of value }
 {
     let Value::Number(number) = value;
-    i32::try_from(number.number()).ok()
+    number
 }
 
 /// The truth value that a value is.
