@@ -1,7 +1,8 @@
 -- How many cells an evaluation needs at once is no more than its code has instructions, nor than the count that a full
 -- store is judged by.
 use Rattle.std.proofs.Common.{◌≡◌, ℕ, ◌+◌, ◌≤◌, max, List, [], ◌∷◌, ◌++◌, length, map, Option, Some, None, ap, sym, subst, arith, length-append}
-use Rattle.std.specs.Prelude.{fold, sum, sum_by}
+use Rattle.std.specs.Prelude.{ℤ, fold, sum, sum_by}
+use Rattle.std.specs.Global.{Vec}
 use Rattle.std.specs.List.{flat_map}
 use Rattle.std.proofs.lemmas.List.Sums.{sum_by-cons}
 use Rattle.pcode_assembler.specs.declared.instr.Instr.{Instr}
@@ -23,7 +24,8 @@ use Rattle.typed_tree.specs.declared.tree.Stmt.TheOpen.Stmt-F.{Empty, Assign, Wr
 use Rattle.typed_tree.specs.declared.tree.Stmt.TheViews.{roll-Stmt}
 use Rattle.typed_tree.specs.declared.tree.Stmt.TheFolds.{map-Stmt, fold-roll-Stmt, ind-Stmt}
 use Rattle.code_generator.specs.declared.scope.Scope.{Scope}
-use Rattle.code_generator.specs.Code.{joined, placed, Placed, monadic_code, dyadic_code, expr_code, link_code, expr_step, link_step, expr_depth, link_depth, expr_depth_step, link_depth_step, width_depth, width_code, parameter_depth, parameter_code, write_instr, line_end_code, stmt_code, stmt_step, stmt_depth, stmt_depth_step, holding}
+use Rattle.code_generator.specs.Code.{joined, placed, Placed, monadic_code, dyadic_code, expr_code, link_code, expr_step, link_step, expr_depth, link_depth, expr_depth_step, link_depth_step, width_depth, width_code, parameter_depth, parameter_code, write_instr, line_end_code, stmt_code, stmt_step, stmt_depth, stmt_depth_step, holding, row_code, arms_code, arms_depth}
+use Rattle.code_generator.proofs.Exprs.{start_within}
 use Rattle.code_generator.proofs.Pieces.{length-For}
 use Rattle.code_generator.specs.Need.{expr_need, expr_need_step, link_need_step, width_need, parameter_need, stmt_need, stmt_need_step}
 
@@ -229,14 +231,65 @@ stmts_within scope (x ∷ xs) place depth first need w =
       need_is = omega arith;
     }
 
+-- an expression needs a cell at least, that of its value
+abbrev NeedsOne : Expr → Type 0
+NeedsOne e = 1 ≤ expr_depth e
+
+abbrev LinkNeedsOne : Link → Type 0
+LinkNeedsOne l = 1 ≤ link_depth l
+
+abbrev HereNeedsOne : Type 0
+HereNeedsOne = (e : Expr) × NeedsOne e
+
+abbrev LinkHere : Type 0
+LinkHere = (l : Link) × LinkNeedsOne l
+
+one_of : (x : Expr-F Expr Link) → 1 ≤ expr_depth_step (map-Expr Expr Link ℕ ℕ expr_depth link_depth x) → NeedsOne (roll-Expr x)
+one_of x h = subst (λ n. 1 ≤ n) (sym (fold-roll-Expr ℕ ℕ expr_depth_step link_depth_step x)) h
+
+one_layer : (y : Expr-F HereNeedsOne LinkHere) → NeedsOne (roll-Expr (map-Expr HereNeedsOne LinkHere Expr Link (λ e. e.0) (λ l. l.0) y))
+one_layer (Constant number n) = one_of (Constant number n) (omega arith)
+one_layer (Variable access defined) = one_of (Variable access defined) (omega arith)
+one_layer (MonadicOf number operation operand) =
+    one_of (map-Expr HereNeedsOne LinkHere Expr Link (λ e. e.0) (λ l. l.0) (MonadicOf number operation operand)) operand.value.1
+one_layer (Chain first rest) =
+    one_of (map-Expr HereNeedsOne LinkHere Expr Link (λ e. e.0) (λ l. l.0) (Chain first rest))
+    (omega (arith, first.value.1, start_within (expr_depth first.value.0) (map link_depth (map (λ (l : LinkHere). l.0) rest.items))))
+
+link_one : (y : Link-F HereNeedsOne LinkHere) → LinkNeedsOne (roll-Link (map-Link HereNeedsOne LinkHere Expr Link (λ e. e.0) (λ l. l.0) y))
+link_one y =
+    subst (λ n. 1 ≤ n)
+    (sym (fold-roll-Link ℕ ℕ expr_depth_step link_depth_step (map-Link HereNeedsOne LinkHere Expr Link (λ e. e.0) (λ l. l.0) y))) (omega arith)
+
+needs_one : (e : Expr) → NeedsOne e
+needs_one =
+    ind-Expr NeedsOne LinkNeedsOne (λ x y is. subst (λ z. NeedsOne (roll-Expr z)) is (one_layer y))
+    (λ x y is. subst (λ z. LinkNeedsOne (roll-Link z)) is (link_one y))
+
 -- the arms of a case statement
-arms_within : (scope : Scope) (out : ℕ) (rows : List (Vec ℤ)) (arms : List ((s : Stmt) × StmtWithin s)) (before need : ℕ) → before ≤ need
-    → fold max before (map stmt_depth (map (λ x. x.0) arms)) ≤ need + sum (map stmt_need (map (λ x. x.0) arms))
-arms_within scope out rows [] before need h = omega arith
-arms_within scope out rows (arm ∷ arms) before need h =
-    let w = (arm.1 scope 0).need_is in
-    let rest = arms_within scope out rows arms (max before (stmt_depth arm.0)) (need + stmt_need arm.0) (omega arith) in
-    omega (arith, rest, sum-cons (stmt_need arm.0) (map stmt_need (map (λ x. x.0) arms)))
+arms_within : (scope : Scope) (out : ℕ) (rows : List (Vec ℤ)) (arms : List ((s : Stmt) × StmtWithin s)) (place : ℕ)
+    → Within (arms_depth rows (map stmt_depth (map (λ x. x.0) arms))) (arms_code scope out rows (map stmt_code (map (λ x. x.0) arms)) place)
+    (sum (map stmt_need (map (λ x. x.0) arms)))
+arms_within scope out [] arms place = record { code_is = omega arith; need_is = omega arith }
+arms_within scope out (row ∷ rows) [] place = record { code_is = omega arith; need_is = omega arith }
+arms_within scope out (row ∷ rows) (arm ∷ arms) place =
+    let inside = place + length (row_code scope 0 row.items) + 1 in
+    let code = stmt_code arm.0 (holding 1 scope) inside in
+    let next = inside + length code + 1 in
+    let compared = row_code scope inside row.items in
+    let rest = arms_code scope out rows (map stmt_code (map (λ x. x.0) arms)) next in
+    let w = arm.1 (holding 1 scope) inside in
+    let a = w.code_is in let b = w.need_is in
+    let r = arms_within scope out rows arms next in
+    let c = r.code_is in let d = r.need_is in
+    record {
+      code_is = omega (
+        arith,
+        length-append compared (instr.Jump next ∷ (code ++ (instr.Jump out ∷ rest))),
+        length-append code (instr.Jump out ∷ rest),
+      );
+      need_is = omega (arith, sum-cons (stmt_need arm.0) (map stmt_need (map (λ x. x.0) arms)));
+    }
 
 stmt_layer : (y : Stmt-F ((s : Stmt) × StmtWithin s)) → StmtWithin (roll-Stmt (map-Stmt ((s : Stmt) × StmtWithin s) Stmt (λ s. s.0) y))
 stmt_layer (Empty number) = rolled_stmt (Empty number) (λ scope place. record { code_is = omega arith; need_is = omega arith })
@@ -329,6 +382,22 @@ stmt_layer (For number loop_number word control first first_fits way last last_f
     let c' = c.code_is in let c'' = c.need_is in
     let long = length-For control (expr_code scope first) first_fits way (expr_code scope last) last_fits (stmt_code body.value.0) scope place in
     record { code_is = omega (arith, long); need_is = omega arith })
+stmt_layer (Case number site index constants arms) =
+    rolled_stmt (map-Stmt ((s : Stmt) × StmtWithin s) Stmt (λ s. s.0) (Case number site index constants arms)) (λ scope place.
+    let test = expr_code scope index in
+    let codes = map stmt_code (map (λ (s : (s : Stmt) × StmtWithin s). s.0) arms.items) in
+    let first = place + length test in
+    let out = first + length (arms_code scope 0 constants.items codes first) + 1 in
+    let inside = arms_code scope out constants.items codes first in
+    let last = instr.Fail site ∷ instr.JumpIfFalse (out + 1) ∷ [] in
+    let v = expr_within scope index in
+    let a = v.code_is in let b = v.need_is in
+    let w = arms_within scope out constants.items arms.items first in
+    let c = w.code_is in let d = w.need_is in
+    record {
+      code_is = omega (arith, length-append test (inside ++ last), length-append inside last, needs_one index);
+      need_is = omega arith;
+    })
 
 -- the same of a statement
 pub stmt_within : (s : Stmt) → StmtWithin s

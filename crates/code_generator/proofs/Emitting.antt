@@ -1,10 +1,9 @@
 -- Statements whose code is emitted by their sizes: the sizes tell where the code of a statement ends before it is there.
-use Rattle.std.proofs.Common.{◌≡◌, ℕ, ◌+◌, ◌<◌, ◌≤◌, List, [], ◌∷◌, ◌++◌, drop, take, get_or, length, map, Some, None, Result, Ok, Err, refl, sym, ap, ◌∙◌, subst, arith, length-append, append_assoc, append-nil}
-use Rattle.std.specs.Prelude.{OnOk, slice_set}
+use Rattle.std.proofs.Common.{◌≡◌, ℕ, ◌+◌, ◌-◌, ◌*◌, ◌<◌, ◌≤◌, List, [], ◌∷◌, ◌++◌, take, get_or, length, map, Some, None, Result, Ok, Err, refl, sym, ap, ◌∙◌, subst, arith, length-append, append_assoc, append-nil}
+use Rattle.std.specs.Prelude.{ℤ, OnOk, slice_set}
 use Rattle.std.specs.Global.{Vec, Box}
-use Rattle.std.specs.List.{flat_map}
 use Rattle.std.specs.declared.alloc.AllocError.{AllocError}
-use Rattle.std.proofs.lemmas.List.{drop_more, map_more, flat_map_more}
+use Rattle.std.proofs.lemmas.List.{map_more, flat_map_more}
 use Rattle.std.proofs.lemmas.List.Sums.{sum_by-cons}
 use Rattle.std.proofs.lemmas.Simd.{map-map}
 use Rattle.pcode_assembler.specs.declared.instr.Instr.{Instr}
@@ -15,14 +14,14 @@ use Rattle.typed_tree.specs.declared.tree.Direction.{Direction}
 use Rattle.typed_tree.specs.declared.tree.RangeTest.{RangeTest}
 use Rattle.typed_tree.specs.declared.tree.Expr.{Expr}
 use Rattle.typed_tree.specs.declared.tree.Stmt.{Stmt}
-use Rattle.typed_tree.specs.declared.tree.Stmt.TheVariants.{Assign, rolls-Assign, Compound, rolls-Compound, If, rolls-If, While, rolls-While, Repeat, rolls-Repeat, For, rolls-For}
-use Rattle.typed_tree.specs.declared.tree.Stmt.TheOpen.Stmt-F.{Assign as Assign-layer, Compound as Compound-layer, If as If-layer, While as While-layer, Repeat as Repeat-layer, For as For-layer}
+use Rattle.typed_tree.specs.declared.tree.Stmt.TheVariants.{Assign, rolls-Assign, Compound, rolls-Compound, If, rolls-If, While, rolls-While, Repeat, rolls-Repeat, For, rolls-For, Case, rolls-Case}
+use Rattle.typed_tree.specs.declared.tree.Stmt.TheOpen.Stmt-F.{Assign as Assign-layer, Compound as Compound-layer, If as If-layer, While as While-layer, Repeat as Repeat-layer, For as For-layer, Case as Case-layer}
 use Rattle.typed_tree.specs.declared.tree.Stmt.TheFolds.{fold-roll-Stmt}
 use Rattle.code_generator.specs.declared.scope.Scope.{Scope}
-use Rattle.code_generator.specs.Code.{Placed, assign_code, expr_code, stmt_code, if_code, if_else_code, while_code, repeat_code, for_code, for_entry, for_begin, for_next, for_end, holding}
+use Rattle.code_generator.specs.Code.{assign_code, expr_code, stmt_code, if_code, if_else_code, while_code, repeat_code, for_code, for_entry, for_begin, for_next, for_end, holding, row_code, arms_code, case_code}
 use Rattle.code_generator.specs.Emitted.{Emits}
-use Rattle.code_generator.specs.Sizes.{capped, first_of, rest_of, Measured, measured, measured_step, table_of, all_sizes, all_tables}
-use Rattle.code_generator.proofs.Measures.{is_measured}
+use Rattle.code_generator.specs.Sizes.{capped, first_of, rest_of, Measured, measured, measured_step, table_of, all_sizes, all_tables, arms_size, arms_table}
+use Rattle.code_generator.proofs.Measures.{is_measured, row_measured, arms_are_measured}
 use Rattle.code_generator.proofs.Pieces.{stmts_code, length-If, length-If-else, length-While, length-Repeat, length-For}
 
 -- what is told of a compound statement, and of an if statement
@@ -86,6 +85,18 @@ measured-For scope number loop_number word control first first_fits way last las
     ap (λ s. measured s scope) (sym (rolls-For number loop_number word control first first_fits way last last_fits body))
     ∙ ap (λ m. m scope) (fold-roll-Stmt (Scope → Measured) measured_step (For-layer number loop_number word control first first_fits way last last_fits body))
 
+abbrev pub case_measured : List Instr → List (Vec ℤ) → List Measured → Measured
+case_measured test rows ms = record { size = length test + arms_size rows ms + 2; inner = arms_table rows ms }
+
+pub measured-Case : (scope : Scope) (number site : ℕ) (index : Expr) (constants : Vec (Vec ℤ)) (arms : Vec Stmt)
+    → measured (Case number site index constants arms) scope ≡ case_measured (expr_code scope index) constants.items
+    (map (λ s. measured s (holding 1 scope)) arms.items)
+measured-Case scope number site index constants arms =
+    ap (λ s. measured s scope) (sym (rolls-Case number site index constants arms))
+    ∙ ap (λ m. m scope) (fold-roll-Stmt (Scope → Measured) measured_step (Case-layer number site index constants arms))
+    ∙ ap (λ ms. case_measured (expr_code scope index) constants.items ms)
+    (map-map (λ (measure : Scope → Measured). measure (holding 1 scope)) measured arms.items)
+
 pub measured-Assign : (scope : Scope) (number : ℕ) (becomes : SourcePlace) (target : Access) (fits : RangeTest) (value : Expr)
     → measured (Assign number becomes target fits value) scope ≡ record { size = length (assign_code scope target.root fits value); inner = [] }
 measured-Assign scope number becomes target fits value =
@@ -113,6 +124,15 @@ tables_one_more scope before ss i s h here =
     ap (λ x. (before ++ all_tables (map (λ y. measured y scope) (take i ss))) ++ table_of (measured x scope)) here
     ∙ flat_map_more table_of before (map (λ x. measured x scope) (take i ss)) (measured (get_or ss i s) scope)
     ∙ ap (λ ms. before ++ all_tables ms) (sym (map_more (λ x. measured x scope) ss i s h))
+
+-- no arm behind the last one has an instruction, nor has one without a row
+pub arms_size-none : (rows : List (Vec ℤ)) → arms_size rows [] ≡ 0
+arms_size-none [] = refl
+arms_size-none (row ∷ rows) = refl
+
+pub arms_table-none : (rows : List (Vec ℤ)) → arms_table rows [] ≡ []
+arms_table-none [] = refl
+arms_table-none (row ∷ rows) = refl
 
 -- the size of a statement comes where room was left for it
 pub set_at_seam : (before inner : List ℕ) (a b : ℕ) → slice_set (before ++ a ∷ inner) (length before) b ≡ before ++ b ∷ inner
@@ -341,6 +361,42 @@ repeat_emitted answer statements test before done after sizes left table head em
       first.1,
     ))
 
+-- a case statement: its index, the arms, and what comes behind them
+pub case_emitted : (answer : Result (Unit {0}) AllocError) (site : ℕ) (index : List Instr) (rows : List (Vec ℤ)) (arms : List Stmt) (scope : Scope)
+    (before tested done after : List Instr) (sizes now left : List ℕ) (out : ℕ) → now ≡ rest_of sizes
+    → out ≡ capped (capped (length before) + first_of sizes) - 1 → tested ≡ before ++ index
+    → Emits (Ok tt) tested done now left (arms_code scope out rows (map stmt_code arms) (length tested)) (arms_table rows
+    (map (λ s. measured s (holding 1 scope)) arms)) → OnOk answer (after ≡ done ++ instr.Fail site ∷ instr.JumpIfFalse (capped (out + 1)) ∷ [])
+    → Emits answer before after sizes left (case_code site index rows (map stmt_code arms) scope (length before))
+    (table_of (case_measured index rows (map (λ s. measured s (holding 1 scope)) arms)))
+case_emitted answer site index rows arms scope before tested done after sizes now left out passed begins is emits end rest told few =
+    let place = length before in
+    let codes = map stmt_code arms in
+    let ms = map (λ s. measured s (holding 1 scope)) arms in
+    let first = place + length index in
+    let behind = first + length (arms_code scope 0 rows codes first) + 1 in
+    let inside = arms_code scope behind rows codes first in
+    let last = instr.Fail site ∷ instr.JumpIfFalse (behind + 1) ∷ [] in
+    let long : length (case_code site index rows codes scope place) ≡ length index + arms_size rows ms + 2 =
+    omega (arith, length-append index (inside ++ last), length-append inside last, arms_are_measured scope behind rows arms first) in
+    let own : first_of sizes ≡ capped (length index + arms_size rows ms + 2) = ap first_of told in
+    let out_is : out ≡ behind = omega (arith, begins, own, long, few, arms_are_measured scope 0 rows arms first) in
+    let at : length tested ≡ first = ap length is ∙ length-append before index in
+    let few' : length tested + length (arms_code scope out rows codes (length tested)) ≤ 4294967295 =
+    omega (arith, at, long, few, arms_are_measured scope out rows arms (length tested)) in
+    let emitted = emits rest (passed ∙ ap rest_of told) few' in
+    let there : capped (out + 1) ≡ behind + 1 = omega (arith, out_is, long, few, arms_are_measured scope 0 rows arms first) in
+    on_ok answer end (λ e. (
+      e
+          ∙ ap (λ n. done ++ instr.Fail site ∷ instr.JumpIfFalse n ∷ []) there
+          ∙ ap (λ c. c ++ last)
+          (emitted.0 ∙ ap (λ n. tested ++ arms_code scope out rows codes n) at ∙ ap (λ n. tested ++ arms_code scope n rows codes first) out_is)
+          ∙ append_assoc tested inside last
+          ∙ ap (λ c. c ++ (inside ++ last)) is
+          ∙ append_assoc before index (inside ++ last),
+      emitted.1,
+    ))
+
 -- ---- statements one after another
 
 -- what is emitted, and what is still to do: with the code of the statements that are left it is the whole
@@ -367,3 +423,99 @@ one_emitted scope whole rest s statements code after sizes left few h emits =
           ∙ h.code_is;
       sizes_are = e.1;
     }
+
+-- ---- the arms of a case statement
+
+-- what is emitted, and what is still to do
+pub record AreLeft (scope : Scope) (out : ℕ) (whole : List Instr) (rest : List ℕ) (rows : List (Vec ℤ)) (arms : List Stmt) (code : List Instr)
+    (sizes : List ℕ) : Type 0 where
+  pub code_is : code ++ arms_code scope out rows (map stmt_code arms) (length code) ≡ whole
+  pub sizes_are : sizes ≡ arms_table rows (map (λ s. measured s (holding 1 scope)) arms) ++ rest
+
+-- an arm further
+pub arm_emitted : (scope : Scope) (out : ℕ) (whole : List Instr) (rest : List ℕ) (row : Vec ℤ) (rows : List (Vec ℤ)) (arm : Stmt) (arms : List Stmt)
+    (code compared done after : List Instr) (sizes left : List ℕ) → length whole ≤ 4294967295
+    → AreLeft scope out whole rest (row ∷ rows) (arm ∷ arms) code sizes
+    → compared ≡ (code ++ row_code scope (capped (length code + 1 + 4 * length row.items)) row.items)
+    ++ instr.Jump (capped (length code + 1 + 4 * length row.items + first_of sizes + 1)) ∷ []
+    → Emits (Ok tt) compared done sizes left (stmt_code arm (holding 1 scope) (length compared)) (table_of (measured arm (holding 1 scope)))
+    → after ≡ done ++ instr.Jump out ∷ [] → AreLeft scope out whole rest rows arms after left
+arm_emitted scope out whole rest row rows arm arms code compared done after sizes left few h compares emits ends =
+    let inner = holding 1 scope in
+    let place = length code in
+    let inside = place + length (row_code scope 0 row.items) + 1 in
+    let test = row_code scope inside row.items in
+    let c = stmt_code arm inner inside in
+    let next = inside + length c + 1 in
+    let tail = arms_code scope out rows (map stmt_code arms) next in
+    let tables = arms_table rows (map (λ s. measured s inner) arms) in
+    let told = h.sizes_are ∙ append_assoc (table_of (measured arm inner)) tables rest in
+    let all : length whole ≡ place + (length test + (1 + (length c + (1 + length tail)))) =
+    omega (
+      arith,
+      ap length h.code_is,
+      length-append code (test ++ (instr.Jump next ∷ (c ++ (instr.Jump out ∷ tail)))),
+      length-append test (instr.Jump next ∷ (c ++ (instr.Jump out ∷ tail))),
+      length-append c (instr.Jump out ∷ tail),
+    ) in
+    let long = row_measured scope inside row.items in
+    let long' = row_measured scope 0 row.items in
+    let at_arm : capped (place + 1 + 4 * length row.items) ≡ inside = omega (arith, all, few, long, long') in
+    let size : first_of sizes ≡ length c = target_is arm inner inside sizes (tables ++ rest) told (omega (arith, all, few, long, long')) in
+    let over : capped (place + 1 + 4 * length row.items + first_of sizes + 1) ≡ next = omega (arith, all, few, long, long', size) in
+    let compares' : compared ≡ (code ++ test) ++ instr.Jump next ∷ [] =
+    compares ∙ ap (λ n. (code ++ row_code scope n row.items) ++ instr.Jump (capped (place + 1 + 4 * length row.items + first_of sizes + 1)) ∷ []) at_arm
+    ∙ ap (λ n. (code ++ test) ++ instr.Jump n ∷ []) over in
+    let at : length compared ≡ inside =
+    omega (arith, ap length compares', length-append (code ++ test) (instr.Jump next ∷ []), length-append code test, long, long') in
+    let few' : length compared + length (stmt_code arm inner (length compared)) ≤ 4294967295 =
+    subst (λ n. n + length (stmt_code arm inner n) ≤ 4294967295) (sym at) (omega (arith, all, few, long, long')) in
+    let emitted = emits (tables ++ rest) told few' in
+    let behind : after ≡ code ++ (test ++ (instr.Jump next ∷ (c ++ (instr.Jump out ∷ [])))) =
+    ends
+    ∙ ap (λ d. d ++ instr.Jump out ∷ []) (emitted.0 ∙ ap (λ n. compared ++ stmt_code arm inner n) at ∙ ap (λ d. d ++ c) compares')
+    ∙ append_assoc ((code ++ test) ++ instr.Jump next ∷ []) c (instr.Jump out ∷ [])
+    ∙ append_assoc (code ++ test) (instr.Jump next ∷ []) (c ++ instr.Jump out ∷ [])
+    ∙ append_assoc code test (instr.Jump next ∷ (c ++ instr.Jump out ∷ [])) in
+    let end : length after ≡ next =
+    omega (
+      arith,
+      ap length behind,
+      length-append code (test ++ (instr.Jump next ∷ (c ++ (instr.Jump out ∷ [])))),
+      length-append test (instr.Jump next ∷ (c ++ (instr.Jump out ∷ []))),
+      length-append c (instr.Jump out ∷ []),
+      long,
+      long',
+    ) in
+    record {
+      code_is = ap (λ n. after ++ arms_code scope out rows (map stmt_code arms) n) end
+          ∙ ap (λ d. d ++ tail) behind
+          ∙ append_assoc code (test ++ (instr.Jump next ∷ (c ++ (instr.Jump out ∷ [])))) tail
+          ∙ ap (λ d. code ++ d) (append_assoc test (instr.Jump next ∷ (c ++ (instr.Jump out ∷ []))) tail)
+          ∙ ap (λ d. code ++ (test ++ (instr.Jump next ∷ d))) (append_assoc c (instr.Jump out ∷ []) tail)
+          ∙ h.code_is;
+      sizes_are = emitted.1;
+    }
+
+-- no arm behind the last one has an instruction
+pub arms_code-none : (scope : Scope) (out : ℕ) (rows : List (Vec ℤ)) (place : ℕ) → arms_code scope out rows [] place ≡ []
+arms_code-none scope out [] place = refl
+arms_code-none scope out (row ∷ rows) place = refl
+
+-- all arms, at the end
+pub arms_emitted : (scope : Scope) (out : ℕ) (whole : List Instr) (rest : List ℕ) (rows : List (Vec ℤ)) (arms : List Stmt) (code : List Instr)
+    (sizes : List ℕ) → arms ≡ [] → AreLeft scope out whole rest rows arms code sizes → (code ≡ whole) × (sizes ≡ rest)
+arms_emitted scope out whole rest rows arms code sizes none h = (
+  sym (append-nil code)
+      ∙ ap (λ c. code ++ c) (sym (arms_code-none scope out rows (length code)))
+      ∙ ap (λ ss. code ++ arms_code scope out rows (map stmt_code ss) (length code)) (sym none)
+      ∙ h.code_is,
+  h.sizes_are
+      ∙ ap (λ ss. arms_table rows (map (λ s. measured s (holding 1 scope)) ss) ++ rest) none
+      ∙ ap (λ ns. ns ++ rest) (arms_table-none rows),
+)
+
+-- without a row of constants no arm counts
+pub none_left : (scope : Scope) (out : ℕ) (whole : List Instr) (rest : List ℕ) (arms others : List Stmt) (code : List Instr) (sizes : List ℕ)
+    → AreLeft scope out whole rest [] arms code sizes → AreLeft scope out whole rest [] others code sizes
+none_left scope out whole rest arms others code sizes h = record { code_is = h.code_is; sizes_are = h.sizes_are }

@@ -1,6 +1,6 @@
 -- Loops: a head where each round begins, and a round that comes back to it or leaves the loop. Each round behind which
 -- another follows uses a turn, so a run with as many turns as a bound takes no more rounds than that.
-use Rattle.std.proofs.Common.{◌≡◌, ℕ, zero, suc, ◌+◌, ◌-◌, ◌<◌, ◌≤◌, List, ◌++◌, [], ◌∷◌, Option, Some, None, inl, inr, refl, sym, ap, ◌∙◌, subst, arith}
+use Rattle.std.proofs.Common.{◌≡◌, ℕ, zero, suc, ◌+◌, ◌-◌, ◌<◌, ◌≤◌, List, ◌++◌, [], ◌∷◌, Option, Some, None, inl, inr, refl, arith}
 use Rattle.std.specs.Prelude.{ℤ}
 use Rattle.meaning.specs.declared.outcome.Ending.{Ending}
 use Rattle.meaning.specs.declared.outcome.Ending.TheVariants as ending

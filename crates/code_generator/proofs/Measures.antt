@@ -3,7 +3,6 @@ use Rattle.std.proofs.Common.{◌≡◌, ℕ, ◌+◌, List, [], ◌∷◌, ◌+
 use Rattle.std.specs.Prelude.{ℤ, ◌*◌}
 use Rattle.std.specs.Global.{Vec}
 use Rattle.pcode_assembler.specs.declared.instr.Instr.TheVariants as instr
-use Rattle.std.specs.List.{flat_map}
 use Rattle.std.proofs.lemmas.List.Sums.{sum_by-cons}
 use Rattle.typed_tree.specs.declared.tree.Stmt.{Stmt}
 use Rattle.typed_tree.specs.declared.tree.Stmt.TheOpen.{Stmt-F}
@@ -44,7 +43,7 @@ all_measured scope (s ∷ statements) place =
     ∙ sym (sum_by-cons (λ (m : Measured). m.size) (measured s.0 scope) rest)
 
 -- a row of constants, and the arms behind their rows
-row_measured : (scope : Scope) (arm : ℕ) (row : List ℤ) → length (row_code scope arm row) ≡ 4 * length row
+pub row_measured : (scope : Scope) (arm : ℕ) (row : List ℤ) → length (row_code scope arm row) ≡ 4 * length row
 row_measured scope arm [] = refl
 row_measured scope arm (constant ∷ row) = let e = row_measured scope arm row in omega arith
 
@@ -117,3 +116,22 @@ layer (Case number site index constants arms) =
 -- the size of a statement is the length of its code, wherever that stands
 pub is_measured : (s : Stmt) → IsMeasured s
 is_measured = ind-Stmt IsMeasured (λ x y is. subst (λ z. IsMeasured (roll-Stmt z)) is (layer y))
+
+-- the same of the arms of a case statement behind their rows
+pub arms_are_measured : (scope : Scope) (out : ℕ) (rows : List (Vec ℤ)) (arms : List Stmt) (place : ℕ)
+    → length (arms_code scope out rows (map stmt_code arms) place) ≡ arms_size rows (map (λ s. measured s (holding 1 scope)) arms)
+arms_are_measured scope out [] arms place = refl
+arms_are_measured scope out (row ∷ rows) [] place = refl
+arms_are_measured scope out (row ∷ rows) (arm ∷ arms) place =
+    let inside = place + length (row_code scope 0 row.items) + 1 in
+    let code = stmt_code arm (holding 1 scope) inside in
+    let next = inside + length code + 1 in
+    let rest = arms_code scope out rows (map stmt_code arms) next in
+    omega (
+      arith,
+      is_measured arm (holding 1 scope) inside,
+      arms_are_measured scope out rows arms next,
+      row_measured scope inside row.items,
+      length-append (row_code scope inside row.items) (instr.Jump next ∷ (code ++ (instr.Jump out ∷ rest))),
+      length-append code (instr.Jump out ∷ rest),
+    )

@@ -1,7 +1,7 @@
 -- Pieces of code, one after another.
 use Rattle.std.proofs.Common.{◌≡◌, ℕ, Bool, ◌+◌, ◌<◌, ◌≤◌, max, length, length-append, take, get_or, List, [], ◌∷◌, ◌++◌, map, refl, ap, sym, ◌∙◌, append-nil, append_assoc, arith, Some, None}
 use Rattle.std.specs.List.{flat_map}
-use Rattle.std.specs.Prelude.{fold}
+use Rattle.std.specs.Prelude.{ℤ, fold}
 use Rattle.std.proofs.lemmas.List.Sums.{fold_push}
 use Rattle.std.proofs.Math.Nat.{add-zero, add_assoc}
 use Rattle.std.proofs.lemmas.Simd.{map-map}
@@ -21,11 +21,11 @@ use Rattle.typed_tree.specs.declared.tree.Monadic.{Monadic}
 use Rattle.typed_tree.specs.declared.tree.Expr.TheOpen.Expr-F.{Variable as Variable-layer, Chain as Chain-layer, Monadic as Monadic-layer}
 use Rattle.typed_tree.specs.declared.tree.Expr.TheFolds.{fold-roll-Expr, fold_out-Link}
 use Rattle.typed_tree.specs.declared.tree.Stmt.{Stmt}
-use Rattle.typed_tree.specs.declared.tree.Stmt.TheVariants.{Empty, rolls-Empty, Assign, rolls-Assign, Write, rolls-Write, Compound, rolls-Compound, If, rolls-If, While, rolls-While, Repeat, rolls-Repeat, For, rolls-For}
-use Rattle.typed_tree.specs.declared.tree.Stmt.TheOpen.Stmt-F.{Empty as Empty-layer, Assign as Assign-layer, Write as Write-layer, Compound as Compound-layer, If as If-layer, While as While-layer, Repeat as Repeat-layer, For as For-layer}
+use Rattle.typed_tree.specs.declared.tree.Stmt.TheVariants.{Empty, rolls-Empty, Assign, rolls-Assign, Write, rolls-Write, Compound, rolls-Compound, If, rolls-If, While, rolls-While, Repeat, rolls-Repeat, For, rolls-For, Case, rolls-Case}
+use Rattle.typed_tree.specs.declared.tree.Stmt.TheOpen.Stmt-F.{Empty as Empty-layer, Assign as Assign-layer, Write as Write-layer, Compound as Compound-layer, If as If-layer, While as While-layer, Repeat as Repeat-layer, For as For-layer, Case as Case-layer}
 use Rattle.typed_tree.specs.declared.tree.Stmt.TheFolds.{fold-roll-Stmt}
 use Rattle.code_generator.specs.declared.scope.Scope.{Scope}
-use Rattle.code_generator.specs.Code.{joined, placed, Placed, if_code, if_else_code, while_code, repeat_code, for_code, for_entry, for_begin, for_next, for_end, holding, dyadic_code, monadic_code, expr_step, link_step, expr_code, link_code, variable_code, variable_offset, assign_code, write_code, parameter_code, line_end_code, stmt_step, stmt_code, greatest, expr_depth, parameter_depth, stmt_depth, stmt_depth_step}
+use Rattle.code_generator.specs.Code.{joined, placed, Placed, if_code, if_else_code, while_code, repeat_code, for_code, for_entry, for_begin, for_next, for_end, case_code, holding, dyadic_code, monadic_code, expr_step, link_step, expr_code, link_code, variable_code, variable_offset, assign_code, write_code, parameter_code, line_end_code, stmt_step, stmt_code, greatest, arms_depth, expr_depth, parameter_depth, stmt_depth, stmt_depth_step}
 
 -- the pieces of a list, one for each element
 pub joined-map : {X : Type 0} (piece_of : X → List Instr) (xs : List X) → joined (map piece_of xs) ≡ flat_map piece_of xs
@@ -152,6 +152,14 @@ length-For control first first_fits way last last_fits body scope place =
       length-append next done,
     )
 
+-- a case statement
+pub stmt_code-Case : (scope : Scope) (place number site : ℕ) (index : Expr) (constants : Vec (Vec ℤ)) (arms : Vec Stmt)
+    → stmt_code (Case number site index constants arms) scope place ≡ case_code site (expr_code scope index) constants.items (map stmt_code arms.items) scope
+    place
+stmt_code-Case scope place number site index constants arms =
+    ap (λ s. stmt_code s scope place) (sym (rolls-Case number site index constants arms))
+    ∙ ap (λ code. code scope place) (fold-roll-Stmt Placed stmt_step (Case-layer number site index constants arms))
+
 -- how many instructions they have
 pub length-If : (test : List Instr) (consequence : Placed) (scope : Scope) (place : ℕ)
     → length (if_code test consequence scope place) ≡ length test + 1 + length (consequence scope (place + length test + 1))
@@ -229,6 +237,11 @@ pub stmt_depth-For : (number loop_number : ℕ) (word : SourcePlace) (control : 
 stmt_depth-For number loop_number word control first first_fits way last last_fits body =
     ap stmt_depth (sym (rolls-For number loop_number word control first first_fits way last last_fits body))
     ∙ fold-roll-Stmt ℕ stmt_depth_step (For-layer number loop_number word control first first_fits way last last_fits body)
+
+-- no arm behind the last one needs a cell
+pub arms_depth-none : (rows : List (Vec ℤ)) → arms_depth rows [] ≡ 0
+arms_depth-none [] = refl
+arms_depth-none (row ∷ rows) = refl
 
 -- a loop over pieces, at its end
 pub joined_at_end : {X : Type 0} (piece_of : X → List Instr) (code start : List Instr) (xs ys : List X) (i : ℕ)

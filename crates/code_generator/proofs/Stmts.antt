@@ -1,13 +1,12 @@
 -- The code of a statement keeps the program's store and the cells of its frame alike, or stops as the statement does.
-use Rattle.std.proofs.Common.{◌≡◌, ℕ, zero, suc, ◌+◌, ◌<◌, ◌≤◌, max, Option, List, [], ◌∷◌, ◌++◌, length, map, Some, None, Ok, refl, sym, ap, ◌∙◌, subst, arith, length-append, append_assoc, append-nil, Bool, true, false}
-use Rattle.std.specs.Prelude.{slice_set, ℤ, pos, negsuc, ◌+ℤ◌, ◌-ℤ◌, int_le, not, nat_lt,  ◌-◌, ◌&&◌, replicate, take, codes, if◌then◌else◌, fold}
+use Rattle.std.proofs.Common.{◌≡◌, ℕ, suc, ◌+◌, ◌<◌, ◌≤◌, max, Option, List, [], ◌∷◌, ◌++◌, length, map, Some, None, Ok, refl, sym, ap, ◌∙◌, subst, arith, length-append, append_assoc, append-nil, Bool, true, false}
+use Rattle.std.specs.Prelude.{slice_set, ℤ, pos, negsuc, ◌+ℤ◌, ◌-ℤ◌, int_le, not, nat_lt, ◌-◌, ◌&&◌, replicate, take, codes, if◌then◌else◌, fold}
 use Rattle.std.specs.Global.{Vec}
 use Rattle.std.specs.List.{flat_map}
 use Rattle.std.specs.Ordering.{int_eq}
 use Rattle.check_remover.specs.Strip.{stays}
 use Rattle.std.specs.Fmt.{signed_decimal}
 use Rattle.std.proofs.lemmas.Bool.{ltb-true, and_parts}
-use Rattle.std.proofs.lemmas.List.{length-set}
 use Rattle.pcode_assembler.specs.declared.instr.Instr.{Instr}
 use Rattle.pcode_assembler.specs.declared.instr.Instr.TheVariants as instr
 use Rattle.place.specs.declared.Place.{Place as SourcePlace}
@@ -43,17 +42,16 @@ use Rattle.stack_machine.specs.Machine as machine
 use Rattle.stack_machine.specs.Machine.{State, with_text}
 use Rattle.stack_machine.specs.Texts as texts
 use Rattle.code_generator.specs.declared.scope.Scope.{Scope}
-use Rattle.code_generator.specs.Code.{Placed, placed, if_code, if_else_code, while_code, repeat_code, for_code, for_entry, for_begin, for_next, for_end, holding, held_offset, order_instr, next_instr, row_code, arms_code, case_code, count, greatest, variable_offset, expr_code, width_code, write_instr, parameter_code, line_end_code, write_code, stmt_code, stmt_step, stmt_depth, stmt_depth_step, expr_depth, parameter_depth}
+use Rattle.code_generator.specs.Code.{Placed, placed, if_code, if_else_code, while_code, repeat_code, for_code, for_entry, for_begin, for_next, for_end, holding, held_offset, order_instr, next_instr, row_code, arms_code, case_code, count, greatest, variable_offset, expr_code, width_code, write_instr, parameter_code, line_end_code, write_code, stmt_code, stmt_step, stmt_depth, stmt_depth_step, arms_depth, expr_depth, parameter_depth}
 use Rattle.typed_tree.specs.WellFormed.{all_hold, is_well_formed_expr, is_well_formed_width, is_well_formed_parameter, is_well_formed_test, is_well_formed_stmt, stmt_is_well_formed}
 use Rattle.code_generator.proofs.Reach.{Stands, StandsAt, stands_front, stands_back, Comes, comes_less, comes_on, stays_here}
-use Rattle.code_generator.proofs.Setting.{Setting, on, Based, linked, Here, goes_on, acts, jumps, branches_on, behind_executes, passes, fails, Executes, done, executes_from, then_executes, then_leaves, after_value}
+use Rattle.code_generator.proofs.Setting.{Setting, on, Based, linked, Here, goes_on, jumps, branches_on, behind_executes, passes, fails, Executes, done, executes_from, then_executes, then_leaves, after_value}
 use Rattle.code_generator.proofs.Loops.{Rounds, RoundRuns, rounds_on, then_rounds, value_rounds, turned, loops, reset, rounds_from_reset, executes_from_reset}
-use Rattle.code_generator.proofs.Held.{slot, stores_variable, variable_kept, variable_forgotten, loads_held, stores_held, decides, begins, steps, leaves, tests, compares_row, last_is, NextFits, next_fits, one_fits}
+use Rattle.code_generator.proofs.Held.{slot, stores_variable, variable_kept, variable_forgotten, loads_held, stores_held, decides, begins, steps, leaves, tests, compares_row, last_is, next_fits, one_fits}
 use Rattle.code_generator.proofs.Pieces.{length-For}
-use Rattle.code_generator.proofs.Acts.{framed, length_one, stores, is_in_range, writes}
+use Rattle.code_generator.proofs.Acts.{framed, length_one, is_in_range, writes}
 use Rattle.code_generator.proofs.Numbers.{Fits, same_range, sum_is, difference_is}
 use Rattle.code_generator.proofs.Exprs.{start_within, expr_runs, width_runs, one_held}
-use Rattle.code_generator.proofs.Alike.{Activation, Alike, Leads, HasCell, alike_written, alike_above, base_is, cell_within, direct_lies}
 
 -- what the machine writes in a width is what the program writes
 same_integer_text : (n width : ℤ) → texts.integer_text n width ≡ effect.integer_text n width
@@ -823,18 +821,17 @@ module _ (g : Setting) (site : ℕ) (within : site < length g.tree.sites.items) 
       → Executes g s.turns (on g (base ++ index) place s.output) index out (effect.stop (ending.Error site) s)
   no_arm place base s stands = fails g (instr.Fail site) (base ++ index) place site s.output (Ok false) refl refl s.turns stands.0 within refl
 
-  arms_run : (rows : List (Vec ℤ)) (arms : List ((s : Stmt) × StmtRuns s)) (before depth place : ℕ) (base : List Cell) (s : effect.State)
+  arms_run : (rows : List (Vec ℤ)) (arms : List ((s : Stmt) × StmtRuns s)) (before place : ℕ) (base : List Cell) (s : effect.State)
       → fold max before (map repeats (map (λ x. x.0) arms)) ≤ g.slack
       → all_hold (map (is_well_formed_stmt (length g.tree.variables.items) (length g.tree.sites.items)) (map (λ x. x.0) arms)) ≡ true
-      → g.below + length held + max 3 (fold max depth (map stmt_depth (map (λ x. x.0) arms)) + 1) ≤ g.limit → Based g s.store base
+      → g.below + length held + max 3 (arms_depth rows (map stmt_depth (map (λ x. x.0) arms)) + 1) ≤ g.limit → Based g s.store base
       → Stands g.target place (arms_code g.scope out rows (map stmt_code (map (λ x. x.0) arms)) place ++ (instr.Fail site ∷ behind))
       → Executes g s.turns (on g (base ++ index) place s.output) index out (arm_of site rows (map effect_of (map (λ x. x.0) arms)) n g.environment s)
-  arms_run [] arms before depth place base s few good deep based stands = no_arm place base s stands
-  arms_run (row ∷ rows) [] before depth place base s few good deep based stands = no_arm place base s stands
-  arms_run (row ∷ rows) (arm ∷ arms) before depth place base s few good deep based stands =
+  arms_run [] arms before place base s few good deep based stands = no_arm place base s stands
+  arms_run (row ∷ rows) [] before place base s few good deep based stands = no_arm place base s stands
+  arms_run (row ∷ rows) (arm ∷ arms) before place base s few good deep based stands =
       let others = map (λ (x : (s : Stmt) × StmtRuns s). x.0) arms in
       let least = start_within (max before (repeats arm.0)) (map repeats others) in
-      let least' = start_within (max depth (stmt_depth arm.0)) (map stmt_depth others) in
       let inside = place + length (row_code g.scope 0 row.items) + 1 in
       let code = stmt_code arm.0 (holding 1 g.scope) inside in
       let next = inside + length code + 1 in
@@ -870,13 +867,13 @@ module _ (g : Setting) (site : ℕ) (within : site < length g.tree.sites.items) 
         | false ↦ λ there.
             executes_from g 1 s.turns _ _ index out (arm_of site rows (map effect_of others) n g.environment s)
             (comes_on g.target 0 1 _ _ _ there (jumps g next (base ++ index) (place + length compared) s.output jump.0))
-            (arms_run rows arms (max before (repeats arm.0)) (max depth (stmt_depth arm.0)) next base s few parts.1 deep based from_jump.1)
+            (arms_run rows arms (max before (repeats arm.0)) next base s few parts.1 (omega arith) based from_jump.1)
       ]) came
 
 case_runs : (g : Setting) (number site : ℕ) (index : Expr) (rows : List (Vec ℤ)) (arms : List ((s : Stmt) × StmtRuns s)) (well : Bool)
     → greatest (map repeats (map (λ x. x.0) arms)) ≤ g.slack
     → ExecutesAs g (λ scope. case_code site (expr_code scope index) rows (map stmt_code (map (λ x. x.0) arms)) scope)
-    (max (expr_depth index) (max 3 (greatest (map stmt_depth (map (λ x. x.0) arms)) + 1)))
+    (max (expr_depth index) (max 3 (arms_depth rows (map stmt_depth (map (λ x. x.0) arms)) + 1)))
     (nat_lt site (sites g) && (is_well_formed_expr (variables g) (sites g) index && (well && all_hold (map
     (is_well_formed_stmt (variables g) (sites g)) (map (λ x. x.0) arms)))))
     (λ e. effect.enter number e >>= λ _. value_of index e >>= λ v. arm_of site rows (map effect_of (map (λ x. x.0) arms)) (number_of v) e)
@@ -907,7 +904,7 @@ case_runs g number site index rows arms well few place base held s stands good b
     let here = held ++ Number n ∷ [] in
     subst (λ cells. Executes g t.turns (on g cells first t.output) held (out + 1) (next (value.Number n) t)) (one_held g base2 held n)
     (behind_executes g t.turns _ here held out (out + 1) (next (value.Number n) t)
-    (arms_run g site within out pop held high n rows arms 0 0 first base2 t few p3.1 (omega arith) based2 from_arms)
+    (arms_run g site within out pop held high n rows arms 0 first base2 t few p3.1 (omega arith) based2 from_arms)
     (λ base3 u based3.
     subst (λ cells. Comes g.target 0 (on g cells out u.output) (on g (base3 ++ held) (out + 1) u.output)) (sym (one_held g base3 held n))
     (popped_there g (base3 ++ held) n out u.output popping (linked g u.store base3 held based3))))))

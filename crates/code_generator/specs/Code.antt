@@ -1,7 +1,8 @@
 -- The code of a typed tree: of an expression (ISO 7185:1990, 6.7), of a statement (6.8) and of a program (6.10), as
 -- functions of the tree, of where in a frame its variables lie and, for a statement, of its place in the code. It does
 -- not say what the code does: that is for the machine to say.
-use Rattle.std.specs.Prelude.{ℕ, ℤ, pos, ◌+◌, max, min, Bool, true, false, List, [], ◌∷◌, ◌++◌, Option, Some, None, length, map, slice_get, fold}
+use Rattle.std.specs.Prelude.{ℕ, ℤ, pos, ◌+◌, max, min, Bool, true, false, List, [], ◌∷◌, ◌++◌, Option, Some, None}
+use Rattle.std.specs.Prelude.{length, map, slice_get, fold}
 use Rattle.std.specs.Global.{Vec}
 use Rattle.std.specs.List.{flat_map}
 use Rattle.std.specs.declared.alloc.Global.{Global}
@@ -31,7 +32,8 @@ use Rattle.typed_tree.specs.declared.tree.Expr.TheOpen.Expr-F.{Constant, Variabl
 use Rattle.typed_tree.specs.declared.tree.Expr.TheFolds.{fold-Expr, fold-Link}
 use Rattle.typed_tree.specs.declared.tree.Stmt.{Stmt}
 use Rattle.typed_tree.specs.declared.tree.Stmt.TheOpen.{Stmt-F}
-use Rattle.typed_tree.specs.declared.tree.Stmt.TheOpen.Stmt-F.{Empty, Assign, Write, Compound, If, While, Repeat, For, Case}
+use Rattle.typed_tree.specs.declared.tree.Stmt.TheOpen.Stmt-F.{Empty, Assign, Write, Compound, If, While, Repeat, For}
+use Rattle.typed_tree.specs.declared.tree.Stmt.TheOpen.Stmt-F.{Case}
 use Rattle.typed_tree.specs.declared.tree.Stmt.TheFolds.{fold-Stmt}
 
 -- the pieces one after another
@@ -201,8 +203,8 @@ abbrev pub next_instr : Direction → Instr
 next_instr direction.To = instr.Add
 next_instr direction.DownTo = instr.Subtract
 
--- The code behind both bounds, whose values are held from then on: a jump out of the loop where they leave no value, and
--- the tests of the first and of the last.
+-- The code behind both bounds, whose values are held from then on: a jump out of the loop where they leave no value,
+-- and the tests of the first and of the last.
 abbrev pub for_entry : Scope → RangeTest → Direction → RangeTest → ℕ → List Instr
 for_entry scope first_fits way last_fits out =
     instr.Load 0 (held_offset scope 0) ∷ instr.Load 0 (held_offset scope 1) ∷ order_instr way ∷ instr.JumpIfFalse out
@@ -237,11 +239,14 @@ for_code control first first_fits way last last_fits body scope place =
     first ++ (last ++ (for_entry scope first_fits way last_fits out
     ++ (for_begin scope control ++ (inside ++ (for_next scope way head out ++ for_end scope control)))))
 
--- the index is compared with each constant of a row, and a jump to the arm is taken where it is the same
+-- the index is compared with a constant, and a jump to the arm is taken where it is the same
+abbrev pub comparison : Scope → ℕ → ℤ → List Instr
+comparison scope arm constant =
+    instr.LoadConstant constant ∷ instr.Load 0 (held_offset scope 0) ∷ instr.NotEqual ∷ instr.JumpIfFalse arm ∷ []
+
+-- it is compared with each constant of a row
 abbrev pub row_code : Scope → ℕ → List ℤ → List Instr
-row_code scope arm row =
-    flat_map (λ constant. instr.LoadConstant constant ∷ instr.Load 0 (held_offset scope 0) ∷ instr.NotEqual
-    ∷ instr.JumpIfFalse arm ∷ []) row
+row_code scope arm row = flat_map (comparison scope arm) row
 
 -- one arm behind another: its constants, a jump over it, the arm, and a jump out of the statement
 abbrev pub arms_code : Scope → ℕ → List (Vec ℤ) → List Placed → ℕ → List Instr
@@ -314,6 +319,12 @@ abbrev pub alternative_depth : Option (Box ℕ Global) → ℕ
 alternative_depth None = 0
 alternative_depth (Some depth) = depth.value
 
+-- the same of the arms of a case statement, each of which stands behind a row of constants
+abbrev pub arms_depth : List (Vec ℤ) → List ℕ → ℕ
+arms_depth [] depths = 0
+arms_depth (row ∷ rows) [] = 0
+arms_depth (row ∷ rows) (depth ∷ depths) = max depth (arms_depth rows depths)
+
 abbrev pub stmt_depth_step : Stmt-F ℕ → ℕ
 stmt_depth_step (Empty number) = 0
 stmt_depth_step (Assign number becomes target fits value) = expr_depth value
@@ -326,7 +337,8 @@ stmt_depth_step (Repeat number loop_number word statements condition) =
     max (greatest statements.items) (expr_depth condition)
 stmt_depth_step (For number loop_number word control first first_fits way last last_fits body) =
     max (max (expr_depth first) (expr_depth last + 1)) (max 4 (body.value + 2))
-stmt_depth_step (Case number site index constants arms) = max (expr_depth index) (max 3 (greatest arms.items + 1))
+stmt_depth_step (Case number site index constants arms) =
+    max (expr_depth index) (max 3 (arms_depth constants.items arms.items + 1))
 
 -- how many cells the evaluation of a statement needs at once
 abbrev pub stmt_depth : Stmt → ℕ

@@ -1,12 +1,14 @@
 -- Numbers as the compiler counts them, in 32 bits; and how many instructions each statement has, in the order in which
 -- the statements of a program begin. It does not say what they are.
-use Rattle.std.specs.Prelude.{◌≡◌, ℕ, ℤ, ◌+◌, ◌*◌, Result, IfOk, List, [], ◌∷◌, ◌++◌, Some, None, length, map, min, sum_by}
+use Rattle.std.specs.Prelude.{◌≡◌, ℕ, ℤ, ◌+◌, ◌*◌, Result, IfOk, List, [], ◌∷◌, ◌++◌, Some, None, length, map, min}
+use Rattle.std.specs.Prelude.{sum_by}
 use Rattle.std.specs.Global.{Vec}
 use Rattle.std.specs.List.{flat_map}
 use Rattle.std.specs.declared.alloc.AllocError.{AllocError}
 use Rattle.typed_tree.specs.declared.tree.Stmt.{Stmt}
 use Rattle.typed_tree.specs.declared.tree.Stmt.TheOpen.{Stmt-F}
-use Rattle.typed_tree.specs.declared.tree.Stmt.TheOpen.Stmt-F.{Empty, Assign, Write, Compound, If, While, Repeat, For, Case}
+use Rattle.typed_tree.specs.declared.tree.Stmt.TheOpen.Stmt-F.{Empty, Assign, Write, Compound, If, While, Repeat, For}
+use Rattle.typed_tree.specs.declared.tree.Stmt.TheOpen.Stmt-F.{Case}
 use Rattle.typed_tree.specs.declared.tree.Stmt.TheFolds.{fold-Stmt}
 use Rattle.code_generator.specs.declared.scope.Scope.{Scope}
 use Rattle.code_generator.specs.Code.{assign_code, expr_code, holding, write_code}
@@ -104,3 +106,8 @@ IsTold answer before after m told = IfOk answer (λ size. (size ≡ capped m.siz
 abbrev pub AreTold : Result ℕ AllocError → List ℕ → List ℕ → List Measured → Type 0
 AreTold answer before after ms =
     IfOk answer (λ size. (size ≡ capped (all_sizes ms)) × (after ≡ before ++ all_tables ms))
+
+-- the same of the arms of a case statement behind their rows of constants
+abbrev pub ArmsAreTold : Result ℕ AllocError → List ℕ → List ℕ → List (Vec ℤ) → List Measured → Type 0
+ArmsAreTold answer before after rows ms =
+    IfOk answer (λ size. (size ≡ capped (arms_size rows ms)) × (after ≡ before ++ arms_table rows ms))

@@ -1,5 +1,5 @@
 ghost use Rattle.std.specs.Prelude.{◌≡◌, map};
-ghost use Rattle.code_generator.specs.Code.{expr_depth, greatest, parameter_depth, stmt_depth, width_depth};
+ghost use Rattle.code_generator.specs.Code.{arms_depth, expr_depth, greatest, parameter_depth, stmt_depth, width_depth};
 ghost use Rattle.code_generator.specs.Sizes.{capped};
 
 use typed_tree::tree::{Expr, Stmt, WriteParameter};
@@ -45,9 +45,12 @@ pub fn needed_by(stmt: &Stmt) -> u32
             let bounds = needed_by_expr(first).max(needed_by_expr(last).saturating_add(1));
             bounds.max(needed_by(body).saturating_add(2).max(4))
         }
-        Stmt::Case { index, arms, .. } => {
-            needed_by_expr(index).max(needed_by_statements(arms).saturating_add(1).max(3))
-        }
+        Stmt::Case {
+            index,
+            constants,
+            arms,
+            ..
+        } => needed_by_expr(index).max(needed_by_arms(constants, arms).saturating_add(1).max(3)),
     }
 }
 
@@ -59,6 +62,22 @@ fn needed_by_statements(statements: &Vec<Stmt>) -> u32
     let mut depth = 0;
     for statement in statements {
         depth = depth.max(needed_by(statement));
+    }
+    depth
+}
+
+/// The same of the arms of a case statement, each of which stands behind a row of constants.
+#[cycle(needed_by)]
+fn needed_by_arms(constants: &Vec<Vec<i32>>, arms: &Vec<Stmt>) -> u32
+    ensures { result ≡ capped (arms_depth constants.now.items (map stmt_depth arms.now.items)) }
+{
+    let mut rows = constants.as_slice();
+    let mut depth = 0;
+    for arm in arms {
+        if let Some((_row, others)) = rows.split_first() {
+            depth = depth.max(needed_by(arm));
+            rows = others;
+        }
     }
     depth
 }

@@ -1,10 +1,16 @@
-ghost use Rattle.std.specs.Prelude.{◌≡◌, ◌≤◌, ◌+◌, ℕ, List, [], ◌∷◌, ◌++◌, OnOk, length, vec_len};
-ghost use Rattle.code_generator.specs.Code.{assign_code, check_positive, default_width, dyadic_code, expr_code, for_begin, for_end, for_entry, for_next, held_offset as offset_of_held, holding, line_end_code, next_instr, order_instr, range_check, link_code, monadic_code, parameter_code, relation_instr, stmt_code, variable_code, variable_offset, width_code, write_code, write_instr};
+ghost use Rattle.std.specs.Prelude.{◌≡◌, ◌≤◌, ◌+◌, ◌*◌, ℕ, List, [], ◌∷◌, ◌++◌, OnOk, length, map, vec_len};
+ghost use Rattle.code_generator.specs.Code.{arms_code, assign_code, check_positive, default_width, dyadic_code};
+ghost use Rattle.code_generator.specs.Code.{expr_code, for_begin, for_end, for_entry, for_next};
+ghost use Rattle.code_generator.specs.Code.{held_offset as offset_of_held, holding, line_end_code, next_instr};
+ghost use Rattle.code_generator.specs.Code.{order_instr, range_check, link_code, monadic_code, parameter_code};
+ghost use Rattle.code_generator.specs.Code.{relation_instr, row_code, stmt_code, variable_code, variable_offset};
+ghost use Rattle.code_generator.specs.Code.{width_code, write_code, write_instr};
 ghost use Rattle.code_generator.specs.Emitted.{Emits, statements_code, statements_table};
-ghost use Rattle.pcode_assembler.specs.declared.instr.Instr.TheVariants.{Jump, JumpIfFalse};
-ghost use Rattle.code_generator.specs.Sizes.{capped, measured, table_of};
+ghost use Rattle.pcode_assembler.specs.declared.instr.Instr.TheVariants.{Fail, Jump, JumpIfFalse};
+ghost use Rattle.code_generator.specs.Sizes.{arms_table, capped, measured, table_of};
 
 use crate::scope::Scope;
+use crate::size::row_size;
 use crate::sizes::Sizes;
 use pcode_assembler::instr::Instr;
 use std::alloc::AllocError;
@@ -42,6 +48,7 @@ pub fn emit_stmt(
     ensures { Emits result code.old.items code.new.items sizes.old sizes.new
         (stmt_code stmt.now scope (length code.old.items)) (table_of (measured stmt.now scope)) }
 {
+    let size = sizes.next();
     sizes.pass();
     match stmt {
         Stmt::Empty { .. } => Ok(()),
@@ -109,11 +116,22 @@ pub fn emit_stmt(
             let out = head.saturating_add(11).saturating_add(sizes.next());
             emit_entry(code, scope, *first_fits, *direction, *last_fits, out)?;
             emit_begin(code, scope, *control)?;
-            emit_stmt(code, holding_two(scope), sizes, body)?;
+            emit_stmt(code, scope_holding(2, scope), sizes, body)?;
             emit_next(code, scope, *direction, head, out)?;
             emit_end(code, scope, *control)
         }
-        Stmt::Case { .. } => Ok(()),
+        Stmt::Case {
+            site,
+            index,
+            constants,
+            arms,
+            ..
+        } => {
+            let out = place_of(code).saturating_add(size).saturating_sub(1);
+            emit_expr(code, scope, index)?;
+            emit_arms(code, scope, sizes, out, constants, arms)?;
+            emit_no_arm(code, *site, out)
+        }
     }
 }
 
@@ -131,6 +149,32 @@ fn emit_statements(
 {
     for statement in statements {
         emit_stmt(code, scope, sizes, statement)?;
+    }
+    Ok(())
+}
+
+/// The arms of a case statement, each behind its row of constants, and a jump out of the statement behind each.
+#[cycle(emit_stmt)]
+fn emit_arms(
+    code: &mut Vec<Instr>,
+    scope: Scope,
+    sizes: &mut Sizes,
+    out: u32,
+    constants: &Vec<Vec<i32>>,
+    arms: &Vec<Stmt>,
+) -> Result<(), AllocError>
+    ensures { Emits result code.old.items code.new.items sizes.old sizes.new
+        (arms_code scope out constants.now.items (map stmt_code arms.now.items) (length code.old.items))
+        (arms_table constants.now.items (map (λ s. measured s (holding 1 scope)) arms.now.items)) }
+{
+    let mut rows = constants.as_slice();
+    for arm in arms {
+        if let Some((row, others)) = rows.split_first() {
+            emit_row(code, scope, row.as_slice(), sizes.next())?;
+            emit_stmt(code, scope_holding(1, scope), sizes, arm)?;
+            put(code, Instr::Jump { target: out })?;
+            rows = others;
+        }
     }
     Ok(())
 }
@@ -295,6 +339,55 @@ fn emit_end(code: &mut Vec<Instr>, scope: Scope, control: u32) -> Result<(), All
     ])
 }
 
+/// A row of constants, and a jump over the arm behind it, which has so many instructions.
+fn emit_row(code: &mut Vec<Instr>, scope: Scope, row: &[i32], arm: u32) -> Result<(), AllocError>
+    ensures { OnOk result (code.new.items
+        ≡ (code.old.items ++ row_code scope (capped (length code.old.items + 1 + 4 * length row.now)) row.now)
+        ++ Jump (capped (length code.old.items + 1 + 4 * length row.now + arm + 1)) ∷ []) }
+{
+    let inside = place_behind(code, row_size(row));
+    emit_comparisons(code, scope, inside, row)?;
+    put(
+        code,
+        Instr::Jump {
+            target: inside.saturating_add(arm).saturating_add(1),
+        },
+    )
+}
+
+/// The value that is held is compared with each constant of a row; a jump to the arm is taken where it is the same.
+fn emit_comparisons(
+    code: &mut Vec<Instr>,
+    scope: Scope,
+    arm: u32,
+    row: &[i32],
+) -> Result<(), AllocError>
+    ensures { OnOk result (code.new.items ≡ code.old.items ++ row_code scope arm row.now) }
+{
+    let offset = held_offset(scope, 0);
+    let value = Instr::Load { level: 0, offset };
+    let choice = Instr::JumpIfFalse { target: arm };
+    for constant in row {
+        let constant = Instr::LoadConstant { value: *constant };
+        code.extend_from_slice(&[constant, value, Instr::NotEqual, choice])?;
+    }
+    Ok(())
+}
+
+/// Behind the arms: an error where none was chosen, and what takes the value away that is held.
+fn emit_no_arm(code: &mut Vec<Instr>, site: u32, out: u32) -> Result<(), AllocError>
+    ensures { OnOk result (
+        code.new.items ≡ code.old.items ++ Fail site ∷ JumpIfFalse (capped (out + 1)) ∷ []) }
+{
+    put(code, Instr::Fail { site })?;
+    put(
+        code,
+        Instr::JumpIfFalse {
+            target: out.saturating_add(1),
+        },
+    )
+}
+
 /// What compares the bounds of a for statement.
 fn order_of(direction: Direction) -> Instr
     ensures { result ≡ order_instr direction }
@@ -334,12 +427,12 @@ fn held_offset(scope: Scope, n: u32) -> u32
     offset.min(GREATEST_OFFSET)
 }
 
-/// The scope of code that runs while two cells more are held.
-fn holding_two(scope: Scope) -> Scope
-    ensures { result ≡ holding 2 scope }
+/// The scope of code that runs while so many cells more are held.
+fn scope_holding(cells: u32, scope: Scope) -> Scope
+    ensures { result ≡ holding cells scope }
 {
     Scope {
-        height: scope.height.saturating_add(2).min(MOST_CELLS),
+        height: scope.height.saturating_add(cells).min(MOST_CELLS),
         ..scope
     }
 }

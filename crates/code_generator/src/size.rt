@@ -1,9 +1,11 @@
-ghost use Rattle.std.specs.Prelude.{◌≡◌, ◌+◌, ℕ, length, map};
+ghost use Rattle.std.specs.Prelude.{◌≡◌, ◌+◌, ◌*◌, ℕ, length, map};
 ghost use Rattle.std.specs.List.{flat_map};
 ghost use Rattle.code_generator.specs.declared.scope.Scope.{Scope};
-ghost use Rattle.code_generator.specs.Code.{dyadic_code, expr_code, line_end_code, monadic_code, parameter_code, program_code, stmt_code, width_code, write_code};
+ghost use Rattle.code_generator.specs.Code.{dyadic_code, expr_code, line_end_code, monadic_code, parameter_code};
+ghost use Rattle.code_generator.specs.Code.{program_code, stmt_code, width_code, write_code};
 ghost use Rattle.code_generator.specs.Emitted.{statements_code};
-ghost use Rattle.code_generator.specs.Sizes.{capped, measured, table_of, AreTold, IsTold};
+ghost use Rattle.code_generator.specs.Sizes.{arms_size as size_of_arms, capped, measured, table_of, AreTold};
+ghost use Rattle.code_generator.specs.Sizes.{ArmsAreTold, IsTold};
 
 use std::alloc::AllocError;
 use typed_tree::tree::{Dyadic, Expr, Monadic, Stmt, Tree, WriteParameter};
@@ -60,7 +62,12 @@ fn stmt_size(stmt: &Stmt) -> u32
             body,
             ..
         } => for_size(first, last, stmt_size(body)),
-        Stmt::Case { .. } => 0,
+        Stmt::Case {
+            index,
+            constants,
+            arms,
+            ..
+        } => case_size(index, arms_size(constants, arms)),
     }
 }
 
@@ -73,6 +80,23 @@ fn statements_size(statements: &Vec<Stmt>) -> u32
     let mut size = 0u32;
     for statement in statements {
         size = size.saturating_add(stmt_size(statement));
+    }
+    size
+}
+
+/// The same of the arms of a case statement behind their rows of constants.
+#[cycle(stmt_size)]
+fn arms_size(constants: &Vec<Vec<i32>>, arms: &Vec<Stmt>) -> u32
+    ensures { (scope : Scope) → result ≡ capped
+        (size_of_arms constants.now.items (map (λ s. measured s scope) arms.now.items)) }
+{
+    let mut rows = constants.as_slice();
+    let mut size = 0u32;
+    for arm in arms {
+        if let Some((row, others)) = rows.split_first() {
+            size = size.saturating_add(arm_size(row.as_slice(), stmt_size(arm)));
+            rows = others;
+        }
     }
     size
 }
@@ -133,7 +157,12 @@ fn measure_parts(sizes: &mut Vec<u32>, stmt: &Stmt) -> Result<u32, AllocError>
             body,
             ..
         } => Ok(for_size(first, last, measure(sizes, body)?)),
-        Stmt::Case { .. } => Ok(0),
+        Stmt::Case {
+            index,
+            constants,
+            arms,
+            ..
+        } => Ok(case_size(index, measure_arms(sizes, constants, arms)?)),
     }
 }
 
@@ -146,6 +175,27 @@ fn measure_statements(sizes: &mut Vec<u32>, statements: &Vec<Stmt>) -> Result<u3
     let mut size = 0u32;
     for statement in statements {
         size = size.saturating_add(measure(sizes, statement)?);
+    }
+    Ok(size)
+}
+
+/// The same of the arms of a case statement behind their rows of constants.
+#[cycle(measure)]
+fn measure_arms(
+    sizes: &mut Vec<u32>,
+    constants: &Vec<Vec<i32>>,
+    arms: &Vec<Stmt>,
+) -> Result<u32, AllocError>
+    ensures { (scope : Scope) → ArmsAreTold result sizes.old.items sizes.new.items constants.now.items
+        (map (λ s. measured s scope) arms.now.items) }
+{
+    let mut rows = constants.as_slice();
+    let mut size = 0u32;
+    for arm in arms {
+        if let Some((row, others)) = rows.split_first() {
+            size = size.saturating_add(arm_size(row.as_slice(), measure(sizes, arm)?));
+            rows = others;
+        }
     }
     Ok(size)
 }
@@ -204,6 +254,31 @@ fn for_size(first: &Expr, last: &Expr, body: u32) -> u32
         .saturating_add(10)
         .saturating_add(body)
         .saturating_add(13)
+}
+
+/// The same of a case statement, whose arms have so many with their rows of constants.
+fn case_size(index: &Expr, arms: u32) -> u32
+    ensures { (scope : Scope) → result ≡ capped (length (expr_code scope index.now) + arms + 2) }
+{
+    expr_size(index).saturating_add(arms).saturating_add(2)
+}
+
+/// The same of an arm of one behind its row of constants, which has so many by itself.
+fn arm_size(row: &[i32], arm: u32) -> u32
+    ensures { result ≡ capped (4 * length row.now + 1 + arm + 1) }
+{
+    row_size(row)
+        .saturating_add(1)
+        .saturating_add(arm)
+        .saturating_add(1)
+}
+
+/// The same of a row of constants.
+pub fn row_size(row: &[i32]) -> u32
+    ensures { result ≡ capped (4 * length row.now) }
+{
+    let constants = u32::try_from(row.len()).unwrap_or(u32::MAX);
+    constants.saturating_mul(4)
 }
 
 /// The same of the values of a write or writeln.

@@ -1,12 +1,16 @@
-use Rattle.std.proofs.Common.{rules, Ok, OnOk, ◌≡◌, ℕ, ◌+◌, ◌≤◌, ◌++◌, [], ◌∷◌, Some, None, drop, ap, ◌∙◌, sym, subst, refl, length, length-append, map, append-nil, arith}
-use Rattle.std.proofs.lemmas.List.{drop_more, drop_all}
+use Rattle.std.proofs.Common.{rules, List, Bor, Ok, OnOk, ◌≡◌, ℕ, ◌+◌, ◌*◌, ◌≤◌, ◌++◌, [], ◌∷◌, drop, ap, ◌∙◌, sym, subst, refl, length, length-append, map, append-nil, arith}
+use Rattle.std.specs.Prelude.{ℤ}
+use Rattle.std.specs.Global.{Vec}
+use Rattle.std.proofs.lemmas.List.{drop_more, drop_all, nil_from_length}
+use Rattle.pcode_assembler.specs.declared.instr.Instr.{Instr}
 use Rattle.pcode_assembler.specs.declared.instr.Instr.TheVariants as instr
 use Rattle.typed_tree.specs.declared.tree.Stmt.TheVariants.{If}
-use Rattle.code_generator.specs.Code.{stmt_code, expr_code, if_code, if_else_code, while_code, for_code, for_begin, for_end, holding}
+use Rattle.code_generator.specs.Code.{arms_code, row_code, stmt_code, expr_code, if_code, if_else_code, while_code, for_code, for_begin, for_end, holding}
 use Rattle.code_generator.specs.Emitted.{Emits, statements_table}
-use Rattle.code_generator.specs.Sizes.{capped, rest_of, table_of, measured, all_tables}
-use Rattle.code_generator.proofs.Emitting.{IsLeft, if_emitted, if_else_emitted, one_emitted, passed_emitted, same_emitted, measured-Compound, measured-If, measured-If-else, if_measured, if_else_measured, measured-While, measured-Repeat, measured-For, for_measured, for_emitted, while_measured, while_emitted, repeat_emitted}
-use Rattle.code_generator.proofs.Pieces.{stmts_code, stmt_code-Compound, stmt_code-If, stmt_code-If-else, stmt_code-While, stmt_code-Repeat, stmt_code-For}
+use Rattle.code_generator.specs.Sizes.{arms_table, capped, table_of, measured}
+use Rattle.code_generator.proofs.Emitting.{AreLeft, none_left, arm_emitted, arms_emitted, case_emitted, measured-Case, IsLeft, if_emitted, if_else_emitted, one_emitted, passed_emitted, same_emitted, measured-Compound, measured-If, measured-If-else, if_measured, if_else_measured, measured-While, measured-Repeat, measured-For, for_measured, for_emitted, while_measured, while_emitted, repeat_emitted}
+use Rattle.code_generator.proofs.Pieces.{stmts_code, stmt_code-Compound, stmt_code-If, stmt_code-If-else, stmt_code-While, stmt_code-Repeat, stmt_code-For, stmt_code-Case}
+use Rattle.code_generator.proofs.emit.+emit_stmt.Goals.{emit_arms-in-Some+in_ok-emit_row+in_ok-emit_stmt+in_ok-put, emit_arms-in_default}
 use Rattle.code_generator.proofs.emit.+emit_stmt.Goals as goal
 
 pub emit_statements-loop-statement-init : goal.emit_statements-loop-statement-init
@@ -121,7 +125,7 @@ emit_stmt-returns-in_ok-emit_next-in-For t c =
     (for_emitted answer control first c.in-For.first_fits way last c.in-For.last_fits c.deref-in-For.result.now scope before bounds begun done after now left
     head out c.in_ok-emit_bounds-in-For.ensures (search rules) (search rules) entered
     (subst (λ sc. Emits (Ok tt) begun done now left (stmt_code c.deref-in-For.result.now sc (length begun)) (table_of (measured c.deref-in-For.result.now sc)))
-    c.holding_two.ensures c.in_ok-emit_stmt-in-For.ensures) ended))
+    c.scope_holding.ensures c.in_ok-emit_stmt-in-For.ensures) ended))
 
 pub emit_stmt-returns-in_ok-emit_expr-in-Repeat : goal.emit_stmt-returns-in_ok-emit_expr-in-Repeat
 emit_stmt-returns-in_ok-emit_expr-in-Repeat t c =
@@ -202,3 +206,87 @@ emit_stmt-returns-in_ok-emit_jump-in-Some t c =
     (table_of (measured c.deref-in-Some.result.now scope) ++ table_of (measured c.deref-in-Some-2.result.now scope)) _ c.pass.ensures
     (if_else_emitted answer test c.deref-in-Some.result.now c.deref-in-Some-2.result.now scope before (before ++ test) c.emit_test-in-Some.new.code.items done
     c.emit_jump.new.code.items after now between left refl jumping c.in_ok-emit_stmt-in-Some.ensures jumped c.emit_stmt-in-Some-2.ensures))
+
+pub emit_arms-loop-arm-preserved : goal.emit_arms-loop-arm-preserved
+emit_arms-loop-arm-preserved t c = λ rest told few.
+    let scope = c.args.scope in
+    let inner = holding 1 scope in
+    let out = c.args.out in
+    let items = c.deref-arm-items.result.now in
+    let i = c.loop-arm.arm-index in
+    let arm = c.arm-item.result in
+    let rows = c.loop-arm.rows.now in
+    let code = c.loop-arm.code.items in
+    let sizes = c.loop-arm.sizes in
+    let before = c.args.code.now.items in
+    let whole = before ++ arms_code scope out c.as_slice-rows.result.now (map stmt_code items) (length before) in
+    let next : drop i items ≡ arm ∷ drop (i + 1) items = drop_more items i arm c.loop-arm-test.true ∙ ap (λ s. s ∷ drop (i + 1) items) (sym c.arm-item.is) in
+    let left = c.loop-arm.invariant rest told few in
+    elim c.match-split_first.branch [
+      | emit_arms-in-Some+in_ok-emit_row+in_ok-emit_stmt+in_ok-put w ↦
+          let row = w.in-Some.row.now in
+          let others = w.in-Some.others.now in
+          let emitted : List ℤ → ℕ → List Instr = λ rs n. (code ++ row_code scope (capped (length code + 1 + 4 * length rs)) rs)
+          ++ instr.Jump (capped (length code + 1 + 4 * length rs + n + 1)) ∷ [] in
+          let here = subst (λ rs. AreLeft scope out whole rest rs (arm ∷ drop (i + 1) items) code sizes) w.in-Some.ensures.cases.0
+          (subst (λ ss. AreLeft scope out whole rest rows ss code sizes) next left) in
+          let compares = w.in_ok-emit_row.ensures ∙ ap (λ rs. emitted rs w.next.result) w.as_slice.ensures.value
+          ∙ ap (λ n. emitted row.items n) w.next.ensures in
+          let emits = subst (λ sc. Emits (Ok tt) w.emit_row.new.code.items w.emit_stmt.new.code.items sizes w.emit_stmt.new.sizes
+          (stmt_code arm sc (length w.emit_row.new.code.items)) (table_of (measured arm sc))) w.scope_holding.ensures w.in_ok-emit_stmt.ensures in
+          let done = arm_emitted scope out whole rest row others arm (drop (i + 1) items) code w.emit_row.new.code.items w.emit_stmt.new.code.items
+          w.put.new.code.items sizes w.emit_stmt.new.sizes few here compares emits w.in_ok-put.ensures in
+          subst (λ (rs : Bor (List (Vec ℤ))). AreLeft scope out whole rest rs.now (drop (i + 1) items) c.match-split_first.code.items c.match-split_first.sizes)
+          (sym w.rows-is)
+          (subst (λ (v : Vec Instr). AreLeft scope out whole rest others (drop (i + 1) items) v.items c.match-split_first.sizes) (sym w.code-is)
+          (subst (λ ns. AreLeft scope out whole rest others (drop (i + 1) items) w.put.new.code.items ns) (sym w.sizes-is) done))
+      | emit_arms-in_default w ↦
+          let none = nil_from_length rows w.in_default.ensures.cases in
+          let done = none_left scope out whole rest (drop i items) (drop (i + 1) items) code sizes
+          (subst (λ rs. AreLeft scope out whole rest rs (drop i items) code sizes) none left) in
+          subst (λ (rs : Bor (List (Vec ℤ))). AreLeft scope out whole rest rs.now (drop (i + 1) items) c.match-split_first.code.items c.match-split_first.sizes)
+          (sym w.rows-is)
+          (subst (λ (v : Vec Instr). AreLeft scope out whole rest rows (drop (i + 1) items) v.items c.match-split_first.sizes) (sym w.code-is)
+          (subst (λ ns. AreLeft scope out whole rest rows (drop (i + 1) items) code ns) (sym w.sizes-is)
+          (subst (λ rs. AreLeft scope out whole rest rs (drop (i + 1) items) code sizes) (sym none) done)))
+    ]
+
+pub emit_arms-returns : goal.emit_arms-returns
+emit_arms-returns t c = λ rest told few.
+    let scope = c.args.scope in
+    let before = c.args.code.now.items in
+    let place = length before in
+    let items = c.deref-arm-items.result.now in
+    let rows = c.as_slice-rows.result.now in
+    let i = c.loop-arm.arm-index in
+    let same = ap (λ rs. arms_code scope c.args.out rs (map stmt_code items) place) c.as_slice-rows.ensures.value
+    ∙ ap (λ ss. arms_code scope c.args.out c.args.constants.now.items (map stmt_code ss) place) c.deref-arm-items.ensures.value in
+    let same' = ap (λ rs. arms_table rs (map (λ s. measured s (holding 1 scope)) items)) c.as_slice-rows.ensures.value
+    ∙ ap (λ ss. arms_table c.args.constants.now.items (map (λ s. measured s (holding 1 scope)) ss)) c.deref-arm-items.ensures.value in
+    let long = length-append before (arms_code scope c.args.out c.args.constants.now.items (map stmt_code c.args.arms.now.items) place) in
+    let few' : length (before ++ arms_code scope c.args.out rows (map stmt_code items) place) ≤ 4294967295 =
+    subst (λ ns. length (before ++ ns) ≤ 4294967295) (sym same) (omega (arith, few, long)) in
+    let all = arms_emitted scope c.args.out (before ++ arms_code scope c.args.out rows (map stmt_code items) place) rest c.loop-arm.rows.now (drop i items)
+    c.loop-arm.code.items c.loop-arm.sizes (drop_all i items c.loop-arm-test.false)
+    (c.loop-arm.invariant rest (told ∙ ap (λ ns. ns ++ rest) (sym same')) few') in
+    (all.0 ∙ ap (λ ns. before ++ ns) same, all.1)
+
+pub emit_stmt-returns-in_ok-emit_arms-in-Case : goal.emit_stmt-returns-in_ok-emit_arms-in-Case
+emit_stmt-returns-in_ok-emit_arms-in-Case t c =
+    let scope = c.args.scope in
+    let before = c.args.code.now.items in
+    let place = length before in
+    let index = expr_code scope c.in-Case.index in
+    let rows = c.in-Case.constants.items in
+    let arms = c.in-Case.arms.items in
+    let answer = c.emit_no_arm.result in
+    let after = c.emit_no_arm.new.code.items in
+    let left = c.emit_arms.new.sizes in
+    same_emitted answer before after c.args.sizes.now left _ _ _ _
+    (ap (λ s. stmt_code s scope place) c.in-Case.is
+    ∙ stmt_code-Case scope place c.in-Case.number c.in-Case.site c.in-Case.index c.in-Case.constants c.in-Case.arms)
+    (ap (λ s. table_of (measured s scope)) c.in-Case.is
+    ∙ ap table_of (measured-Case scope c.in-Case.number c.in-Case.site c.in-Case.index c.in-Case.constants c.in-Case.arms))
+    (case_emitted answer c.in-Case.site index rows arms scope before c.emit_expr-in-Case.new.code.items c.emit_arms.new.code.items after c.args.sizes.now
+    c.pass.new.self left c.saturating_sub-out.result c.pass.ensures (search rules) c.in_ok-emit_expr-in-Case.ensures c.in_ok-emit_arms-in-Case.ensures
+    c.emit_no_arm.ensures)

@@ -1,4 +1,4 @@
-use Rattle.std.proofs.Common.{◌≡◌, ◌≤◌, ◌+◌, ◌++◌, [], length, ap, sym, ◌∙◌, subst, append-nil}
+use Rattle.std.proofs.Common.{◌≤◌, ◌+◌, ◌++◌, [], length, ap, sym, ◌∙◌, subst, append-nil}
 use Rattle.code_generator.specs.Code.{block_code}
 use Rattle.code_generator.specs.Sizes.{table_of, measured}
 use Rattle.code_generator.proofs.Emitting.{on_ok}

@@ -1,12 +1,14 @@
-use Rattle.std.proofs.Common.{rules, ◌≡◌, ◌+◌, ◌++◌, [], ◌∷◌, Some, None, ap, sym, ◌∙◌, length, length-append, append-nil, append_assoc, map, arith, subst, List, Result, ℕ}
-use Rattle.std.specs.Prelude.{slice_set}
+use Rattle.std.proofs.Common.{rules, Bor, ◌≡◌, ◌+◌, ◌++◌, ◌∷◌, drop, [], ◌∷◌, ap, sym, ◌∙◌, length, length-append, append-nil, append_assoc, map, arith, subst, List, Result, ℕ}
+use Rattle.std.specs.Prelude.{ℤ, slice_set}
+use Rattle.std.specs.Global.{Vec}
 use Rattle.std.specs.declared.alloc.AllocError.{AllocError}
-use Rattle.std.proofs.lemmas.List.{take_all}
+use Rattle.std.proofs.lemmas.List.{drop_all, drop_more, nil_from_length, take_all}
 use Rattle.pcode_assembler.specs.declared.instr.Instr.TheVariants as instr
 use Rattle.typed_tree.specs.declared.tree.Stmt.TheVariants.{If}
 use Rattle.code_generator.specs.Code.{expr_code, holding, program_scope, variable_offset}
-use Rattle.code_generator.specs.Sizes.{capped, Measured, measured, all_sizes, all_tables, table_of, IsTold, AreTold}
-use Rattle.code_generator.proofs.Emitting.{measured-Assign, measured-Compound, measured-If, measured-If-else, measured-While, measured-Repeat, measured-For, sizes_one_more, tables_one_more, set_at_seam}
+use Rattle.code_generator.specs.Sizes.{capped, Measured, measured, all_sizes, all_tables, arms_size, arms_table, table_of, IsTold, AreTold}
+use Rattle.code_generator.proofs.Emitting.{measured-Assign, measured-Compound, measured-If, measured-If-else, measured-While, measured-Repeat, measured-For, measured-Case, arms_size-none, arms_table-none, sizes_one_more, tables_one_more, set_at_seam}
+use Rattle.code_generator.proofs.size.+measure.Goals.{measure_arms-in-Some+in_ok-measure, measure_arms-in_default}
 use Rattle.code_generator.proofs.size.+measure.Goals as goal
 
 pub measure-index_mut-requires : goal.measure-index_mut-requires
@@ -169,4 +171,78 @@ measure_parts-returns-in_ok-measure-in-Some t c = λ scope.
           ∙ ap (λ m. (before ++ table_of yes) ++ table_of m) same'
           ∙ append_assoc before (table_of yes) (table_of no)
           ∙ ap (λ m. before ++ m.inner) (sym is),
+    )
+
+pub measure_arms-loop-arm-preserved : goal.measure_arms-loop-arm-preserved
+measure_arms-loop-arm-preserved t c =
+    let items = c.deref-arm-items.result.now in
+    let i = c.loop-arm.arm-index in
+    let arm = c.arm-item.result in
+    let next : drop i items ≡ arm ∷ drop (i + 1) items = drop_more items i arm c.loop-arm-test.true ∙ ap (λ s. s ∷ drop (i + 1) items) (sym c.arm-item.is) in
+    elim c.match-split_first.branch [
+      | measure_arms-in-Some+in_ok-measure w ↦ (
+        omega (arith, w.size-is, w.saturating_add-size.ensures),
+        λ scope.
+            let before = c.loop-arm.invariant.1 scope in
+            let left = map (λ s. measured s scope) (drop (i + 1) items) in
+            let here = ap (λ rs. arms_size rs (map (λ s. measured s scope) (drop i items))) w.in-Some.ensures.cases.0
+            ∙ ap (λ ss. arms_size (w.in-Some.row.now ∷ w.in-Some.others.now) (map (λ s. measured s scope) ss)) next in
+            let here' = ap (λ rs. arms_table rs (map (λ s. measured s scope) (drop i items))) w.in-Some.ensures.cases.0
+            ∙ ap (λ ss. arms_table (w.in-Some.row.now ∷ w.in-Some.others.now) (map (λ s. measured s scope) ss)) next in
+            let there = ap (λ (rs : Bor (List (Vec ℤ))). arms_size rs.now left) w.rows-is in
+            let there' = ap (λ (rs : Bor (List (Vec ℤ))). arms_table rs.now left) w.rows-is in
+            let one = w.in_ok-measure.ensures scope in
+            let row = ap length w.as_slice.ensures.value in (
+              omega (arith, before.0, here, there, one.0, row, w.arm_size.ensures, w.saturating_add-size.ensures, w.size-is, c.loop-arm.invariant.0),
+              ap (λ (told : Vec ℕ). told.items ++ arms_table c.match-split_first.rows.now left) w.sizes-is
+                  ∙ ap (λ ns. w.measure.new.sizes.items ++ ns) there'
+                  ∙ ap (λ ns. ns ++ arms_table w.in-Some.others.now left) one.1
+                  ∙ append_assoc c.loop-arm.sizes.items (table_of (measured arm scope)) (arms_table w.in-Some.others.now left)
+                  ∙ ap (λ ns. c.loop-arm.sizes.items ++ ns) (sym here')
+                  ∙ before.1,
+            ),
+      )
+      | measure_arms-in_default w ↦ (
+        omega (arith, w.size-is, c.loop-arm.invariant.0),
+        λ scope.
+            let before = c.loop-arm.invariant.1 scope in
+            let left = map (λ s. measured s scope) (drop (i + 1) items) in
+            let none = nil_from_length c.loop-arm.rows.now w.in_default.ensures.cases in
+            let here = ap (λ rs. arms_size rs (map (λ s. measured s scope) (drop i items))) none in
+            let there = ap (λ (rs : Bor (List (Vec ℤ))). arms_size rs.now left) w.rows-is ∙ ap (λ rs. arms_size rs left) none in
+            let here' = ap (λ rs. arms_table rs (map (λ s. measured s scope) (drop i items))) none in
+            let there' = ap (λ (rs : Bor (List (Vec ℤ))). arms_table rs.now left) w.rows-is ∙ ap (λ rs. arms_table rs left) none in (
+              omega (arith, before.0, here, there, w.size-is),
+              ap (λ (told : Vec ℕ). told.items ++ arms_table c.match-split_first.rows.now left) w.sizes-is
+                  ∙ ap (λ ns. c.loop-arm.sizes.items ++ ns) (there' ∙ sym here')
+                  ∙ before.1,
+            ),
+      )
+    ]
+
+pub measure_arms-returns : goal.measure_arms-returns
+measure_arms-returns t c = λ scope.
+    let rows = c.loop-arm.rows.now in
+    let items = c.deref-arm-items.result.now in
+    let here = c.loop-arm.sizes.items in
+    let before = c.args.sizes.now.items in
+    let last = drop_all c.loop-arm.arm-index items c.loop-arm-test.false in
+    let none = ap (λ ss. arms_size rows (map (λ s. measured s scope) ss)) last ∙ arms_size-none rows in
+    let none' = ap (λ ss. arms_table rows (map (λ s. measured s scope) ss)) last ∙ arms_table-none rows in
+    let same = ap (λ rs. arms_size rs (map (λ s. measured s scope) items)) c.as_slice-rows.ensures.value
+    ∙ ap (λ ss. arms_size c.args.constants.now.items (map (λ s. measured s scope) ss)) c.deref-arm-items.ensures.value in
+    let same' = ap (λ rs. arms_table rs (map (λ s. measured s scope) items)) c.as_slice-rows.ensures.value
+    ∙ ap (λ ss. arms_table c.args.constants.now.items (map (λ s. measured s scope) ss)) c.deref-arm-items.ensures.value in
+    let kept = c.loop-arm.invariant.1 scope in
+    let all = ap (λ n. capped (c.loop-arm.size + n)) (sym none) ∙ kept.0 ∙ ap capped same in (
+      omega (arith, all, c.loop-arm.invariant.0),
+      sym (append-nil here) ∙ ap (λ ns. here ++ ns) (sym none') ∙ kept.1 ∙ ap (λ ns. before ++ ns) same',
+    )
+
+pub measure_parts-returns-in_ok-measure_arms-in-Case : goal.measure_parts-returns-in_ok-measure_arms-in-Case
+measure_parts-returns-in_ok-measure_arms-in-Case t c = λ scope.
+    let is = ap (λ s. measured s scope) c.in-Case.is ∙ measured-Case scope c.in-Case.number c.in-Case.site c.in-Case.index c.in-Case.constants c.in-Case.arms in
+    let all = c.in_ok-measure_arms-in-Case.ensures (holding 1 scope) in (
+      omega (arith, c.case_size.ensures scope, all.0, ap (λ m. m.size) is),
+      all.1 ∙ ap (λ m. c.args.sizes.now.items ++ m.inner) (sym is),
     )

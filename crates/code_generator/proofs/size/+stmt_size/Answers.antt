@@ -1,8 +1,14 @@
-use Rattle.std.proofs.Common.{ap, sym, ◌∙◌, ◌+◌, length, length-append, take, arith}
+use Rattle.std.proofs.Common.{List, Bor, ◌≡◌, ◌∷◌, ap, sym, ◌∙◌, ◌+◌, length, length-append, drop, map, take, arith}
+use Rattle.std.specs.Prelude.{ℤ}
+use Rattle.std.specs.Global.{Vec}
+use Rattle.std.proofs.lemmas.List.{drop_all, drop_more, nil_from_length}
 use Rattle.typed_tree.specs.declared.tree.Stmt.TheVariants.{If}
 use Rattle.code_generator.specs.Code.{expr_code, holding, stmt_code, write_code}
-use Rattle.code_generator.specs.Sizes.{capped}
+use Rattle.code_generator.specs.Sizes.{arms_size, capped, measured}
 use Rattle.code_generator.proofs.Pieces.{stmts_code, stmt_code-Empty, stmt_code-Compound, stmt_code-Write, stmt_code-If, stmt_code-If-else, stmt_code-While, stmt_code-Repeat, stmt_code-For, length-For, length-While, length-Repeat, length-Assign, length-If, length-If-else, stmts_one_more, all_stmts}
+use Rattle.code_generator.proofs.Emitting.{arms_size-none, measured-Case}
+use Rattle.code_generator.proofs.Measures.{is_measured}
+use Rattle.code_generator.proofs.size.+stmt_size.Goals.{arms_size-in-Some, arms_size-in_default}
 use Rattle.code_generator.proofs.size.+stmt_size.Goals as goal
 
 pub stmt_size-returns-in-Empty : goal.stmt_size-returns-in-Empty
@@ -106,3 +112,50 @@ stmt_size-returns-in-Some t c = λ scope place.
     let no = c.stmt_size-in-Some.ensures scope (next + length (stmt_code consequence.value scope next) + 1) in
     let size = c.if_size-size.ensures scope in
     grind (arith, long, yes, no, size, c.with_else.ensures)
+
+pub arms_size-loop-arm-preserved : goal.arms_size-loop-arm-preserved
+arms_size-loop-arm-preserved t c =
+    let items = c.deref-arm-items.result.now in
+    let i = c.loop-arm.arm-index in
+    let arm = c.arm-item.result in
+    let next : drop i items ≡ arm ∷ drop (i + 1) items = drop_more items i arm c.loop-arm-test.true ∙ ap (λ s. s ∷ drop (i + 1) items) (sym c.arm-item.is) in
+    elim c.match-split_first.branch [
+      | arms_size-in-Some w ↦ (
+        omega (arith, w.size-is, w.saturating_add-size.ensures),
+        λ scope.
+            let before = c.loop-arm.invariant.1 scope in
+            let here = ap (λ rs. arms_size rs (map (λ s. measured s scope) (drop i items))) w.in-Some.ensures.cases.0
+            ∙ ap (λ ss. arms_size (w.in-Some.row.now ∷ w.in-Some.others.now) (map (λ s. measured s scope) ss)) next in
+            let there = ap (λ (rs : Bor (List (Vec ℤ))). arms_size rs.now (map (λ s. measured s scope) (drop (i + 1) items))) w.rows-is in
+            let one = w.stmt_size.ensures scope 0 ∙ ap capped (is_measured arm scope 0) in
+            let row = ap length w.as_slice.ensures.value in
+            omega (arith, before, here, there, one, row, w.arm_size.ensures, w.saturating_add-size.ensures, w.size-is, c.loop-arm.invariant.0),
+      )
+      | arms_size-in_default w ↦ (
+        omega (arith, w.size-is, c.loop-arm.invariant.0),
+        λ scope.
+            let before = c.loop-arm.invariant.1 scope in
+            let none = nil_from_length c.loop-arm.rows.now w.in_default.ensures.cases in
+            let here = ap (λ rs. arms_size rs (map (λ s. measured s scope) (drop i items))) none in
+            let there = ap (λ (rs : Bor (List (Vec ℤ))). arms_size rs.now (map (λ s. measured s scope) (drop (i + 1) items))) w.rows-is
+            ∙ ap (λ rs. arms_size rs (map (λ s. measured s scope) (drop (i + 1) items))) none in
+            omega (arith, before, here, there, w.size-is),
+      )
+    ]
+
+pub arms_size-returns : goal.arms_size-returns
+arms_size-returns t c = λ scope.
+    let rows = c.loop-arm.rows.now in
+    let items = c.deref-arm-items.result.now in
+    let none = ap (λ ss. arms_size rows (map (λ s. measured s scope) ss)) (drop_all c.loop-arm.arm-index items c.loop-arm-test.false)
+    ∙ arms_size-none rows in
+    let same = ap (λ rs. arms_size rs (map (λ s. measured s scope) items)) c.as_slice-rows.ensures.value
+    ∙ ap (λ ss. arms_size c.args.constants.now.items (map (λ s. measured s scope) ss)) c.deref-arm-items.ensures.value in
+    let all = ap (λ n. capped (c.loop-arm.size + n)) (sym none) ∙ c.loop-arm.invariant.1 scope ∙ ap capped same in
+    omega (arith, all, c.loop-arm.invariant.0)
+
+pub stmt_size-returns-in-Case : goal.stmt_size-returns-in-Case
+stmt_size-returns-in-Case t c = λ scope place.
+    let is = ap (λ s. measured s scope) c.in-Case.is ∙ measured-Case scope c.in-Case.number c.in-Case.site c.in-Case.index c.in-Case.constants c.in-Case.arms in
+    let long = is_measured c.args.stmt.now scope place ∙ ap (λ m. m.size) is in
+    omega (arith, long, c.case_size.ensures scope, c.arms_size.ensures (holding 1 scope))
