@@ -26,7 +26,7 @@ use Rattle.meaning.specs.Effect.{State, Reply, Stops, Action, Round, ◌>>=◌, 
 use Rattle.meaning.specs.Effect.{another, looped, store, undefine, write, is_in, is_positive, text_of}
 use Rattle.meaning.specs.Meaning.{Combination, Execution, completed, ended, home_of, operated, combined, value_of, link_of}
 use Rattle.meaning.specs.Meaning.{effect_of, all_of, width_of, parameter_of, line_ended, is_so, turn_if, while_round, repeat_round}
-use Rattle.meaning.specs.Meaning.{for_between}
+use Rattle.meaning.specs.Meaning.{for_between, arm_of, number_of}
 use Rattle.meaning.specs.Counting.{has_values, next_value}
 
 -- what is done with the operands, the topmost first, and the state
@@ -76,6 +76,11 @@ bounds_tested direction first_fits (Number first) last_fits (Number last) =
     if has_values direction first last
     then both_bounds (bound_tested first_fits first) (bound_tested last_fits last)
     else Ok None
+
+-- a number that a case constant can have, or none where no constant has it
+abbrev pub IsConstant : ℤ → Option ℤ → Type 0
+IsConstant n (Some constant) = n ≡ constant
+IsConstant n None = (constant : ℤ) → FitsSigned w32 constant → int_eq constant n ≡ false
 
 -- the next value of a control variable on its way to the last one
 abbrev pub value_before : Direction → ℤ → ℤ → Option ℤ
@@ -184,6 +189,13 @@ resumed env (work.For control direction value last body) next operands = do
 resumed env (work.Next control direction value last body) next operands = do
   _ ← further (counting env control direction last body.now) (give (value_before direction last value))
   forgetting (env control) next operands
+resumed env (work.Case site constants arms) next operands =
+    with_top
+    (λ v below. arm_of site constants.now (map effect_of arms.now) (number_of v) env >>= λ _. next below)
+    operands
+resumed env (work.Arms site index constants arms) next operands = do
+  _ ← arm_of site constants.now (map effect_of arms.now) index env
+  next operands
 resumed env (work.Parameters parameters ends_line) next operands = do
   _ ← all_of (map parameter_of parameters.now) env
   line_ending ends_line next operands

@@ -144,6 +144,17 @@ impl<'t> Run<'t, '_> {
                 last,
                 body,
             } => self.next_round(control, direction, value, last, body),
+            Work::Case {
+                site,
+                constants,
+                arms,
+            } => self.case(site, constants, arms),
+            Work::Arms {
+                site,
+                index,
+                constants,
+                arms,
+            } => self.arms(site, index, constants, arms),
             Work::Parameters {
                 parameters,
                 ends_line,

@@ -1,7 +1,7 @@
 ghost use Rattle.std.specs.Prelude.{◌≡◌, pos};
 ghost use Rattle.meaning.specs.Effect.{is_in, is_positive};
-ghost use Rattle.meaning.specs.Meaning.{combined, default_width, is_so, operated, relates, whole};
-ghost use Rattle.meaning.specs.Pending.{Answers, bound_tested, bounds_tested, checked, positive, value_before};
+ghost use Rattle.meaning.specs.Meaning.{combined, default_width, is_so, number_of, operated, relates, whole};
+ghost use Rattle.meaning.specs.Pending.{Answers, IsConstant, bound_tested, bounds_tested, checked, positive, value_before};
 
 use crate::store::{Ordinal, Value};
 use typed_tree::tree::{Direction, Dyadic, Monadic, RangeTest, Relation, Representation};
@@ -148,6 +148,14 @@ pub fn value_toward(direction: Direction, last: i32, value: i32) -> Option<i32>
         Direction::DownTo if last < value => Some(value - 1),
         _ => None,
     }
+}
+
+/// The number of a value, if a case constant can have it.
+pub fn constant_of(value: Value) -> Option<i32>
+    ensures { IsConstant (number_of value) result }
+{
+    let Value::Number(number) = value;
+    i32::try_from(number.number()).ok()
 }
 
 /// The truth value that a value is.
