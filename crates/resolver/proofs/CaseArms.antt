@@ -1,8 +1,7 @@
 -- Cases: how their typing goes on from that of their arms, and how they look.
-use Rattle.std.proofs.Common.{◌≡◌, ℕ, ℤ, zero, suc, ◌+◌, ◌<◌, ◌≤◌, List, [], ◌∷◌, ◌++◌, length, map, drop, get_or, Option, Some, None, slice_get, Ok, Err, Vec, inl, inr, refl, sym, ap, ap₂, subst, ◌∙◌, append-nil, append_assoc, length-append, arith}
+use Rattle.std.proofs.Common.{◌≡◌, ℕ, ℤ, zero, suc, ◌+◌, ◌<◌, ◌≤◌, List, [], ◌∷◌, ◌++◌, length, map, drop, get_or, Some, slice_get, Ok, Err, Vec, inl, inr, refl, sym, ap, ap₂, subst, ◌∙◌, append-nil, append_assoc, length-append, arith}
 use Rattle.std.proofs.Math.Seq.{drop-nil}
 use Rattle.std.proofs.lemmas.List.{map-append, length-map, drop_more, at_drop_all}
-use Rattle.std.specs.Prelude.{flat_map}
 use Rattle.std.specs.declared.alloc.Global.{Global}
 use Rattle.syntax_tree.specs.declared.CaseConstant.{CaseConstant}
 use Rattle.syntax_tree.specs.declared.Stmt.{Stmt as SyntaxStmt}
@@ -14,7 +13,7 @@ use Rattle.typed_tree.specs.declared.tree.Stmt.{Stmt}
 use Rattle.typed_tree.specs.declared.tree.Stmt.TheVariants as stmt
 use Rattle.typed_tree.specs.Look.{Look, Case, Arm, Ends, look_expr, look_stmt, arms_look}
 use Rattle.typed_tree.proofs.Looks.{look_case}
-use Rattle.typing.specs.Passing.{Passed, Passing, Checked, After, after, and_then, behind_marks, mark, ◌>>=◌, ◌>>◌}
+use Rattle.typing.specs.Passing.{Passed, Passing, Checked, After, after, and_then, behind_marks, mark, ◌>>◌}
 use Rattle.typing.specs.Outcomes.{IsFault}
 use Rattle.typing.specs.Statements.{statement, case_constant, constant_row, case_arms, case_body}
 use Rattle.typing.proofs.Rows.{behind_nothing, behind_both}

@@ -16,7 +16,8 @@ use Rattle.typed_tree.specs.declared.tree.Stmt.{Stmt}
 use Rattle.typed_tree.specs.declared.tree.WriteParameter.{WriteParameter}
 use Rattle.typed_tree.specs.declared.tree.Width.{Width}
 use Rattle.types.specs.declared.form.TypeId.{TypeId}
-use Rattle.typed_tree.specs.Look.{Look, Begins, Ends, Fits, If, Then, Else, Do, For, Case, look_expr, look_link, look_stmt}
+use Rattle.typed_tree.specs.Look.{Look, Begins, Ends, Fits, If, Then, Else, Do, For, Case, look_expr, look_link}
+use Rattle.typed_tree.specs.Look.{look_stmt}
 use Rattle.typed_tree.specs.Look.{look_parameter, look_width}
 use Rattle.typing.specs.Passing.{Passed, Checked, After, after}
 use Rattle.typing.specs.Expressions.{Typed, typed}
@@ -96,7 +97,8 @@ abbrev pub MakesCaseHead : Checked (After TypeId) → Result CaseHead TypeFault 
 MakesCaseHead = Makes (λ head. head.type_id) case_head_look
 
 -- the constants before an arm, which are met behind others
-abbrev pub MakesConstants : List ℤ → List ℤ → Checked (After (List ℤ)) → Result (Vec ℤ Global) TypeFault → Passed → Type 0
+abbrev pub MakesConstants
+    : List ℤ → List ℤ → Checked (After (List ℤ)) → Result (Vec ℤ Global) TypeFault → Passed → Type 0
 MakesConstants old new outcome (Ok row) passed = (outcome ≡ Ok (after row.items [] passed)) × (new ≡ old ++ row.items)
 MakesConstants old new outcome (Err why) passed = IsFault outcome why
 

@@ -60,8 +60,8 @@ fn constant_row(
     written: &[CaseConstant],
     seen: &mut IndexSet<i32>,
 ) -> Result<Vec<i32>, TypeFault>
-    ensures { MakesConstants seen.old.keys seen.new.keys (spec.constant_row type_id seen.old.keys [] written.now typer.old)
-        result typer.new }
+    ensures { MakesConstants seen.old.keys seen.new.keys
+        (spec.constant_row type_id seen.old.keys [] written.now typer.old) result typer.new }
 {
     let mut row = Vec::with_capacity(typer.alloc, written.len())?;
     for next in written {

@@ -1,5 +1,5 @@
--- The typing of constants (ISO 7185:1990, 6.3): of each the first rule that it breaks, or its value and its type. It says
--- nothing of where they stand.
+-- The typing of constants (ISO 7185:1990, 6.3): of each the first rule that it breaks, or its value and its type.
+-- It says nothing of where they stand.
 use Rattle.std.specs.Prelude.{ℤ, ◌&&◌, Option, Some, None, Ok, Err, pos, neg_ℤ, nat_le}
 use Rattle.place.specs.declared.Place.{Place}
 use Rattle.syntax_tree.specs.declared.Sign.{Sign}

@@ -1,5 +1,5 @@
 -- What constants do: they have no sites, and their values are whole.
-use Rattle.std.proofs.Common.{◌≡◌, ℕ, ℤ, Bool, true, false, not, ◌&&◌, if◌then◌else◌, nat_le, List, [], ◌∷◌, ◌++◌, Option, Some, None, Ok, Err, pos, neg_ℤ, refl, sym, ap, subst, ◌∙◌, arith}
+use Rattle.std.proofs.Common.{◌≡◌, ℕ, ℤ, Bool, true, false, not, ◌&&◌, if◌then◌else◌, nat_le, List, [], ◌∷◌, ◌++◌, Option, Some, None, Ok, Err, pos, neg_ℤ, refl, subst, ◌∙◌, arith}
 use Rattle.std.specs.List.{list_all, list_any}
 use Rattle.std.specs.Ordering.{int_eq}
 use Rattle.std.proofs.lemmas.List.Folds.{list_all-append}
@@ -18,7 +18,6 @@ use Rattle.scopes.specs.declared.denotation.Denotation.{Denotation}
 use Rattle.scopes.specs.declared.denotation.Denotation.TheVariants as denotes
 use Rattle.typed_tree.specs.declared.fault.TypeFault.TheVariants as fault
 use Rattle.typed_tree.specs.WellFormed.{is_whole}
-use Rattle.typing.specs.Expressions.{fits}
 use Rattle.typing.specs.Constants.{as_constant, unsigned_constant, signed_value, behind_sign, constant, constant_place}
 use Rattle.typing.specs.Statements.{own_constant, case_constant, constant_row}
 use Rattle.typing_laws.proofs.Sound.{IsSound}

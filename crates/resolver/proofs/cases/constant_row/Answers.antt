@@ -14,17 +14,21 @@ other = record { sign = None; value = Number 0 (record { line = 0; column = 0 })
 -- the next constant is met
 pub loop-next-preserved : goal.loop-next-preserved
 loop-next-preserved c =
-    let now = c.loop-next.typer in
+    let type_id = c.args.type_id in
+    let written = c.args.written.now in
+    let old = c.args.typer.now in
     let before = c.args.seen.now.keys in
+    let i = c.loop-next.next-index in
     let row = c.loop-next.row.items in
+    let now = c.loop-next.typer in
+    let new = c.case_constant.new.typer in
     let value = c.in_ok-case_constant.field-0 in
     let same : to_z w32 (of_z w32 value) ≡ value = search (rules, to_z-of_z) in
     let pushed : c.push.new.self.items ≡ row ++ value ∷ [] = c.in_ok-push.ensures.items ∙ ap (λ v. row ++ v ∷ []) same in
-    let met = c.loop-next.invariant.1 in (
-      subst (λ r. IsRowFrom c.args.type_id before c.args.written.now c.args.typer.now (c.loop-next.next-index + 1) r c.case_constant.new.typer) (sym pushed)
-          (row_next c.args.type_id before c.args.written.now c.args.typer.now c.loop-next.next-index row now c.loop-next-test.true other c.loop-next.invariant.0
-          value c.case_constant.new.typer
-          (ap (λ keys. case_constant c.args.type_id keys (get_or c.args.written.now c.loop-next.next-index other) now) (sym met) ∙ c.in_ok-case_constant.ensures.typed)),
+    let met = c.loop-next.invariant.1 in
+    let passes = ap (λ keys. case_constant type_id keys (get_or written i other) now) (sym met) ∙ c.in_ok-case_constant.ensures.typed in (
+      subst (λ r. IsRowFrom type_id before written old (i + 1) r new) (sym pushed)
+          (row_next type_id before written old i row now c.loop-next-test.true other c.loop-next.invariant.0 value new passes),
       c.in_ok-case_constant.ensures.seen ∙ ap (λ keys. keys ++ value ∷ []) met ∙ append_assoc before row (value ∷ []) ∙ ap (λ l. before ++ l) (sym pushed),
     )
 
@@ -32,9 +36,14 @@ loop-next-preserved c =
 pub returns-in_err-case_constant : goal.returns-in_err-case_constant
 returns-in_err-case_constant c =
     let why = c.in_err-case_constant.field-0.0 in
+    let type_id = c.args.type_id in
+    let written = c.args.written.now in
+    let old = c.args.typer.now in
     let before = c.args.seen.now.keys in
-    let stops : IsFault (constant_row c.args.type_id before [] c.args.written.now c.args.typer.now) why =
-    row_stops c.args.type_id before c.args.written.now c.args.typer.now c.loop-next.next-index c.loop-next.row.items c.loop-next.typer c.loop-next-test.true other
-    c.loop-next.invariant.0 why
-    (subst (λ keys. IsFault (case_constant c.args.type_id keys (get_or c.args.written.now c.loop-next.next-index other) c.loop-next.typer) why) c.loop-next.invariant.1 c.in_err-case_constant.ensures.typed) in
+    let i = c.loop-next.next-index in
+    let now = c.loop-next.typer in
+    let refused : IsFault (case_constant type_id (before ++ c.loop-next.row.items) (get_or written i other) now) why =
+    subst (λ keys. IsFault (case_constant type_id keys (get_or written i other) now) why) c.loop-next.invariant.1 c.in_err-case_constant.ensures.typed in
+    let stops : IsFault (constant_row type_id before [] written old) why =
+    row_stops type_id before written old i c.loop-next.row.items now c.loop-next-test.true other c.loop-next.invariant.0 why refused in
     search rules
