@@ -1,4 +1,5 @@
 mod Branches
+mod CaseArms
 mod Chains
 mod Files
 mod MadeRows

@@ -1,12 +1,12 @@
 -- The table of loops: what is met behind statements, one after another, and behind loops.
-use Rattle.std.proofs.Common.{◌≡◌, ℕ, ◌+◌, ◌<◌, ◌≤◌, List, [], ◌∷◌, ◌++◌, length, map, drop, set, get_or, sym, ap, ap₂, refl, ◌∙◌, append-nil, append_assoc}
+use Rattle.std.proofs.Common.{◌≡◌, ℕ, ◌+◌, ◌<◌, ◌≤◌, List, [], ◌∷◌, ◌++◌, length, map, drop, set, get_or, sym, ap, ap₂, ◌∙◌, append-nil, append_assoc}
 use Rattle.std.proofs.lemmas.List.{map-append, map-set, drop_more, at_drop_all}
 use Rattle.std.proofs.Math.Seq.{set-append_seam, drop-append_seam}
 use Rattle.typed_tree.specs.declared.tree.Loop.{Loop}
 use Rattle.typed_tree.specs.declared.tree.Stmt.{Stmt}
 use Rattle.typed_tree.specs.Loops.{Inside, no_loop, both_inside, all_inside, looped, controlled, inside_of}
 use Rattle.typed_tree.proofs.Insides.{inside_empty, inside_assign, inside_write, inside_compound, inside_if, inside_if_else, inside_while, inside_repeat}
-use Rattle.typed_tree.proofs.Insides.{inside_for}
+use Rattle.typed_tree.proofs.Insides.{inside_for, inside_case}
 use Rattle.resolver.specs.Table.{Seen, row_of, rows_of, meets, opened, closed}
 
 pub meets_none : (s : Seen) → s ≡ meets no_loop s
@@ -71,6 +71,7 @@ pub ruleset met_forms = (
   inside_while,
   inside_repeat,
   inside_for,
+  inside_case,
   meets_none,
   meets_both,
   meets_looped,

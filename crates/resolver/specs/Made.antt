@@ -1,6 +1,6 @@
 -- How the resolver's answers are what typing says: what is made of a form has the type and the leading site that typing
 -- answers, and looks so. It says nothing of what typing answers.
-use Rattle.std.specs.Prelude.{◌≡◌, ℕ, List, [], ◌∷◌, ◌++◌, flat_map, Result, Option, Some, None, Vec}
+use Rattle.std.specs.Prelude.{◌≡◌, ℕ, ℤ, List, [], ◌∷◌, ◌++◌, flat_map, Result, Ok, Err, Option, Some, None, Vec}
 use Rattle.std.specs.Borrow.{Bor}
 use Rattle.std.specs.declared.alloc.Global.{Global}
 use Rattle.std.specs.declared.boxed.Box.{Box}
@@ -16,17 +16,20 @@ use Rattle.typed_tree.specs.declared.tree.Stmt.{Stmt}
 use Rattle.typed_tree.specs.declared.tree.WriteParameter.{WriteParameter}
 use Rattle.typed_tree.specs.declared.tree.Width.{Width}
 use Rattle.types.specs.declared.form.TypeId.{TypeId}
-use Rattle.typed_tree.specs.Look.{Look, Begins, Ends, Fits, If, Then, Else, Do, For, look_expr, look_link, look_stmt}
+use Rattle.typed_tree.specs.Look.{Look, Begins, Ends, Fits, If, Then, Else, Do, For, Case, look_expr, look_link}
+use Rattle.typed_tree.specs.Look.{look_stmt}
 use Rattle.typed_tree.specs.Look.{look_parameter, look_width}
-use Rattle.typing.specs.Passing.{Passed, Checked, After}
+use Rattle.typing.specs.Passing.{Passed, Checked, After, after}
 use Rattle.typing.specs.Expressions.{Typed, typed}
-use Rattle.typing.specs.Outcomes.{Makes}
+use Rattle.typing.specs.Outcomes.{IsFault, Makes}
 use Rattle.typing.specs.Sound.{IsTyped}
 use Rattle.resolver.specs.declared.typed.Typed.{Typed as MadeExpr}
 use Rattle.resolver.specs.declared.typed.TypedLink.{TypedLink}
 use Rattle.resolver.specs.declared.typed.TypedLinks.{TypedLinks}
 use Rattle.resolver.specs.declared.typed.Bound.{Bound}
 use Rattle.resolver.specs.declared.typed.ForHead.{ForHead}
+use Rattle.resolver.specs.declared.typed.CaseHead.{CaseHead}
+use Rattle.resolver.specs.declared.typed.Rows.{Rows}
 
 -- an expression
 abbrev pub MakesTyped : Checked (After Typed) → Result MadeExpr TypeFault → Passed → Type 0
@@ -84,6 +87,27 @@ for_head_look head =
 -- a for as far as its `do`, by the root of its control variable
 abbrev pub MakesForHead : Checked (After ℕ) → Result ForHead TypeFault → Passed → Type 0
 MakesForHead = Makes (λ head. head.control) for_head_look
+
+-- how a case looks as far as its `of`
+abbrev pub case_head_look : CaseHead → Look
+case_head_look head = Case head.number head.site ∷ look_expr head.index
+
+-- a case as far as its `of`, by the type of its index
+abbrev pub MakesCaseHead : Checked (After TypeId) → Result CaseHead TypeFault → Passed → Type 0
+MakesCaseHead = Makes (λ head. head.type_id) case_head_look
+
+-- the constants before an arm, which are met behind others
+abbrev pub MakesConstants
+    : List ℤ → List ℤ → Checked (After (List ℤ)) → Result (Vec ℤ Global) TypeFault → Passed → Type 0
+MakesConstants old new outcome (Ok row) passed = (outcome ≡ Ok (after row.items [] passed)) × (new ≡ old ++ row.items)
+MakesConstants old new outcome (Err why) passed = IsFault outcome why
+
+-- they stand behind the rows of the arms before
+abbrev pub MakesRow : Rows → Rows → Checked (After (List ℤ)) → Result (Unit {0}) TypeFault → Passed → Type 0
+MakesRow old new outcome (Ok _) passed =
+    (row : Vec ℤ Global) × (outcome ≡ Ok (after row.items [] passed)) × (new.seen.keys ≡ old.seen.keys ++ row.items)
+    × (new.rows.items ≡ old.rows.items ++ row ∷ [])
+MakesRow old new outcome (Err why) passed = IsFault outcome why
 
 -- a statement in a box
 abbrev pub MakesBoxed : Checked (After (Unit {0})) → Result (Box Stmt Global) TypeFault → Passed → Type 0

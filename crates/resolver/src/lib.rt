@@ -2,6 +2,7 @@
 //! and 6.4 to 6.10).
 #![tactic(auto)]
 
+mod cases;
 mod expressions;
 mod program;
 mod statements;

@@ -1,14 +1,17 @@
 ghost use Rattle.std.specs.Prelude.{◌≡◌, Some, map, option_map};
+ghost use Rattle.syntax_tree.specs.Places.{arms_of};
 ghost use Rattle.typing.specs.Passing.{each, behind_marks};
 ghost use Rattle.typing.specs.Expressions.{expression, written_actual};
 ghost use Rattle.typing.specs.Statements as spec;
 ghost use Rattle.typing.specs.Outcomes.{Takes};
 ghost use Rattle.resolver.specs.Made.{MakesStmt, MakesStmts, MakesBoxed, MakesAlternative, MakesCondition, MakesTested};
 ghost use Rattle.resolver.specs.Made.{MakesBound, MakesForHead, for_head_look, MakesParameter, MakesParameters};
-ghost use Rattle.resolver.specs.Made.{MakesWidth, MakesOwnWidth, MakesValues};
+ghost use Rattle.resolver.specs.Made.{MakesWidth, MakesOwnWidth, MakesValues, MakesCaseHead, case_head_look};
 
+use crate::cases::{case_head, case_row};
 use crate::expressions::{expression, first_place};
-use crate::typed::{Bound, ForHead};
+use crate::typed::{Bound, CaseHead, ForHead, Rows};
+use indexmap::IndexSet;
 use place::Place;
 use scopes::RequiredProcedure;
 use syntax_tree as syntax;
@@ -72,6 +75,16 @@ pub(crate) fn statement(typer: &mut Typer, written: &syntax::Stmt) -> Result<Stm
         } => {
             let head = for_head(typer, *place, variable, first, *direction, last)?;
             for_body(typer, body, head)
+        }
+        syntax::Stmt::Case {
+            place,
+            index,
+            constants,
+            arms,
+            ..
+        } => {
+            let head = case_head(typer, *place, index)?;
+            case_body(typer, arms, constants, head)
         }
     }
 }
@@ -180,6 +193,39 @@ fn for_body(typer: &mut Typer, body: &syntax::Stmt, head: ForHead) -> Result<Stm
         last: head.last.value,
         last_fits: head.last.fits,
         body,
+    })
+}
+
+// The arms of a case, which is made as far as its `of` (6.8.3.5).
+#[cycle(statements)]
+#[tactic(auto, using(crate::proofs::CaseArms::look_of_case), unfolding(typing::specs::Statements::case_body))]
+fn case_body(
+    typer: &mut Typer,
+    written: &[syntax::Stmt],
+    constants: &[Vec<syntax::CaseConstant>],
+    head: CaseHead,
+) -> Result<Stmt, TypeFault>
+    ensures { MakesStmt (behind_marks (case_head_look head)
+        (spec.case_body (arms_of constants.now (map spec.statement written.now)) head.type_id typer.old)) result
+        typer.new }
+{
+    let mut rows = Rows {
+        rows: Vec::with_capacity(typer.alloc, constants.len())?,
+        seen: IndexSet::new(typer.alloc),
+    };
+    let mut arms = Vec::with_capacity(typer.alloc, written.len())?;
+    for (index, arm) in written.iter().enumerate() {
+        if let Some(row) = constants.get(index) {
+            case_row(typer, head.type_id, row, &mut rows)?;
+            arms.push(statement(typer, arm)?)?;
+        }
+    }
+    Ok(Stmt::Case {
+        number: head.number,
+        site: head.site,
+        index: head.index,
+        constants: rows.rows,
+        arms,
     })
 }
 

@@ -60,6 +60,7 @@ fn meet(met: &mut Met, statement: &Stmt) -> Result<(), AllocError>
             meet_all(met, statements)?;
             close(met, row, start)
         }
+        Stmt::Case { arms, .. } => meet_all(met, arms),
         Stmt::For { control, body, .. } => {
             met.controls.push(*control)?;
             let (row, start) = open(met)?;

@@ -1,3 +1,4 @@
+use indexmap::IndexSet;
 use place::Place;
 use typed_tree::tree::{Direction, Expr, Link, RangeTest};
 use types::TypeId;
@@ -42,4 +43,20 @@ pub(crate) struct ForHead {
     pub(crate) first: Bound,
     pub(crate) direction: Direction,
     pub(crate) last: Bound,
+}
+
+/// A case as far as its `of`.
+#[derive(Drop)]
+pub(crate) struct CaseHead {
+    pub(crate) number: u32,
+    pub(crate) site: u32,
+    pub(crate) index: Expr,
+    pub(crate) type_id: TypeId,
+}
+
+/// The constants before the arms of a case so far: as rows, and all of them for a quick look.
+#[derive(Drop)]
+pub(crate) struct Rows {
+    pub(crate) rows: Vec<Vec<i32>>,
+    pub(crate) seen: IndexSet<i32>,
 }

@@ -1,12 +1,16 @@
 -- Worked rows of the definitions of names and types.
 use Rattle.std.proofs.Common.{◌≡◌, ◌∷◌, [], List, Some, None, Ok, Err, refl}
-use Rattle.std.specs.Prelude.{codes, pos}
+use Rattle.std.specs.Prelude.{codes, pos, neg_ℤ}
+use Rattle.place.specs.declared.Place.{Place}
 use Rattle.scopes.specs.declared.denotation.Denotation.TheVariants as denotes
 use Rattle.syntax_tree.specs.declared.Operator.TheVariants as op
+use Rattle.syntax_tree.specs.declared.Sign.TheVariants as sign
+use Rattle.syntax_tree.specs.declared.ConstantValue.TheVariants as constant
 use Rattle.types.specs.Types.{required_forms, integer, boolean, range_of}
 use Rattle.typing.specs.Names.{folded, required_region}
 use Rattle.typing.specs.Expressions.{result_type}
-use Rattle.typing.specs.Statements.{fitting}
+use Rattle.typing.specs.Constants.{as_constant, behind_sign, constant_place}
+use Rattle.typing.specs.Statements.{fitting, own_constant}
 use Rattle.typing.specs.Typing.{named_type}
 use Rattle.syntax_tree.specs.declared.Name.{Name}
 use Rattle.typed_tree.specs.declared.fault.TypeFault.TheVariants as fault
@@ -63,3 +67,35 @@ module _ (names : List Name) (name : Name) where
   -- a type that is defined nowhere
   pub unknown_type : named_type names name (Err scope.NotDeclared) ≡ Err (fault.NotDeclared name.place)
   unknown_type = refl
+
+module _ (place behind : Place) where
+  -- a sign turns an integer
+  pub sign_of_maxint : behind_sign (Some (record { sign = sign.Minus; place = place })) (pos 2147483647, integer) ≡ Ok (neg_ℤ (pos 2147483647), integer)
+  sign_of_maxint = refl
+
+  -- a truth value has no sign
+  pub sign_of_true : behind_sign (Some (record { sign = sign.Plus; place = place })) (pos 1, boolean) ≡ Err (fault.Mismatch place)
+  sign_of_true = refl
+
+  -- a variable is no constant
+  pub variable_is_none : as_constant place (denotes.Variable 0 integer) ≡ Err (fault.Mismatch place)
+  variable_is_none = refl
+
+  -- a constant that stands before an arm already
+  pub repeated_constant : own_constant required_forms integer (pos 2 ∷ neg_ℤ (pos 1) ∷ []) place (neg_ℤ (pos 1), integer) ≡ Err (fault.CaseConstant place)
+  repeated_constant = refl
+
+  -- one of another type
+  pub other_constant : own_constant required_forms boolean [] place (pos 1, integer) ≡ Err (fault.CaseConstant place)
+  other_constant = refl
+
+  -- one that is new
+  pub new_constant : own_constant required_forms integer (pos 1 ∷ []) place (neg_ℤ (pos 1), integer) ≡ Ok (neg_ℤ (pos 1))
+  new_constant = refl
+
+  -- a signed constant begins at its sign
+  pub begins_at_sign : constant_place (record {
+    sign = Some (record { sign = sign.Minus; place = place });
+    value = constant.Number 1 behind;
+  }) ≡ place
+  begins_at_sign = refl

@@ -1,8 +1,9 @@
 -- The folds of typing over syntax trees, form by form.
-use Rattle.std.proofs.Common.{◌≡◌, ℕ, map, Option, None, Some, option_map, refl, Box, Vec, sym, ap, ◌∙◌}
+use Rattle.std.proofs.Common.{◌≡◌, ℕ, Bool, map, Option, None, Some, option_map, refl, Box, Vec, sym, ap, ◌∙◌}
 use Rattle.std.specs.declared.alloc.Global.{Global}
 use Rattle.place.specs.declared.Place.{Place}
 use Rattle.syntax_tree.specs.declared.Name.{Name}
+use Rattle.syntax_tree.specs.declared.CaseConstant.{CaseConstant}
 use Rattle.syntax_tree.specs.declared.Sign.{Sign}
 use Rattle.syntax_tree.specs.declared.Direction.{Direction}
 use Rattle.syntax_tree.specs.declared.Expr.{Expr}
@@ -12,13 +13,14 @@ use Rattle.syntax_tree.specs.declared.Expr.TheVariants as syntax
 use Rattle.syntax_tree.specs.declared.Expr.TheOpen as layer
 use Rattle.syntax_tree.specs.declared.Expr.TheViews.{roll-Expr, out-Link, out-Actual}
 use Rattle.syntax_tree.specs.declared.Expr.TheFolds.{map-Expr, map-Actual, fold-roll-Expr, fold_out-Link, fold_out-Actual}
+use Rattle.syntax_tree.specs.Places.{arms_of}
 use Rattle.syntax_tree.specs.declared.Stmt.{Stmt}
 use Rattle.syntax_tree.specs.declared.Stmt.TheVariants as stmt
 use Rattle.syntax_tree.specs.declared.Stmt.TheOpen as stmt_layer
 use Rattle.syntax_tree.specs.declared.Stmt.TheFolds.{map-Stmt, fold-roll-Stmt}
 use Rattle.typing.specs.Passing.{Passing}
 use Rattle.typing.specs.Expressions.{Written, WrittenActual, WrittenLink, written, expression_step, actual_step, link_step, expression, written_link, written_actual, number, named, call, parenthesized, negation, signed, chain, link}
-use Rattle.typing.specs.Statements.{statement, statement_step, assignment, procedure_call, compound, choice, while_loop, repeat_loop, for_loop}
+use Rattle.typing.specs.Statements.{statement, statement_step, assignment, procedure_call, compound, choice, while_loop, repeat_loop, for_loop, case_statement}
 use Rattle.typing.specs.Steps.{enter_as}
 use Rattle.typed_tree.specs.Look as Look
 
@@ -123,6 +125,13 @@ typing_for place variable first direction last body =
     ap statement (sym (stmt.rolls-For place variable first direction last body))
     ∙ fold-roll-Stmt (Passing (Unit {0})) statement_step (stmt_layer.For place variable first direction last body)
 
+pub typing_case : (place : Place) (index : Expr) (constants : Vec (Vec CaseConstant Global) Global) (arms : Vec Stmt Global) (semicolon : Bool)
+    → statement (stmt.Case place index constants arms semicolon)
+    ≡ case_statement place (expression index) (arms_of constants.items (map statement arms.items))
+typing_case place index constants arms semicolon =
+    ap statement (sym (stmt.rolls-Case place index constants arms semicolon))
+    ∙ fold-roll-Stmt (Passing (Unit {0})) statement_step (stmt_layer.Case place index constants arms semicolon)
+
 -- those of all statements
 pub ruleset written_statements =
-    (typing_empty, typing_assign, typing_procedure_call, typing_compound, typing_if, typing_while, typing_repeat, typing_for)
+    (typing_empty, typing_assign, typing_procedure_call, typing_compound, typing_if, typing_while, typing_repeat, typing_for, typing_case)

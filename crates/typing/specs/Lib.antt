@@ -1,6 +1,7 @@
 pub mod Names
 pub mod Passing
 pub mod Steps
+pub mod Constants
 pub mod Expressions
 pub mod Statements
 pub mod Typing

@@ -1,6 +1,9 @@
 -- The typing of statements (ISO 7185:1990, 6.8, 6.9): of each form the first rule that it breaks, or how its typed form
 -- looks, and its sites. It says nothing of what a program does.
-use Rattle.std.specs.Prelude.{ℕ, Bool, true, false, List, [], ◌∷◌, Option, Some, None, Ok, Err, if◌then◌else◌, map}
+use Rattle.std.specs.List.{list_any}
+use Rattle.std.specs.Ordering.{int_eq}
+use Rattle.std.specs.Prelude.{ℕ, ℤ, Bool, true, false, not, ◌&&◌, ◌++◌, is_some, List, [], ◌∷◌, Option, Some, None, Ok}
+use Rattle.std.specs.Prelude.{Err, if◌then◌else◌, map}
 use Rattle.std.specs.Prelude.{option_map}
 use Rattle.place.specs.declared.Place.{Place}
 use Rattle.syntax_tree.specs.declared.Name.{Name}
@@ -12,19 +15,21 @@ use Rattle.syntax_tree.specs.declared.Expr.TheOpen.Expr-F.{Parenthesized as Pare
 use Rattle.syntax_tree.specs.declared.Expr.TheOpen.Expr-F.{Signed as SignedOf, Chain as ChainOf}
 use Rattle.syntax_tree.specs.declared.Expr.TheViews.{out-Expr, out-Actual}
 use Rattle.syntax_tree.specs.declared.Link.{Link}
+use Rattle.syntax_tree.specs.declared.CaseConstant.{CaseConstant}
+use Rattle.syntax_tree.specs.Places.{arms_of}
 use Rattle.syntax_tree.specs.declared.Direction.{Direction as SyntaxDirection}
 use Rattle.syntax_tree.specs.declared.Direction.TheVariants as written
 use Rattle.syntax_tree.specs.declared.Stmt.{Stmt}
 use Rattle.syntax_tree.specs.declared.Stmt.TheOpen.{Stmt-F}
 use Rattle.syntax_tree.specs.declared.Stmt.TheOpen.Stmt-F.{Empty as EmptyOf, Assign as AssignOf, Call as CallOf}
 use Rattle.syntax_tree.specs.declared.Stmt.TheOpen.Stmt-F.{Compound as CompoundOf, If as IfOf, While as WhileOf}
-use Rattle.syntax_tree.specs.declared.Stmt.TheOpen.Stmt-F.{Repeat as RepeatOf, For as ForOf}
+use Rattle.syntax_tree.specs.declared.Stmt.TheOpen.Stmt-F.{Repeat as RepeatOf, For as ForOf, Case as CaseOf}
 use Rattle.syntax_tree.specs.declared.Stmt.TheFolds.{fold-Stmt}
 use Rattle.types.specs.declared.form.TypeForm.{TypeForm}
 use Rattle.types.specs.declared.form.TypeForm.TheVariants as form
 use Rattle.types.specs.declared.form.TypeId.{TypeId}
 use Rattle.types.specs.declared.form.OrdinalRange.{OrdinalRange}
-use Rattle.types.specs.Types.{integer, boolean, is_same, is_assignable, form_at, range_of}
+use Rattle.types.specs.Types.{integer, boolean, is_same, is_compatible, is_assignable, form_at, range_of}
 use Rattle.scopes.specs.declared.denotation.Denotation.{Denotation}
 use Rattle.scopes.specs.declared.denotation.Denotation.TheVariants as denotes
 use Rattle.scopes.specs.declared.denotation.RequiredProcedure.{RequiredProcedure}
@@ -36,10 +41,11 @@ use Rattle.typed_tree.specs.declared.tree.Direction.TheVariants as direction
 use Rattle.typed_tree.specs.declared.tree.Representation.{Representation}
 use Rattle.typed_tree.specs.declared.tree.Representation.TheVariants as representation
 use Rattle.typed_tree.specs.Look.{Assign, Target, Fits, Write, Written as WrittenMark, Width, Empty, Compound, If, Then}
-use Rattle.typed_tree.specs.Look.{Else, While, Do, Repeat, Until, For, Ends}
+use Rattle.typed_tree.specs.Look.{Else, While, Do, Repeat, Until, For, Case, Arm, Ends}
 use Rattle.typing.specs.Passing.{Checked, Passing, and_then, pure, given, mark, each, ◌>>=◌, ◌>>◌, ◌>>?◌}
 use Rattle.typing.specs.Steps.{pass, enter_as, enter_loop, site, find, may_change, begin_control, end_control}
 use Rattle.typing.specs.Steps.{wants_output}
+use Rattle.typing.specs.Constants.{constant, constant_place}
 use Rattle.typing.specs.Expressions.{Typed, Written, WrittenActual, fits, or_mismatch, expression, written_actual}
 
 -- the variable that a name denotes: its root and its type
@@ -249,6 +255,48 @@ abbrev pub for_loop : Place → Name → Written → SyntaxDirection → Written
 for_loop place variable first direction last body =
     for_head place variable first direction last >>= (λ control. for_body control body)
 
+-- a type is ordinal, if it has a first and a last value
+abbrev pub is_ordinal : List TypeForm → TypeId → Bool
+is_ordinal types id = is_some (range_of types id)
+
+-- a constant of a case is of the index's type, and none of those that stand before it; else it is K6 where it begins
+abbrev pub own_constant : List TypeForm → TypeId → List ℤ → Place → ℤ × TypeId → Checked ℤ
+own_constant types type_id before place c =
+    if is_compatible types type_id c.1 && not (list_any (int_eq c.0) before) then Ok c.0
+    else Err (fault.CaseConstant place)
+
+unfoldable pub case_constant : TypeId → List ℤ → CaseConstant → Passing ℤ
+case_constant type_id before c = constant c >>? (λ types one. own_constant types type_id before (constant_place c) one)
+
+-- the constants before an arm: behind those of the arms before it, and these of its row
+abbrev pub constant_row : TypeId → List ℤ → List ℤ → List CaseConstant → Passing (List ℤ)
+constant_row type_id before row [] = pure row
+constant_row type_id before row (c ∷ cs) =
+    case_constant type_id (before ++ row) c >>= (λ value. constant_row type_id before (row ++ value ∷ []) cs)
+
+-- the arms of a case, behind arms with these constants
+abbrev pub case_arms : TypeId → List ℤ → List (List CaseConstant × Passing (Unit {0})) → Passing (Unit {0})
+case_arms type_id before [] = pure tt
+case_arms type_id before (arm ∷ arms) = do
+  row ← constant_row type_id before [] arm.0
+  mark (Arm row)
+  arm.1
+  case_arms type_id (before ++ row) arms
+
+-- a case as far as its `of`, by the type of its index, which is ordinal; the site stands at its word
+unfoldable pub case_head : Place → Written → Passing TypeId
+case_head place index = do
+  id ← site kind.Case place
+  enter_as (λ n. Case n id)
+  index.typing None >>? (λ types t. fits (is_ordinal types t.type_id) index.first t.type_id)
+
+unfoldable pub case_body : List (List CaseConstant × Passing (Unit {0})) → TypeId → Passing (Unit {0})
+case_body arms type_id = case_arms type_id [] arms >> mark Ends
+
+-- a case (6.8.3.5)
+abbrev pub case_statement : Place → Written → List (List CaseConstant × Passing (Unit {0})) → Passing (Unit {0})
+case_statement place index arms = case_head place index >>= case_body arms
+
 abbrev pub statement_step : Stmt-F (Passing (Unit {0})) → Passing (Unit {0})
 statement_step EmptyOf = enter_as Empty
 statement_step (AssignOf name becomes value) = assignment name becomes (expression value)
@@ -260,6 +308,8 @@ statement_step (WhileOf place condition body) = while_loop place (expression con
 statement_step (RepeatOf place statements condition) = repeat_loop place statements.items (expression condition)
 statement_step (ForOf place variable first direction last body) =
     for_loop place variable (expression first) direction (expression last) body.value
+statement_step (CaseOf place index constants arms semicolon) =
+    case_statement place (expression index) (arms_of constants.items arms.items)
 
 -- a statement
 abbrev pub statement : Stmt → Passing (Unit {0})

@@ -2,6 +2,7 @@
 //! pass a program by them.
 #![tactic(auto)]
 
+mod constants;
 mod names;
 mod operations;
 pub mod rules;
@@ -9,5 +10,6 @@ mod steps;
 mod typer;
 mod variables;
 
+pub use constants::constant_place;
 pub use names::folded;
 pub use typer::{MOST_CELLS, MOST_ENTRIES, MOST_SITES, Typer};

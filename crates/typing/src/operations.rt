@@ -10,6 +10,7 @@ use types::{OrdinalRange, TypeId};
 
 impl Typer {
     ghost use Rattle.std.specs.Prelude.{◌≡◌};
+    ghost use Rattle.types.specs.Types.{is_compatible};
     ghost use Rattle.typing.specs.Outcomes.{Takes};
     ghost use Rattle.typing.specs.Expressions as spec;
     ghost use Rattle.typing.specs.Statements as statements;
@@ -87,6 +88,20 @@ impl Typer {
         ensures { result ≡ statements.fitting self.now.types target value }
     {
         fitting(&self.types, target, value)
+    }
+
+    /// Whether a type is ordinal (6.4.2).
+    pub fn is_ordinal(&self, id: TypeId) -> bool
+        ensures { result ≡ statements.is_ordinal self.now.types id }
+    {
+        self.types.range(id).is_some()
+    }
+
+    /// Whether two types are compatible (6.4.5).
+    pub fn compatible(&self, first: TypeId, second: TypeId) -> bool
+        ensures { result ≡ is_compatible self.now.types first second }
+    {
+        self.types.compatible(first, second)
     }
 
     /// How a value of a type is written (6.9.3).

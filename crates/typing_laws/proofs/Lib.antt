@@ -1,5 +1,6 @@
 pub mod Sound
-pub mod Covers
+pub mod Constants
+mod Covers
 pub mod Grown
 pub mod Steps
 pub mod Expressions

@@ -1,11 +1,13 @@
 -- What statements do, form by form, and the law of every statement, by induction over its form.
-use Rattle.std.proofs.Common.{◌≡◌, ℕ, ◌<◌, Bool, true, false, ◌&&◌, if◌then◌else◌, List, [], ◌∷◌, ◌++◌, map, Option, Some, None, Ok, Err, refl, sym, subst, append_assoc, arith}
+use Rattle.std.proofs.Common.{◌≡◌, ℕ, ℤ, Vec, ◌<◌, Bool, true, false, ◌&&◌, if◌then◌else◌, List, [], ◌∷◌, ◌++◌, map, Option, Some, None, Ok, Err, refl, sym, subst, append_assoc, arith}
 use Rattle.std.specs.List.{flat_map}
+use Rattle.std.specs.declared.alloc.Global.{Global}
 use Rattle.place.specs.declared.Place.{Place}
 use Rattle.syntax_tree.specs.declared.Name.{Name}
 use Rattle.syntax_tree.specs.declared.Expr.{Expr}
 use Rattle.syntax_tree.specs.declared.Actual.{Actual}
 use Rattle.syntax_tree.specs.declared.Link.{Link}
+use Rattle.syntax_tree.specs.declared.CaseConstant.{CaseConstant}
 use Rattle.syntax_tree.specs.declared.Direction.{Direction as SyntaxDirection}
 use Rattle.syntax_tree.specs.declared.Expr.TheOpen as expr_layer
 use Rattle.syntax_tree.specs.declared.Expr.TheViews.{out-Expr, out-Actual}
@@ -13,7 +15,7 @@ use Rattle.syntax_tree.specs.declared.Stmt.{Stmt}
 use Rattle.syntax_tree.specs.declared.Stmt.TheOpen as layer
 use Rattle.syntax_tree.specs.declared.Stmt.TheViews.{roll-Stmt}
 use Rattle.syntax_tree.specs.declared.Stmt.TheFolds.{map-Stmt, fold-roll-Stmt, ind-Stmt}
-use Rattle.syntax_tree.specs.Places.{Places, joined_places, expr_places, actual_places, stmt_places, statement_step as statement_row}
+use Rattle.syntax_tree.specs.Places.{Places, joined_places, expr_places, actual_places, stmt_places, arms_of, arm_places, constant_places, statement_step as statement_row}
 use Rattle.types.specs.declared.form.TypeForm.{TypeForm}
 use Rattle.types.specs.declared.form.TypeForm.TheVariants as form
 use Rattle.types.specs.declared.form.TypeId.{TypeId}
@@ -26,18 +28,19 @@ use Rattle.typed_tree.specs.declared.site.SiteKind.{SiteKind}
 use Rattle.typed_tree.specs.declared.site.SiteKind.TheVariants as kind
 use Rattle.typed_tree.specs.Ids.{Stands}
 use Rattle.typed_tree.specs.WellFormed.{is_whole}
-use Rattle.typed_tree.specs.Look.{Assign, Target, Fits, Write, Written as WrittenMark, Width, Empty, Compound, If, Then, Else, While, Do, Repeat, Until, For, Ends}
+use Rattle.typed_tree.specs.Look.{Assign, Target, Fits, Write, Written as WrittenMark, Width, Empty, Compound, If, Then, Else, While, Do, Repeat, Until, For, Case, Arm, Ends}
 use Rattle.typing.specs.Passing.{Checked, Passing, and_then, each}
 use Rattle.typing.specs.Expressions.{Typed, Written, WrittenActual, fits, or_mismatch, expression, written_actual}
 use Rattle.typing.specs.Statements.{as_variable, fitting, assignment, as_procedure, ends_line, is_output, names_file, unless_wide, is_file, written_values}
 use Rattle.typing.specs.Statements.{has_values, measured, width, parameter, write, procedure_call, compound, condition, alternative, tested, choice, while_loop}
-use Rattle.typing.specs.Statements.{repeat_loop, way, bound, for_head, for_body, for_loop, statement_step, statement}
+use Rattle.typing.specs.Statements.{repeat_loop, way, bound, for_head, for_body, for_loop, case_arms, case_head, case_body, case_statement, statement_step, statement}
 use Rattle.typing_laws.proofs.Sound.{IsSound}
 use Rattle.typing_laws.proofs.Covers.{Covers, covers_both, covers_none, covers_behind, covers_skip, covers_lower, covers_ahead, leads_first}
 use Rattle.typing_laws.proofs.Grown.{both_true}
 use Rattle.typing_laws.proofs.Steps.{Does, Anything, Nothing, joins, quietly, last, checks, sited, pure_does, given_does, find_does, pass_does, wants_output_does}
 use Rattle.typing_laws.proofs.Steps.{mark_does, enter_does, enter_loop_does, may_change_does, begin_control_does, end_control_does, site_does, IsKnown}
 use Rattle.typing_laws.proofs.Expressions.{IsLed, Types, lt_true, LawfulWritten, led_covers}
+use Rattle.typing_laws.proofs.Constants.{row_does}
 use Rattle.typing_laws.proofs.EveryExpression.{LawfulActual, IsLawfulWidth, expression_lawful, actual_lawful}
 
 -- ---- assignments
@@ -318,6 +321,29 @@ module _ (variables : ℕ) where
         mark_does Ends refl refl (λ n h. refl));
   }
 
+  -- ---- cases
+
+  case_head_does : (least : ℕ) (place : Place) (places : List Place) (w : Written) → LawfulWritten variables places w
+      → Does variables least (Covers 0 (place ∷ places)) (case_head place w) Anything
+  unfolding case_head
+  case_head_does least place places w law =
+      led_covers variables 0 place places (kind.Case ∷ []) (omega arith, tt)
+      (joins (leads_first 0 place (kind.Case ∷ []) places) (site_does kind.Case place) λ id there _ known.
+      quietly (enter_does (λ n. Case n id) (λ n. refl) (λ n. refl) (λ n m h. lt_true id m (omega (arith, known, h)))) λ _ now _ _.
+      checks {L = Anything} (typed_does now places w None law tt) λ types t b n more is _. tt)
+
+  case_does : (place : Place) (tests inside : List Place) (w : Written) (arms : List (List CaseConstant × Passing (Unit {0})))
+      → LawfulWritten variables tests w
+      → ((least : ℕ) (type_id : TypeId) → Does variables least (Covers 0 inside) (case_arms type_id [] arms) Anything)
+      → LawfulStatement (place ∷ (tests ++ inside)) (case_statement place w arms)
+  unfolding case_body
+  case_does place tests inside w arms law row = record {
+    passes = λ least.
+        joins (covers_both 0 (place ∷ tests) inside) (case_head_does least place tests w law) λ type_id there _ _.
+        last (row there type_id) λ _ _ _ _.
+        mark_does Ends refl refl (λ n h. refl);
+  }
+
   -- ---- every statement
 
   abbrev LawfulStmt : Stmt → Type 0
@@ -346,6 +372,25 @@ module _ (variables : ℕ) where
       joins (covers_both 0 (stmt_places y.0) (joined_places (map stmt_places (bare_row ys)))) (y.1.passes least) λ _ now _ _.
       row_lawful ys now
 
+  abbrev arms_row : List (Vec CaseConstant Global) → List WithStmt → List Place
+  arms_row rows ys = flat_map arm_places (arms_of rows (map stmt_places (bare_row ys)))
+
+  arms_lawful : (rows : List (Vec CaseConstant Global)) (ys : List WithStmt) (type_id : TypeId) (before : List ℤ) (least : ℕ)
+      → Does variables least (Covers 0 (arms_row rows ys)) (case_arms type_id before (arms_of rows (map statement (bare_row ys)))) Anything
+  arms_lawful [] ys type_id before least = pure_does tt (λ n h. tt)
+  arms_lawful (row ∷ rows) [] type_id before least = pure_does tt (λ n h. tt)
+  arms_lawful (row ∷ rows) (y ∷ ys) type_id before least =
+      sited behind_constants
+      (quietly (row_does variables type_id before [] row.items refl) λ values _ _ whole.
+      quietly (mark_does (Arm values) refl refl (λ n h. whole)) λ _ now _ _.
+      joins (covers_both 0 (stmt_places y.0) (arms_row rows ys)) (y.1.passes now) λ _ there _ _.
+      arms_lawful rows ys type_id (before ++ values) there)
+    where
+      behind_constants : (sites : List Stands) → Covers 0 (stmt_places y.0 ++ arms_row rows ys) sites → Covers 0 (arms_row (row ∷ rows) (y ∷ ys)) sites
+      behind_constants sites has =
+          subst (λ p. Covers 0 p sites) (sym (append_assoc (flat_map constant_places row.items) (stmt_places y.0) (arms_row rows ys)))
+          (covers_behind 0 (flat_map constant_places row.items) (stmt_places y.0 ++ arms_row rows ys) sites has)
+
   statement_layer : (y : layer.Stmt-F WithStmt) → LawfulStmt (roll-Stmt (bare y))
   statement_layer layer.Empty = from_layer layer.Empty (record { passes = λ least. enter_does Empty (λ n. refl) (λ n. refl) (λ n m h. refl) })
   statement_layer (layer.Assign name becomes value) =
@@ -369,6 +414,10 @@ module _ (variables : ℕ) where
       from_layer (bare (layer.For place name first d end body))
       (for_does place name (expr_places first) (expr_places end) _ (expression first) d (expression end) _ (expression_lawful variables first)
       (expression_lawful variables end) body.value.1)
+  statement_layer (layer.Case place index constants arms semicolon) =
+      from_layer (bare (layer.Case place index constants arms semicolon))
+      (case_does place (expr_places index) _ (expression index) _ (expression_lawful variables index)
+      (λ least type_id. arms_lawful constants.items arms.items type_id [] least))
 
   -- every statement
   pub statement_lawful : (w : Stmt) → LawfulStmt w

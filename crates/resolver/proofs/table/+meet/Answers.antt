@@ -1,6 +1,6 @@
-use Rattle.std.proofs.Common.{◌≡◌, ◌∷◌, [], ◌++◌, length, map, rules, sym, ap, ◌∙◌}
+use Rattle.std.proofs.Common.{◌≡◌, ◌∷◌, [], ◌++◌, length, map, sym, ap, ◌∙◌}
 use Rattle.std.proofs.lemmas.Result.{IfOk-equal}
-use Rattle.typed_tree.specs.Loops.{looped, controlled, all_inside, inside_of}
+use Rattle.typed_tree.specs.Loops.{looped, all_inside, inside_of}
 use Rattle.typed_tree.proofs.Insides.{inside_while, inside_repeat, inside_for}
 use Rattle.resolver.specs.Table.{Seen, seen, meets, opened, closed}
 use Rattle.resolver.proofs.Tables.{loop_met, meets_controlled, next_met, all_met}
