@@ -1,4 +1,5 @@
-ghost use Rattle.std.specs.Prelude.{◌≡◌, ℕ, ◌+◌, ◌-◌, ◌<◌, ◌≤◌, ◌^◌, IfOk, count_by, length, take, slice_index, vec_len};
+ghost use Rattle.std.specs.Prelude.{◌≡◌, ℕ, ◌+◌, ◌-◌, ◌<◌, ◌≤◌, ◌^◌, IfOk, count_by, length, take, slice_index};
+ghost use Rattle.std.specs.Prelude.{vec_len};
 ghost use Rattle.check_remover.specs.Places.{IsPlaces, new_place};
 ghost use Rattle.check_remover.specs.Strip.{is_among, moved, moved_place};
 
