@@ -1,5 +1,6 @@
 -- Each instruction of a program's code is in bounds.
-use Rattle.std.proofs.Common.{◌≡◌, ℕ, ◌+◌, min, Bool, true, false, ◌&&◌, nat_le, List, [], ◌∷◌, ◌++◌, length, map, Option, Some, None, refl, ap, sym, subst, ◌∙◌}
+use Rattle.std.proofs.Common.{◌≡◌, ℕ, ◌+◌, min, Bool, true, false, ◌&&◌, nat_le, List, [], ◌∷◌, ◌++◌, length, map, Option, Some, None, refl, ap, sym, subst}
+use Rattle.std.proofs.Common.{◌∙◌}
 use Rattle.std.specs.Prelude.{slice_get, pos, ℤ}
 use Rattle.std.specs.Global.{Vec}
 use Rattle.std.specs.List.{list_all, flat_map}
@@ -36,7 +37,10 @@ use Rattle.typed_tree.specs.declared.tree.Stmt.TheOpen.Stmt-F.{Empty, Assign, Wr
 use Rattle.typed_tree.specs.declared.tree.Stmt.TheViews.{roll-Stmt}
 use Rattle.typed_tree.specs.declared.tree.Stmt.TheFolds.{map-Stmt, fold-roll-Stmt, ind-Stmt}
 use Rattle.code_generator.specs.declared.scope.Scope.{Scope}
-use Rattle.code_generator.specs.Code.{joined, placed, Placed, count, monadic_code, relation_instr, dyadic_code, expr_code, link_code, expr_step, link_step, width_code, parameter_code, write_instr, line_end_code, stmt_code, stmt_step, stmt_depth, holding, held_offset, variable_offset, range_check, order_instr, next_instr, row_code, arms_code, for_entry, for_begin, for_next, for_end, program_scope, body_code, program_code}
+use Rattle.code_generator.specs.Code.{joined, placed, Placed, count, monadic_code, relation_instr, dyadic_code, expr_code, link_code, expr_step, link_step}
+use Rattle.code_generator.specs.Code.{width_code, parameter_code, write_instr, line_end_code, stmt_code, stmt_step, stmt_depth, holding, held_offset}
+use Rattle.code_generator.specs.Code.{variable_offset, range_check, order_instr, next_instr, row_code, arms_code, for_entry, for_begin, for_next, for_end}
+use Rattle.code_generator.specs.Code.{program_scope, body_code, program_code}
 
 -- each instruction of some code is in bounds
 abbrev InBounds : List Instr → Type 0

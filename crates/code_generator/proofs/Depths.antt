@@ -24,7 +24,9 @@ use Rattle.typed_tree.specs.declared.tree.Stmt.TheOpen.Stmt-F.{Empty, Assign, Wr
 use Rattle.typed_tree.specs.declared.tree.Stmt.TheViews.{roll-Stmt}
 use Rattle.typed_tree.specs.declared.tree.Stmt.TheFolds.{map-Stmt, fold-roll-Stmt, ind-Stmt}
 use Rattle.code_generator.specs.declared.scope.Scope.{Scope}
-use Rattle.code_generator.specs.Code.{joined, placed, Placed, monadic_code, dyadic_code, expr_code, link_code, expr_step, link_step, expr_depth, link_depth, expr_depth_step, link_depth_step, width_depth, width_code, parameter_depth, parameter_code, write_instr, line_end_code, stmt_code, stmt_step, stmt_depth, stmt_depth_step, holding, row_code, arms_code, arms_depth}
+use Rattle.code_generator.specs.Code.{joined, placed, Placed, monadic_code, dyadic_code, expr_code, link_code, expr_step, link_step, expr_depth, link_depth}
+use Rattle.code_generator.specs.Code.{expr_depth_step, link_depth_step, width_depth, width_code, parameter_depth, parameter_code, write_instr, line_end_code}
+use Rattle.code_generator.specs.Code.{stmt_code, stmt_step, stmt_depth, stmt_depth_step, holding, row_code, arms_code, arms_depth}
 use Rattle.code_generator.proofs.Exprs.{start_within}
 use Rattle.code_generator.proofs.Pieces.{length-For}
 use Rattle.code_generator.specs.Need.{expr_need, expr_need_step, link_need_step, width_need, parameter_need, stmt_need, stmt_need_step}

@@ -1,5 +1,6 @@
 -- Statements whose code is emitted by their sizes: the sizes tell where the code of a statement ends before it is there.
-use Rattle.std.proofs.Common.{◌≡◌, ℕ, ◌+◌, ◌-◌, ◌*◌, ◌<◌, ◌≤◌, List, [], ◌∷◌, ◌++◌, take, get_or, length, map, Some, None, Result, Ok, Err, refl, sym, ap, ◌∙◌, subst, arith, length-append, append_assoc, append-nil}
+use Rattle.std.proofs.Common.{◌≡◌, ℕ, ◌+◌, ◌-◌, ◌*◌, ◌<◌, ◌≤◌, List, [], ◌∷◌, ◌++◌, take, get_or, length, map, Some, None, Result, Ok, Err, refl, sym, ap, ◌∙◌}
+use Rattle.std.proofs.Common.{subst, arith, length-append, append_assoc, append-nil}
 use Rattle.std.specs.Prelude.{ℤ, OnOk, slice_set}
 use Rattle.std.specs.Global.{Vec, Box}
 use Rattle.std.specs.declared.alloc.AllocError.{AllocError}
@@ -14,11 +15,14 @@ use Rattle.typed_tree.specs.declared.tree.Direction.{Direction}
 use Rattle.typed_tree.specs.declared.tree.RangeTest.{RangeTest}
 use Rattle.typed_tree.specs.declared.tree.Expr.{Expr}
 use Rattle.typed_tree.specs.declared.tree.Stmt.{Stmt}
-use Rattle.typed_tree.specs.declared.tree.Stmt.TheVariants.{Assign, rolls-Assign, Compound, rolls-Compound, If, rolls-If, While, rolls-While, Repeat, rolls-Repeat, For, rolls-For, Case, rolls-Case}
-use Rattle.typed_tree.specs.declared.tree.Stmt.TheOpen.Stmt-F.{Assign as Assign-layer, Compound as Compound-layer, If as If-layer, While as While-layer, Repeat as Repeat-layer, For as For-layer, Case as Case-layer}
+use Rattle.typed_tree.specs.declared.tree.Stmt.TheVariants.{Assign, rolls-Assign, Compound, rolls-Compound, If, rolls-If, While, rolls-While, Repeat}
+use Rattle.typed_tree.specs.declared.tree.Stmt.TheVariants.{rolls-Repeat, For, rolls-For, Case, rolls-Case}
+use Rattle.typed_tree.specs.declared.tree.Stmt.TheOpen.Stmt-F.{Assign as Assign-layer, Compound as Compound-layer, If as If-layer, While as While-layer}
+use Rattle.typed_tree.specs.declared.tree.Stmt.TheOpen.Stmt-F.{Repeat as Repeat-layer, For as For-layer, Case as Case-layer}
 use Rattle.typed_tree.specs.declared.tree.Stmt.TheFolds.{fold-roll-Stmt}
 use Rattle.code_generator.specs.declared.scope.Scope.{Scope}
-use Rattle.code_generator.specs.Code.{assign_code, expr_code, stmt_code, if_code, if_else_code, while_code, repeat_code, for_code, for_entry, for_begin, for_next, for_end, holding, row_code, arms_code, case_code}
+use Rattle.code_generator.specs.Code.{assign_code, expr_code, stmt_code, if_code, if_else_code, while_code, repeat_code, for_code, for_entry, for_begin}
+use Rattle.code_generator.specs.Code.{for_next, for_end, holding, row_code, arms_code, case_code}
 use Rattle.code_generator.specs.Emitted.{Emits}
 use Rattle.code_generator.specs.Sizes.{capped, first_of, rest_of, Measured, measured, measured_step, table_of, all_sizes, all_tables, arms_size, arms_table}
 use Rattle.code_generator.proofs.Measures.{is_measured, row_measured, arms_are_measured}

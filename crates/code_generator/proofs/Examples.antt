@@ -22,7 +22,9 @@ use Rattle.typed_tree.specs.declared.tree.Stmt.TheViews.{roll-Stmt}
 use Rattle.typed_tree.specs.declared.tree.Stmt.TheFolds.{fold-roll-Stmt}
 use Rattle.typed_tree.specs.WellFormed.{is_well_formed_expr, expr_is_well_formed, link_is_well_formed}
 use Rattle.code_generator.specs.declared.scope.Scope.{Scope}
-use Rattle.code_generator.specs.Code.{placed, Placed, check_positive, expr_code, expr_step, link_step, expr_depth, expr_depth_step, link_depth_step, parameter_depth, write_code, stmt_code, stmt_step, stmt_depth, stmt_depth_step, greatest, count, body_code, program_scope, program_code}
+use Rattle.code_generator.specs.Code.{placed, Placed, check_positive, expr_code, expr_step, link_step, expr_depth, expr_depth_step, link_depth_step}
+use Rattle.code_generator.specs.Code.{parameter_depth, write_code, stmt_code, stmt_step, stmt_depth, stmt_depth_step, greatest, count, body_code, program_scope}
+use Rattle.code_generator.specs.Code.{program_code}
 use Rattle.code_generator.specs.Need.{expr_need, expr_need_step, link_need_step, parameter_need, stmt_need, stmt_need_step, body_need, program_need}
 
 -- with two variables and one site

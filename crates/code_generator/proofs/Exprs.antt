@@ -1,5 +1,6 @@
 -- The code of an expression leaves its value on top, or stops as the expression does.
-use Rattle.std.proofs.Common.{◌≡◌, ℕ, ◌+◌, ◌<◌, ◌≤◌, max, List, [], ◌∷◌, ◌++◌, length, map, Option, Some, None, Ok, refl, sym, ap, ◌∙◌, subst, arith, length-append, append_assoc, Bool, true, false}
+use Rattle.std.proofs.Common.{◌≡◌, ℕ, ◌+◌, ◌<◌, ◌≤◌, max, List, [], ◌∷◌, ◌++◌, length, map, Option, Some, None, Ok, refl, sym, ap, ◌∙◌, subst, arith}
+use Rattle.std.proofs.Common.{length-append, append_assoc, Bool, true, false}
 use Rattle.std.specs.Prelude.{ℤ, pos, neg_ℤ, ◌+ℤ◌, ◌-ℤ◌, ◌*ℤ◌, int_le, int_lt, int_div, unsigned_abs, nat_lt, not, ◌&&◌, ◌||◌, fold}
 use Rattle.std.specs.Int.{w32, cast_signed, int_rem_euclid, int_wrapping_add, int_wrapping_sub, int_wrapping_mul, int_wrapping_div, int_wrapping_neg}
 use Rattle.std.specs.Ordering.{int_eq}
@@ -36,14 +37,18 @@ use Rattle.stack_machine.specs.declared.cell.Cell.TheVariants.{Undefined, Number
 use Rattle.stack_machine.specs.Frames as frames
 use Rattle.stack_machine.specs.Frames.{Attempt}
 use Rattle.stack_machine.specs.Machine.{State, obeyed, and_then, checked, with_frames}
-use Rattle.code_generator.specs.Code.{joined, variable_offset, monadic_code, dyadic_code, relation_instr, variable_code, width_code, check_positive, expr_code, link_code, expr_step, link_step, expr_depth, link_depth, expr_depth_step, link_depth_step, width_depth}
-use Rattle.typed_tree.specs.WellFormed.{all_hold, monadic_is_well_formed, dyadic_is_well_formed, expr_is_well_formed, link_is_well_formed, is_well_formed_expr, is_well_formed_link, is_well_formed_width}
+use Rattle.code_generator.specs.Code.{joined, variable_offset, monadic_code, dyadic_code, relation_instr, variable_code, width_code, check_positive, expr_code}
+use Rattle.code_generator.specs.Code.{link_code, expr_step, link_step, expr_depth, link_depth, expr_depth_step, link_depth_step, width_depth}
+use Rattle.typed_tree.specs.WellFormed.{all_hold, monadic_is_well_formed, dyadic_is_well_formed, expr_is_well_formed, link_is_well_formed, is_well_formed_expr}
+use Rattle.typed_tree.specs.WellFormed.{is_well_formed_link, is_well_formed_width}
 use Rattle.check_remover.specs.Strip.{moved}
 use Rattle.code_generator.proofs.Reach.{StandsAt, Stands, stands_front, stands_back, Comes, stays_here}
 use Rattle.code_generator.proofs.Setting.{Setting, on, Based, linked, Here, acts, passes, fails, Evaluates, gives, evaluates_from, then_evaluates}
 use Rattle.code_generator.proofs.Alike.{cell_of, HasFit, cell_within, alike_above, base_is, direct_lies}
-use Rattle.code_generator.proofs.Acts.{framed, length_one, pushes, loads, defines, on_one_is, is_in_range, is_not_zero, squares, sums, differs, multiplies, on_two_is, divides, leaves}
-use Rattle.code_generator.proofs.Numbers.{Fits, sum_is, difference_is, product_is, fits_negated, negated_is, fits_magnitude, magnitude_is, fits_quotient, quotient_is, fits_remainder, fits_truth, same_truth, same_test, same_positive}
+use Rattle.code_generator.proofs.Acts.{framed, length_one, pushes, loads, defines, on_one_is, is_in_range, is_not_zero, squares, sums, differs, multiplies}
+use Rattle.code_generator.proofs.Acts.{on_two_is, divides, leaves}
+use Rattle.code_generator.proofs.Numbers.{Fits, sum_is, difference_is, product_is, fits_negated, negated_is, fits_magnitude, magnitude_is, fits_quotient}
+use Rattle.code_generator.proofs.Numbers.{quotient_is, fits_remainder, fits_truth, same_truth, same_test, same_positive}
 
 -- the start of a greatest number is no more than it
 pub start_within : (d : ℕ) (ds : List ℕ) → d ≤ fold max d ds

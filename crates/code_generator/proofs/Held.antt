@@ -1,6 +1,7 @@
 -- The cells that are held above the variables, in a frame that runs: what is loaded from them and stored into them; and
 -- what the instructions of a for statement do with the two bounds that are held.
-use Rattle.std.proofs.Common.{◌≡◌, ℕ, zero, suc, ◌+◌, ◌<◌, ◌≤◌, List, [], ◌∷◌, ◌++◌, length, Some, Ok, refl, sym, ap, ◌∙◌, subst, arith, append-nil, append_assoc, length-append, Bool, true, false}
+use Rattle.std.proofs.Common.{◌≡◌, ℕ, zero, suc, ◌+◌, ◌<◌, ◌≤◌, List, [], ◌∷◌, ◌++◌, length, Some, Ok, refl, sym, ap, ◌∙◌, subst, arith, append-nil}
+use Rattle.std.proofs.Common.{append_assoc, length-append, Bool, true, false}
 use Rattle.std.specs.Prelude.{slice_get, slice_set, ℤ, pos, int_le, not, ◌&&◌, ◌||◌, if◌then◌else◌}
 use Rattle.std.specs.Ordering.{int_eq}
 use Rattle.std.proofs.lemmas.Int.{ints}
@@ -29,7 +30,8 @@ use Rattle.code_generator.proofs.Reach.{Comes, Stands, StandsAt, comes_on, comes
 use Rattle.code_generator.proofs.Numbers.{Fits, same_range}
 use Rattle.code_generator.proofs.Setting.{Setting, running_at, on, Based, linked, Here, acts, passes, fails, branches_on, jumps, Executes, executes_from}
 use Rattle.code_generator.proofs.Acts.{framed, length_one, pushes, loads, stores, on_two_is, is_in_range}
-use Rattle.code_generator.proofs.Alike.{Activation, Alike, Leads, HasCell, alike_above, alike_written, alike_undefined, base_is, cell_within, direct_lies, slice_get-front}
+use Rattle.code_generator.proofs.Alike.{Activation, Alike, Leads, HasCell, alike_above, alike_written, alike_undefined, base_is, cell_within, direct_lies}
+use Rattle.code_generator.proofs.Alike.{slice_get-front}
 
 -- cells above others
 slice_get-above : {A : Type 0} (xs ys : List A) (i : ℕ) (a : A) → slice_get ys i ≡ Some a → slice_get (xs ++ ys) (length xs + i) ≡ Some a

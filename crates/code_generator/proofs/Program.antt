@@ -1,5 +1,6 @@
 -- The code of a well formed tree follows its program, in full and without the checks of sites at which it never errs.
-use Rattle.std.proofs.Common.{◌≡◌, ℕ, zero, suc, nat_eq, ◌+◌, ◌<◌, ◌≤◌, ◌⊎◌, List, [], ◌∷◌, ◌++◌, length, Option, Some, None, refl, sym, ap, ◌∙◌, subst, inl, inr, ⊎_elim, arith, length-append, append_assoc, append-nil, ◌-◌, Bool, true, false}
+use Rattle.std.proofs.Common.{◌≡◌, ℕ, zero, suc, nat_eq, ◌+◌, ◌<◌, ◌≤◌, ◌⊎◌, List, [], ◌∷◌, ◌++◌, length, Option, Some, None, refl, sym, ap, ◌∙◌, subst, inl}
+use Rattle.std.proofs.Common.{inr, ⊎_elim, arith, length-append, append_assoc, append-nil, ◌-◌, Bool, true, false}
 use Rattle.std.specs.Prelude.{slice_get, if◌then◌else◌}
 use Rattle.std.specs.List.{list_all}
 use Rattle.std.specs.Option.{option_map_or}
@@ -34,12 +35,14 @@ use Rattle.code_generator.specs.Laws.{StrippedFollows}
 use Rattle.code_generator.specs.Need.{body_need, program_need}
 use Rattle.code_generator.specs.Tables.{site_table}
 use Rattle.typed_tree.specs.WellFormed.{is_well_formed_block, IsWellFormed}
-use Rattle.code_generator.proofs.Reach.{Target, StandsAt, Stands, stands_front, stands_back, Comes, IsOver, comes_by, comes_on, comes_less, stays_here, stops_on, stops_by, longer, one_end, grows_to}
+use Rattle.code_generator.proofs.Reach.{Target, StandsAt, Stands, stands_front, stands_back, Comes, IsOver, comes_by, comes_on, comes_less, stays_here}
+use Rattle.code_generator.proofs.Reach.{stops_on, stops_by, longer, one_end, grows_to}
 use Rattle.code_generator.proofs.Setting.{Setting, on, Based, Halts, Ends, Executes, done}
 use Rattle.stack_machine.proofs.Growing.{begins_itself}
 use Rattle.code_generator.proofs.Depths.{Within, stmt_within}
 use Rattle.code_generator.proofs.Alike.{Shown, Direct}
-use Rattle.code_generator.proofs.ProgramWorld.{program_activation, program_world, program_lives, program_apart, entered_cells, length_entered, program_begins, ShowsProgram, shows_program}
+use Rattle.code_generator.proofs.ProgramWorld.{program_activation, program_world, program_lives, program_apart, entered_cells, length_entered, program_begins}
+use Rattle.code_generator.proofs.ProgramWorld.{ShowsProgram, shows_program}
 use Rattle.code_generator.proofs.Stmts.{repeats, stmt_runs}
 
 -- the instructions of a block's statement, and its depth

@@ -1,6 +1,7 @@
 -- The world of a program that calls no routine: its own activation, whose variables lie behind the four links of the
 -- first frame. It has no variable parameters.
-use Rattle.std.proofs.Common.{◌≡◌, ℕ, zero, suc, ◌+◌, ◌<◌, ◌≤◌, List, [], ◌∷◌, ◌++◌, length, replicate, Option, Some, None, refl, sym, ap, ◌∙◌, subst, inl, inr, ⊎_elim, arith, length-append, Bool, true, false, eq-eqb, Contains}
+use Rattle.std.proofs.Common.{◌≡◌, ℕ, zero, suc, ◌+◌, ◌<◌, ◌≤◌, List, [], ◌∷◌, ◌++◌, length, replicate, Option, Some, None, refl, sym, ap, ◌∙◌, subst, inl, inr}
+use Rattle.std.proofs.Common.{⊎_elim, arith, length-append, Bool, true, false, eq-eqb, Contains}
 use Rattle.std.specs.Prelude.{slice_get, slice_index_or, nat_lt, nat_eq, ◌&&◌, if◌then◌else◌}
 use Rattle.std.specs.Cmp.Lexicographic.{pointwise}
 use Rattle.std.proofs.lemmas.Bool.{ltb-true, lt-ltb, cases_eq, ne_eqb}

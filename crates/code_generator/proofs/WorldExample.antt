@@ -1,6 +1,7 @@
 -- A world of two activations: a program with two variables, and a routine that stands in it, with a variable of its own
 -- and a variable parameter that stands for the program's second variable.
-use Rattle.std.proofs.Common.{◌≡◌, ℕ, zero, suc, ◌+◌, ◌<◌, ◌⊎◌, List, [], ◌∷◌, length, Some, None, Ok, refl, sym, ap, ◌∙◌, subst, inl, inr, arith, true, false, ◌≤◌, Contains}
+use Rattle.std.proofs.Common.{◌≡◌, ℕ, zero, suc, ◌+◌, ◌<◌, ◌⊎◌, List, [], ◌∷◌, length, Some, None, Ok, refl, sym, ap, ◌∙◌, subst, inl, inr, arith, true, false}
+use Rattle.std.proofs.Common.{◌≤◌, Contains}
 use Rattle.std.specs.Prelude.{slice_get, slice_set, slice_index_or, pos, nat_eq, if◌then◌else◌}
 use Rattle.std.proofs.lemmas.Bool.{eqb-true}
 use Rattle.std.proofs.lemmas.Option.{cond_some, none-some, same_Some}
@@ -9,7 +10,8 @@ use Rattle.meaning.specs.Store.{Place, Store, Environment, place_eq, stored, wri
 use Rattle.stack_machine.specs.declared.cell.Cell.{Cell}
 use Rattle.stack_machine.specs.declared.cell.Cell.TheVariants.{Undefined, Number}
 use Rattle.stack_machine.specs.Frames.{base}
-use Rattle.code_generator.proofs.Alike.{Activation, World, Lies, LiesIn, IsApart, IsClosed, Alike, cell_of, HasFit, alike_written, base_is, Leads, Shown, Direct, ByAddress}
+use Rattle.code_generator.proofs.Alike.{Activation, World, Lies, LiesIn, IsApart, IsClosed, Alike, cell_of, HasFit, alike_written, base_is, Leads, Shown}
+use Rattle.code_generator.proofs.Alike.{Direct, ByAddress}
 use Rattle.code_generator.proofs.ProgramWorld.{program_activation, program_world, only, is_variable, whole_path}
 
 -- the places of the program's variables, and that of the routine's

@@ -24,7 +24,9 @@ and_then-nothing (Gives a s) = refl
 and_then-nothing (Stops e s) = refl
 
 -- the statement of the program's block is all that is pending
-pub begins_with_block : (inner : Bor Stmt) (block : Block) (first : Option Block) (env : Environment) (operands : List Value) (s : State) (pending before : List Work) → pending ≡ before ++ work.Statement inner ∷ [] → before ≡ [] → inner.now ≡ block.body → first ≡ Some block → run_of first env s ≡ pending_of env (reverse pending) operands s
+pub begins_with_block : (inner : Bor Stmt) (block : Block) (first : Option Block) (env : Environment) (operands : List Value) (s : State)
+    (pending before : List Work) → pending ≡ before ++ work.Statement inner ∷ [] → before ≡ [] → inner.now ≡ block.body → first ≡ Some block
+    → run_of first env s ≡ pending_of env (reverse pending) operands s
 begins_with_block inner block first env operands s pending before pushed none body is =
     ap (λ (o : Option Block). run_of o env s) is
     ∙ ap (λ (b : Stmt). effect_of b env s) (sym body)
@@ -32,7 +34,9 @@ begins_with_block inner block first env operands s pending before pushed none bo
     ∙ sym (ap (λ (l : List Work). pending_of env (reverse l) operands s) (pushed ∙ ap (λ (l : List Work). l ++ work.Statement inner ∷ []) none))
 
 -- a run that does the same ends the same
-pub finishes_as : (whole rest : Reply (Unit {0})) (output : List ℕ) (result : Result Ending AllocError) → whole ≡ rest → IfOk result (λ ending. ended rest ≡ record { output = output; ending = ending }) → IfOk result (λ ending. ended whole ≡ record { output = output; ending = ending })
+pub finishes_as : (whole rest : Reply (Unit {0})) (output : List ℕ) (result : Result Ending AllocError) → whole ≡ rest
+    → IfOk result (λ ending. ended rest ≡ record { output = output; ending = ending })
+    → IfOk result (λ ending. ended whole ≡ record { output = output; ending = ending })
 finishes_as whole rest output (Ok ending) is finished = ap ended is ∙ finished
 finishes_as whole rest output (Err refused) is finished = tt
 

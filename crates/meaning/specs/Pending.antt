@@ -24,8 +24,10 @@ use Rattle.meaning.specs.contracts.store.PlaceOrd.TheImpl.{ghosts as places}
 use Rattle.meaning.specs.Store.{Environment, Place, Store, stored}
 use Rattle.meaning.specs.Effect.{State, Reply, Stops, Action, Round, ◌>>=◌, give, stop, require, use_turn}
 use Rattle.meaning.specs.Effect.{another, looped, store, undefine, write, is_in, is_positive, text_of}
-use Rattle.meaning.specs.Meaning.{Combination, Execution, completed, ended, home_of, operated, combined, value_of, link_of}
-use Rattle.meaning.specs.Meaning.{effect_of, all_of, width_of, parameter_of, line_ended, is_so, turn_if, while_round, repeat_round}
+use Rattle.meaning.specs.Meaning.{Combination, Execution, completed, ended, home_of, operated, combined, value_of}
+use Rattle.meaning.specs.Meaning.{link_of}
+use Rattle.meaning.specs.Meaning.{effect_of, all_of, width_of, parameter_of, line_ended, is_so, turn_if, while_round}
+use Rattle.meaning.specs.Meaning.{repeat_round}
 use Rattle.meaning.specs.Meaning.{for_between, is_among, arm_of, number_of}
 use Rattle.meaning.specs.Counting.{has_values, next_value}
 

@@ -26,8 +26,8 @@ fact range v0 3 2147483647
 fact defined v0
 ";
 
-// By hand: x is 3; sqr(3) * abs(3) is 27 and mod 5 gives 2, so y is -1; 3 < -1 is false, so b is true. Then x is 2, and 3
-// behind the while; the for makes it 4 and then 5.
+// By hand: x is 3; sqr(3) * abs(3) is 27 and mod 5 gives 2, so y is -1; 3 < -1 is false, so b is true. Then x is 2, and
+// 3 behind the while; the for makes it 4 and then 5.
 const WRITTEN: &str = "  3 true -1tr\n 5";
 
 // Whether a run that had ample memory did what it should, and one that had not said so and wrote nothing else.

@@ -1,6 +1,7 @@
 -- Programs: their typing goes on from that of their declarations and of their statements; and what the typed tree of one
 -- has by the laws of typing.
-use Rattle.std.proofs.Common.{◌≡◌, ℕ, ◌+◌, ◌<◌, ◌≤◌, true, List, [], ◌∷◌, ◌++◌, length, map, nat_eq, Some, Ok, inl, inr, refl, sym, ap, subst, ◌∙◌, append-nil, append_assoc}
+use Rattle.std.proofs.Common.{◌≡◌, ℕ, ◌+◌, ◌<◌, ◌≤◌, true, List, [], ◌∷◌, ◌++◌, length, map, nat_eq, Some, Ok, inl, inr, refl, sym, ap, subst, ◌∙◌, append-nil}
+use Rattle.std.proofs.Common.{append_assoc}
 use Rattle.std.proofs.Common.{length-append, arith}
 use Rattle.std.specs.List.{list_all, range_with_len, flat_map}
 use Rattle.std.proofs.lemmas.List.{length-map}
@@ -101,7 +102,8 @@ module _ (program : Program) where
         on ∙ ap (λ r. behind_marks [] (and_then r (λ a. behind_marks a.look (mark (BlockEnds program.block.end) a.passed)))) ends
 
     -- the tree of the program
-    pub is_resolved : (n : Passed) (block : Block) (tree : Tree) → compound (map statement program.block.statements.items) m ≡ Ok (after tt (look_stmt block.body) n)
+    pub is_resolved : (n : Passed) (block : Block) (tree : Tree)
+        → compound (map statement program.block.statements.items) m ≡ Ok (after tt (look_stmt block.body) n)
         → block.end ≡ program.block.end → tree.blocks.items ≡ block ∷ [] → IsLeft n tree → IsTableOf block.body tree.loops.items → IsResolved program tree
     is_resolved n block tree ends end blocks left table = record {
       is_typed = record {

@@ -20,7 +20,8 @@ use Rattle.syntax_tree.specs.declared.Expr.{Expr}
 use Rattle.syntax_tree.specs.declared.Actual.{Actual}
 use Rattle.syntax_tree.specs.declared.Link.{Link}
 use Rattle.syntax_tree.specs.declared.Expr.TheOpen.{Expr-F, Actual-F, Link-F}
-use Rattle.syntax_tree.specs.declared.Expr.TheOpen.Expr-F.{Number, Name as NameOf, Call as CallOf, Parenthesized, Not, Signed, Chain}
+use Rattle.syntax_tree.specs.declared.Expr.TheOpen.Expr-F.{Number, Name as NameOf, Call as CallOf, Parenthesized, Not}
+use Rattle.syntax_tree.specs.declared.Expr.TheOpen.Expr-F.{Signed, Chain}
 use Rattle.syntax_tree.specs.declared.Expr.TheFolds.{fold-Expr, fold-Actual, fold-Link}
 use Rattle.syntax_tree.specs.declared.Stmt.{Stmt}
 use Rattle.syntax_tree.specs.declared.Stmt.TheOpen.{Stmt-F}

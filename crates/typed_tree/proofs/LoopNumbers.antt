@@ -19,8 +19,10 @@ use Rattle.typed_tree.specs.declared.tree.Stmt.TheOpen.Stmt-F.{Empty, Assign, Wr
 use Rattle.typed_tree.specs.declared.tree.Stmt.TheFolds.{map-Stmt, fold-roll-Stmt, ind-Stmt}
 use Rattle.typed_tree.specs.Entries.{joined}
 use Rattle.typed_tree.specs.Loops.{Inside, statement_inside, inside_of, loops_of}
-use Rattle.typed_tree.specs.Look.{Mark, Look, link_look, expression_look, look_expr, look_link, look_width, look_parameter, arms_look, statement_look, look_stmt, look_block}
-use Rattle.typed_tree.specs.Look.{tree_look, mark_loops, loops_of_look, Ends, Then, Else, Do, Until, Fits as FitsMark, Written as WrittenMark, Width as WidthMark, BlockEnds}
+use Rattle.typed_tree.specs.Look.{Mark, Look, link_look, expression_look, look_expr, look_link, look_width, look_parameter, arms_look, statement_look}
+use Rattle.typed_tree.specs.Look.{look_stmt, look_block}
+use Rattle.typed_tree.specs.Look.{tree_look, mark_loops, loops_of_look, Ends, Then, Else, Do, Until, Fits as FitsMark, Written as WrittenMark}
+use Rattle.typed_tree.specs.Look.{Width as WidthMark, BlockEnds}
 
 -- a form, and then one that is no loop
 ended : (look : Look) (end : Mark) → mark_loops end ≡ [] → loops_of_look (look ++ (end ∷ [])) ≡ loops_of_look look
@@ -51,7 +53,8 @@ bare = map-Expr (Silent look_expr) (Silent look_link) Expr Link (λ e. e.0) (λ 
 abbrev bare_link : Link-F (Silent look_expr) (Silent look_link) → Link-F Expr Link
 bare_link = map-Link (Silent look_expr) (Silent look_link) Expr Link (λ e. e.0) (λ l. l.0)
 
-silent_layer : (y : Expr-F (Silent look_expr) (Silent look_link)) → loops_of_look (expression_look (map-Expr Expr Link Look Look look_expr look_link (bare y))) ≡ []
+silent_layer : (y : Expr-F (Silent look_expr) (Silent look_link))
+    → loops_of_look (expression_look (map-Expr Expr Link Look Look look_expr look_link (bare y))) ≡ []
 silent_layer (Constant number value) = refl
 silent_layer (Variable access defined) = refl
 silent_layer (MonadicOf number operation operand) = operand.value.1
@@ -59,7 +62,8 @@ silent_layer (Chain first rest) =
     let links = joined (map look_link (map (λ l. l.0) rest.items)) in
     behind (look_expr first.value.0) (links ++ (Ends ∷ [])) first.value.1 ∙ ended links Ends refl ∙ silent_joined look_link rest.items
 
-silent_link : (y : Link-F (Silent look_expr) (Silent look_link)) → loops_of_look (link_look (map-Link Expr Link Look Look look_expr look_link (bare_link y))) ≡ []
+silent_link : (y : Link-F (Silent look_expr) (Silent look_link))
+    → loops_of_look (link_look (map-Link Expr Link Look Look look_expr look_link (bare_link y))) ≡ []
 silent_link y = y.operand.1
 
 silent_expr : (e : Expr) → loops_of_look (look_expr e) ≡ []
@@ -141,7 +145,8 @@ numbers_layer (If number condition consequence (Some other)) =
     consequence.value.1 other.value.1
 numbers_layer (While number loop_number place condition body) =
     ap (λ more. loop_number ∷ more)
-    (behind (look_expr condition) (Do ∷ (look_stmt body.value.0 ++ (Ends ∷ []))) (silent_expr condition) ∙ ended (look_stmt body.value.0) Ends refl ∙ body.value.1)
+    (behind (look_expr condition) (Do ∷ (look_stmt body.value.0 ++ (Ends ∷ []))) (silent_expr condition) ∙ ended (look_stmt body.value.0) Ends refl
+    ∙ body.value.1)
 numbers_layer (Repeat number loop_number place statements condition) =
     let rows = joined (map look_stmt (map (λ s. s.0) statements.items)) in
     ap (λ more. loop_number ∷ more)

@@ -1,6 +1,7 @@
 -- What the look of a tree tells of it: the numbers of its entries, and whether its blocks are well formed.
 use Rattle.std.specs.declared.alloc.Global.{Global}
-use Rattle.std.proofs.Common.{Vec, ℤ, ◌≡◌, ℕ, Bool, true, false, ◌&&◌, nat_lt, List, [], ◌∷◌, ◌++◌, map, Option, Some, None, refl, sym, ap, ap₂, ◌∙◌, append-nil}
+use Rattle.std.proofs.Common.{Vec, ℤ, ◌≡◌, ℕ, Bool, true, false, ◌&&◌, nat_lt, List, [], ◌∷◌, ◌++◌, map, Option, Some, None, refl, sym, ap, ap₂, ◌∙◌}
+use Rattle.std.proofs.Common.{append-nil}
 use Rattle.std.proofs.Math.Bool.{and-true}
 use Rattle.std.specs.Prelude.{flat_map}
 use Rattle.std.specs.List.{list_all}
@@ -19,9 +20,14 @@ use Rattle.typed_tree.specs.declared.tree.Stmt.{Stmt}
 use Rattle.typed_tree.specs.declared.tree.Stmt.TheOpen.{Stmt-F}
 use Rattle.typed_tree.specs.declared.tree.Stmt.TheOpen.Stmt-F.{Empty, Assign, Write, Compound, If, While, Repeat, For, Case}
 use Rattle.typed_tree.specs.declared.tree.Stmt.TheFolds.{fold-Stmt, map-Stmt, fold-roll-Stmt, ind-Stmt}
-use Rattle.typed_tree.specs.Entries.{joined, expression_entries, link_entries, entries_of_expression, entries_of_width, entries_of_parameter, statement_entries, entries_of_statement, entries_of}
-use Rattle.typed_tree.specs.WellFormed.{all_hold, is_whole, monadic_is_well_formed, dyadic_is_well_formed, link_is_well_formed, expr_is_well_formed, is_well_formed_expr, is_well_formed_link, is_well_formed_width, is_well_formed_parameter, is_well_formed_test, are_whole, stmt_is_well_formed, is_well_formed_stmt, is_well_formed_block}
-use Rattle.typed_tree.specs.Look.{Mark, Look, link_look, expression_look, look_expr, look_link, look_width, look_parameter, arms_look, statement_look, look_stmt, look_block, tree_look, mark_entries, entries_of_look, is_formed_mark, Ends, If as IfMark, Then, Else, Do, Until, Fits as FitsMark, Written as WrittenMark, Width as WidthMark, BlockEnds}
+use Rattle.typed_tree.specs.Entries.{joined, expression_entries, link_entries, entries_of_expression, entries_of_width, entries_of_parameter, statement_entries}
+use Rattle.typed_tree.specs.Entries.{entries_of_statement, entries_of}
+use Rattle.typed_tree.specs.WellFormed.{all_hold, is_whole, monadic_is_well_formed, dyadic_is_well_formed, link_is_well_formed, expr_is_well_formed}
+use Rattle.typed_tree.specs.WellFormed.{is_well_formed_expr, is_well_formed_link, is_well_formed_width, is_well_formed_parameter, is_well_formed_test}
+use Rattle.typed_tree.specs.WellFormed.{are_whole, stmt_is_well_formed, is_well_formed_stmt, is_well_formed_block}
+use Rattle.typed_tree.specs.Look.{Mark, Look, link_look, expression_look, look_expr, look_link, look_width, look_parameter, arms_look, statement_look}
+use Rattle.typed_tree.specs.Look.{look_stmt, look_block, tree_look, mark_entries, entries_of_look, is_formed_mark, Ends, If as IfMark, Then, Else, Do, Until}
+use Rattle.typed_tree.specs.Look.{Fits as FitsMark, Written as WrittenMark, Width as WidthMark, BlockEnds}
 
 -- ---- a measure of looks that is a fold over trees
 
@@ -173,7 +179,8 @@ entries_stmt_layer (Compound number statements) =
     let rows = joined (map look_stmt (map (λ s. s.0) statements.items)) in
     ap (λ entries. number ∷ entries) (entries_ended rows Ends refl ∙ entries_joined look_stmt entries_of_statement statements.items)
 entries_stmt_layer (If number condition consequence None) =
-    entries_chosen number condition (look_stmt consequence.value.0) [] ∙ ap (λ row. number ∷ (entries_of_expression condition ++ (row ++ []))) consequence.value.1
+    entries_chosen number condition (look_stmt consequence.value.0) [] ∙ ap
+    (λ row. number ∷ (entries_of_expression condition ++ (row ++ []))) consequence.value.1
 entries_stmt_layer (If number condition consequence (Some other)) =
     entries_chosen number condition (look_stmt consequence.value.0) (Else ∷ look_stmt other.value.0)
     ∙ ap₂ (λ row rest. number ∷ (entries_of_expression condition ++ (row ++ rest))) consequence.value.1 other.value.1

@@ -18,11 +18,14 @@ use Rattle.typed_tree.specs.declared.tree.WriteParameter.{WriteParameter}
 use Rattle.typed_tree.specs.declared.tree.Expr.{Expr}
 use Rattle.typed_tree.specs.declared.tree.Link.{Link}
 use Rattle.typed_tree.specs.declared.tree.Expr.TheOpen.{Expr-F, Link-F}
-use Rattle.typed_tree.specs.declared.tree.Expr.TheOpen.Expr-F.{Constant as ConstantOf, Variable as VariableOf, Monadic as MonadicOf, Chain as ChainOf}
+use Rattle.typed_tree.specs.declared.tree.Expr.TheOpen.Expr-F.{Constant as ConstantOf, Variable as VariableOf}
+use Rattle.typed_tree.specs.declared.tree.Expr.TheOpen.Expr-F.{Monadic as MonadicOf, Chain as ChainOf}
 use Rattle.typed_tree.specs.declared.tree.Expr.TheFolds.{fold-Expr, fold-Link}
 use Rattle.typed_tree.specs.declared.tree.Stmt.{Stmt}
 use Rattle.typed_tree.specs.declared.tree.Stmt.TheOpen.{Stmt-F}
-use Rattle.typed_tree.specs.declared.tree.Stmt.TheOpen.Stmt-F.{Empty as EmptyOf, Assign as AssignOf, Write as WriteOf, Compound as CompoundOf, If as IfOf, While as WhileOf, Repeat as RepeatOf, For as ForOf, Case as CaseOf}
+use Rattle.typed_tree.specs.declared.tree.Stmt.TheOpen.Stmt-F.{Empty as EmptyOf, Assign as AssignOf, Write as WriteOf}
+use Rattle.typed_tree.specs.declared.tree.Stmt.TheOpen.Stmt-F.{Compound as CompoundOf, If as IfOf, While as WhileOf}
+use Rattle.typed_tree.specs.declared.tree.Stmt.TheOpen.Stmt-F.{Repeat as RepeatOf, For as ForOf, Case as CaseOf}
 use Rattle.typed_tree.specs.declared.tree.Stmt.TheFolds.{fold-Stmt}
 use Rattle.typed_tree.specs.Entries.{joined}
 use Rattle.typed_tree.specs.WellFormed.{is_whole, monadic_is_well_formed, dyadic_is_well_formed, is_well_formed_test}

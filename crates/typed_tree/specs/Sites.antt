@@ -2,7 +2,9 @@
 -- It says nothing of when an error comes.
 use Rattle.std.specs.Prelude.{ℕ, List, Option, Some, None, if◌then◌else◌, ◌==◌, codes}
 use Rattle.typed_tree.specs.declared.site.SiteKind.{SiteKind}
-use Rattle.typed_tree.specs.declared.site.SiteKind.TheVariants.{Index, Subrange, UndefinedVariable, UndefinedResult, DivisionByZero, ModByZeroOrLess, Case, Chr, Succ, Pred, Overflow, Width, SetMember}
+use Rattle.typed_tree.specs.declared.site.SiteKind.TheVariants.{Index, Subrange, UndefinedVariable, UndefinedResult}
+use Rattle.typed_tree.specs.declared.site.SiteKind.TheVariants.{DivisionByZero, ModByZeroOrLess, Case, Chr, Succ, Pred}
+use Rattle.typed_tree.specs.declared.site.SiteKind.TheVariants.{Overflow, Width, SetMember}
 
 -- the number of a kind, from 1 to 13
 abbrev pub number_of : SiteKind → ℕ

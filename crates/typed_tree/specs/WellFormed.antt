@@ -2,7 +2,8 @@
 -- variable is one of the program's (6.2.2), which its block declares, each test names a site of the table, each loop
 -- stands in the table of loops, there is a block, and the program has no more variables than a block has cells. It does
 -- not say that a tree is that of a program.
-use Rattle.std.specs.Prelude.{◌≡◌, ℕ, ℤ, ◌<◌, ◌≤◌, pos, neg_ℤ, ◌&&◌, Bool, true, List, Option, Some, None, Vec, int_le, nat_lt, nat_eq, length, map}
+use Rattle.std.specs.Prelude.{◌≡◌, ℕ, ℤ, ◌<◌, ◌≤◌, pos, neg_ℤ, ◌&&◌, Bool, true, List, Option, Some, None, Vec, int_le}
+use Rattle.std.specs.Prelude.{nat_lt, nat_eq, length, map}
 use Rattle.std.specs.List.{list_all}
 use Rattle.std.specs.declared.alloc.Global.{Global}
 use Rattle.std.specs.declared.boxed.Box.{Box}
@@ -22,7 +23,8 @@ use Rattle.typed_tree.specs.declared.tree.Expr.TheOpen.Expr-F.{Constant, Variabl
 use Rattle.typed_tree.specs.declared.tree.Expr.TheFolds.{fold-Expr, fold-Link}
 use Rattle.typed_tree.specs.declared.tree.Stmt.{Stmt}
 use Rattle.typed_tree.specs.declared.tree.Stmt.TheOpen.{Stmt-F}
-use Rattle.typed_tree.specs.declared.tree.Stmt.TheOpen.Stmt-F.{Empty, Assign, Write, Compound, If, While, Repeat, For, Case}
+use Rattle.typed_tree.specs.declared.tree.Stmt.TheOpen.Stmt-F.{Empty, Assign, Write, Compound, If, While, Repeat, For}
+use Rattle.typed_tree.specs.declared.tree.Stmt.TheOpen.Stmt-F.{Case}
 use Rattle.typed_tree.specs.declared.tree.Stmt.TheFolds.{fold-Stmt}
 use Rattle.typed_tree.specs.Loops.{loops_of, AreLoops}
 

@@ -1,5 +1,6 @@
 -- What statements do, form by form, and the law of every statement, by induction over its form.
-use Rattle.std.proofs.Common.{◌≡◌, ℕ, ℤ, Vec, ◌<◌, Bool, true, false, ◌&&◌, if◌then◌else◌, List, [], ◌∷◌, ◌++◌, map, Option, Some, None, Ok, Err, refl, sym, subst, append_assoc, arith}
+use Rattle.std.proofs.Common.{◌≡◌, ℕ, ℤ, Vec, ◌<◌, Bool, true, false, ◌&&◌, if◌then◌else◌, List, [], ◌∷◌, ◌++◌, map, Option, Some, None, Ok, Err, refl, sym}
+use Rattle.std.proofs.Common.{subst, append_assoc, arith}
 use Rattle.std.specs.List.{flat_map}
 use Rattle.std.specs.declared.alloc.Global.{Global}
 use Rattle.place.specs.declared.Place.{Place}
@@ -15,7 +16,8 @@ use Rattle.syntax_tree.specs.declared.Stmt.{Stmt}
 use Rattle.syntax_tree.specs.declared.Stmt.TheOpen as layer
 use Rattle.syntax_tree.specs.declared.Stmt.TheViews.{roll-Stmt}
 use Rattle.syntax_tree.specs.declared.Stmt.TheFolds.{map-Stmt, fold-roll-Stmt, ind-Stmt}
-use Rattle.syntax_tree.specs.Places.{Places, joined_places, expr_places, actual_places, stmt_places, arms_of, arm_places, constant_places, statement_step as statement_row}
+use Rattle.syntax_tree.specs.Places.{Places, joined_places, expr_places, actual_places, stmt_places, arms_of, arm_places, constant_places}
+use Rattle.syntax_tree.specs.Places.{statement_step as statement_row}
 use Rattle.types.specs.declared.form.TypeForm.{TypeForm}
 use Rattle.types.specs.declared.form.TypeForm.TheVariants as form
 use Rattle.types.specs.declared.form.TypeId.{TypeId}
@@ -28,16 +30,19 @@ use Rattle.typed_tree.specs.declared.site.SiteKind.{SiteKind}
 use Rattle.typed_tree.specs.declared.site.SiteKind.TheVariants as kind
 use Rattle.typed_tree.specs.Ids.{Stands}
 use Rattle.typed_tree.specs.WellFormed.{is_whole}
-use Rattle.typed_tree.specs.Look.{Assign, Target, Fits, Write, Written as WrittenMark, Width, Empty, Compound, If, Then, Else, While, Do, Repeat, Until, For, Case, Arm, Ends}
+use Rattle.typed_tree.specs.Look.{Assign, Target, Fits, Write, Written as WrittenMark, Width, Empty, Compound, If, Then, Else, While, Do, Repeat, Until, For}
+use Rattle.typed_tree.specs.Look.{Case, Arm, Ends}
 use Rattle.typing.specs.Passing.{Checked, Passing, and_then, each}
 use Rattle.typing.specs.Expressions.{Typed, Written, WrittenActual, fits, or_mismatch, expression, written_actual}
 use Rattle.typing.specs.Statements.{as_variable, fitting, assignment, as_procedure, ends_line, is_output, names_file, unless_wide, is_file, written_values}
 use Rattle.typing.specs.Statements.{has_values, measured, width, parameter, write, procedure_call, compound, condition, alternative, tested, choice, while_loop}
-use Rattle.typing.specs.Statements.{repeat_loop, way, bound, for_head, for_body, for_loop, case_arms, case_head, case_body, case_statement, statement_step, statement}
+use Rattle.typing.specs.Statements.{repeat_loop, way, bound, for_head, for_body, for_loop, case_arms, case_head, case_body, case_statement, statement_step}
+use Rattle.typing.specs.Statements.{statement}
 use Rattle.typing_laws.proofs.Sound.{IsSound}
 use Rattle.typing_laws.proofs.Covers.{Covers, covers_both, covers_none, covers_behind, covers_skip, covers_lower, covers_ahead, leads_first}
 use Rattle.typing_laws.proofs.Grown.{both_true}
-use Rattle.typing_laws.proofs.Steps.{Does, Anything, Nothing, joins, quietly, last, checks, sited, pure_does, given_does, find_does, pass_does, wants_output_does}
+use Rattle.typing_laws.proofs.Steps.{Does, Anything, Nothing, joins, quietly, last, checks, sited, pure_does, given_does, find_does, pass_does}
+use Rattle.typing_laws.proofs.Steps.{wants_output_does}
 use Rattle.typing_laws.proofs.Steps.{mark_does, enter_does, enter_loop_does, may_change_does, begin_control_does, end_control_does, site_does, IsKnown}
 use Rattle.typing_laws.proofs.Expressions.{IsLed, Types, lt_true, LawfulWritten, led_covers}
 use Rattle.typing_laws.proofs.Constants.{row_does}
@@ -158,7 +163,8 @@ module _ (variables : ℕ) where
   unfolding parameter
   parameter_does least places a law =
       sited (λ sites. subst (λ p. Covers 0 p sites) (sym law.places_are))
-      (joins (covers_both 0 law.of_value law.of_width) (checks {L = Anything} (typed_does least law.of_value a.value None law.value tt) λ types t b n more is _. tt) λ written now _ _.
+      (joins (covers_both 0 law.of_value law.of_width)
+      (checks {L = Anything} (typed_does least law.of_value a.value None law.value tt) λ types t b n more is _. tt) λ written now _ _.
       quietly (mark_does (WrittenMark written) refl refl (λ n h. refl)) λ _ next _ _.
       width_does next law.of_width a.width law.width)
 
@@ -218,7 +224,8 @@ module _ (variables : ℕ) where
   alternative_does : (least : ℕ) (places : List Place) (other : Option (Passing (Unit {0}))) → IsLawfulAlternative places other
       → Does variables least (Covers 0 places) (alternative other) Anything
   unfolding alternative
-  alternative_does least places None law = sited (λ sites none. subst (Covers 0 places) (sym none) (covers_none 0 places)) (pure_does {K = Anything} tt (λ n h. tt))
+  alternative_does least places None law = sited (λ sites none. subst (Covers 0 places) (sym none) (covers_none 0 places))
+      (pure_does {K = Anything} tt (λ n h. tt))
   alternative_does least places (Some other) law = quietly (mark_does Else refl refl (λ n h. refl)) λ _ now _ _. law.passes now
 
   tested_does : (least : ℕ) (place : Place) (places : List Place) (w : Written) → LawfulWritten variables places w
@@ -301,20 +308,23 @@ module _ (variables : ℕ) where
       quietly (given_does (as_variable name.place denotation)) λ control _ _ is.
       let within = variable_is variables name.place denotation control is sound in
       quietly (may_change_does name.place control.0) λ _ _ _ _.
-      quietly (enter_loop_does (λ n l. For n l place control.0 (way d)) (λ n l. refl) (λ n l. refl) (λ n l m h. lt_true control.0 variables within)) λ _ now _ _.
+      quietly (enter_loop_does (λ n l. For n l place control.0 (way d)) (λ n l. refl) (λ n l. refl)
+      (λ n l m h. lt_true control.0 variables within)) λ _ now _ _.
       joins (covers_both 0 firsts lasts) (bound_does now control.1 firsts first one) λ _ next _ _.
       last (bound_does next control.1 lasts end two) λ _ _ _ _.
       quietly (mark_does Do refl refl (λ n h. refl)) λ _ _ _ _.
       pure_does control.0 (λ n h. tt))
 
-  for_does : (place : Place) (name : Name) (firsts lasts inside : List Place) (first : Written) (d : SyntaxDirection) (end : Written) (body : Passing (Unit {0}))
+  for_does : (place : Place) (name : Name) (firsts lasts inside : List Place) (first : Written) (d : SyntaxDirection) (end : Written)
+      (body : Passing (Unit {0}))
       → LawfulWritten variables firsts first → LawfulWritten variables lasts end → LawfulStatement inside body
       → LawfulStatement (place ∷ name.place ∷ (firsts ++ (lasts ++ inside))) (for_loop place name first d end body)
   unfolding for_body
   for_does place name firsts lasts inside first d end body one two three = record {
     passes = λ least.
         sited (λ sites. subst (λ p. Covers 0 (place ∷ name.place ∷ p) sites) (append_assoc firsts lasts inside))
-        (joins (covers_both 0 (place ∷ name.place ∷ (firsts ++ lasts)) inside) (for_head_does least place name firsts lasts first d end one two) λ control _ _ _.
+        (joins (covers_both 0 (place ∷ name.place ∷ (firsts ++ lasts)) inside)
+        (for_head_does least place name firsts lasts first d end one two) λ control _ _ _.
         quietly (begin_control_does control) λ _ now _ _.
         last (three.passes now) λ _ _ _ _.
         quietly end_control_does λ _ _ _ _.

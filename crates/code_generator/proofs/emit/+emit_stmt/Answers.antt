@@ -1,4 +1,5 @@
-use Rattle.std.proofs.Common.{rules, List, Bor, Ok, OnOk, ◌≡◌, ℕ, ◌+◌, ◌*◌, ◌≤◌, ◌++◌, [], ◌∷◌, drop, ap, ◌∙◌, sym, subst, refl, length, length-append, map, append-nil, arith}
+use Rattle.std.proofs.Common.{rules, List, Bor, Ok, OnOk, ◌≡◌, ℕ, ◌+◌, ◌*◌, ◌≤◌, ◌++◌, [], ◌∷◌, drop, ap, ◌∙◌, sym, subst, refl, length, length-append, map}
+use Rattle.std.proofs.Common.{append-nil, arith}
 use Rattle.std.specs.Prelude.{ℤ}
 use Rattle.std.specs.Global.{Vec}
 use Rattle.std.proofs.lemmas.List.{drop_more, drop_all, nil_from_length}
@@ -8,8 +9,12 @@ use Rattle.typed_tree.specs.declared.tree.Stmt.TheVariants.{If}
 use Rattle.code_generator.specs.Code.{arms_code, row_code, stmt_code, expr_code, if_code, if_else_code, while_code, for_code, for_begin, for_end, holding}
 use Rattle.code_generator.specs.Emitted.{Emits, statements_table}
 use Rattle.code_generator.specs.Sizes.{arms_table, capped, table_of, measured}
-use Rattle.code_generator.proofs.Emitting.{AreLeft, none_left, arm_emitted, arms_emitted, case_emitted, measured-Case, IsLeft, if_emitted, if_else_emitted, one_emitted, passed_emitted, same_emitted, measured-Compound, measured-If, measured-If-else, if_measured, if_else_measured, measured-While, measured-Repeat, measured-For, for_measured, for_emitted, while_measured, while_emitted, repeat_emitted}
-use Rattle.code_generator.proofs.Pieces.{stmts_code, stmt_code-Compound, stmt_code-If, stmt_code-If-else, stmt_code-While, stmt_code-Repeat, stmt_code-For, stmt_code-Case}
+use Rattle.code_generator.proofs.Emitting.{AreLeft, none_left, arm_emitted, arms_emitted, case_emitted, measured-Case, IsLeft, if_emitted, if_else_emitted}
+use Rattle.code_generator.proofs.Emitting.{one_emitted, passed_emitted, same_emitted, measured-Compound, measured-If, measured-If-else, if_measured}
+use Rattle.code_generator.proofs.Emitting.{if_else_measured, measured-While, measured-Repeat, measured-For, for_measured, for_emitted, while_measured}
+use Rattle.code_generator.proofs.Emitting.{while_emitted, repeat_emitted}
+use Rattle.code_generator.proofs.Pieces.{stmts_code, stmt_code-Compound, stmt_code-If, stmt_code-If-else, stmt_code-While, stmt_code-Repeat, stmt_code-For}
+use Rattle.code_generator.proofs.Pieces.{stmt_code-Case}
 use Rattle.code_generator.proofs.emit.+emit_stmt.Goals.{emit_arms-in-Some+in_ok-emit_row+in_ok-emit_stmt+in_ok-put, emit_arms-in_default}
 use Rattle.code_generator.proofs.emit.+emit_stmt.Goals as goal
 

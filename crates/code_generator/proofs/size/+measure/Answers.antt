@@ -1,4 +1,5 @@
-use Rattle.std.proofs.Common.{rules, Bor, ◌≡◌, ◌+◌, ◌++◌, ◌∷◌, drop, [], ◌∷◌, ap, sym, ◌∙◌, length, length-append, append-nil, append_assoc, map, arith, subst, List, Result, ℕ}
+use Rattle.std.proofs.Common.{rules, Bor, ◌≡◌, ◌+◌, ◌++◌, ◌∷◌, drop, [], ◌∷◌, ap, sym, ◌∙◌, length, length-append, append-nil, append_assoc, map, arith, subst}
+use Rattle.std.proofs.Common.{List, Result, ℕ}
 use Rattle.std.specs.Prelude.{ℤ, slice_set}
 use Rattle.std.specs.Global.{Vec}
 use Rattle.std.specs.declared.alloc.AllocError.{AllocError}
@@ -7,7 +8,8 @@ use Rattle.pcode_assembler.specs.declared.instr.Instr.TheVariants as instr
 use Rattle.typed_tree.specs.declared.tree.Stmt.TheVariants.{If}
 use Rattle.code_generator.specs.Code.{expr_code, holding, program_scope, variable_offset}
 use Rattle.code_generator.specs.Sizes.{capped, Measured, measured, all_sizes, all_tables, arms_size, arms_table, table_of, IsTold, AreTold}
-use Rattle.code_generator.proofs.Emitting.{measured-Assign, measured-Compound, measured-If, measured-If-else, measured-While, measured-Repeat, measured-For, measured-Case, arms_size-none, arms_table-none, sizes_one_more, tables_one_more, set_at_seam}
+use Rattle.code_generator.proofs.Emitting.{measured-Assign, measured-Compound, measured-If, measured-If-else, measured-While, measured-Repeat, measured-For}
+use Rattle.code_generator.proofs.Emitting.{measured-Case, arms_size-none, arms_table-none, sizes_one_more, tables_one_more, set_at_seam}
 use Rattle.code_generator.proofs.size.+measure.Goals.{measure_arms-in-Some+in_ok-measure, measure_arms-in_default}
 use Rattle.code_generator.proofs.size.+measure.Goals as goal
 

@@ -5,7 +5,9 @@ use Rattle.std.proofs.lemmas.List.{drop_all, drop_more, nil_from_length}
 use Rattle.typed_tree.specs.declared.tree.Stmt.TheVariants.{If}
 use Rattle.code_generator.specs.Code.{expr_code, holding, stmt_code, write_code}
 use Rattle.code_generator.specs.Sizes.{arms_size, capped, measured}
-use Rattle.code_generator.proofs.Pieces.{stmts_code, stmt_code-Empty, stmt_code-Compound, stmt_code-Write, stmt_code-If, stmt_code-If-else, stmt_code-While, stmt_code-Repeat, stmt_code-For, length-For, length-While, length-Repeat, length-Assign, length-If, length-If-else, stmts_one_more, all_stmts}
+use Rattle.code_generator.proofs.Pieces.{stmts_code, stmt_code-Empty, stmt_code-Compound, stmt_code-Write, stmt_code-If, stmt_code-If-else, stmt_code-While}
+use Rattle.code_generator.proofs.Pieces.{stmt_code-Repeat, stmt_code-For, length-For, length-While, length-Repeat, length-Assign, length-If, length-If-else}
+use Rattle.code_generator.proofs.Pieces.{stmts_one_more, all_stmts}
 use Rattle.code_generator.proofs.Emitting.{arms_size-none, measured-Case}
 use Rattle.code_generator.proofs.Measures.{is_measured}
 use Rattle.code_generator.proofs.size.+stmt_size.Goals.{arms_size-in-Some, arms_size-in_default}
