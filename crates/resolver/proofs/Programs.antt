@@ -101,7 +101,8 @@ module _ (program : Program) where
         on ∙ ap (λ r. behind_marks [] (and_then r (λ a. behind_marks a.look (mark (BlockEnds program.block.end) a.passed)))) ends
 
     -- the tree of the program
-    pub is_resolved : (n : Passed) (block : Block) (tree : Tree) → compound (map statement program.block.statements.items) m ≡ Ok (after tt (look_stmt block.body) n)
+    pub is_resolved : (n : Passed) (block : Block) (tree : Tree)
+        → compound (map statement program.block.statements.items) m ≡ Ok (after tt (look_stmt block.body) n)
         → block.end ≡ program.block.end → tree.blocks.items ≡ block ∷ [] → IsLeft n tree → IsTableOf block.body tree.loops.items → IsResolved program tree
     is_resolved n block tree ends end blocks left table = record {
       is_typed = record {

@@ -23,6 +23,7 @@ in_order_push sites site before is =
     ∙ sym (range_more (length sites))
     ∙ ap (range_with_len 0) (sym (length-append sites (site ∷ [])))
 
-pub in_order_kept : (pushed : Bool) (sites : List Site) (site : Site) → AreInOrder sites → site.id ≡ length sites → AreInOrder (cond pushed (sites ++ site ∷ []) sites)
+pub in_order_kept : (pushed : Bool) (sites : List Site) (site : Site) → AreInOrder sites → site.id ≡ length sites
+    → AreInOrder (cond pushed (sites ++ site ∷ []) sites)
 in_order_kept true sites site before is = in_order_push sites site before is
 in_order_kept false sites site before is = before

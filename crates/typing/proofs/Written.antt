@@ -66,7 +66,8 @@ typing_actual a =
     ∙ mapped (out-Actual a).value (out-Actual a).width
   where
     mapped : (value : Expr) (width : Option Expr)
-        → actual_step (map-Actual Expr Actual Link Written WrittenActual WrittenLink expression written_actual written_link (record { value = value; width = width }))
+        → actual_step (map-Actual Expr Actual Link Written WrittenActual WrittenLink expression written_actual written_link
+        (record { value = value; width = width }))
         ≡ record { value = expression value; width = option_map expression width }
     mapped value None = refl
     mapped value (Some width) = refl

@@ -112,14 +112,20 @@ module _ (variables : ℕ) where
 
   pub named_does : (name : Name) → LawfulWritten (name.place ∷ []) (record { first = name.place; typing = named name })
   unfolding named
-  named_does name = record { begins = ([], refl); types = λ least lead is. quietly (find_does name) λ denotation _ _ sound. denoted_does denotation name.place lead is sound }
+  named_does name = record {
+    begins = ([], refl);
+    types = λ least lead is. quietly (find_does name) λ denotation _ _ sound. denoted_does denotation name.place lead is sound;
+  }
 
   -- ---- one operand
 
   pub parenthesized_does : (place : Place) (places : List Place) (inner : Written) → LawfulWritten places inner
       → LawfulWritten (place ∷ places) (record { first = place; typing = parenthesized place inner })
   unfolding parenthesized
-  parenthesized_does place places inner law = record { begins = (places, refl); types = λ least lead is. led_covers 2 place places (led lead) (led_alone lead is) (by least lead) }
+  parenthesized_does place places inner law = record {
+    begins = (places, refl);
+    types = λ least lead is. led_covers 2 place places (led lead) (led_alone lead is) (by least lead);
+  }
     where
       by : (least : ℕ) (lead : Option SiteKind) → Does variables least (Leads 2 place (led lead) places) (parenthesized place inner lead) Types
       by least lead =
@@ -141,7 +147,10 @@ module _ (variables : ℕ) where
   pub negation_does : (place : Place) (places : List Place) (operand : Written) → LawfulWritten places operand
       → LawfulWritten (place ∷ places) (record { first = place; typing = negation place operand })
   unfolding negation
-  negation_does place places operand law = record { begins = (places, refl); types = λ least lead is. led_covers 2 place places (led lead) (led_alone lead is) (by least lead) }
+  negation_does place places operand law = record {
+    begins = (places, refl);
+    types = λ least lead is. led_covers 2 place places (led lead) (led_alone lead is) (by least lead);
+  }
     where
       by : (least : ℕ) (lead : Option SiteKind) → Does variables least (Leads 2 place (led lead) places) (negation place operand lead) Types
       by least lead =
@@ -157,7 +166,10 @@ module _ (variables : ℕ) where
   pub signed_does : (s : Sign) (place : Place) (places : List Place) (operand : Written) → LawfulWritten places operand
       → LawfulWritten (place ∷ places) (record { first = place; typing = signed s place operand })
   unfolding signed
-  signed_does s place places operand law = record { begins = (places, refl); types = λ least lead is. led_covers 2 place places (led lead) (led_alone lead is) (by least lead) }
+  signed_does s place places operand law = record {
+    begins = (places, refl);
+    types = λ least lead is. led_covers 2 place places (led lead) (led_alone lead is) (by least lead);
+  }
     where
       by : (least : ℕ) (lead : Option SiteKind) → Does variables least (Leads 2 place (led lead) places) (signed s place operand lead) Types
       by least lead =

@@ -19,7 +19,8 @@ use Rattle.typing_laws.proofs.Statements.{compound_does, statements_lawful}
 use Rattle.typing_laws.proofs.Declarations.{IsReady, declarations_keep}
 
 -- the statements of a block
-statement_part_does : (variables : ℕ) (block : Block) → Does variables 0 (Covers 0 (flat_map stmt_places block.statements.items)) (statement_part block) Anything
+statement_part_does : (variables : ℕ) (block : Block)
+    → Does variables 0 (Covers 0 (flat_map stmt_places block.statements.items)) (statement_part block) Anything
 unfolding statement_part
 statement_part_does variables block =
     let items = block.statements.items in

@@ -158,7 +158,8 @@ module _ (variables : ℕ) where
   unfolding parameter
   parameter_does least places a law =
       sited (λ sites. subst (λ p. Covers 0 p sites) (sym law.places_are))
-      (joins (covers_both 0 law.of_value law.of_width) (checks {L = Anything} (typed_does least law.of_value a.value None law.value tt) λ types t b n more is _. tt) λ written now _ _.
+      (joins (covers_both 0 law.of_value law.of_width)
+      (checks {L = Anything} (typed_does least law.of_value a.value None law.value tt) λ types t b n more is _. tt) λ written now _ _.
       quietly (mark_does (WrittenMark written) refl refl (λ n h. refl)) λ _ next _ _.
       width_does next law.of_width a.width law.width)
 
@@ -218,7 +219,8 @@ module _ (variables : ℕ) where
   alternative_does : (least : ℕ) (places : List Place) (other : Option (Passing (Unit {0}))) → IsLawfulAlternative places other
       → Does variables least (Covers 0 places) (alternative other) Anything
   unfolding alternative
-  alternative_does least places None law = sited (λ sites none. subst (Covers 0 places) (sym none) (covers_none 0 places)) (pure_does {K = Anything} tt (λ n h. tt))
+  alternative_does least places None law =
+      sited (λ sites none. subst (Covers 0 places) (sym none) (covers_none 0 places)) (pure_does {K = Anything} tt (λ n h. tt))
   alternative_does least places (Some other) law = quietly (mark_does Else refl refl (λ n h. refl)) λ _ now _ _. law.passes now
 
   tested_does : (least : ℕ) (place : Place) (places : List Place) (w : Written) → LawfulWritten variables places w
@@ -301,20 +303,23 @@ module _ (variables : ℕ) where
       quietly (given_does (as_variable name.place denotation)) λ control _ _ is.
       let within = variable_is variables name.place denotation control is sound in
       quietly (may_change_does name.place control.0) λ _ _ _ _.
-      quietly (enter_loop_does (λ n l. For n l place control.0 (way d)) (λ n l. refl) (λ n l. refl) (λ n l m h. lt_true control.0 variables within)) λ _ now _ _.
+      quietly (enter_loop_does (λ n l. For n l place control.0 (way d)) (λ n l. refl) (λ n l. refl)
+      (λ n l m h. lt_true control.0 variables within)) λ _ now _ _.
       joins (covers_both 0 firsts lasts) (bound_does now control.1 firsts first one) λ _ next _ _.
       last (bound_does next control.1 lasts end two) λ _ _ _ _.
       quietly (mark_does Do refl refl (λ n h. refl)) λ _ _ _ _.
       pure_does control.0 (λ n h. tt))
 
-  for_does : (place : Place) (name : Name) (firsts lasts inside : List Place) (first : Written) (d : SyntaxDirection) (end : Written) (body : Passing (Unit {0}))
+  for_does : (place : Place) (name : Name) (firsts lasts inside : List Place) (first : Written) (d : SyntaxDirection) (end : Written)
+      (body : Passing (Unit {0}))
       → LawfulWritten variables firsts first → LawfulWritten variables lasts end → LawfulStatement inside body
       → LawfulStatement (place ∷ name.place ∷ (firsts ++ (lasts ++ inside))) (for_loop place name first d end body)
   unfolding for_body
   for_does place name firsts lasts inside first d end body one two three = record {
     passes = λ least.
         sited (λ sites. subst (λ p. Covers 0 (place ∷ name.place ∷ p) sites) (append_assoc firsts lasts inside))
-        (joins (covers_both 0 (place ∷ name.place ∷ (firsts ++ lasts)) inside) (for_head_does least place name firsts lasts first d end one two) λ control _ _ _.
+        (joins (covers_both 0 (place ∷ name.place ∷ (firsts ++ lasts)) inside)
+        (for_head_does least place name firsts lasts first d end one two) λ control _ _ _.
         quietly (begin_control_does control) λ _ now _ _.
         last (three.passes now) λ _ _ _ _.
         quietly end_control_does λ _ _ _ _.

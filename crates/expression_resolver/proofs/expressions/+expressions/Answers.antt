@@ -31,7 +31,8 @@ expression-returns-in_ok-rest-in-Chain t c =
     let first = c.in_ok-first-in-Chain.first in
     let rest = c.in_ok-rest-in-Chain.rest in
     let passes : (expression c.args.written.now).typing c.args.lead c.args.typer.now
-    ≡ Ok (after (typed rest.type_id first.site) (Begins ∷ (look_expr first.expression ++ (flat_map look_link rest.links.items ++ (Ends ∷ [])))) c.links.new.typer) =
+    ≡ Ok (after (typed rest.type_id first.site)
+    (Begins ∷ (look_expr first.expression ++ (flat_map look_link rest.links.items ++ (Ends ∷ [])))) c.links.new.typer) =
     passes_chain c.args.written.now c.in-Chain.first c.in-Chain.rest c.in-Chain.is c.args.lead c.args.typer.now
     c.deref-in-Chain.result.now c.deref-in-Chain.ensures c.deref-in-Chain-2.result.now c.deref-in-Chain-2.ensures.value
     _ _ _ c.in_ok-first-in-Chain.ensures _ _ _ c.in_ok-rest-in-Chain.ensures in
