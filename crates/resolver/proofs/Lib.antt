@@ -1,6 +1,5 @@
 mod Branches
 mod CaseArms
-mod Chains
 mod Files
 mod MadeRows
 mod Programs

@@ -1,13 +1,11 @@
--- How the resolver's answers are what typing says: what is made of a form has the type and the leading site that typing
--- answers, and looks so. It says nothing of what typing answers.
+-- How the resolver's answers are what typing says of statements: what is made of a form looks so. It says nothing of
+-- what typing answers.
 use Rattle.std.specs.Prelude.{◌≡◌, ℕ, ℤ, List, [], ◌∷◌, ◌++◌, flat_map, Result, Ok, Err, Option, Some, None, Vec}
 use Rattle.std.specs.Borrow.{Bor}
 use Rattle.std.specs.declared.alloc.Global.{Global}
 use Rattle.std.specs.declared.boxed.Box.{Box}
 use Rattle.syntax_tree.specs.declared.Program.{Program}
 use Rattle.syntax_tree.specs.declared.Actual.{Actual}
-use Rattle.syntax_tree.specs.declared.Expr.{Expr as SyntaxExpr}
-use Rattle.syntax_tree.specs.declared.Expr.TheViews.{out-Actual}
 use Rattle.typed_tree.specs.declared.fault.TypeFault.{TypeFault}
 use Rattle.typed_tree.specs.declared.tree.Tree.{Tree}
 use Rattle.typed_tree.specs.declared.tree.Block.{Block}
@@ -16,43 +14,15 @@ use Rattle.typed_tree.specs.declared.tree.Stmt.{Stmt}
 use Rattle.typed_tree.specs.declared.tree.WriteParameter.{WriteParameter}
 use Rattle.typed_tree.specs.declared.tree.Width.{Width}
 use Rattle.types.specs.declared.form.TypeId.{TypeId}
-use Rattle.typed_tree.specs.Look.{Look, Begins, Ends, Fits, If, Then, Else, Do, For, Case, look_expr, look_link}
-use Rattle.typed_tree.specs.Look.{look_stmt}
+use Rattle.typed_tree.specs.Look.{Look, Fits, If, Then, Else, Do, For, Case, look_expr, look_stmt}
 use Rattle.typed_tree.specs.Look.{look_parameter, look_width}
 use Rattle.typing.specs.Passing.{Passed, Checked, After, after}
-use Rattle.typing.specs.Expressions.{Typed, typed}
 use Rattle.typing.specs.Outcomes.{IsFault, Makes}
 use Rattle.typing.specs.Sound.{IsTyped}
-use Rattle.resolver.specs.declared.typed.Typed.{Typed as MadeExpr}
-use Rattle.resolver.specs.declared.typed.TypedLink.{TypedLink}
-use Rattle.resolver.specs.declared.typed.TypedLinks.{TypedLinks}
 use Rattle.resolver.specs.declared.typed.Bound.{Bound}
 use Rattle.resolver.specs.declared.typed.ForHead.{ForHead}
 use Rattle.resolver.specs.declared.typed.CaseHead.{CaseHead}
 use Rattle.resolver.specs.declared.typed.Rows.{Rows}
-
--- an expression
-abbrev pub MakesTyped : Checked (After Typed) → Result MadeExpr TypeFault → Passed → Type 0
-MakesTyped = Makes (λ t. typed t.type_id t.site) (λ t. look_expr t.expression)
-
--- an operator and its right operand, by the type of its result
-abbrev pub MakesLink : Checked (After TypeId) → Result TypedLink TypeFault → Passed → Type 0
-MakesLink = Makes (λ t. t.type_id) (λ t. look_link t.link)
-
--- the operators of a chain
-abbrev pub MakesLinks : Checked (After TypeId) → Result TypedLinks TypeFault → Passed → Type 0
-MakesLinks = Makes (λ t. t.type_id) (λ t. flat_map look_link t.links.items)
-
--- a chain of a first operand and the operators behind it
-pub record IsChainOf (first : MadeExpr) (rest : TypedLinks) (made : MadeExpr) : Type 0 where
-  pub looks : look_expr made.expression
-      ≡ Begins ∷ (look_expr first.expression ++ (flat_map look_link rest.links.items ++ (Ends ∷ [])))
-  pub type_id : made.type_id ≡ rest.type_id
-  pub site : made.site ≡ first.site
-
--- the value of the only actual
-abbrev pub IsOnly : List Actual → SyntaxExpr → Type 0
-IsOnly actuals value = (actual : Actual) × (actuals ≡ actual ∷ []) × ((out-Actual actual).value ≡ value)
 
 -- a statement
 abbrev pub MakesStmt : Checked (After (Unit {0})) → Result Stmt TypeFault → Passed → Type 0

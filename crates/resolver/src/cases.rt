@@ -4,8 +4,8 @@ ghost use Rattle.typing.specs.Outcomes.{Takes};
 ghost use Rattle.typing.specs.Statements as spec;
 ghost use Rattle.resolver.specs.Made.{MakesCaseHead, MakesConstants, MakesRow};
 
-use crate::expressions::{expression, first_place};
 use crate::typed::{CaseHead, Rows};
+use expression_resolver::{expression, first_place};
 use indexmap::IndexSet;
 use place::Place;
 use syntax_tree as syntax;

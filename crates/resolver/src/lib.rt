@@ -3,7 +3,6 @@
 #![tactic(auto)]
 
 mod cases;
-mod expressions;
 mod program;
 mod statements;
 mod table;

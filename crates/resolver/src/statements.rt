@@ -9,8 +9,8 @@ ghost use Rattle.resolver.specs.Made.{MakesBound, MakesForHead, for_head_look, M
 ghost use Rattle.resolver.specs.Made.{MakesWidth, MakesOwnWidth, MakesValues, MakesCaseHead, case_head_look};
 
 use crate::cases::{case_head, case_row};
-use crate::expressions::{expression, first_place};
 use crate::typed::{Bound, CaseHead, ForHead, Rows};
+use expression_resolver::{expression, first_place};
 use indexmap::IndexSet;
 use place::Place;
 use scopes::RequiredProcedure;

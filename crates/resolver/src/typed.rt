@@ -1,29 +1,7 @@
 use indexmap::IndexSet;
 use place::Place;
-use typed_tree::tree::{Direction, Expr, Link, RangeTest};
+use typed_tree::tree::{Direction, Expr, RangeTest};
 use types::TypeId;
-
-/// An expression, the type of its value, and the id of its leading site.
-#[derive(Drop)]
-pub(crate) struct Typed {
-    pub(crate) expression: Expr,
-    pub(crate) type_id: TypeId,
-    pub(crate) site: Option<u32>,
-}
-
-/// An operator and its right operand, and the type of its result.
-#[derive(Drop)]
-pub(crate) struct TypedLink {
-    pub(crate) link: Link,
-    pub(crate) type_id: TypeId,
-}
-
-/// The operators of a chain with their right operands, and the type of its value.
-#[derive(Drop)]
-pub(crate) struct TypedLinks {
-    pub(crate) links: Vec<Link>,
-    pub(crate) type_id: TypeId,
-}
 
 /// A bound of a for, and its test.
 #[derive(Drop)]

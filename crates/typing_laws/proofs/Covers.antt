@@ -63,8 +63,7 @@ leads_more low place kinds others places a b is more = (
 )
 
 pub leads_covers : (low : ℕ) → (place : Place) (kinds : List SiteKind) (places : List Place) (sites : List Stands) → AreAbove low kinds
-    → Leads low place kinds places sites
-    → Covers low (place ∷ places) sites
+    → Leads low place kinds places sites → Covers low (place ∷ places) sites
 leads_covers low place kinds places sites ascending more = (kinds, more.0, more.1, ascending, more.2)
 
 -- ---- other bounds of kinds

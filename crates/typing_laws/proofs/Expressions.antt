@@ -114,8 +114,7 @@ module _ (variables : ℕ) where
   unfolding named
   named_does name = record {
     begins = ([], refl);
-    types = λ least lead is. quietly
-        (find_does name) λ denotation _ _ sound. denoted_does denotation name.place lead is sound;
+    types = λ least lead is. quietly (find_does name) λ denotation _ _ sound. denoted_does denotation name.place lead is sound;
   }
 
   -- ---- one operand
@@ -125,8 +124,7 @@ module _ (variables : ℕ) where
   unfolding parenthesized
   parenthesized_does place places inner law = record {
     begins = (places, refl);
-    types = λ least lead is. led_covers 2 place places (led lead)
-        (led_alone lead is) (by least lead);
+    types = λ least lead is. led_covers 2 place places (led lead) (led_alone lead is) (by least lead);
   }
     where
       by : (least : ℕ) (lead : Option SiteKind) → Does variables least (Leads 2 place (led lead) places) (parenthesized place inner lead) Types
@@ -151,8 +149,7 @@ module _ (variables : ℕ) where
   unfolding negation
   negation_does place places operand law = record {
     begins = (places, refl);
-    types = λ least lead is. led_covers 2 place places (led lead)
-        (led_alone lead is) (by least lead);
+    types = λ least lead is. led_covers 2 place places (led lead) (led_alone lead is) (by least lead);
   }
     where
       by : (least : ℕ) (lead : Option SiteKind) → Does variables least (Leads 2 place (led lead) places) (negation place operand lead) Types
@@ -171,8 +168,7 @@ module _ (variables : ℕ) where
   unfolding signed
   signed_does s place places operand law = record {
     begins = (places, refl);
-    types = λ least lead is. led_covers 2 place places (led lead)
-        (led_alone lead is) (by least lead);
+    types = λ least lead is. led_covers 2 place places (led lead) (led_alone lead is) (by least lead);
   }
     where
       by : (least : ℕ) (lead : Option SiteKind) → Does variables least (Leads 2 place (led lead) places) (signed s place operand lead) Types

@@ -16,8 +16,8 @@ use Rattle.resolver.proofs.statements.+statements.Goals.{case_body-in-Some+in_ok
 pub statements-loop-next-preserved : goal.statements-loop-next-preserved
 statements-loop-next-preserved t c =
     row_goes_on statement (λ s. s) look_stmt c.args.written.now c.args.typer.now c.loop-next.next-index c.next-item.result c.loop-next.statements.items
-    c.loop-next.typer c.loop-next-test.true c.next-item.is c.loop-next.invariant _ c.push.new.self.items c.statement.new.typer c.in_ok-push.ensures.items
-    c.in_ok-statement.ensures
+    c.loop-next.typer c.loop-next-test.true c.next-item.is c.loop-next.invariant _ c.push.new.self.items c.statement.new.typer
+    c.in_ok-push.ensures.items c.in_ok-statement.ensures
 
 -- it is refused
 pub statements-returns-in_err-statement : goal.statements-returns-in_err-statement

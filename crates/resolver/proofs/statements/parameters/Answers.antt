@@ -11,9 +11,8 @@ use Rattle.resolver.proofs.statements.parameters.Goals as goal
 pub loop-value-preserved : goal.loop-value-preserved
 loop-value-preserved c =
     row_goes_on written_actual parameter look_parameter c.args.values.now c.args.typer.now c.loop-value.value-index c.value-item.result
-    c.loop-value.parameters.items
-    c.loop-value.typer c.loop-value-test.true c.value-item.is c.loop-value.invariant _ c.push.new.self.items c.parameter.new.typer c.in_ok-push.ensures.items
-    c.in_ok-parameter.ensures
+    c.loop-value.parameters.items c.loop-value.typer c.loop-value-test.true c.value-item.is c.loop-value.invariant _ c.push.new.self.items
+    c.parameter.new.typer c.in_ok-push.ensures.items c.in_ok-parameter.ensures
 
 -- it is refused
 pub returns-in_err-parameter : goal.returns-in_err-parameter
@@ -21,6 +20,5 @@ returns-in_err-parameter c =
     let why = c.in_err-parameter.field-0.0 in
     let stops : IsFault (each parameter (map written_actual c.args.values.now) c.args.typer.now) why =
     row_stops written_actual parameter look_parameter c.args.values.now c.args.typer.now c.loop-value.value-index c.value-item.result
-    c.loop-value.parameters.items
-    c.loop-value.typer c.loop-value-test.true c.value-item.is c.loop-value.invariant why c.in_err-parameter.ensures in
+    c.loop-value.parameters.items c.loop-value.typer c.loop-value-test.true c.value-item.is c.loop-value.invariant why c.in_err-parameter.ensures in
     search rules

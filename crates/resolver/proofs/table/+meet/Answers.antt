@@ -53,11 +53,10 @@ meet-returns-in_ok-meet-in-For t c =
 
 pub meet_all-returns : goal.meet_all-returns
 meet_all-returns t c =
-    all_met c.args.statements.now (seen c.args.met.now) c.loop-statement.statement-index
-    (seen c.loop-statement.met) c.loop-statement-test.false c.loop-statement.invariant
+    all_met c.args.statements.now (seen c.args.met.now) c.loop-statement.statement-index (seen c.loop-statement.met)
+    c.loop-statement-test.false c.loop-statement.invariant
 
 pub meet_all-loop-statement-preserved : goal.meet_all-loop-statement-preserved
 meet_all-loop-statement-preserved t c =
-    next_met c.args.statements.now (seen c.args.met.now) c.loop-statement.statement-index c.statement-item.result (seen c.loop-statement.met)
-    (seen c.meet.new.met)
-    c.loop-statement-test.true c.statement-item.is c.loop-statement.invariant c.in_ok-meet.ensures
+    next_met c.args.statements.now (seen c.args.met.now) c.loop-statement.statement-index c.statement-item.result
+    (seen c.loop-statement.met) (seen c.meet.new.met) c.loop-statement-test.true c.statement-item.is c.loop-statement.invariant c.in_ok-meet.ensures

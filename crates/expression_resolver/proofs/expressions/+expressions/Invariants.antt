@@ -3,7 +3,7 @@ use Rattle.std.specs.Prelude.{flat_map}
 use Rattle.typed_tree.specs.Look.{look_link}
 use Rattle.typing.specs.Passing.{behind_marks}
 use Rattle.typing.specs.Expressions.{links, written_link}
-use Rattle.resolver.proofs.expressions.+expressions.Given as goal
+use Rattle.expression_resolver.proofs.expressions.+expressions.Given as goal
 
 -- the operators so far are made, and those behind them are left
 abbrev pub invariant-links-loop-written : goal.invariant-links-loop-written

@@ -26,8 +26,8 @@ one_alone (first ∷ []) actual one is = ap (λ a. a ∷ []) (sym is)
 one_alone (first ∷ second ∷ rest) actual one is = absurd (omega (arith, one))
 
 pub only_is : (place : Place) (actual : Actual)
-    → only place (map written_actual (actual ∷ [])) ≡ without_width place (expression (out-Actual actual).value)
-    (option_map expression (out-Actual actual).width)
+    → only place (map written_actual (actual ∷ []))
+    ≡ without_width place (expression (out-Actual actual).value) (option_map expression (out-Actual actual).width)
 only_is place actual = ap (λ a. only place (a ∷ [])) (typing_actual actual)
 
 pub not_one : (place : Place) (actuals : List Actual) → ¬ (length actuals ≡ 1) → only place (map written_actual actuals) ≡ Err (fault.WrongParameters place)
@@ -48,8 +48,8 @@ behind_first rest f = do
   pure (typed type_id f.site)
 
 module _ (first : Written) (rest : List WrittenLink) (lead : Option SiteKind) (old : Passed) where
-  chain_goes : chain first rest lead old ≡ behind_marks (Begins ∷ [])
-      (and_then (first.typing lead old) (λ a. behind_marks a.look (behind_first rest a.answer a.passed)))
+  chain_goes : chain first rest lead old
+      ≡ behind_marks (Begins ∷ []) (and_then (first.typing lead old) (λ a. behind_marks a.look (behind_first rest a.answer a.passed)))
   unfolding chain behind_first
   chain_goes = refl
 
@@ -63,23 +63,23 @@ module _ (first : Written) (rest : List WrittenLink) (lead : Option SiteKind) (o
     rest_stops : (why : TypeFault) → links f.type_id rest now ≡ Err why → chain first rest lead old ≡ Err why
     unfolding behind_first
     rest_stops why stops =
-        chain_on ∙ ap (λ r. behind_marks (Begins ∷ [])
-        (behind_marks look (and_then r (λ b. behind_marks b.look ((mark Ends >> pure (typed b.answer f.site)) b.passed))))) stops
+        chain_on
+        ∙ ap (λ r. behind_marks (Begins ∷ []) (behind_marks look (and_then r (λ b. behind_marks b.look ((mark Ends >> pure (typed b.answer f.site)) b.passed))))) stops
 
     chain_ends : (type_id : TypeId) (operators : Look) (new : Passed) → links f.type_id rest now ≡ Ok (after type_id operators new)
         → chain first rest lead old ≡ Ok (after (typed type_id f.site) (Begins ∷ (look ++ (operators ++ (Ends ∷ [])))) new)
     unfolding behind_first
     chain_ends type_id operators new passes =
-        chain_on ∙ ap (λ r. behind_marks (Begins ∷ [])
-        (behind_marks look (and_then r (λ b. behind_marks b.look ((mark Ends >> pure (typed b.answer f.site)) b.passed))))) passes
+        chain_on
+        ∙ ap (λ r. behind_marks (Begins ∷ []) (behind_marks look (and_then r (λ b. behind_marks b.look ((mark Ends >> pure (typed b.answer f.site)) b.passed))))) passes
 
 -- the same of a written chain
 module _ (w : Expr) (first : Box Expr Global) (rest : Vec Link Global) (is : w ≡ syntax.Chain first rest) (lead : Option SiteKind) (old : Passed)
     (operand : Expr) (value : operand ≡ first.value) where
   written_chain : (expression w).typing lead old ≡ chain (expression operand) (map written_link rest.items) lead old
   written_chain =
-      ap (λ e. e.typing lead old) (ap expression is ∙ typing_chain first rest) ∙ ap (λ e. chain (expression e) (map written_link rest.items) lead old)
-      (sym value)
+      ap (λ e. e.typing lead old) (ap expression is ∙ typing_chain first rest)
+      ∙ ap (λ e. chain (expression e) (map written_link rest.items) lead old) (sym value)
 
   pub stops_at_first : (why : TypeFault) → IsFault ((expression operand).typing lead old) why → IsFault ((expression w).typing lead old) why
   stops_at_first why (inl memory) = inl memory

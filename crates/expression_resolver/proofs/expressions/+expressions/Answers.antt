@@ -4,8 +4,8 @@ use Rattle.typed_tree.specs.Look.{Begins, Ends, look_expr, look_link}
 use Rattle.typing.specs.Passing.{after}
 use Rattle.typing.specs.Expressions.{typed, expression}
 use Rattle.typing.specs.Outcomes.{IsFault}
-use Rattle.resolver.proofs.Chains.{stops_at_first, stops_at_rest, passes_chain}
-use Rattle.resolver.proofs.expressions.+expressions.Goals as goal
+use Rattle.expression_resolver.proofs.Chains.{stops_at_first, stops_at_rest, passes_chain}
+use Rattle.expression_resolver.proofs.expressions.+expressions.Goals as goal
 
 -- ---- a chain
 

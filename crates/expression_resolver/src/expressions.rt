@@ -3,7 +3,7 @@ ghost use Rattle.scopes.specs.declared.denotation.Denotation.TheVariants as deno
 ghost use Rattle.typed_tree.specs.declared.fault.TypeFault.TheVariants.{Memory};
 ghost use Rattle.typed_tree.specs.Look.{Operation, look_expr};
 ghost use Rattle.typing.specs.Expressions as spec;
-ghost use Rattle.resolver.specs.Made.{MakesTyped, MakesLink, MakesLinks, IsChainOf, IsOnly};
+ghost use Rattle.expression_resolver.specs.Made.{MakesTyped, MakesLink, MakesLinks, IsChainOf, IsOnly};
 
 use crate::typed::{Typed, TypedLink, TypedLinks};
 use place::Place;
@@ -20,7 +20,7 @@ use typing::rules::{as_function, function_type, sign_operation};
 /// An expression, by the kind of its leading site.
 #[cycle(expressions)]
 #[tactic(auto, using(typing::proofs::Written::written_expressions))]
-pub(crate) fn expression(
+pub fn expression(
     typer: &mut Typer,
     written: &syntax::Expr,
     lead: Option<SiteKind>,
@@ -295,7 +295,7 @@ fn monadic(alloc: Global, number: u32, operation: Monadic, operand: Expr) -> Res
 
 /// Where an expression begins.
 #[tactic(auto, using(typing::proofs::Written::written_expressions))]
-pub(crate) fn first_place(written: &syntax::Expr) -> Place
+pub fn first_place(written: &syntax::Expr) -> Place
     ensures { result ≡ (spec.expression written.now).first }
 {
     match written {

@@ -1,6 +1,6 @@
 use Rattle.std.proofs.Common.{refl, length, ◌≡◌, arith}
-use Rattle.resolver.proofs.Chains.{one_alone}
-use Rattle.resolver.proofs.expressions.only.Goals as goal
+use Rattle.expression_resolver.proofs.Chains.{one_alone}
+use Rattle.expression_resolver.proofs.expressions.only.Goals as goal
 
 -- the actual is alone
 pub returns-clause-one : goal.returns-clause-one

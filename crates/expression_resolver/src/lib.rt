@@ -1,0 +1,8 @@
+//! Makes the typed expressions of a program, or tells the first rule that one breaks (ISO 7185:1990, 6.7).
+#![tactic(auto)]
+
+mod expressions;
+mod typed;
+
+pub use expressions::{expression, first_place};
+pub use typed::Typed;
