@@ -469,7 +469,7 @@ goes_on tree input turns more =
     (extended_run (slice_get tree.blocks.items 0) (program_environment tree)).extends more (first_state input turns)
 
 -- the output of a whole run is that of its last state
-output_after : (reply : Reply (Unit {0})) → (ended reply).output ≡ (state_after reply).output
+pub output_after : (reply : Reply (Unit {0})) → (ended reply).output ≡ (state_after reply).output
 output_after (Gives a s) = refl
 output_after (Stops e s) = refl
 
