@@ -18,9 +18,8 @@ use Rattle.meaning.specs.declared.work.Work.{Work}
 use Rattle.meaning.specs.declared.work.Work.TheVariants as work
 use Rattle.meaning.specs.Store.{Environment, Place, held, kept}
 use Rattle.meaning.specs.Effect.{State, Reply, Gives, Stops, Action, ◌>>=◌, and_then, fetched, fetch, is_in, require, store}
-use Rattle.meaning.specs.Meaning.{Meaning, ended, effect_of, is_so}
-use Rattle.meaning.specs.Pending.{Resumption, Agrees, Continues, Does, pending_of, resumed, rest_of, answered, giving, with_top, chosen, top_of, below_top}
-use Rattle.meaning.specs.Pending.{checked}
+use Rattle.meaning.specs.Meaning.{effect_of, is_so}
+use Rattle.meaning.specs.Pending.{Resumption, Agrees, Continues, Does, EndsAs, pending_of, resumed, rest_of, answered, giving, with_top, chosen, top_of, below_top, checked}
 
 -- one more at the end of a stack is one more at its top
 pub reverse_push : {A : Type 0} (xs : List A) (x : A) → reverse (xs ++ x ∷ []) ≡ x ∷ reverse xs
@@ -80,18 +79,22 @@ module _ (old new : Run) where
 
   -- a run that stops at its topmost piece of work
   pub stops_from : (env : Environment) (start reply : Reply (Unit {0})) (result : Result (Option Ending) AllocError) (ending : Ending) → start ≡ reply →
-      result ≡ Ok (Some ending) → Continues env reply result new → ended start ≡ record { output = new.output.items; ending = ending }
+      result ≡ Ok (Some ending) → Continues env reply result new → EndsAs env start new ending
   stops_from env start reply result ending is some continues =
       let next : Continues env reply (Ok (Some ending)) new = subst (λ (r : Result (Option Ending) AllocError). Continues env reply r new) some continues in
-      ap ended (is ∙ next.2) ∙ ap (λ (o : List ℕ). let m : Meaning = record { output = o; ending = ending } in m) (sym next.1)
+      subst (λ (r : Reply (Unit {0})). EndsAs env r new ending) (sym (is ∙ next.2)) (record { state = next.1; ending = refl })
 
   -- a run that has nothing left to do
   pub done_from : (env : Environment) (start : Reply (Unit {0})) (t : State) → start ≡ rest_of env new t → new.pending.items ≡ [] → Agrees env new t →
-      ended start ≡ record { output = new.output.items; ending = Finished }
+      EndsAs env start new Finished
   done_from env start t is none agrees =
-      ap ended is
-      ∙ ap (λ (l : List Work). ended (pending_of env (reverse l) (reverse new.values.items) t)) none
-      ∙ ap (λ (o : List ℕ). let m : Meaning = record { output = o; ending = Finished } in m) (sym agrees.output)
+      let done : start ≡ Gives tt t = is ∙ ap (λ (l : List Work). pending_of env (reverse l) (reverse new.values.items) t) none in
+      subst (λ (r : Reply (Unit {0})). EndsAs env r new Finished) (sym done) (record { state = agrees; ending = refl })
+
+-- a run that stops behind its operands
+pub stops_below : (old taken : Run) (env : Environment) (s : State) (start : Reply (Unit {0})) (ending : Ending) →
+    taken ≡ record old { values = taken.values } → start ≡ Stops ending s → Agrees env old s → Continues env start (Ok (Some ending)) taken
+stops_below old taken env s start ending same is agrees = (s, subst (λ (r : Run). Agrees env r s) (sym same) agrees, is)
 
 -- a piece of work whose operands were taken from the stack
 pub goes_on_below : (old taken new : Run) (env : Environment) (s : State) (piece : Environment → Resumption → Resumption) (below : List Value)

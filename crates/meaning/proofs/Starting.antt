@@ -1,5 +1,5 @@
 -- How a run begins.
-use Rattle.std.proofs.Common.{◌≡◌, ℕ, List, [], ◌∷◌, ◌++◌, Option, Some, Result, Ok, Err, IfOk, Bor, reverse, slice_get, sym, ◌∙◌, ap, refl}
+use Rattle.std.proofs.Common.{◌≡◌, ℕ, List, [], ◌∷◌, ◌++◌, Option, Some, Result, IfOk, Bor, reverse, slice_get, sym, ◌∙◌, ap, subst, refl}
 use Rattle.std.specs.BTreeMap.{BTreeMap, is_at}
 use Rattle.std.specs.Map.{lookup}
 use Rattle.std.specs.declared.alloc.AllocError.{AllocError}
@@ -15,8 +15,9 @@ use Rattle.meaning.specs.declared.work.Work.TheVariants as work
 use Rattle.meaning.specs.contracts.store.PlaceOrd.TheImpl.{ghosts}
 use Rattle.meaning.specs.Store.{Environment}
 use Rattle.meaning.specs.Effect.{State, Reply, Gives, Stops, and_then, give}
-use Rattle.meaning.specs.Meaning.{Meaning, ended, effect_of, run_of, meaning, program_environment, first_state}
-use Rattle.meaning.specs.Pending.{Agrees, StoreAgrees, pending_of}
+use Rattle.meaning.specs.Meaning.{effect_of, run_of, run, meaning, program_environment, first_state}
+use Rattle.meaning.specs.Pending.{Agrees, StoreAgrees, EndsAs, pending_of}
+use Rattle.meaning.proofs.Turns.{output_after}
 
 -- nothing follows
 and_then-nothing : (r : Reply (Unit {0})) → and_then r (λ _. give tt) ≡ r
@@ -24,9 +25,7 @@ and_then-nothing (Gives a s) = refl
 and_then-nothing (Stops e s) = refl
 
 -- the statement of the program's block is all that is pending
-pub begins_with_block : (inner : Bor Stmt) (block : Block) (first : Option Block) (env : Environment) (operands : List Value) (s : State)
-    (pending before : List Work) → pending ≡ before ++ work.Statement inner ∷ [] → before ≡ [] → inner.now ≡ block.body → first ≡ Some block
-    → run_of first env s ≡ pending_of env (reverse pending) operands s
+pub begins_with_block : (inner : Bor Stmt) (block : Block) (first : Option Block) (env : Environment) (operands : List Value) (s : State) (pending before : List Work) → pending ≡ before ++ work.Statement inner ∷ [] → before ≡ [] → inner.now ≡ block.body → first ≡ Some block → run_of first env s ≡ pending_of env (reverse pending) operands s
 begins_with_block inner block first env operands s pending before pushed none body is =
     ap (λ (o : Option Block). run_of o env s) is
     ∙ ap (λ (b : Stmt). effect_of b env s) (sym body)
@@ -34,22 +33,20 @@ begins_with_block inner block first env operands s pending before pushed none bo
     ∙ sym (ap (λ (l : List Work). pending_of env (reverse l) operands s) (pushed ∙ ap (λ (l : List Work). l ++ work.Statement inner ∷ []) none))
 
 -- a run that does the same ends the same
-pub finishes_as : (whole rest : Reply (Unit {0})) (output : List ℕ) (result : Result Ending AllocError) → whole ≡ rest
-    → IfOk result (λ ending. ended rest ≡ record { output = output; ending = ending })
-    → IfOk result (λ ending. ended whole ≡ record { output = output; ending = ending })
-finishes_as whole rest output (Ok ending) is finished = ap ended is ∙ finished
-finishes_as whole rest output (Err refused) is finished = tt
+pub finishes_as : (env : Environment) (new : Run) (whole rest : Reply (Unit {0})) (result : Result Ending AllocError) → whole ≡ rest →
+    IfOk result (λ ending. EndsAs env rest new ending) → IfOk result (λ ending. EndsAs env whole new ending)
+finishes_as env new whole rest result is finished =
+    subst (λ (r : Reply (Unit {0})). IfOk result (λ ending. EndsAs env r new ending)) (sym is) finished
 
 -- a map with no entries holds what an empty store does
 pub holds_nothing : (kept : BTreeMap KeptPlace Value) → kept.entries ≡ [] → StoreAgrees kept []
 holds_nothing kept none p whole = ap (λ (l : List (KeptPlace × Value)). lookup (is_at (ghosts.cmp p)) l) none
 
 -- a run that did the program's block from the first state ends as the program does
-pub ends_as_meant : (tree : Tree) (input : List ℕ) (turns : ℕ) (run : Run) (output : List ℕ) (ending : Ending) →
-    Agrees (program_environment tree) run (first_state input turns) →
-    ((env : Environment) (s : State) → Agrees env run s →
-    ended (run_of (slice_get tree.blocks.items 0) env s) ≡ record { output = output; ending = ending }) →
-    (output ≡ (meaning tree input turns).output) × (ending ≡ (meaning tree input turns).ending)
-ends_as_meant tree input turns run output ending begun finished =
-    let told = sym (finished (program_environment tree) (first_state input turns) begun) in
-    (ap (λ (m : Meaning). m.output) told, ap (λ (m : Meaning). m.ending) told)
+pub ends_as_meant : (tree : Tree) (input : List ℕ) (turns : ℕ) (begun done : Run) (ending : Ending) →
+    Agrees (program_environment tree) begun (first_state input turns) →
+    ((env : Environment) (s : State) → Agrees env begun s → EndsAs env (run_of (slice_get tree.blocks.items 0) env s) done ending) →
+    (done.output.items ≡ (meaning tree input turns).output) × (ending ≡ (meaning tree input turns).ending)
+ends_as_meant tree input turns begun done ending agrees finished =
+    let told = finished (program_environment tree) (first_state input turns) agrees in
+    (told.state.output ∙ sym (output_after (run tree input turns)), sym told.ending)

@@ -32,12 +32,10 @@ use Rattle.meaning.specs.declared.store.Value.{Value}
 use Rattle.meaning.specs.declared.store.Value.TheVariants.{Number}
 use Rattle.meaning.specs.Integers.{is_integer_number}
 use Rattle.meaning.specs.Store.{Environment, Place, held}
-use Rattle.meaning.specs.Effect.{State, Reply, Gives, Stops, Action, Round, ◌>>=◌, and_then, give, stop, require, enter, take_turn, use_turn, another, looping}
-use Rattle.meaning.specs.Effect.{looped}
+use Rattle.meaning.specs.Effect.{State, Reply, Gives, Stops, Action, Round, ◌>>=◌, and_then, give, stop, require, enter, take_turn, use_turn, another, looping, looped}
 use Rattle.meaning.specs.Effect.{fetched, fetch, store, undefine, write, is_in, is_positive, text_of}
 use Rattle.meaning.specs.Meaning.{Evaluation, Combination, Execution, value_step, link_step, effect_step, whole, operated, combined, in_turn, all_of}
-use Rattle.meaning.specs.Meaning.{width_of, parameter_of, line_ended, is_so, turn_if, while_round, repeat_round, for_round, for_rounds, for_between, is_among}
-use Rattle.meaning.specs.Meaning.{arm_of, number_of, value_of, link_of, effect_of, Meaning, run_of, run, ended}
+use Rattle.meaning.specs.Meaning.{width_of, parameter_of, line_ended, is_so, turn_if, while_round, repeat_round, for_round, for_rounds, for_between, is_among, arm_of, number_of, value_of, link_of, effect_of, Meaning, run_of, run, ended}
 use Rattle.meaning.specs.Meaning.{program_environment, first_state}
 use Rattle.meaning.specs.Laws.{with_turns, reply_with_turns, state_after, Begins, Extends, TurnsGoOn, TurnsExtendTheOutput, EndingsStay}
 
@@ -471,7 +469,7 @@ goes_on tree input turns more =
     (extended_run (slice_get tree.blocks.items 0) (program_environment tree)).extends more (first_state input turns)
 
 -- the output of a whole run is that of its last state
-output_after : (reply : Reply (Unit {0})) → (ended reply).output ≡ (state_after reply).output
+pub output_after : (reply : Reply (Unit {0})) → (ended reply).output ≡ (state_after reply).output
 output_after (Gives a s) = refl
 output_after (Stops e s) = refl
 

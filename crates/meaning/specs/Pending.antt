@@ -24,12 +24,11 @@ use Rattle.meaning.specs.contracts.store.PlaceOrd.TheImpl.{ghosts as places}
 use Rattle.meaning.specs.Store.{Environment, Place, Store, stored}
 use Rattle.meaning.specs.Effect.{State, Reply, Stops, Action, Round, ◌>>=◌, give, stop, require, use_turn}
 use Rattle.meaning.specs.Effect.{another, looped, store, undefine, write, is_in, is_positive, text_of}
-use Rattle.meaning.specs.Meaning.{Combination, Execution, completed, ended, home_of, operated, combined, value_of}
-use Rattle.meaning.specs.Meaning.{link_of}
-use Rattle.meaning.specs.Meaning.{effect_of, all_of, width_of, parameter_of, line_ended, is_so, turn_if, while_round}
-use Rattle.meaning.specs.Meaning.{repeat_round}
+use Rattle.meaning.specs.Meaning.{Combination, Execution, completed, ended, home_of, operated, combined, value_of, link_of}
+use Rattle.meaning.specs.Meaning.{effect_of, all_of, width_of, parameter_of, line_ended, is_so, turn_if, while_round, repeat_round}
 use Rattle.meaning.specs.Meaning.{for_between, is_among, arm_of, number_of}
 use Rattle.meaning.specs.Counting.{has_values, next_value}
+use Rattle.meaning.specs.Laws.{state_after}
 
 -- what is done with the operands, the topmost first, and the state
 abbrev pub Resumption : Type 0
@@ -256,11 +255,12 @@ Agrees env run s = record {
 abbrev pub rest_of : Environment → Run → State → Reply (Unit {0})
 rest_of env run s = pending_of env (reverse run.pending.items) (reverse run.values.items) s
 
--- a step answered: it goes on to what the reply goes on to, or the reply stops with this ending and this output
+-- a step answered: it goes on to what the reply goes on to, or the reply stops with this ending, in a state that the run
+-- agrees with
 abbrev pub Continues : Environment → Reply (Unit {0}) → Result (Option Ending) AllocError → Run → Type 0
 Continues env reply (Err e) run = Unit {0}
 Continues env reply (Ok None) run = (s : State) × Agrees env run s × (reply ≡ rest_of env run s)
-Continues env reply (Ok (Some ending)) run = (s : State) × (run.output.items ≡ s.output) × (reply ≡ Stops ending s)
+Continues env reply (Ok (Some ending)) run = (s : State) × Agrees env run s × (reply ≡ Stops ending s)
 
 -- a step does a piece of work: in each state that the run agrees with
 abbrev pub Does : (Environment → Resumption → Resumption) → Run → Result (Option Ending) AllocError → Run → Type 0
@@ -268,8 +268,15 @@ Does piece old result new =
     (env : Environment) (s : State) → Agrees env old s →
     Continues env (piece env (pending_of env (reverse old.pending.items)) (reverse old.values.items) s) result new
 
--- a run is done: what it wrote and how it ended are those of all that it had to do
+-- a run ended as a reply does, and agrees with the state there
+abbrev pub EndsAs : Environment → Reply (Unit {0}) → Run → Ending → Type 0
+EndsAs env reply run ending = record {
+  state : Agrees env run (state_after reply);
+  ending : (ended reply).ending ≡ ending;
+}
+
+-- a run is done: it ended as all that it had to do does
 abbrev pub Finishes : (Environment → Action (Unit {0})) → Run → Result Ending AllocError → Run → Type 0
 Finishes all old result new =
     (env : Environment) (s : State) → Agrees env old s →
-    IfOk result (λ ending. ended (all env s) ≡ record { output = new.output.items; ending = ending })
+    IfOk result (λ ending. EndsAs env (all env s) new ending)

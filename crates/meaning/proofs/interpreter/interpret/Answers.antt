@@ -27,4 +27,4 @@ returns c =
       turns = refl;
       activations = refl;
     } in
-    ends_as_meant c.args.tree.now c.args.input.now c.args.turns run c.execute.new.self.output.items c.in_ok-ending.ending begun c.in_ok-ending.ensures
+    ends_as_meant c.args.tree.now c.args.input.now c.args.turns run c.execute.new.self c.in_ok-ending.ending begun c.in_ok-ending.ensures
