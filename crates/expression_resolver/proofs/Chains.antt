@@ -64,14 +64,16 @@ module _ (first : Written) (rest : List WrittenLink) (lead : Option SiteKind) (o
     unfolding behind_first
     rest_stops why stops =
         chain_on
-        ∙ ap (λ r. behind_marks (Begins ∷ []) (behind_marks look (and_then r (λ b. behind_marks b.look ((mark Ends >> pure (typed b.answer f.site)) b.passed))))) stops
+        ∙ ap (λ r. behind_marks (Begins ∷ []) (behind_marks look
+        (and_then r (λ b. behind_marks b.look ((mark Ends >> pure (typed b.answer f.site)) b.passed))))) stops
 
     chain_ends : (type_id : TypeId) (operators : Look) (new : Passed) → links f.type_id rest now ≡ Ok (after type_id operators new)
         → chain first rest lead old ≡ Ok (after (typed type_id f.site) (Begins ∷ (look ++ (operators ++ (Ends ∷ [])))) new)
     unfolding behind_first
     chain_ends type_id operators new passes =
         chain_on
-        ∙ ap (λ r. behind_marks (Begins ∷ []) (behind_marks look (and_then r (λ b. behind_marks b.look ((mark Ends >> pure (typed b.answer f.site)) b.passed))))) passes
+        ∙ ap (λ r. behind_marks (Begins ∷ []) (behind_marks look
+        (and_then r (λ b. behind_marks b.look ((mark Ends >> pure (typed b.answer f.site)) b.passed))))) passes
 
 -- the same of a written chain
 module _ (w : Expr) (first : Box Expr Global) (rest : Vec Link Global) (is : w ≡ syntax.Chain first rest) (lead : Option SiteKind) (old : Passed)

@@ -1,5 +1,6 @@
 -- The definitions on small rows, worked out by hand.
-use Rattle.std.proofs.Common.{◌≡◌, inl, inr, ℕ, ℤ, ap, refl, true, false, pos, negsuc, List, [], ◌∷◌, Option, Some, None, Box, Vec, Global, codes, if◌then◌else◌, slice_get}
+use Rattle.std.proofs.Common.{◌≡◌, inl, inr, ℕ, ℤ, ap, refl, true, false, pos, negsuc, List, [], ◌∷◌, Option, Some, None, Box, Vec, Global, codes}
+use Rattle.std.proofs.Common.{if◌then◌else◌, slice_get}
 use Rattle.typed_tree.specs.declared.tree.Dyadic.{Dyadic}
 use Rattle.typed_tree.specs.declared.tree.Relation.{Relation}
 use Rattle.typed_tree.specs.declared.tree.Direction.{Direction}
@@ -19,8 +20,10 @@ use Rattle.meaning.specs.declared.store.Value.{Value}
 use Rattle.meaning.specs.declared.store.Value.TheVariants.{Number}
 use Rattle.meaning.specs.Store.{Place, Step, Element, Environment, stored, written, undefined, overlap}
 use Rattle.meaning.specs.Integers.{is_integer_number}
-use Rattle.meaning.specs.Effect.{State, Reply, Gives, Stops, Action, Round, looped, ◌>>=◌, and_then, give, enter, fetch, store, undefine, use_turn, write, is_in, places, boolean_text, text_of}
-use Rattle.meaning.specs.Meaning.{Evaluation, Combination, Execution, effect_step, is_so, alternative_of, combined, while_round, repeat_round, for_between, arm_of, Meaning, ended, link_step, in_turn, operated}
+use Rattle.meaning.specs.Effect.{State, Reply, Gives, Stops, Action, Round, looped, ◌>>=◌, and_then, give, enter, fetch, store, undefine, use_turn, write}
+use Rattle.meaning.specs.Effect.{is_in, places, boolean_text, text_of}
+use Rattle.meaning.specs.Meaning.{Evaluation, Combination, Execution, effect_step, is_so, alternative_of, combined, while_round, repeat_round, for_between}
+use Rattle.meaning.specs.Meaning.{arm_of, Meaning, ended, link_step, in_turn, operated}
 use Rattle.meaning.specs.Meaning.{value_of, width_of, parameter_of, completed, first_state}
 use Rattle.meaning.specs.Meaning.{home_of, program_environment}
 use Rattle.meaning.specs.Laws.{Extends}

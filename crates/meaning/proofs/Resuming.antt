@@ -19,7 +19,8 @@ use Rattle.meaning.specs.declared.work.Work.TheVariants as work
 use Rattle.meaning.specs.Store.{Environment, Place, held, kept}
 use Rattle.meaning.specs.Effect.{State, Reply, Gives, Stops, Action, ◌>>=◌, and_then, fetched, fetch, is_in, require, store}
 use Rattle.meaning.specs.Meaning.{effect_of, is_so}
-use Rattle.meaning.specs.Pending.{Resumption, Agrees, Continues, Does, EndsAs, pending_of, resumed, rest_of, answered, giving, with_top, chosen, top_of, below_top, checked}
+use Rattle.meaning.specs.Pending.{Resumption, Agrees, Continues, Does, EndsAs, pending_of, resumed, rest_of, answered, giving, with_top, chosen, top_of}
+use Rattle.meaning.specs.Pending.{below_top, checked}
 
 -- one more at the end of a stack is one more at its top
 pub reverse_push : {A : Type 0} (xs : List A) (x : A) → reverse (xs ++ x ∷ []) ≡ x ∷ reverse xs

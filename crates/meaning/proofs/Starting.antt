@@ -25,7 +25,9 @@ and_then-nothing (Gives a s) = refl
 and_then-nothing (Stops e s) = refl
 
 -- the statement of the program's block is all that is pending
-pub begins_with_block : (inner : Bor Stmt) (block : Block) (first : Option Block) (env : Environment) (operands : List Value) (s : State) (pending before : List Work) → pending ≡ before ++ work.Statement inner ∷ [] → before ≡ [] → inner.now ≡ block.body → first ≡ Some block → run_of first env s ≡ pending_of env (reverse pending) operands s
+pub begins_with_block : (inner : Bor Stmt) (block : Block) (first : Option Block) (env : Environment) (operands : List Value) (s : State)
+    (pending before : List Work) → pending ≡ before ++ work.Statement inner ∷ [] → before ≡ [] → inner.now ≡ block.body → first ≡ Some block
+    → run_of first env s ≡ pending_of env (reverse pending) operands s
 begins_with_block inner block first env operands s pending before pushed none body is =
     ap (λ (o : Option Block). run_of o env s) is
     ∙ ap (λ (b : Stmt). effect_of b env s) (sym body)

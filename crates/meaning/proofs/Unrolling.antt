@@ -1,5 +1,6 @@
 -- Each form of an expression and of a statement, as the work that an interpreter has to do for it.
-use Rattle.std.proofs.Common.{◌≡◌, ℕ, ℤ, List, [], ◌∷◌, ◌++◌, Bool, true, false, Option, Some, None, Result, Bor, if◌then◌else◌, Box, Vec, Global, map, sym, ◌∙◌, ap, refl}
+use Rattle.std.proofs.Common.{◌≡◌, ℕ, ℤ, List, [], ◌∷◌, ◌++◌, Bool, true, false, Option, Some, None, Result, Bor, if◌then◌else◌, Box, Vec, Global, map, sym}
+use Rattle.std.proofs.Common.{◌∙◌, ap, refl}
 use Rattle.place.specs.declared.Place.{Place as SourcePlace}
 use Rattle.typed_tree.specs.declared.tree.Access.{Access}
 use Rattle.typed_tree.specs.declared.tree.Direction.{Direction}
@@ -13,7 +14,8 @@ use Rattle.typed_tree.specs.declared.tree.Stmt.{Stmt}
 use Rattle.typed_tree.specs.declared.tree.Expr.TheVariants as expr
 use Rattle.typed_tree.specs.declared.tree.Stmt.TheVariants as stmt
 use Rattle.typed_tree.specs.declared.tree.Expr.TheOpen.Expr-F.{Variable as Variable-F, Monadic as Monadic-F, Chain as Chain-F}
-use Rattle.typed_tree.specs.declared.tree.Stmt.TheOpen.Stmt-F.{Empty as Empty-F, Assign as Assign-F, Write as Write-F, Compound as Compound-F, If as If-F, While as While-F, Repeat as Repeat-F, For as For-F, Case as Case-F}
+use Rattle.typed_tree.specs.declared.tree.Stmt.TheOpen.Stmt-F.{Empty as Empty-F, Assign as Assign-F, Write as Write-F, Compound as Compound-F, If as If-F}
+use Rattle.typed_tree.specs.declared.tree.Stmt.TheOpen.Stmt-F.{While as While-F, Repeat as Repeat-F, For as For-F, Case as Case-F}
 use Rattle.typed_tree.specs.declared.tree.Expr.TheFolds.{fold-roll-Expr, fold_out-Link}
 use Rattle.typed_tree.specs.declared.tree.Stmt.TheFolds.{fold-roll-Stmt}
 use Rattle.meaning.specs.declared.store.Value.{Value}
@@ -25,7 +27,8 @@ use Rattle.meaning.specs.Effect.{State, Reply, Action, ◌>>=◌, and_then, give
 use Rattle.meaning.specs.Effect.{fetch, store, undefine, write, is_in, text_of}
 use Rattle.meaning.specs.Meaning.{Evaluation, Combination, Execution, value_step, link_step, effect_step, operated, combined, in_turn, all_of}
 use Rattle.meaning.specs.Meaning.{width_of, parameter_of, line_ended, is_so, turn_if, for_between, arm_of, number_of, value_of, link_of, effect_of}
-use Rattle.meaning.specs.Pending.{Resumption, pending_of, resumed, chosen, further, while_rounds, repeat_rounds, bounds_tested, value_before, counting, forgetting, turning, line_ending, linking, giving, with_top}
+use Rattle.meaning.specs.Pending.{Resumption, pending_of, resumed, chosen, further, while_rounds, repeat_rounds, bounds_tested, value_before, counting}
+use Rattle.meaning.specs.Pending.{forgetting, turning, line_ending, linking, giving, with_top}
 use Rattle.meaning.specs.Pending.{positive, top_of, below_top}
 use Rattle.meaning.proofs.Turns.{extended_value, extended_effect, extended_statements}
 use Rattle.meaning.proofs.Loops.{looped-rounds, while_uses, repeat_uses, counted_uses}

@@ -1,5 +1,6 @@
 -- With fewer turns left there is no more to do: so a step that uses a turn leaves the rest no heavier than it was.
-use Rattle.std.proofs.Common.{◌≡◌, ℕ, zero, suc, ◌+◌, ◌≤◌, List, [], ◌∷◌, Option, Some, None, Result, Ok, Err, OnOk, Box, Global, map, sum_by, arith, sym, ◌∙◌, ap, subst}
+use Rattle.std.proofs.Common.{◌≡◌, ℕ, zero, suc, ◌+◌, ◌≤◌, List, [], ◌∷◌, Option, Some, None, Result, Ok, Err, OnOk, Box, Global, map, sum_by, arith, sym, ◌∙◌}
+use Rattle.std.proofs.Common.{ap, subst}
 use Rattle.typed_tree.specs.declared.tree.Width.{Width}
 use Rattle.typed_tree.specs.declared.tree.WriteParameter.{WriteParameter}
 use Rattle.typed_tree.specs.declared.tree.Expr.{Expr}
@@ -17,7 +18,8 @@ use Rattle.meaning.specs.declared.outcome.Ending.{Ending}
 use Rattle.meaning.specs.declared.work.Work.{Work}
 use Rattle.meaning.specs.declared.work.Work.TheVariants as work
 use Rattle.meaning.specs.Weight.{Weight, row_weight, rounds_weight, link_weight, expression_weight, weight_of_expression, weight_of_link, weight_of_width}
-use Rattle.meaning.specs.Weight.{weight_of_parameter, round_weight, for_weight, statement_weight, weight_of_statement, weight_of_alternative, weight_of, turn_weight}
+use Rattle.meaning.specs.Weight.{weight_of_parameter, round_weight, for_weight, statement_weight, weight_of_statement, weight_of_alternative, weight_of}
+use Rattle.meaning.specs.Weight.{turn_weight}
 
 -- a weight that more turns never lower
 abbrev Rises : Weight → Type 0

@@ -1,6 +1,7 @@
 -- What a piece of a program does: from a state to a reply, which gives a value or stops (ISO 7185:1990, 6.7, 6.8).
 -- It says nothing of how long that takes.
-use Rattle.std.specs.Prelude.{ℕ, zero, suc, ℤ, pos, negsuc, ◌-◌, ◌++◌, ◌&&◌, Bool, List, [], ◌∷◌, Option, Some, None, if◌then◌else◌, int_le, length, replicate, take, codes}
+use Rattle.std.specs.Prelude.{ℕ, zero, suc, ℤ, pos, negsuc, ◌-◌, ◌++◌, ◌&&◌, Bool, List, [], ◌∷◌, Option, Some, None}
+use Rattle.std.specs.Prelude.{if◌then◌else◌, int_le, length, replicate, take, codes}
 use Rattle.std.specs.Fmt.{signed_decimal}
 use Rattle.types.specs.declared.form.OrdinalRange.{OrdinalRange}
 use Rattle.typed_tree.specs.declared.tree.Representation.{Representation}

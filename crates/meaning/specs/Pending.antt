@@ -24,8 +24,10 @@ use Rattle.meaning.specs.contracts.store.PlaceOrd.TheImpl.{ghosts as places}
 use Rattle.meaning.specs.Store.{Environment, Place, Store, stored}
 use Rattle.meaning.specs.Effect.{State, Reply, Stops, Action, Round, ◌>>=◌, give, stop, require, use_turn}
 use Rattle.meaning.specs.Effect.{another, looped, store, undefine, write, is_in, is_positive, text_of}
-use Rattle.meaning.specs.Meaning.{Combination, Execution, completed, ended, home_of, operated, combined, value_of, link_of}
-use Rattle.meaning.specs.Meaning.{effect_of, all_of, width_of, parameter_of, line_ended, is_so, turn_if, while_round, repeat_round}
+use Rattle.meaning.specs.Meaning.{Combination, Execution, completed, ended, home_of, operated, combined, value_of}
+use Rattle.meaning.specs.Meaning.{link_of}
+use Rattle.meaning.specs.Meaning.{effect_of, all_of, width_of, parameter_of, line_ended, is_so, turn_if, while_round}
+use Rattle.meaning.specs.Meaning.{repeat_round}
 use Rattle.meaning.specs.Meaning.{for_between, is_among, arm_of, number_of}
 use Rattle.meaning.specs.Counting.{has_values, next_value}
 use Rattle.meaning.specs.Laws.{state_after}
@@ -255,8 +257,8 @@ Agrees env run s = record {
 abbrev pub rest_of : Environment → Run → State → Reply (Unit {0})
 rest_of env run s = pending_of env (reverse run.pending.items) (reverse run.values.items) s
 
--- a step answered: it goes on to what the reply goes on to, or the reply stops with this ending, in a state that the run
--- agrees with
+-- a step answered: it goes on to what the reply goes on to, or the reply stops with this ending, in a state that the
+-- run agrees with
 abbrev pub Continues : Environment → Reply (Unit {0}) → Result (Option Ending) AllocError → Run → Type 0
 Continues env reply (Err e) run = Unit {0}
 Continues env reply (Ok None) run = (s : State) × Agrees env run s × (reply ≡ rest_of env run s)

@@ -2,7 +2,8 @@ ghost use Rattle.std.specs.Prelude.{◌≡◌, ◌+◌, ◌≤◌, OnOk, IfOk, I
 ghost use Rattle.meaning.specs.Weight.{Lightens, pending_weight, turn_weight, weight_of, weight_of_expression};
 ghost use Rattle.meaning.specs.Effect.{fetch};
 ghost use Rattle.meaning.specs.Store.{Store, forgotten, held, kept};
-ghost use Rattle.meaning.specs.Pending.{Does, Finishes, StoreAgrees, answered, giving, line_ending, resumed, turning, evaluating, forgetting, rest_of, place_seen};
+ghost use Rattle.meaning.specs.Pending.{Does, Finishes, StoreAgrees, answered, giving, line_ending, resumed, turning};
+ghost use Rattle.meaning.specs.Pending.{evaluating, forgetting, rest_of, place_seen};
 ghost use Rattle.meaning.specs.Pending.{top_of, below_top};
 ghost use Rattle.meaning.specs.Meaning.{home_of, meaning, run_of};
 

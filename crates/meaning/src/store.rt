@@ -1,7 +1,9 @@
-ghost use Rattle.std.specs.Prelude.{◌≡◌, ◌≢◌, ◌+ℤ◌, ◌-ℤ◌, ◌*ℤ◌, ◌≤ℤ◌, ℤ, pos, neg_ℤ, int_div, int_le, int_lt, if◌then◌else◌, Option};
+ghost use Rattle.std.specs.Prelude.{◌≡◌, ◌≢◌, ◌+ℤ◌, ◌-ℤ◌, ◌*ℤ◌, ◌≤ℤ◌, ℤ, pos, neg_ℤ, int_div, int_le, int_lt};
+ghost use Rattle.std.specs.Prelude.{if◌then◌else◌, Option};
 ghost use Rattle.std.specs.Int.{int_rem_euclid};
 ghost use Rattle.std.specs.Ordering.{int_eq};
-ghost use Rattle.meaning.specs.Integers.{integer_or_none, is_integer_number, is_odd, is_true, is_within, magnitude, truth};
+ghost use Rattle.meaning.specs.Integers.{integer_or_none, is_integer_number, is_odd, is_true, is_within, magnitude};
+ghost use Rattle.meaning.specs.Integers.{truth};
 
 use std::marker::Model;
 

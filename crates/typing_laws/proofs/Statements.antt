@@ -1,5 +1,6 @@
 -- What statements do, form by form, and the law of every statement, by induction over its form.
-use Rattle.std.proofs.Common.{◌≡◌, ℕ, ℤ, Vec, ◌<◌, Bool, true, false, ◌&&◌, if◌then◌else◌, List, [], ◌∷◌, ◌++◌, map, Option, Some, None, Ok, Err, refl, sym, subst, append_assoc, arith}
+use Rattle.std.proofs.Common.{◌≡◌, ℕ, ℤ, Vec, ◌<◌, Bool, true, false, ◌&&◌, if◌then◌else◌, List, [], ◌∷◌, ◌++◌, map, Option, Some, None, Ok, Err, refl, sym}
+use Rattle.std.proofs.Common.{subst, append_assoc, arith}
 use Rattle.std.specs.List.{flat_map}
 use Rattle.std.specs.declared.alloc.Global.{Global}
 use Rattle.place.specs.declared.Place.{Place}
@@ -15,7 +16,8 @@ use Rattle.syntax_tree.specs.declared.Stmt.{Stmt}
 use Rattle.syntax_tree.specs.declared.Stmt.TheOpen as layer
 use Rattle.syntax_tree.specs.declared.Stmt.TheViews.{roll-Stmt}
 use Rattle.syntax_tree.specs.declared.Stmt.TheFolds.{map-Stmt, fold-roll-Stmt, ind-Stmt}
-use Rattle.syntax_tree.specs.Places.{Places, joined_places, expr_places, actual_places, stmt_places, arms_of, arm_places, constant_places, statement_step as statement_row}
+use Rattle.syntax_tree.specs.Places.{Places, joined_places, expr_places, actual_places, stmt_places, arms_of, arm_places, constant_places}
+use Rattle.syntax_tree.specs.Places.{statement_step as statement_row}
 use Rattle.types.specs.declared.form.TypeForm.{TypeForm}
 use Rattle.types.specs.declared.form.TypeForm.TheVariants as form
 use Rattle.types.specs.declared.form.TypeId.{TypeId}
@@ -28,16 +30,19 @@ use Rattle.typed_tree.specs.declared.site.SiteKind.{SiteKind}
 use Rattle.typed_tree.specs.declared.site.SiteKind.TheVariants as kind
 use Rattle.typed_tree.specs.Ids.{Stands}
 use Rattle.typed_tree.specs.WellFormed.{is_whole}
-use Rattle.typed_tree.specs.Look.{Assign, Target, Fits, Write, Written as WrittenMark, Width, Empty, Compound, If, Then, Else, While, Do, Repeat, Until, For, Case, Arm, Ends}
+use Rattle.typed_tree.specs.Look.{Assign, Target, Fits, Write, Written as WrittenMark, Width, Empty, Compound, If, Then, Else, While, Do, Repeat, Until, For}
+use Rattle.typed_tree.specs.Look.{Case, Arm, Ends}
 use Rattle.typing.specs.Passing.{Checked, Passing, and_then, each}
 use Rattle.typing.specs.Expressions.{Typed, Written, WrittenActual, fits, or_mismatch, expression, written_actual}
 use Rattle.typing.specs.Statements.{as_variable, fitting, assignment, as_procedure, ends_line, is_output, names_file, unless_wide, is_file, written_values}
 use Rattle.typing.specs.Statements.{has_values, measured, width, parameter, write, procedure_call, compound, condition, alternative, tested, choice, while_loop}
-use Rattle.typing.specs.Statements.{repeat_loop, way, bound, for_head, for_body, for_loop, case_arms, case_head, case_body, case_statement, statement_step, statement}
+use Rattle.typing.specs.Statements.{repeat_loop, way, bound, for_head, for_body, for_loop, case_arms, case_head, case_body, case_statement, statement_step}
+use Rattle.typing.specs.Statements.{statement}
 use Rattle.typing_laws.proofs.Sound.{IsSound}
 use Rattle.typing_laws.proofs.Covers.{Covers, covers_both, covers_none, covers_behind, covers_skip, covers_lower, covers_ahead, leads_first}
 use Rattle.typing_laws.proofs.Grown.{both_true}
-use Rattle.typing_laws.proofs.Steps.{Does, Anything, Nothing, joins, quietly, last, checks, sited, pure_does, given_does, find_does, pass_does, wants_output_does}
+use Rattle.typing_laws.proofs.Steps.{Does, Anything, Nothing, joins, quietly, last, checks, sited, pure_does, given_does, find_does, pass_does}
+use Rattle.typing_laws.proofs.Steps.{wants_output_does}
 use Rattle.typing_laws.proofs.Steps.{mark_does, enter_does, enter_loop_does, may_change_does, begin_control_does, end_control_does, site_does, IsKnown}
 use Rattle.typing_laws.proofs.Expressions.{IsLed, Types, lt_true, LawfulWritten, led_covers}
 use Rattle.typing_laws.proofs.Constants.{row_does}
