@@ -14,13 +14,13 @@ use Rattle.typed_tree.specs.declared.tree.Expr.TheViews.{roll-Expr, roll-Link}
 use Rattle.typed_tree.specs.declared.tree.Expr.TheFolds.{map-Expr, map-Link, fold-roll-Expr, fold-roll-Link, ind-Expr}
 use Rattle.typed_tree.specs.declared.tree.Stmt.{Stmt}
 use Rattle.typed_tree.specs.declared.tree.Stmt.TheOpen.{Stmt-F}
-use Rattle.typed_tree.specs.declared.tree.Stmt.TheOpen.Stmt-F.{Empty, Assign, Write, Compound, If, While, Repeat}
+use Rattle.typed_tree.specs.declared.tree.Stmt.TheOpen.Stmt-F.{Empty, Assign, Write, Compound, If, While, Repeat, For}
 use Rattle.typed_tree.specs.declared.tree.Stmt.TheViews.{roll-Stmt}
 use Rattle.typed_tree.specs.declared.tree.Stmt.TheFolds.{map-Stmt, fold-roll-Stmt, ind-Stmt}
 use Rattle.typed_tree.specs.WellFormed.{all_hold, is_well_formed_test, dyadic_is_well_formed, expr_is_well_formed, is_well_formed_expr, is_well_formed_link, is_well_formed_parameter, is_well_formed_stmt, is_well_formed_width, is_whole, link_is_well_formed, monadic_is_well_formed, stmt_is_well_formed}
 use Rattle.meaning.specs.declared.store.Value.{Value}
 use Rattle.meaning.specs.declared.store.Value.TheVariants.{Number}
-use Rattle.meaning.specs.Store.{Environment, Place as StorePlace}
+use Rattle.meaning.specs.Store.{Environment, Place as StorePlace, Store}
 use Rattle.meaning.specs.Effect as effect
 use Rattle.meaning.specs.Effect.{is_in, is_positive, text_of}
 use Rattle.meaning.specs.Meaning as meaning
@@ -35,7 +35,11 @@ use Rattle.cert_checker.proofs.Sound.{World, Sound, Any_value, Passes, sound-the
 use Rattle.cert_checker.proofs.SoundLoops.{Foretold, sound-choice, sound-loop, sound-while, sound-repeat, kept-rule}
 use Rattle.cert_checker.proofs.Keeping.{written-kept, written-typed, keeps-then}
 use Rattle.abstract_state.proofs.Changed.{IsOfForm, assigned-known}
-use Rattle.abstract_state.proofs.Refined.{form-known}
+use Rattle.abstract_state.proofs.Refined.{expression-kept, form-known}
+use Rattle.typed_tree.specs.declared.tree.Direction.{Direction}
+use Rattle.cert_checker.specs.Ways.{way_of}
+use Rattle.cert_checker.proofs.OnWay.{of-form_may}
+use Rattle.cert_checker.proofs.SoundFor.{for-good}
 use Rattle.abstract_state.specs.Conditions.{bound_form}
 use Rattle.cert_checker.specs.Loops.{all_list, limits_at}
 use Rattle.cert_checker.specs.declared.fault.Rule.TheVariants.{Changes}
@@ -372,6 +376,64 @@ module _ (world : World) (env : Environment) (shows : Shows world.variables env)
       (walk.◌>>=◌ (value_walk condition) (walk.branches condition true_walk false_walk))
       (sound-choice world env condition consequence alternative true_walk false_walk (value-sound condition well) one other)
 
+  site-within : (fits : RangeTest) → is_well_formed_test world.variables world.sites fits ≡ true → fits.site < world.sites
+  site-within fits well =
+      ltb-true fits.site world.sites (and_parts (nat_lt fits.site world.sites) (is_whole fits.range.first && is_whole fits.range.last) well).0
+
+  -- a for, from the values of its bounds
+  bounds-good : (number : ℕ) (place : Place) (control : ℕ) (first : Expr) (first_fits : RangeTest) (direction : Direction) (last : Expr) (last_fits : RangeTest)
+      (execution : Execution) (walking : Walking (Unit {0})) → SoundAction world env (execution env) walking → control < world.variables
+      → first_fits.site < world.sites → last_fits.site < world.sites → (from to : Known) (a b : Value) (context : Context) (state : State) (t : effect.State)
+      → (walk.for_walk number place walking (way_of control direction first first_fits last last_fits from to) context state).broken ≡ []
+      → IsPartOf world (walk.for_walk number place walking (way_of control direction first first_fits last last_fits from to) context state)
+      → Stands world env context state t.store → IsOfForm (moment env t.store) (bound_form first) a → IsOfForm (moment env t.store) (bound_form last) b
+      → IsKnown from a → IsKnown to b
+      → Good world (Foretold world env context
+      (walk.for_walk number place walking (way_of control direction first first_fits last last_fits from to) context state) t.store) t.visited
+      (effect.◌>>=◌ (meaning.for_between control first_fits direction last_fits execution env a b) (λ done. effect.undefine (env control)) t)
+  bounds-good number place control first first_fits direction last last_fits execution walking one within first_site last_site (Ordinal from) (Ordinal to)
+      (Number x) (Number y) context state t unbroken part stands first_form last_form in_first in_last =
+      for-good world env shows number execution walking one place context state (way_of control direction first first_fits last last_fits (Ordinal from) (Ordinal to))
+      x y within first_site last_site t unbroken part stands (of-form_may env t.store (bound_form first) x first_form)
+      (of-form_may env t.store (bound_form last) y last_form) in_first in_last
+
+  for-sound : (number : ℕ) (place : Place) (control : ℕ) (first : Expr) (first_fits : RangeTest) (direction : Direction) (last : Expr) (last_fits : RangeTest)
+      (execution : Execution) (walking : Walking (Unit {0})) → SoundAction world env (execution env) walking → control < world.variables
+      → well_expr first ≡ true → first_fits.site < world.sites → well_expr last ≡ true → last_fits.site < world.sites
+      → SoundAction world env
+      (effect.◌>>=◌ (value_of first env) (λ a. effect.◌>>=◌ (value_of last env) (λ b.
+      effect.◌>>=◌ (meaning.for_between control first_fits direction last_fits execution env a b) (λ done. effect.undefine (env control)))))
+      (walk.◌>>=◌ (value_walk first) (λ from. walk.◌>>=◌ (value_walk last) (λ to.
+      walk.for_walk number place walking (way_of control direction first first_fits last last_fits from to))))
+  for-sound number place control first first_fits direction last last_fits execution walking one within first_well first_site last_well last_site
+      context state s unbroken part stands =
+      let from = value_walk first context state in
+      let to = value_walk last context from.after in
+      let rest = walk.for_walk number place walking (way_of control direction first first_fits last last_fits from.value to.value) context to.after in
+      let more = followed to rest in
+      let Q = Foretold world env context (followed from more) s.store in
+      let finish = λ (a b : Value). effect.◌>>=◌ (meaning.for_between control first_fits direction last_fits execution env a b) (λ done. effect.undefine (env control)) in
+      let more_unbroken = unbroken-right from.broken more.broken unbroken in
+      let more_part = part-right world from more part in
+      good-then world (IsForetold world env IsKnown context from s.store) Q s.visited (value_of first env s) (λ a. effect.◌>>=◌ (value_of last env) (finish a))
+      (value-sound first first_well context state s (unbroken-left from.broken more.broken unbroken) (part-left world from more part) stands)
+      (λ a t first_is first_told.
+      good-then world (IsForetold world env IsKnown context to t.store) Q t.visited (value_of last env t) (finish a)
+      (value-sound last last_well context from.after t (unbroken-left to.broken rest.broken more_unbroken) (part-left world to rest more_part) first_told.stands)
+      (λ b u last_is last_told.
+      let form = subst (λ (store : Store). IsOfForm (moment env store) (bound_form first) a) (sym (expression-kept last env t u b last_is))
+      (form-known first env s t a first_is) in
+      good-weaker world (Foretold world env context rest u.store) Q u.visited (finish a b u)
+      (λ done w is then. record {
+        tie = tt;
+        stands = then.stands;
+        kept = keeps-then env context.rounds s.store t.store w.store first_told.kept
+            (keeps-then env context.rounds t.store u.store w.store last_told.kept then.kept);
+      })
+      (bounds-good number place control first first_fits direction last last_fits execution walking one within first_site last_site from.value to.value a b
+      context to.after u (unbroken-right to.broken rest.broken more_unbroken) (part-right world to rest more_part) last_told.stands form
+      (form-known last env t u b last_is) first_told.tie last_told.tie)))
+
   abbrev StmtLayer : Stmt-F Stmt → Type 0
   StmtLayer x =
       SoundStatement (stmt_is_well_formed world.variables world.sites (map-Stmt Stmt Bool well_stmt x))
@@ -406,7 +468,7 @@ module _ (world : World) (env : Environment) (shows : Shows world.variables env)
       let parts = and_parts (well_expr condition) (well_stmt body.value.0) well in
       let round = meaning.while_round (value_of condition) (effect_of body.value.0) env in
       let walked = walk.while_round condition (statement_walk body.value.0) in
-      entered-sound {A = Unit {0}} {B = Unit {0}} Any_value number (effect.looped round tt) (walk.loop_walk loop_number place walked)
+      entered-sound {A = Unit {0}} {B = Unit {0}} Any_value number (effect.looped round tt) (walk.loop_walk loop_number place None walked)
       (sound-loop world env shows loop_number place round tt walked
       (λ a. sound-while world env condition (effect_of body.value.0) (statement_walk body.value.0) (value-sound condition parts.0) (body.value.1 parts.1)))
   statement-layer (Repeat number loop_number place statements condition) well =
@@ -416,9 +478,24 @@ module _ (world : World) (env : Environment) (shows : Shows world.variables env)
       let bodies = walk.all_of (map statement_walk inner) in
       let round = meaning.repeat_round body (value_of condition) env in
       let walked = walk.repeat_round bodies condition in
-      entered-sound {A = Unit {0}} {B = Unit {0}} Any_value number (effect.looped round tt) (walk.loop_walk loop_number place walked)
+      entered-sound {A = Unit {0}} {B = Unit {0}} Any_value number (effect.looped round tt) (walk.loop_walk loop_number place None walked)
       (sound-loop world env shows loop_number place round tt walked
       (λ a. sound-repeat world env condition body bodies (all-sound statements.items parts.0) (value-sound condition parts.1)))
+  statement-layer (For number loop_number place control first first_fits direction last last_fits body) well =
+      let is_test = is_well_formed_test world.variables world.sites in
+      let one = and_parts (nat_lt control world.variables) (well_expr first && (is_test first_fits && (well_expr last && (is_test last_fits && well_stmt body.value.0)))) well in
+      let two = and_parts (well_expr first) (is_test first_fits && (well_expr last && (is_test last_fits && well_stmt body.value.0))) one.1 in
+      let three = and_parts (is_test first_fits) (well_expr last && (is_test last_fits && well_stmt body.value.0)) two.1 in
+      let four = and_parts (well_expr last) (is_test last_fits && well_stmt body.value.0) three.1 in
+      let five = and_parts (is_test last_fits) (well_stmt body.value.0) four.1 in
+      let execution = effect_of body.value.0 in
+      let finish = λ (a b : Value). effect.◌>>=◌ (meaning.for_between control first_fits direction last_fits execution env a b) (λ done. effect.undefine (env control)) in
+      entered-sound {A = Unit {0}} {B = Unit {0}} Any_value number
+      (effect.◌>>=◌ (value_of first env) (λ a. effect.◌>>=◌ (value_of last env) (finish a)))
+      (walk.◌>>=◌ (value_walk first) (λ from. walk.◌>>=◌ (value_walk last) (λ to.
+      walk.for_walk loop_number place (statement_walk body.value.0) (way_of control direction first first_fits last last_fits from to))))
+      (for-sound loop_number place control first first_fits direction last last_fits execution (statement_walk body.value.0) (body.value.1 five.1)
+      (ltb-true control world.variables one.0) two.0 (site-within first_fits three.0) four.0 (site-within last_fits five.0))
 
   along-statement : {a b : Bool} {execution executed : Execution} {walking walked : Walking (Unit {0})} → a ≡ b → execution ≡ executed → walking ≡ walked
       → SoundStatement b executed walked → SoundStatement a execution walking

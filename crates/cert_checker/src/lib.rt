@@ -14,6 +14,7 @@ mod open_sites;
 mod rounds;
 mod visits;
 mod walk;
+mod ways;
 
 use certificate::Certificate;
 use fault::CheckFault;
