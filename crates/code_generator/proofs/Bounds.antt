@@ -1,6 +1,7 @@
 -- Each instruction of a program's code is in bounds.
 use Rattle.std.proofs.Common.{◌≡◌, ℕ, ◌+◌, min, Bool, true, false, ◌&&◌, nat_le, List, [], ◌∷◌, ◌++◌, length, map, Option, Some, None, refl, ap, sym, subst, ◌∙◌}
-use Rattle.std.specs.Prelude.{slice_get, pos}
+use Rattle.std.specs.Prelude.{slice_get, pos, ℤ}
+use Rattle.std.specs.Global.{Vec}
 use Rattle.std.specs.List.{list_all, flat_map}
 use Rattle.std.proofs.Math.Nat.{min-le_right}
 use Rattle.std.proofs.lemmas.Bool.{le-leb}
@@ -31,11 +32,11 @@ use Rattle.typed_tree.specs.declared.tree.Expr.TheViews.{roll-Expr, roll-Link}
 use Rattle.typed_tree.specs.declared.tree.Expr.TheFolds.{map-Expr, map-Link, fold-roll-Expr, fold-roll-Link, ind-Expr}
 use Rattle.typed_tree.specs.declared.tree.Stmt.{Stmt}
 use Rattle.typed_tree.specs.declared.tree.Stmt.TheOpen.{Stmt-F}
-use Rattle.typed_tree.specs.declared.tree.Stmt.TheOpen.Stmt-F.{Empty, Assign, Write, Compound, If, While, Repeat, For}
+use Rattle.typed_tree.specs.declared.tree.Stmt.TheOpen.Stmt-F.{Empty, Assign, Write, Compound, If, While, Repeat, For, Case}
 use Rattle.typed_tree.specs.declared.tree.Stmt.TheViews.{roll-Stmt}
 use Rattle.typed_tree.specs.declared.tree.Stmt.TheFolds.{map-Stmt, fold-roll-Stmt, ind-Stmt}
 use Rattle.code_generator.specs.declared.scope.Scope.{Scope}
-use Rattle.code_generator.specs.Code.{joined, placed, Placed, count, monadic_code, relation_instr, dyadic_code, expr_code, link_code, expr_step, link_step, width_code, parameter_code, write_instr, line_end_code, stmt_code, stmt_step, stmt_depth, holding, held_offset, variable_offset, range_check, order_instr, next_instr, for_entry, for_begin, for_next, for_end, program_scope, body_code, program_code}
+use Rattle.code_generator.specs.Code.{joined, placed, Placed, count, monadic_code, relation_instr, dyadic_code, expr_code, link_code, expr_step, link_step, width_code, parameter_code, write_instr, line_end_code, stmt_code, stmt_step, stmt_depth, holding, held_offset, variable_offset, range_check, order_instr, next_instr, row_code, arms_code, for_entry, for_begin, for_next, for_end, program_scope, body_code, program_code}
 
 -- each instruction of some code is in bounds
 abbrev InBounds : List Instr → Type 0
@@ -229,6 +230,26 @@ end_in_bounds scope control =
     (one_more (instr.Load 0 2) _ refl
     (one_more (instr.Store 0 (variable_offset scope control)) _ (variable_in_bounds scope control) no_more)))).all
 
+-- the arms of a case statement
+row_in_bounds : (scope : Scope) (arm : ℕ) (row : List ℤ) → InBounds (row_code scope arm row)
+row_in_bounds scope arm [] = refl
+row_in_bounds scope arm (constant ∷ row) =
+    append_in_bounds (instr.LoadConstant constant ∷ instr.Load 0 (held_offset scope 0) ∷ instr.NotEqual ∷ instr.JumpIfFalse arm ∷ []) (row_code scope arm row)
+    (one_more (instr.LoadConstant constant) _ refl (one_more (instr.Load 0 (held_offset scope 0)) _ (held_in_bounds scope 0)
+    (one_more instr.NotEqual _ refl (one_more (instr.JumpIfFalse arm) _ refl no_more)))).all (row_in_bounds scope arm row)
+
+arms_in_bounds : (scope : Scope) (out : ℕ) (rows : List (Vec ℤ)) (arms : List ProvedStmt) (place : ℕ)
+    → InBounds (arms_code scope out rows (map stmt_code (map (λ s. s.0) arms)) place)
+arms_in_bounds scope out [] arms place = refl
+arms_in_bounds scope out (row ∷ rows) [] place = refl
+arms_in_bounds scope out (row ∷ rows) (arm ∷ arms) place =
+    let inside = place + length (row_code scope 0 row.items) + 1 in
+    let code = stmt_code arm.0 (holding 1 scope) inside in
+    let next = inside + length code + 1 in
+    let rest = arms_code scope out rows (map stmt_code (map (λ s. s.0) arms)) next in
+    append_in_bounds (row_code scope inside row.items) (instr.Jump next ∷ (code ++ (instr.Jump out ∷ rest))) (row_in_bounds scope inside row.items)
+    (append_in_bounds code (instr.Jump out ∷ rest) (arm.1 (holding 1 scope) inside) (arms_in_bounds scope out rows arms next))
+
 stmt_layer : (y : Stmt-F ProvedStmt) → StmtInBounds (roll-Stmt (bare_stmt y))
 stmt_layer (Empty number) = rolled_stmt (Empty number) (λ scope place. refl)
 stmt_layer (Assign number becomes target fits value) =
@@ -273,6 +294,14 @@ stmt_layer (For number loop_number word control first first_fits way last last_f
     (append_in_bounds (for_begin scope control) (inside ++ behind) (begin_in_bounds scope control)
     (append_in_bounds inside behind (body.value.1 (holding 2 scope) (head + 2))
     (append_in_bounds (for_next scope way head out) (for_end scope control) (next_in_bounds scope way head out) (end_in_bounds scope control)))))))
+stmt_layer (Case number site index constants arms) =
+    rolled_stmt (bare_stmt (Case number site index constants arms)) (λ scope place.
+    let codes = map stmt_code (map (λ (s : ProvedStmt). s.0) arms.items) in
+    let first = place + length (expr_code scope index) in
+    let out = first + length (arms_code scope 0 constants.items codes first) + 1 in
+    append_in_bounds (expr_code scope index) _ (expr_in_bounds scope index)
+    (append_in_bounds (arms_code scope out constants.items codes first) (instr.Fail site ∷ instr.JumpIfFalse (out + 1) ∷ [])
+    (arms_in_bounds scope out constants.items arms.items first) refl))
 
 stmt_in_bounds : (s : Stmt) → StmtInBounds s
 stmt_in_bounds = ind-Stmt StmtInBounds (λ x y is. subst (λ z. StmtInBounds (roll-Stmt z)) is (stmt_layer y))

@@ -19,7 +19,7 @@ use Rattle.typed_tree.specs.declared.tree.Expr.TheViews.{roll-Expr, roll-Link}
 use Rattle.typed_tree.specs.declared.tree.Expr.TheFolds.{fold-Link, map-Expr, map-Link, fold-roll-Expr, fold-roll-Link, ind-Expr}
 use Rattle.typed_tree.specs.declared.tree.Stmt.{Stmt}
 use Rattle.typed_tree.specs.declared.tree.Stmt.TheOpen.{Stmt-F}
-use Rattle.typed_tree.specs.declared.tree.Stmt.TheOpen.Stmt-F.{Empty, Assign, Write, Compound, If, While, Repeat, For}
+use Rattle.typed_tree.specs.declared.tree.Stmt.TheOpen.Stmt-F.{Empty, Assign, Write, Compound, If, While, Repeat, For, Case}
 use Rattle.typed_tree.specs.declared.tree.Stmt.TheViews.{roll-Stmt}
 use Rattle.typed_tree.specs.declared.tree.Stmt.TheFolds.{map-Stmt, fold-roll-Stmt, ind-Stmt}
 use Rattle.code_generator.specs.declared.scope.Scope.{Scope}
@@ -228,6 +228,15 @@ stmts_within scope (x ∷ xs) place depth first need w =
       code_is = omega (arith, length-append (first ++ code) rest, length-append first (code ++ rest), length-append code rest);
       need_is = omega arith;
     }
+
+-- the arms of a case statement
+arms_within : (scope : Scope) (out : ℕ) (rows : List (Vec ℤ)) (arms : List ((s : Stmt) × StmtWithin s)) (before need : ℕ) → before ≤ need
+    → fold max before (map stmt_depth (map (λ x. x.0) arms)) ≤ need + sum (map stmt_need (map (λ x. x.0) arms))
+arms_within scope out rows [] before need h = omega arith
+arms_within scope out rows (arm ∷ arms) before need h =
+    let w = (arm.1 scope 0).need_is in
+    let rest = arms_within scope out rows arms (max before (stmt_depth arm.0)) (need + stmt_need arm.0) (omega arith) in
+    omega (arith, rest, sum-cons (stmt_need arm.0) (map stmt_need (map (λ x. x.0) arms)))
 
 stmt_layer : (y : Stmt-F ((s : Stmt) × StmtWithin s)) → StmtWithin (roll-Stmt (map-Stmt ((s : Stmt) × StmtWithin s) Stmt (λ s. s.0) y))
 stmt_layer (Empty number) = rolled_stmt (Empty number) (λ scope place. record { code_is = omega arith; need_is = omega arith })

@@ -1,7 +1,7 @@
 -- The cells that are held above the variables, in a frame that runs: what is loaded from them and stored into them; and
 -- what the instructions of a for statement do with the two bounds that are held.
 use Rattle.std.proofs.Common.{◌≡◌, ℕ, zero, suc, ◌+◌, ◌-◌, ◌<◌, ◌≤◌, List, [], ◌∷◌, ◌++◌, length, Some, None, Ok, refl, sym, ap, ◌∙◌, subst, arith, append-nil, append_assoc, length-append, Bool, true, false}
-use Rattle.std.specs.Prelude.{slice_get, slice_set, ℤ, pos, ◌+ℤ◌, ◌-ℤ◌, int_le, not, ◌&&◌, if◌then◌else◌}
+use Rattle.std.specs.Prelude.{slice_get, slice_set, ℤ, pos, ◌+ℤ◌, ◌-ℤ◌, int_le, not, ◌&&◌, ◌||◌, if◌then◌else◌}
 use Rattle.std.specs.Ordering.{int_eq}
 use Rattle.std.specs.Int.{w32, int_wrapping_add, int_wrapping_sub}
 use Rattle.std.proofs.lemmas.Int.{ints}
@@ -17,6 +17,7 @@ use Rattle.meaning.specs.declared.store.Value.TheVariants as value
 use Rattle.meaning.specs.Store as meant
 use Rattle.meaning.specs.Store.{kept, forgotten}
 use Rattle.meaning.specs.Counting.{has_values, next_value}
+use Rattle.meaning.specs.Meaning.{is_among}
 use Rattle.meaning.specs.Effect as effect
 use Rattle.meaning.specs.Effect.{Action, require}
 use Rattle.stack_machine.specs.declared.cell.Cell.{Cell}
@@ -26,8 +27,8 @@ use Rattle.stack_machine.specs.Frames as frames
 use Rattle.stack_machine.specs.Frames.{is_true, truth, on_two}
 use Rattle.stack_machine.specs.Machine.{State, obeyed, and_then, with_frames}
 use Rattle.check_remover.specs.Strip.{stays}
-use Rattle.code_generator.specs.Code.{variable_offset, held_offset, range_check, order_instr, next_instr}
-use Rattle.code_generator.proofs.Reach.{Comes, Stands, StandsAt, comes_on, comes_less}
+use Rattle.code_generator.specs.Code.{variable_offset, held_offset, row_code, range_check, order_instr, next_instr}
+use Rattle.code_generator.proofs.Reach.{Comes, Stands, StandsAt, comes_on, comes_less, stays_here}
 use Rattle.code_generator.proofs.Numbers.{Fits, same_range, sum_is, difference_is}
 use Rattle.code_generator.proofs.Setting.{Setting, running_at, on, Based, linked, Here, acts, passes, fails, branches_on, jumps, Executes, executes_from}
 use Rattle.code_generator.proofs.Acts.{framed, length_one, pushes, loads, stores, on_two_is, is_in_range}
@@ -267,6 +268,54 @@ module _ (g : Setting) where
         let p : place + 1 + 1 + 1 + 1 ≡ place + 4 = omega arith in
         subst (λ q. Comes g.target 4 (on g here place output) (on g (slice_set base c Undefined ++ held) q output)) p
         (subst (λ cs. Comes g.target 4 (on g here place output) (on g (cs ++ held) (place + 1 + 1 + 1 + 1) output)) same whole)
+
+  -- ---- the index of a case statement, which is held
+
+  module _ (store : meant.Store) (base held : List Cell) (n : ℤ) (output : List ℕ) (based : Based g store base) (high : length held ≡ g.scope.height)
+      (room : g.below + length held + 3 ≤ g.limit) where
+    abbrev index : List Cell
+    index = base ++ (held ++ Number n ∷ [])
+
+    -- one constant
+    compares : (constant : ℤ) (arm place : ℕ) → Here g place (instr.LoadConstant constant) → Here g (place + 1) (instr.Load 0 (held_offset g.scope 0))
+        → Here g (place + 1 + 1) instr.NotEqual → StandsAt g.target (place + 1 + 1 + 1) (instr.JumpIfFalse arm) true
+        → Comes g.target 0 (on g index place output) (on g index (if not (int_eq constant n) then place + 1 + 1 + 1 + 1 else arm) output)
+    compares constant arm place at1 at2 at3 at4 =
+        let full = based.full in
+        let size : length index ≡ g.below + length held + 1 = omega (arith, length-append base (held ++ Number n ∷ []), length-append held (Number n ∷ [])) in
+        let in_frame = linked g store base (held ++ Number n ∷ []) based in
+        let differs = truth (not (int_eq constant n)) in
+        let a = pushes_number index constant place output at1 (omega arith) in
+        let b = loads_held store base held (Number n ∷ []) (Number constant ∷ []) (index ++ Number constant ∷ []) 0 (Number n) (place + 1) output based high refl
+        refl (omega arith) at2 in
+        let c = operates instr.NotEqual (frames.of_two dyadic.NotEqual) index constant n (place + 1 + 1) output at3 (λ s. refl) in_frame (omega arith) in
+        let d = branches_on g arm index differs (place + 1 + 1 + 1) output at4 in_frame in
+        let whole = comes_on g.target 1 3 _ _ _ a (comes_on g.target 1 2 _ _ _ b (comes_on g.target 1 1 _ _ _ c d)) in
+        comes_less g.target 0 4 _ _ (omega arith)
+        (subst (λ b. Comes g.target 4 (on g index place output) (on g index (if b then place + 1 + 1 + 1 + 1 else arm) output))
+        (true_truth (not (int_eq constant n))) whole)
+
+    compares_by : (row : List ℤ) (arm place next : ℕ) (same : Bool)
+        → Comes g.target 0 (on g index place output) (on g index (if not same then next else arm) output)
+        → Comes g.target 0 (on g index next output) (on g index (if is_among row n then arm else next + length (row_code g.scope arm row)) output)
+        → Comes g.target 0 (on g index place output)
+        (on g index (if same || is_among row n then arm else next + length (row_code g.scope arm row)) output)
+    compares_by row arm place next true first rest = first
+    compares_by row arm place next false first rest = comes_on g.target 0 0 _ _ _ first rest
+
+    -- a row of constants: to the arm with one that is the index, or behind the row
+    pub compares_row : (row : List ℤ) (arm place : ℕ) → Stands g.target place (row_code g.scope arm row)
+        → Comes g.target 0 (on g index place output)
+        (on g index (if is_among row n then arm else place + length (row_code g.scope arm row)) output)
+    compares_row [] arm place stands =
+        let e : place ≡ place + 0 = omega arith in
+        subst (λ p. Comes g.target 0 (on g index place output) (on g index p output)) e (stays_here g.target (on g index place output))
+    compares_row (constant ∷ row) arm place stands =
+        let rest = compares_row row arm (place + 1 + 1 + 1 + 1) stands.1.1.1.1 in
+        let first = compares constant arm place stands.0 stands.1.0 stands.1.1.0 stands.1.1.1.0 in
+        let e : place + 1 + 1 + 1 + 1 + length (row_code g.scope arm row) ≡ place + length (row_code g.scope arm (constant ∷ row)) = omega arith in
+        subst (λ p. Comes g.target 0 (on g index place output) (on g index (if is_among (constant ∷ row) n then arm else p) output)) e
+        (compares_by row arm place (place + 1 + 1 + 1 + 1) (int_eq constant n) first rest)
 
   -- the test of a value on top, behind which more comes
   tests_by : (fits : RangeTest) (below held : List Cell) (n : ℤ) (place end : ℕ) (s : effect.State) (next : Action (Unit {0})) (good : Bool)

@@ -1,15 +1,18 @@
 -- What is told of a statement is how many instructions it has.
 use Rattle.std.proofs.Common.{◌≡◌, ℕ, ◌+◌, List, [], ◌∷◌, ◌++◌, length, map, Some, None, refl, ap, sym, subst, ◌∙◌, arith, length-append}
+use Rattle.std.specs.Prelude.{ℤ, ◌*◌}
+use Rattle.std.specs.Global.{Vec}
+use Rattle.pcode_assembler.specs.declared.instr.Instr.TheVariants as instr
 use Rattle.std.specs.List.{flat_map}
 use Rattle.std.proofs.lemmas.List.Sums.{sum_by-cons}
 use Rattle.typed_tree.specs.declared.tree.Stmt.{Stmt}
 use Rattle.typed_tree.specs.declared.tree.Stmt.TheOpen.{Stmt-F}
-use Rattle.typed_tree.specs.declared.tree.Stmt.TheOpen.Stmt-F.{Empty, Assign, Write, Compound, If, While, Repeat, For}
+use Rattle.typed_tree.specs.declared.tree.Stmt.TheOpen.Stmt-F.{Empty, Assign, Write, Compound, If, While, Repeat, For, Case}
 use Rattle.typed_tree.specs.declared.tree.Stmt.TheViews.{roll-Stmt}
 use Rattle.typed_tree.specs.declared.tree.Stmt.TheFolds.{map-Stmt, fold-roll-Stmt, ind-Stmt}
 use Rattle.code_generator.specs.declared.scope.Scope.{Scope}
-use Rattle.code_generator.specs.Code.{Placed, placed, holding, expr_code, stmt_code, stmt_step}
-use Rattle.code_generator.specs.Sizes.{Measured, measured, measured_step, all_sizes}
+use Rattle.code_generator.specs.Code.{Placed, placed, holding, row_code, arms_code, expr_code, stmt_code, stmt_step}
+use Rattle.code_generator.specs.Sizes.{Measured, measured, measured_step, all_sizes, arms_size}
 use Rattle.code_generator.proofs.Pieces.{length-If, length-If-else, length-While, length-Repeat, length-For}
 
 abbrev pub IsMeasured : Stmt → Type 0
@@ -39,6 +42,33 @@ all_measured scope (s ∷ statements) place =
     ∙ ap (λ n. n + length (placed (map (λ c. c scope) (map stmt_code (map (λ s. s.0) statements))) next)) (s.1 scope place)
     ∙ ap (λ n. (measured s.0 scope).size + n) (all_measured scope statements next)
     ∙ sym (sum_by-cons (λ (m : Measured). m.size) (measured s.0 scope) rest)
+
+-- a row of constants, and the arms behind their rows
+row_measured : (scope : Scope) (arm : ℕ) (row : List ℤ) → length (row_code scope arm row) ≡ 4 * length row
+row_measured scope arm [] = refl
+row_measured scope arm (constant ∷ row) = let e = row_measured scope arm row in omega arith
+
+arms_measured : (scope : Scope) (out : ℕ) (rows : List (Vec ℤ)) (arms : List MeasuredStmt) (place : ℕ)
+    → length (arms_code scope out rows (map stmt_code (map (λ s. s.0) arms)) place) ≡ arms_size rows
+    (map (λ (measure : Scope → Measured). measure (holding 1 scope)) (map measured (map (λ s. s.0) arms)))
+arms_measured scope out [] arms place = refl
+arms_measured scope out (row ∷ rows) [] place = refl
+arms_measured scope out (row ∷ rows) (arm ∷ arms) place =
+    let inside = place + length (row_code scope 0 row.items) + 1 in
+    let code = stmt_code arm.0 (holding 1 scope) inside in
+    let next = inside + length code + 1 in
+    let rest = arms_code scope out rows (map stmt_code (map (λ (s : MeasuredStmt). s.0) arms)) next in
+    let one = arm.1 (holding 1 scope) inside in
+    let others = arms_measured scope out rows arms next in
+    let row_is = row_measured scope inside row.items in
+    omega (
+      arith,
+      one,
+      others,
+      row_is,
+      length-append (row_code scope inside row.items) (instr.Jump next ∷ (code ++ (instr.Jump out ∷ rest))),
+      length-append code (instr.Jump out ∷ rest),
+    )
 
 layer : (y : Stmt-F MeasuredStmt) → IsMeasured (roll-Stmt (bare y))
 layer (Empty number) = rolled (Empty number) (λ scope place. refl)
@@ -73,6 +103,16 @@ layer (For number loop_number word control first first_fits way last last_fits b
     let b = expr_code scope last in
     length-For control a first_fits way b last_fits (stmt_code body.value.0) scope place
     ∙ ap (λ n. length a + length b + 10 + n + 13) (body.value.1 (holding 2 scope) (place + length a + length b + 8 + 2)))
+layer (Case number site index constants arms) =
+    rolled (bare (Case number site index constants arms)) (λ scope place.
+    let test = expr_code scope index in
+    let codes = map stmt_code (map (λ (s : MeasuredStmt). s.0) arms.items) in
+    let first = place + length test in
+    let out = first + length (arms_code scope 0 constants.items codes first) + 1 in
+    let all = arms_code scope out constants.items codes first in
+    let last = instr.Fail site ∷ instr.JumpIfFalse (out + 1) ∷ [] in
+    let e = arms_measured scope out constants.items arms.items first in
+    omega (arith, e, length-append test (all ++ last), length-append all last))
 
 -- the size of a statement is the length of its code, wherever that stands
 pub is_measured : (s : Stmt) → IsMeasured s

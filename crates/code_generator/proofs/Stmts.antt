@@ -1,6 +1,7 @@
 -- The code of a statement keeps the program's store and the cells of its frame alike, or stops as the statement does.
 use Rattle.std.proofs.Common.{◌≡◌, ℕ, zero, suc, ◌+◌, ◌<◌, ◌≤◌, max, Option, List, [], ◌∷◌, ◌++◌, length, map, Some, None, Ok, refl, sym, ap, ◌∙◌, subst, arith, length-append, append_assoc, append-nil, Bool, true, false}
-use Rattle.std.specs.Prelude.{slice_set, ℤ, pos, negsuc, ◌+ℤ◌, ◌-ℤ◌, int_le, not, nat_lt, ◌-◌, ◌&&◌, replicate, take, codes, if◌then◌else◌, fold}
+use Rattle.std.specs.Prelude.{slice_set, ℤ, pos, negsuc, ◌+ℤ◌, ◌-ℤ◌, int_le, not, nat_lt,  ◌-◌, ◌&&◌, replicate, take, codes, if◌then◌else◌, fold}
+use Rattle.std.specs.Global.{Vec}
 use Rattle.std.specs.List.{flat_map}
 use Rattle.std.specs.Ordering.{int_eq}
 use Rattle.check_remover.specs.Strip.{stays}
@@ -22,16 +23,17 @@ use Rattle.typed_tree.specs.declared.tree.WriteParameter.{WriteParameter}
 use Rattle.typed_tree.specs.declared.tree.Expr.{Expr}
 use Rattle.typed_tree.specs.declared.tree.Stmt.{Stmt}
 use Rattle.typed_tree.specs.declared.tree.Stmt.TheOpen.{Stmt-F}
-use Rattle.typed_tree.specs.declared.tree.Stmt.TheOpen.Stmt-F.{Empty, Assign, Write, Compound, If, While, Repeat, For}
+use Rattle.typed_tree.specs.declared.tree.Stmt.TheOpen.Stmt-F.{Empty, Assign, Write, Compound, If, While, Repeat, For, Case}
 use Rattle.typed_tree.specs.declared.tree.Stmt.TheViews.{roll-Stmt}
 use Rattle.typed_tree.specs.declared.tree.Stmt.TheFolds.{fold-Stmt, map-Stmt, fold-roll-Stmt, ind-Stmt}
+use Rattle.meaning.specs.declared.outcome.Ending.TheVariants as ending
 use Rattle.meaning.specs.declared.store.Value.{Value}
 use Rattle.meaning.specs.declared.store.Value.TheVariants as value
 use Rattle.meaning.specs.Store.{kept, forgotten}
 use Rattle.meaning.specs.Counting.{has_values, next_value, value_behind}
 use Rattle.meaning.specs.Effect as effect
 use Rattle.meaning.specs.Effect.{Reply, Gives, Action, Round, ◌>>=◌, require, give}
-use Rattle.meaning.specs.Meaning.{Execution, is_so, turn_if, while_round, repeat_round, for_round, for_rounds, for_between, alternative_of, value_of, width_of, effect_of, effect_step, parameter_of, all_of, line_ended}
+use Rattle.meaning.specs.Meaning.{Execution, is_so, turn_if, while_round, repeat_round, for_round, for_rounds, for_between, is_among, arm_of, number_of, alternative_of, value_of, width_of, effect_of, effect_step, parameter_of, all_of, line_ended}
 use Rattle.stack_machine.specs.declared.cell.Cell.{Cell}
 use Rattle.stack_machine.specs.declared.cell.Cell.TheVariants.{Undefined, Number}
 use Rattle.stack_machine.specs.declared.arithmetic.Dyadic.TheVariants as dyadic
@@ -41,12 +43,12 @@ use Rattle.stack_machine.specs.Machine as machine
 use Rattle.stack_machine.specs.Machine.{State, with_text}
 use Rattle.stack_machine.specs.Texts as texts
 use Rattle.code_generator.specs.declared.scope.Scope.{Scope}
-use Rattle.code_generator.specs.Code.{Placed, placed, if_code, if_else_code, while_code, repeat_code, for_code, for_entry, for_begin, for_next, for_end, holding, held_offset, order_instr, next_instr, count, greatest, variable_offset, expr_code, width_code, write_instr, parameter_code, line_end_code, write_code, stmt_code, stmt_step, stmt_depth, stmt_depth_step, expr_depth, parameter_depth}
+use Rattle.code_generator.specs.Code.{Placed, placed, if_code, if_else_code, while_code, repeat_code, for_code, for_entry, for_begin, for_next, for_end, holding, held_offset, order_instr, next_instr, row_code, arms_code, case_code, count, greatest, variable_offset, expr_code, width_code, write_instr, parameter_code, line_end_code, write_code, stmt_code, stmt_step, stmt_depth, stmt_depth_step, expr_depth, parameter_depth}
 use Rattle.typed_tree.specs.WellFormed.{all_hold, is_well_formed_expr, is_well_formed_width, is_well_formed_parameter, is_well_formed_test, is_well_formed_stmt, stmt_is_well_formed}
 use Rattle.code_generator.proofs.Reach.{Stands, StandsAt, stands_front, stands_back, Comes, comes_less, comes_on, stays_here}
 use Rattle.code_generator.proofs.Setting.{Setting, on, Based, linked, Here, goes_on, acts, jumps, branches_on, behind_executes, passes, fails, Executes, done, executes_from, then_executes, then_leaves, after_value}
 use Rattle.code_generator.proofs.Loops.{Rounds, RoundRuns, rounds_on, then_rounds, value_rounds, turned, loops, reset, rounds_from_reset, executes_from_reset}
-use Rattle.code_generator.proofs.Held.{slot, stores_variable, variable_kept, variable_forgotten, loads_held, stores_held, decides, begins, steps, leaves, tests, last_is, NextFits, next_fits, one_fits}
+use Rattle.code_generator.proofs.Held.{slot, stores_variable, variable_kept, variable_forgotten, loads_held, stores_held, decides, begins, steps, leaves, tests, compares_row, last_is, NextFits, next_fits, one_fits}
 use Rattle.code_generator.proofs.Pieces.{length-For}
 use Rattle.code_generator.proofs.Acts.{framed, length_one, stores, is_in_range, writes}
 use Rattle.code_generator.proofs.Numbers.{Fits, same_range, sum_is, difference_is}
@@ -304,6 +306,7 @@ repeats_step (If number condition consequence alternative) = max consequence.val
 repeats_step (While number loop_number word condition body) = body.value
 repeats_step (Repeat number loop_number word statements condition) = greatest statements.items + 1
 repeats_step (For number loop_number word control first first_fits way last last_fits body) = body.value
+repeats_step (Case number site index constants arms) = greatest arms.items
 
 abbrev pub repeats : Stmt → ℕ
 repeats = fold-Stmt ℕ repeats_step
@@ -772,6 +775,143 @@ for_runs g number control first first_fits way last last_fits body few place bas
     (for_between_runs g control within way body few p5.1 head held high (omega arith) l fit' at_end first_fits last_fits site_first site_last test refl at_entry
     at_begin at_inside at_next n base3 u fit based3)))))
 
+-- ---- a case statement
+
+-- a conditional jump to the next instruction takes a number away
+popped_there : (g : Setting) (below : List Cell) (n : ℤ) (place : ℕ) (output : List ℕ) → StandsAt g.target place (instr.JumpIfFalse (place + 1)) true
+    → g.running.frame + 4 ≤ length below → Comes g.target 0 (on g (below ++ Number n ∷ []) place output) (on g below (place + 1) output)
+popped_there g below n place output stands in_frame =
+    let both : (b : Bool) → Comes g.target 1 (on g (below ++ Number n ∷ []) place output) (on g below (if b then place + 1 else place + 1) output)
+    → Comes g.target 1 (on g (below ++ Number n ∷ []) place output) (on g below (place + 1) output) =
+    λ b. elim b as (λ b. Comes g.target 1 (on g (below ++ Number n ∷ []) place output) (on g below (if b then place + 1 else place + 1) output)
+    → Comes g.target 1 (on g (below ++ Number n ∷ []) place output) (on g below (place + 1) output)) [ true ↦ λ c. c | false ↦ λ c. c ] in
+    comes_less g.target 0 1 _ _ (omega arith) (both (frames.is_true n) (branches_on g (place + 1) below n place output stands in_frame))
+
+-- where the jumps out go changes no length
+length-arms : (scope : Scope) (rows : List (Vec ℤ)) (arms : List Placed) (out out' place : ℕ)
+    → length (arms_code scope out rows arms place) ≡ length (arms_code scope out' rows arms place)
+length-arms scope [] arms out out' place = refl
+length-arms scope (row ∷ rows) [] out out' place = refl
+length-arms scope (row ∷ rows) (arm ∷ arms) out out' place =
+    let inside = place + length (row_code scope 0 row.items) + 1 in
+    let code = arm (holding 1 scope) inside in
+    let next = inside + length code + 1 in
+    let compared = row_code scope inside row.items in
+    let rest = arms_code scope out rows arms next in
+    let rest' = arms_code scope out' rows arms next in
+    let same = length-arms scope rows arms out out' next in
+    omega (
+      arith,
+      same,
+      length-append compared (instr.Jump next ∷ (code ++ (instr.Jump out ∷ rest))),
+      length-append compared (instr.Jump next ∷ (code ++ (instr.Jump out' ∷ rest'))),
+      length-append code (instr.Jump out ∷ rest),
+      length-append code (instr.Jump out' ∷ rest'),
+    )
+
+-- nor does the place of the arm that of its constants
+length-row : (scope : Scope) (arm arm' : ℕ) (row : List ℤ) → length (row_code scope arm row) ≡ length (row_code scope arm' row)
+length-row scope arm arm' [] = refl
+length-row scope arm arm' (constant ∷ row) = let e = length-row scope arm arm' row in omega arith
+
+module _ (g : Setting) (site : ℕ) (within : site < length g.tree.sites.items) (out : ℕ) (behind : List Instr) (held : List Cell)
+    (high : length held ≡ g.scope.height) (n : ℤ) where
+  abbrev index : List Cell
+  index = held ++ Number n ∷ []
+
+  no_arm : (place : ℕ) (base : List Cell) (s : effect.State) → Stands g.target place (instr.Fail site ∷ behind)
+      → Executes g s.turns (on g (base ++ index) place s.output) index out (effect.stop (ending.Error site) s)
+  no_arm place base s stands = fails g (instr.Fail site) (base ++ index) place site s.output (Ok false) refl refl s.turns stands.0 within refl
+
+  arms_run : (rows : List (Vec ℤ)) (arms : List ((s : Stmt) × StmtRuns s)) (before depth place : ℕ) (base : List Cell) (s : effect.State)
+      → fold max before (map repeats (map (λ x. x.0) arms)) ≤ g.slack
+      → all_hold (map (is_well_formed_stmt (length g.tree.variables.items) (length g.tree.sites.items)) (map (λ x. x.0) arms)) ≡ true
+      → g.below + length held + max 3 (fold max depth (map stmt_depth (map (λ x. x.0) arms)) + 1) ≤ g.limit → Based g s.store base
+      → Stands g.target place (arms_code g.scope out rows (map stmt_code (map (λ x. x.0) arms)) place ++ (instr.Fail site ∷ behind))
+      → Executes g s.turns (on g (base ++ index) place s.output) index out (arm_of site rows (map effect_of (map (λ x. x.0) arms)) n g.environment s)
+  arms_run [] arms before depth place base s few good deep based stands = no_arm place base s stands
+  arms_run (row ∷ rows) [] before depth place base s few good deep based stands = no_arm place base s stands
+  arms_run (row ∷ rows) (arm ∷ arms) before depth place base s few good deep based stands =
+      let others = map (λ (x : (s : Stmt) × StmtRuns s). x.0) arms in
+      let least = start_within (max before (repeats arm.0)) (map repeats others) in
+      let least' = start_within (max depth (stmt_depth arm.0)) (map stmt_depth others) in
+      let inside = place + length (row_code g.scope 0 row.items) + 1 in
+      let code = stmt_code arm.0 (holding 1 g.scope) inside in
+      let next = inside + length code + 1 in
+      let compared = row_code g.scope inside row.items in
+      let rest = arms_code g.scope out rows (map stmt_code others) next in
+      let tail = instr.Fail site ∷ behind in
+      let split : (compared ++ (instr.Jump next ∷ (code ++ (instr.Jump out ∷ rest)))) ++ tail ≡ compared ++
+      (instr.Jump next ∷ (code ++ (instr.Jump out ∷ (rest ++ tail)))) =
+      append_assoc compared (instr.Jump next ∷ (code ++ (instr.Jump out ∷ rest))) tail
+      ∙ ap (λ r. compared ++ (instr.Jump next ∷ r)) (append_assoc code (instr.Jump out ∷ rest) tail) in
+      let whole = subst (Stands g.target place) split stands in
+      let jump = stands_back g.target place compared (instr.Jump next ∷ (code ++ (instr.Jump out ∷ (rest ++ tail)))) whole in
+      let at : place + length compared + 1 ≡ inside = ap (λ m. place + m + 1) (length-row g.scope inside 0 row.items) in
+      let from_arm = subst (λ p. Stands g.target p (code ++ (instr.Jump out ∷ (rest ++ tail)))) at jump.1 in
+      let from_jump = stands_back g.target inside code (instr.Jump out ∷ (rest ++ tail)) from_arm in
+      let came = compares_row g s.store base held n s.output based high (omega arith) row.items inside place
+      (stands_front g.target place compared (instr.Jump next ∷ (code ++ (instr.Jump out ∷ (rest ++ tail)))) whole) in
+      let parts = and_parts (is_well_formed_stmt (length g.tree.variables.items) (length g.tree.sites.items) arm.0) _ good in
+      let long : length index ≡ length held + 1 = length_one held (Number n) in
+      let reach = g.far in
+      let inner = reset g g.slack (count (g.scope.height + 1)) in
+      let result : Bool → Reply (Unit {0}) = λ b. (if b then effect_of arm.0 g.environment else arm_of site rows (map effect_of others) n g.environment) s in
+      (elim (is_among row.items n) as (λ b. Comes g.target 0 (on g (base ++ index) place s.output)
+      (on g (base ++ index) (if b then inside else place + length compared) s.output) → Executes g s.turns (on g (base ++ index) place s.output) index out
+      (result b)) [
+        | true ↦ λ there.
+            executes_from g 0 s.turns _ _ index out (effect_of arm.0 g.environment s) there
+            (behind_executes g s.turns _ index index (inside + length code) out (effect_of arm.0 g.environment s)
+            (executes_from_reset g g.slack (count (g.scope.height + 1)) s.turns _ index (inside + length code) (effect_of arm.0 g.environment s) refl
+            (arm.1 inner (omega arith) inside base index s (stands_front g.target inside code (instr.Jump out ∷ (rest ++ tail)) from_arm) parts.0
+            (record { full = based.full; alike = based.alike }) (omega (arith, long, high, reach, deep)) (omega (arith, long))))
+            (λ base2 t based2. comes_less g.target 0 1 _ _ (omega arith) (jumps g out (base2 ++ index) (inside + length code) t.output from_jump.0)))
+        | false ↦ λ there.
+            executes_from g 1 s.turns _ _ index out (arm_of site rows (map effect_of others) n g.environment s)
+            (comes_on g.target 0 1 _ _ _ there (jumps g next (base ++ index) (place + length compared) s.output jump.0))
+            (arms_run rows arms (max before (repeats arm.0)) (max depth (stmt_depth arm.0)) next base s few parts.1 deep based from_jump.1)
+      ]) came
+
+case_runs : (g : Setting) (number site : ℕ) (index : Expr) (rows : List (Vec ℤ)) (arms : List ((s : Stmt) × StmtRuns s)) (well : Bool)
+    → greatest (map repeats (map (λ x. x.0) arms)) ≤ g.slack
+    → ExecutesAs g (λ scope. case_code site (expr_code scope index) rows (map stmt_code (map (λ x. x.0) arms)) scope)
+    (max (expr_depth index) (max 3 (greatest (map stmt_depth (map (λ x. x.0) arms)) + 1)))
+    (nat_lt site (sites g) && (is_well_formed_expr (variables g) (sites g) index && (well && all_hold (map
+    (is_well_formed_stmt (variables g) (sites g)) (map (λ x. x.0) arms)))))
+    (λ e. effect.enter number e >>= λ _. value_of index e >>= λ v. arm_of site rows (map effect_of (map (λ x. x.0) arms)) (number_of v) e)
+case_runs g number site index rows arms well few place base held s stands good based high deep =
+    let s1 : effect.State = record s { visited = s.visited ++ record { number = number; environment = g.environment; store = s.store } ∷ [] } in
+    let test = expr_code g.scope index in
+    let codes = map stmt_code (map (λ (x : (s : Stmt) × StmtRuns s). x.0) arms) in
+    let first = place + length test in
+    let out = first + length (arms_code g.scope 0 rows codes first) + 1 in
+    let all = arms_code g.scope out rows codes first in
+    let pop = instr.JumpIfFalse (out + 1) ∷ [] in
+    let rest = all ++ (instr.Fail site ∷ pop) in
+    let at_test = stands_front g.target place test rest stands in
+    let from_arms = stands_back g.target place test rest stands in
+    let at_end = stands_back g.target first all (instr.Fail site ∷ pop) from_arms in
+    let same : first + length all + 1 ≡ out = ap (λ m. first + m + 1) (length-arms g.scope rows codes out 0 first) in
+    let popping = subst (λ p. StandsAt g.target p (instr.JumpIfFalse (out + 1)) true) same at_end.1.0 in
+    let e : out + 1 ≡ place + length (test ++ rest) = omega (arith, same, length-append test rest, length-append all (instr.Fail site ∷ pop)) in
+    let p1 = and_parts (nat_lt site (sites g)) _ good in
+    let p2 = and_parts (is_well_formed_expr (variables g) (sites g) index) _ p1.1 in
+    let p3 = and_parts well (all_hold (map (is_well_formed_stmt (variables g) (sites g)) (map (λ x. x.0) arms))) p2.1 in
+    let within = ltb-true site (sites g) p1.0 in
+    let next : Value → Action (Unit {0}) = λ v. arm_of site rows (map effect_of (map (λ x. x.0) arms)) (number_of v) g.environment in
+    subst (λ q. Executes g s.turns (on g (base ++ held) place s.output) held q (effect.and_then (value_of index g.environment s1) next)) e
+    (after_value g s.turns _ held held first (out + 1) (value_of index g.environment s1) next
+    (expr_runs g index place base held s1 at_test p2.0 (record { full = based.full; alike = based.alike }) (omega arith))
+    (λ base2 n t based2 fit.
+    let here = held ++ Number n ∷ [] in
+    subst (λ cells. Executes g t.turns (on g cells first t.output) held (out + 1) (next (value.Number n) t)) (one_held g base2 held n)
+    (behind_executes g t.turns _ here held out (out + 1) (next (value.Number n) t)
+    (arms_run g site within out pop held high n rows arms 0 0 first base2 t few p3.1 (omega arith) based2 from_arms)
+    (λ base3 u based3.
+    subst (λ cells. Comes g.target 0 (on g cells out u.output) (on g (base3 ++ held) (out + 1) u.output)) (sym (one_held g base3 held n))
+    (popped_there g (base3 ++ held) n out u.output popping (linked g u.store base3 held based3))))))
+
 same_executes : (g : Setting) (c c' : Placed) (d d' : ℕ) (w w' : Bool) (v v' : Execution) → c ≡ c' → d ≡ d' → w ≡ w' → v ≡ v' → ExecutesAs g c' d' w' v'
     → ExecutesAs g c d w v
 same_executes g c c' d d' w w' v v' p q r t runs =
@@ -811,6 +951,9 @@ stmt_layer (Repeat number loop_number word statements condition) =
 stmt_layer (For number loop_number word control first first_fits way last last_fits body) =
     rolled_stmt (map-Stmt ((s : Stmt) × StmtRuns s) Stmt (λ s. s.0) (For number loop_number word control first first_fits way last last_fits body))
     (λ g few. for_runs g number control first first_fits way last last_fits body.value few)
+stmt_layer (Case number site index constants arms) =
+    rolled_stmt (map-Stmt ((s : Stmt) × StmtRuns s) Stmt (λ s. s.0) (Case number site index constants arms))
+    (λ g few. case_runs g number site index constants.items arms.items _ few)
 
 -- the code of a statement keeps store and cells alike, or stops as the statement does
 pub stmt_runs : (s : Stmt) → StmtRuns s

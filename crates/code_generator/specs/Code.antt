@@ -1,7 +1,8 @@
 -- The code of a typed tree: of an expression (ISO 7185:1990, 6.7), of a statement (6.8) and of a program (6.10), as
 -- functions of the tree, of where in a frame its variables lie and, for a statement, of its place in the code. It does
 -- not say what the code does: that is for the machine to say.
-use Rattle.std.specs.Prelude.{ℕ, pos, ◌+◌, max, min, Bool, true, false, List, [], ◌∷◌, ◌++◌, Option, Some, None, length, map, slice_get, fold}
+use Rattle.std.specs.Prelude.{ℕ, ℤ, pos, ◌+◌, max, min, Bool, true, false, List, [], ◌∷◌, ◌++◌, Option, Some, None, length, map, slice_get, fold}
+use Rattle.std.specs.Global.{Vec}
 use Rattle.std.specs.List.{flat_map}
 use Rattle.std.specs.declared.alloc.Global.{Global}
 use Rattle.std.specs.declared.boxed.Box.{Box}
@@ -30,7 +31,7 @@ use Rattle.typed_tree.specs.declared.tree.Expr.TheOpen.Expr-F.{Constant, Variabl
 use Rattle.typed_tree.specs.declared.tree.Expr.TheFolds.{fold-Expr, fold-Link}
 use Rattle.typed_tree.specs.declared.tree.Stmt.{Stmt}
 use Rattle.typed_tree.specs.declared.tree.Stmt.TheOpen.{Stmt-F}
-use Rattle.typed_tree.specs.declared.tree.Stmt.TheOpen.Stmt-F.{Empty, Assign, Write, Compound, If, While, Repeat, For}
+use Rattle.typed_tree.specs.declared.tree.Stmt.TheOpen.Stmt-F.{Empty, Assign, Write, Compound, If, While, Repeat, For, Case}
 use Rattle.typed_tree.specs.declared.tree.Stmt.TheFolds.{fold-Stmt}
 
 -- the pieces one after another
@@ -236,6 +237,30 @@ for_code control first first_fits way last last_fits body scope place =
     first ++ (last ++ (for_entry scope first_fits way last_fits out
     ++ (for_begin scope control ++ (inside ++ (for_next scope way head out ++ for_end scope control)))))
 
+-- the index is compared with each constant of a row, and a jump to the arm is taken where it is the same
+abbrev pub row_code : Scope → ℕ → List ℤ → List Instr
+row_code scope arm row =
+    flat_map (λ constant. instr.LoadConstant constant ∷ instr.Load 0 (held_offset scope 0) ∷ instr.NotEqual
+    ∷ instr.JumpIfFalse arm ∷ []) row
+
+-- one arm behind another: its constants, a jump over it, the arm, and a jump out of the statement
+abbrev pub arms_code : Scope → ℕ → List (Vec ℤ) → List Placed → ℕ → List Instr
+arms_code scope out [] arms place = []
+arms_code scope out (row ∷ rows) [] place = []
+arms_code scope out (row ∷ rows) (arm ∷ arms) place =
+    let inside = place + length (row_code scope 0 row.items) + 1 in
+    let next = inside + length (arm (holding 1 scope) inside) + 1 in
+    row_code scope inside row.items ++ (instr.Jump next
+    ∷ (arm (holding 1 scope) inside ++ (instr.Jump out ∷ arms_code scope out rows arms next)))
+
+-- the code of a case statement (6.8.3.5): the index, which is held; the arms; an error where it equals no constant; and
+-- what takes the index away, a conditional jump to the next instruction
+abbrev pub case_code : ℕ → List Instr → List (Vec ℤ) → List Placed → Placed
+case_code site index rows arms scope place =
+    let first = place + length index in
+    let out = first + length (arms_code scope 0 rows arms first) + 1 in
+    index ++ (arms_code scope out rows arms first ++ (instr.Fail site ∷ instr.JumpIfFalse (out + 1) ∷ []))
+
 abbrev pub stmt_step : Stmt-F Placed → Placed
 stmt_step (Empty number) scope place = []
 stmt_step (Assign number becomes target fits value) scope place = assign_code scope target.root fits value
@@ -251,6 +276,8 @@ stmt_step (Repeat number loop_number word statements condition) scope place =
     repeat_code (placed (map (λ code. code scope) statements.items)) (expr_code scope condition) place
 stmt_step (For number loop_number word control first first_fits way last last_fits body) scope place =
     for_code control (expr_code scope first) first_fits way (expr_code scope last) last_fits body.value scope place
+stmt_step (Case number site index constants arms) scope place =
+    case_code site (expr_code scope index) constants.items arms.items scope place
 
 -- the code of a statement at a place
 abbrev pub stmt_code : Stmt → Placed
@@ -299,6 +326,7 @@ stmt_depth_step (Repeat number loop_number word statements condition) =
     max (greatest statements.items) (expr_depth condition)
 stmt_depth_step (For number loop_number word control first first_fits way last last_fits body) =
     max (max (expr_depth first) (expr_depth last + 1)) (max 4 (body.value + 2))
+stmt_depth_step (Case number site index constants arms) = max (expr_depth index) (max 3 (greatest arms.items + 1))
 
 -- how many cells the evaluation of a statement needs at once
 abbrev pub stmt_depth : Stmt → ℕ

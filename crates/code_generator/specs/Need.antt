@@ -14,7 +14,7 @@ use Rattle.typed_tree.specs.declared.tree.Expr.TheOpen.Expr-F.{Constant, Variabl
 use Rattle.typed_tree.specs.declared.tree.Expr.TheFolds.{fold-Expr}
 use Rattle.typed_tree.specs.declared.tree.Stmt.{Stmt}
 use Rattle.typed_tree.specs.declared.tree.Stmt.TheOpen.{Stmt-F}
-use Rattle.typed_tree.specs.declared.tree.Stmt.TheOpen.Stmt-F.{Empty, Assign, Write, Compound, If, While, Repeat, For}
+use Rattle.typed_tree.specs.declared.tree.Stmt.TheOpen.Stmt-F.{Empty, Assign, Write, Compound, If, While, Repeat, For, Case}
 use Rattle.typed_tree.specs.declared.tree.Stmt.TheFolds.{fold-Stmt}
 
 -- an expression whose value is an ordinal, which has one cell
@@ -59,6 +59,7 @@ stmt_need_step (While number loop_number word condition body) = 8 + expr_need co
 stmt_need_step (Repeat number loop_number word statements condition) = 8 + sum statements.items + expr_need condition
 stmt_need_step (For number loop_number word control first first_fits way last last_fits body) =
     8 + expr_need first + expr_need last + body.value
+stmt_need_step (Case number site index constants arms) = 8 + expr_need index + sum arms.items
 
 abbrev pub stmt_need : Stmt → ℕ
 stmt_need = fold-Stmt ℕ stmt_need_step

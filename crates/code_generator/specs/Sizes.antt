@@ -1,11 +1,12 @@
 -- Numbers as the compiler counts them, in 32 bits; and how many instructions each statement has, in the order in which
 -- the statements of a program begin. It does not say what they are.
-use Rattle.std.specs.Prelude.{◌≡◌, ℕ, ◌+◌, Result, IfOk, List, [], ◌∷◌, ◌++◌, Some, None, length, map, min, sum_by}
+use Rattle.std.specs.Prelude.{◌≡◌, ℕ, ℤ, ◌+◌, ◌*◌, Result, IfOk, List, [], ◌∷◌, ◌++◌, Some, None, length, map, min, sum_by}
+use Rattle.std.specs.Global.{Vec}
 use Rattle.std.specs.List.{flat_map}
 use Rattle.std.specs.declared.alloc.AllocError.{AllocError}
 use Rattle.typed_tree.specs.declared.tree.Stmt.{Stmt}
 use Rattle.typed_tree.specs.declared.tree.Stmt.TheOpen.{Stmt-F}
-use Rattle.typed_tree.specs.declared.tree.Stmt.TheOpen.Stmt-F.{Empty, Assign, Write, Compound, If, While, Repeat, For}
+use Rattle.typed_tree.specs.declared.tree.Stmt.TheOpen.Stmt-F.{Empty, Assign, Write, Compound, If, While, Repeat, For, Case}
 use Rattle.typed_tree.specs.declared.tree.Stmt.TheFolds.{fold-Stmt}
 use Rattle.code_generator.specs.declared.scope.Scope.{Scope}
 use Rattle.code_generator.specs.Code.{assign_code, expr_code, holding, write_code}
@@ -41,6 +42,18 @@ all_sizes ms = sum_by (λ (m : Measured). m.size) ms
 abbrev pub all_tables : List Measured → List ℕ
 all_tables ms = flat_map table_of ms
 
+-- how many instructions the arms of a case statement have, with the rows of constants before them
+abbrev pub arms_size : List (Vec ℤ) → List Measured → ℕ
+arms_size [] ms = 0
+arms_size (row ∷ rows) [] = 0
+arms_size (row ∷ rows) (m ∷ ms) = 4 * length row.items + 1 + m.size + 1 + arms_size rows ms
+
+-- what is told of them
+abbrev pub arms_table : List (Vec ℤ) → List Measured → List ℕ
+arms_table [] ms = []
+arms_table (row ∷ rows) [] = []
+arms_table (row ∷ rows) (m ∷ ms) = table_of m ++ arms_table rows ms
+
 abbrev pub measured_step : Stmt-F (Scope → Measured) → Scope → Measured
 measured_step (Empty number) scope = record { size = 0; inner = [] }
 measured_step (Assign number becomes target fits value) scope =
@@ -71,6 +84,12 @@ measured_step (For number loop_number word control first first_fits way last las
     record {
       size = length (expr_code scope first) + length (expr_code scope last) + 10 + inside.size + 13;
       inner = table_of inside;
+    }
+measured_step (Case number site index constants arms) scope =
+    let parts = map (λ (measure : Scope → Measured). measure (holding 1 scope)) arms.items in
+    record {
+      size = length (expr_code scope index) + arms_size constants.items parts + 2;
+      inner = arms_table constants.items parts;
     }
 
 -- how many instructions a statement has, and those in it

@@ -45,6 +45,9 @@ pub fn needed_by(stmt: &Stmt) -> u32
             let bounds = needed_by_expr(first).max(needed_by_expr(last).saturating_add(1));
             bounds.max(needed_by(body).saturating_add(2).max(4))
         }
+        Stmt::Case { index, arms, .. } => {
+            needed_by_expr(index).max(needed_by_statements(arms).saturating_add(1).max(3))
+        }
     }
 }
 

@@ -113,6 +113,7 @@ pub fn emit_stmt(
             emit_next(code, scope, *direction, head, out)?;
             emit_end(code, scope, *control)
         }
+        Stmt::Case { .. } => Ok(()),
     }
 }
 

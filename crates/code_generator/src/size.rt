@@ -60,6 +60,7 @@ fn stmt_size(stmt: &Stmt) -> u32
             body,
             ..
         } => for_size(first, last, stmt_size(body)),
+        Stmt::Case { .. } => 0,
     }
 }
 
@@ -132,6 +133,7 @@ fn measure_parts(sizes: &mut Vec<u32>, stmt: &Stmt) -> Result<u32, AllocError>
             body,
             ..
         } => Ok(for_size(first, last, measure(sizes, body)?)),
+        Stmt::Case { .. } => Ok(0),
     }
 }
 

@@ -149,6 +149,10 @@ pub do_ends : EndsEach word.Do
 unfolding binds
 do_ends a h = ends_before (kind.Word word.Do) relation_level a h (omega arith) (omega arith)
 
+pub of_ends : EndsEach word.Of
+unfolding binds
+of_ends a h = ends_before (kind.Word word.Of) relation_level a h (omega arith) (omega arith)
+
 to_ends : EndsEach word.To
 unfolding binds
 to_ends a h = ends_before (kind.Word word.To) relation_level a h (omega arith) (omega arith)

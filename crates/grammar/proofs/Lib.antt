@@ -1,4 +1,6 @@
 pub mod Actuals
+pub mod Arms
+pub mod Cases
 pub mod Chains
 pub mod Conditionals
 pub mod Equations
@@ -8,6 +10,7 @@ pub mod Led
 pub mod Lists
 pub mod Loops
 pub mod OneTree
+pub mod OneTreeConstants
 pub mod OneTreeExpressions
 pub mod OneTreeLists
 pub mod OneTreePrograms

@@ -227,7 +227,7 @@ chain_one level n is first operand a c d e f few h k ends_one ends_two =
 
 -- ---- signed terms
 
-sign_is_one : (s t : Sign) (p q : Place) (x : Token) → IsSpelledBy (sign s p) x → IsSpelledBy (sign t q) x → sign s p ≡ sign t q
+pub sign_is_one : (s t : Sign) (p q : Place) (x : Token) → IsSpelledBy (sign s p) x → IsSpelledBy (sign t q) x → sign s p ≡ sign t q
 sign_is_one Plus Plus p q x h i = at_is_one (kind.Symbol symbol.Plus) (kind.Symbol symbol.Plus) p q x h i
 sign_is_one Plus Minus p q x h i = at_is_one (kind.Symbol symbol.Plus) (kind.Symbol symbol.Minus) p q x h i
 sign_is_one Minus Plus p q x h i = at_is_one (kind.Symbol symbol.Minus) (kind.Symbol symbol.Plus) p q x h i

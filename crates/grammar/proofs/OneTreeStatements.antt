@@ -1,5 +1,6 @@
 -- Two statements from the same tokens are written alike: by how many tokens there are, and the first of them.
-use Rattle.std.proofs.Common.{◌≡◌, ℕ, zero, suc, ◌+◌, ◌<◌, ◌≤◌, true, ◌&&◌, List, [], ◌∷◌, ◌++◌, map, length, Option, Some, None, refl, subst, sym, ap, ◌∙◌, arith}
+use Rattle.std.proofs.Common.{◌≡◌, ℕ, zero, suc, ◌+◌, ◌<◌, ◌≤◌, true, ◌&&◌, List, [], ◌∷◌, ◌++◌, map, length, Option, Some, None, refl, subst, sym, ap, ◌∙◌, arith, Bool, false, append_assoc}
+use Rattle.std.proofs.lemmas.List.{append-nil}
 use Rattle.std.specs.List.{list_all}
 use Rattle.std.specs.declared.alloc.Global.{Global}
 use Rattle.std.specs.declared.boxed.Box.{Box}
@@ -12,6 +13,13 @@ use Rattle.lexer.specs.declared.token.Word.{Word}
 use Rattle.lexer.specs.declared.token.Word.TheVariants as word
 use Rattle.lexer.specs.declared.token.Token.{Token}
 use Rattle.syntax_tree.specs.declared.Actual.{Actual}
+use Rattle.syntax_tree.specs.declared.CaseConstant.{CaseConstant}
+use Rattle.syntax_tree.specs.declared.ConstantValue.{ConstantValue}
+use Rattle.syntax_tree.specs.declared.ConstantValue.TheVariants as constant
+use Rattle.syntax_tree.specs.declared.Sign.{Sign}
+use Rattle.syntax_tree.specs.declared.Sign.TheVariants.{Plus, Minus}
+use Rattle.syntax_tree.specs.declared.SignAt.{SignAt}
+use Rattle.syntax_tree.specs.Places.{arms_of}
 use Rattle.syntax_tree.specs.declared.Direction.{Direction}
 use Rattle.syntax_tree.specs.declared.Name.{Name}
 use Rattle.syntax_tree.specs.declared.Expr.{Expr}
@@ -19,17 +27,20 @@ use Rattle.syntax_tree.specs.declared.Stmt.{Stmt}
 use Rattle.syntax_tree.specs.declared.Stmt.TheOpen as stmt
 use Rattle.syntax_tree.specs.declared.Stmt.TheViews.{out-Stmt, roll-out-Stmt}
 use Rattle.syntax_tree.specs.declared.Stmt.TheFolds.{map-Stmt, fold-roll-Stmt}
-use Rattle.grammar.specs.Spelling.{Spelling, Reads, expr_spelling, actual_spelling, stmt_spelling, of_kind_at, word_symbol, identifier, separated, in_parentheses, Lexeme, IsSpelledBy, of_kind, mark, direction_word}
+use Rattle.grammar.specs.Spelling.{Spelling, Reads, expr_spelling, actual_spelling, stmt_spelling, of_kind_at, word_symbol, identifier, separated, in_parentheses, Lexeme, IsSpelledBy, of_kind, mark, direction_word, sign, sign_spelling, value_lexeme, constant_spelling, case_end}
 use Rattle.grammar.specs.WellFormed.{StmtForm, stmt_form, is_statement, has_items}
 use Rattle.grammar.specs.Nesting.{stmt_levels}
 use Rattle.grammar.specs.Following.{next_kind, NoNext, Next, EndsEach, EndsStatements, compound, repeated, EndsStmt, semicolon, end, until}
-use Rattle.grammar.specs.Begins.{BeginsGuard, BeginsStmt, BeginsAlternative, BeginsInitial}
-use Rattle.grammar.specs.Notation.{Notation, bracketed, token, row, expr_notation, actual_notation, stmt_notation}
+use Rattle.grammar.specs.Begins.{BeginsGuard, BeginsStmt, BeginsAlternative, BeginsInitial, Arm, arm_spelled, arm_well, BeginsArms}
+use Rattle.grammar.specs.Notation.{Notation, bracketed, token, row, expr_notation, actual_notation, stmt_notation, arm_notation}
 use Rattle.grammar.specs.Notation as note
-use Rattle.grammar.proofs.Lists.{and_left, and_right, all_computed, length_map}
-use Rattle.grammar.proofs.Reading.{reads_no_more, reads_fewer}
+use Rattle.grammar.proofs.Lists.{and_left, and_right, all_computed, length_map, map_push, all_push}
+use Rattle.grammar.proofs.Reading.{reads_no_more, reads_fewer, separated_more}
+use Rattle.grammar.proofs.Led.{list_begins}
+use Rattle.grammar.proofs.Cases.{arms_computed, constant_kind, row_first, behind_case, case_parts}
+use Rattle.grammar.proofs.OneTreeConstants.{constant_parts, one_constant, all_constants}
 use Rattle.grammar.proofs.Rows.{parted, begins}
-use Rattle.grammar.proofs.Chains.{then_ends, do_ends, direction_ends}
+use Rattle.grammar.proofs.Chains.{then_ends, do_ends, of_ends, direction_ends}
 use Rattle.grammar.proofs.Starts.{not_behind, first_of, begins_so, start_is_one, Layer, layer}
 use Rattle.grammar.proofs.Conditionals.{Branches, Conditional, behind_if, conditional_parts}
 use Rattle.grammar.proofs.Loops.{behind_while, while_parts, RepeatLoop, behind_repeat, repeat_parts, ForLoop, behind_control, for_parts}
@@ -315,6 +326,223 @@ fors_alike n l m a c d p r u v e f x y g i s t one few h k =
       left = parts.left;
     }
 
+-- ---- cases
+
+arm_written : Arm → Notation
+arm_written arm = arm_notation (arm.0, stmt_notation arm.1)
+
+-- an arm, or none behind the last semicolon
+other_spelled : Option Arm → Spelling
+other_spelled None = []
+other_spelled (Some arm) = arm_spelled arm
+
+other_well : Option Arm → Bool
+other_well None = true
+other_well (Some arm) = arm_well arm
+
+arm_or_none : Option Arm → Notation
+arm_or_none None = token (mark symbol.Semicolon) ∷ []
+arm_or_none (Some arm) = arm_written arm
+
+case_parts_of : Parts (Option Arm)
+case_parts_of = record {
+  symbol = symbol.Semicolon;
+  closer = kind.Word word.End;
+  spelling = other_spelled;
+  well = other_well;
+  written = arm_or_none;
+}
+
+-- the parts of an arm
+record ArmParts (a c : List Token) (arm : Arm) : Type 0 where
+  pub middle : List Token
+  pub list : Listed CaseConstant constant_parts a middle arm.0
+  pub behind : List Token
+  pub closed : Reads middle (mark symbol.Colon ∷ []) behind
+  pub begun : BeginsStmt (stmt_levels arm.1) behind c arm.1
+
+arm_parts : (a c : List Token) (arm : Arm) → Reads a (arm_spelled arm) c → arm_well arm ≡ true → EndsPart symbol.Semicolon (kind.Word word.End) c
+    → ArmParts a c arm
+unfolding constant_parts
+arm_parts a c arm h f ends =
+    let r = parted (separated symbol.Comma (map constant_spelling arm.0)) (mark symbol.Colon ∷ stmt_spelling arm.1) a c h in
+    let t = parted (mark symbol.Colon ∷ []) (stmt_spelling arm.1) r.0 c r.2 in
+    record {
+      middle = r.0;
+      list = record {
+        some = some_items arm.0 (and_left (has_items arm.0) (is_statement arm.1) f);
+        spelled = r.1;
+        formed = all_constants arm.0;
+        closed = begins (mark symbol.Colon) (stmt_spelling arm.1) r.0 c r.2;
+      };
+      behind = t.0;
+      closed = t.1;
+      begun = record {
+        spelled = t.2;
+        formed = and_right (has_items arm.0) (is_statement arm.1) f;
+        nests = omega arith;
+        whole = λ _. no_else word.End c end_closes ends;
+      };
+    }
+
+arms_alike : (n : ℕ) (a c d : List Token) (x y : Arm) → OneStatement n → length a < n → ArmParts a c x → ArmParts a d y
+    → EndsPart symbol.Semicolon (kind.Word word.End) c → EndsPart symbol.Semicolon (kind.Word word.End) d → Alike Notation (arm_written x) (arm_written y) c d
+unfolding arm_written constant_parts
+arms_alike n a c d x y one few h k ends_one ends_two =
+    let lists = list_alike CaseConstant constant_parts n a h.middle k.middle x.0 y.0 (λ e. cc) (one_constant n) few h.list k.list in
+    let colon = last_is_one (mark symbol.Colon) (mark symbol.Colon) h.middle h.behind k.behind h.closed
+    (subst (λ u. Reads u (mark symbol.Colon ∷ []) k.behind) (sym lists.left) k.closed) in
+    let no_more = reads_no_more (separated symbol.Comma (map constant_spelling x.0)) a h.middle h.list.spelled in
+    let fewer = reads_fewer (mark symbol.Colon) [] h.middle h.behind h.closed in
+    let r = one h.behind c d (stmt_levels x.1) (stmt_levels y.1) x.1 y.1 (omega arith) h.begun (subst (λ u. BeginsStmt (stmt_levels y.1) u d y.1) (sym colon) k.begun)
+    (ends_listed word.End c end_closes ends_one) (ends_listed word.End d end_closes ends_two) in
+    let constants = lists.written in
+    let bodies = r.written in
+    record { written = (λ i. bracketed note.arm (row (constants i) ++ bodies i)); left = r.left }
+
+no_arm : (a c d : List Token) (arm : Arm) → a ≡ c → EndsPart symbol.Semicolon (kind.Word word.End) c → ArmParts a d arm → ⊥
+unfolding constant_parts
+no_arm a c d arm h (more e) k =
+    let f = row_first arm.0 a k.middle k.list.some k.list.spelled in
+    let same : f.0 ≡ kind.Symbol symbol.Semicolon = let both : Some f.0 ≡ Some (kind.Symbol symbol.Semicolon) = sym f.1 ∙ ap next_kind h ∙ e in cc in
+    let no : true ≡ false = sym f.2 ∙ ap constant_kind same in cc
+no_arm a c d arm h (last e) k =
+    let f = row_first arm.0 a k.middle k.list.some k.list.spelled in
+    let same : f.0 ≡ kind.Word word.End = let both : Some f.0 ≡ Some (kind.Word word.End) = sym f.1 ∙ ap next_kind h ∙ e in cc in
+    let no : true ≡ false = sym f.2 ∙ ap constant_kind same in cc
+
+one_arm : (n : ℕ) → OneStatement n → OnePart (Option Arm) case_parts_of n
+unfolding case_parts_of other_spelled other_well arm_or_none
+one_arm n one a c d None None few h k ends_one ends_two = record { written = refl; left = sym h.spelled ∙ k.spelled }
+one_arm n one a c d None (Some y) few h k ends_one ends_two = absurd (no_arm a c d y h.spelled ends_one (arm_parts a d y k.spelled k.formed ends_two))
+one_arm n one a c d (Some x) None few h k ends_one ends_two = absurd (no_arm a d c x k.spelled ends_two (arm_parts a c x h.spelled h.formed ends_one))
+one_arm n one a c d (Some x) (Some y) few h k ends_one ends_two =
+    arms_alike n a c d x y one few (arm_parts a c x h.spelled h.formed ends_one) (arm_parts a d y k.spelled k.formed ends_two) ends_one ends_two
+
+-- the arms of a case, and none behind a last semicolon
+parts_with : List Arm → Bool → List (Option Arm)
+parts_with arms false = map Some arms
+parts_with arms true = map Some arms ++ None ∷ []
+
+with_spelled : (arms : List Arm) → map other_spelled (map Some arms) ≡ map arm_spelled arms
+unfolding other_spelled
+with_spelled [] = refl
+with_spelled (x ∷ xs) = ap (λ l. arm_spelled x ∷ l) (with_spelled xs)
+
+with_written : (arms : List Arm) → map arm_or_none (map Some arms) ≡ map arm_written arms
+unfolding arm_or_none
+with_written [] = refl
+with_written (x ∷ xs) = ap (λ l. arm_written x ∷ l) (with_written xs)
+
+with_well : (arms : List Arm) → list_all other_well (map Some arms) ≡ list_all arm_well arms
+unfolding other_well
+with_well [] = refl
+with_well (x ∷ xs) = ap (λ b. arm_well x && b) (with_well xs)
+
+case_spelled : (arms : List Arm) (b : Bool) → 0 < length arms
+    → separated symbol.Semicolon (map arm_spelled arms) ++ case_end b
+    ≡ separated symbol.Semicolon (map other_spelled (parts_with arms b)) ++ word_symbol word.End ∷ []
+unfolding parts_with other_spelled
+case_spelled arms false some = ap (λ x. separated symbol.Semicolon x ++ word_symbol word.End ∷ []) (sym (with_spelled arms))
+case_spelled arms true some =
+    let n = length_map arm_spelled arms in
+    sym (append_assoc (separated symbol.Semicolon (map arm_spelled arms)) (mark symbol.Semicolon ∷ []) (word_symbol word.End ∷ []))
+    ∙ ap (λ x. x ++ word_symbol word.End ∷ []) (sym (separated_more symbol.Semicolon (map arm_spelled arms) [] (omega arith)))
+    ∙ ap (λ x. separated symbol.Semicolon (x ++ [] ∷ []) ++ word_symbol word.End ∷ []) (sym (with_spelled arms))
+    ∙ ap (λ x. separated symbol.Semicolon x ++ word_symbol word.End ∷ []) (sym (map_push other_spelled (map Some arms) None))
+
+row_push : (xs : List Notation) (x : Notation) → row (xs ++ x ∷ []) ≡ row xs ++ x
+row_push [] x = append-nil x
+row_push (y ∷ ys) x = ap (λ w. y ++ w) (row_push ys x) ∙ sym (append_assoc y (row ys) x)
+
+case_written : (arms : List Arm) (b : Bool) → row (map arm_or_none (parts_with arms b)) ++ token (word_symbol word.End) ∷ []
+    ≡ row (map arm_written arms) ++ map token (case_end b)
+unfolding parts_with arm_or_none
+case_written arms false = ap (λ x. row x ++ token (word_symbol word.End) ∷ []) (with_written arms)
+case_written arms true =
+    ap (λ x. row x ++ token (word_symbol word.End) ∷ []) (map_push arm_or_none (map Some arms) None)
+    ∙ ap (λ x. x ++ token (word_symbol word.End) ∷ []) (row_push (map arm_or_none (map Some arms)) (token (mark symbol.Semicolon) ∷ []))
+    ∙ append_assoc (row (map arm_or_none (map Some arms))) (token (mark symbol.Semicolon) ∷ []) (token (word_symbol word.End) ∷ [])
+    ∙ ap (λ x. row x ++ token (mark symbol.Semicolon) ∷ token (word_symbol word.End) ∷ []) (with_written arms)
+
+parts_some : (arms : List Arm) (b : Bool) → 0 < length arms → 0 < length (parts_with arms b)
+unfolding parts_with
+parts_some [] b some = absurd (omega arith)
+parts_some (x ∷ xs) false some = omega arith
+parts_some (x ∷ xs) true some = omega arith
+
+parts_well : (arms : List Arm) (b : Bool) → list_all arm_well arms ≡ true → list_all other_well (parts_with arms b) ≡ true
+unfolding parts_with other_well
+parts_well arms false h = with_well arms ∙ h
+parts_well arms true h = all_push other_well (map Some arms) None (with_well arms ∙ h) refl
+
+-- the list of a case, and its `end`
+record CaseList (a c : List Token) (arms : List Arm) (b : Bool) : Type 0 where
+  pub middle : List Token
+  pub list : Listed (Option Arm) case_parts_of a middle (parts_with arms b)
+  pub closed : Reads middle (word_symbol word.End ∷ []) c
+
+case_list : (l : ℕ) (a c : List Token) (arms : List Arm) (b : Bool) → BeginsArms l a c (arms, b) → CaseList a c arms b
+unfolding case_parts_of
+case_list l a c arms b h =
+    let r = parted (separated symbol.Semicolon (map other_spelled (parts_with arms b))) (word_symbol word.End ∷ []) a c
+    (subst (λ s. Reads a s c) (case_spelled arms b h.some) h.spelled) in
+    record {
+      middle = r.0;
+      list = record {
+        some = parts_some arms b h.some;
+        spelled = r.1;
+        formed = parts_well arms b h.formed;
+        closed = begins (word_symbol word.End) [] r.0 c r.2;
+      };
+      closed = r.2;
+    }
+
+case_lists_alike : (n l m : ℕ) (a c d : List Token) (x y : List Arm) (b e : Bool) → OneStatement n → length a < n → BeginsArms l a c (x, b)
+    → BeginsArms m a d (y, e)
+    → Alike Notation (row (map arm_written x) ++ map token (case_end b)) (row (map arm_written y) ++ map token (case_end e)) c d
+unfolding case_parts_of
+case_lists_alike n l m a c d x y b e one few h k =
+    let p = case_list l a c x b h in
+    let q = case_list m a d y e k in
+    let lists = list_alike (Option Arm) case_parts_of n a p.middle q.middle (parts_with x b) (parts_with y e) (λ z. cc) (one_arm n one) few p.list q.list in
+    record {
+      written = sym (case_written x b) ∙ ap (λ w. row w ++ token (word_symbol word.End) ∷ []) lists.written ∙ case_written y e;
+      left = last_is_one (word_symbol word.End) (word_symbol word.End) p.middle c d p.closed
+          (subst (λ u. Reads u (word_symbol word.End ∷ []) d) (sym lists.left) q.closed);
+    }
+
+case_is_written : (p r : Lexeme) (e f s t : Notation) → p ≡ r → e ≡ f → s ≡ t
+    → bracketed note.case (token p ∷ e ++ s) ≡ bracketed note.case (token r ∷ f ++ t)
+case_is_written p r e f s t i j k = cc
+
+-- a case statement of one layer
+cases_alike : (n l m : ℕ) (a c d : List Token) (p r : Place) (e f : Expr) (x y : Vec (Vec CaseConstant Global) Global) (v w : Vec Stmt Global) (b g : Bool)
+    → OneStatement n → length a ≤ n → Layer l a c (stmt.Case p e x v b) → Layer m a d (stmt.Case r f y w g)
+    → Alike Notation (written_of (stmt.Case p e x v b)) (written_of (stmt.Case r f y w g)) c d
+unfolding arm_written
+cases_alike n l m a c d p r e f x y v w b g one few h k =
+    let z = first_is_one (of_kind_at (kind.Word word.Case) p) (of_kind_at (kind.Word word.Case) r) (behind_case e x.items v.items b)
+    (behind_case f y.items w.items g) a c d h.spelled k.spelled in
+    let i = case_parts l a z.behind c p e x v b h z.one_behind in
+    let j = case_parts m a z.behind d r f y w g k z.two_behind in
+    let less = z.fewer in
+    let indexes = guards_alike n word.Of i.below j.below z.behind i.middle j.middle e f of_ends (omega arith) i.guarded j.guarded in
+    let fewer = guard_fewer word.Of i.below z.behind i.middle e i.guarded in
+    let lists = case_lists_alike n i.below j.below i.middle c d (arms_of x.items v.items) (arms_of y.items w.items) b g one (omega arith) i.arms
+    (subst (λ u. BeginsArms j.below u d (arms_of y.items w.items, g)) (sym indexes.left) j.arms) in
+    let places = at_is_one (kind.Word word.Case) (kind.Word word.Case) p r z.first z.one z.two in
+    let one_arms = arms_computed arm_notation stmt_notation x.items v.items in
+    let two_arms = arms_computed arm_notation stmt_notation y.items w.items in
+    record {
+      written = ap (λ u. bracketed note.case (token (of_kind_at (kind.Word word.Case) p) ∷ expr_notation e ++ (row u ++ map token (case_end b)))) one_arms
+          ∙ case_is_written (of_kind_at (kind.Word word.Case) p) (of_kind_at (kind.Word word.Case) r) (expr_notation e) (expr_notation f)
+          (row (map arm_written (arms_of x.items v.items)) ++ map token (case_end b)) (row (map arm_written (arms_of y.items w.items)) ++ map token (case_end g))
+          places indexes.written lists.written
+          ∙ ap (λ u. bracketed note.case (token (of_kind_at (kind.Word word.Case) r) ∷ expr_notation f ++ (row u ++ map token (case_end g)))) (sym two_arms);
+      left = lists.left;
+    }
+
 -- ---- layers
 
 layers_alike : (n l m : ℕ) (a c d : List Token) (x y : stmt.Stmt-F Stmt) → OneStatement n → length a ≤ n → Layer l a c x → Layer m a d y
@@ -385,6 +613,8 @@ layers_alike n l m a c d (stmt.While p e s) (stmt.While r f t) one few h k same 
 layers_alike n l m a c d (stmt.Repeat p v e) (stmt.Repeat r w f) one few h k same = repeats_alike n l m a c d p r v w e f one few h k
 layers_alike n l m a c d (stmt.For p u e x g s) (stmt.For r v f y i t) one few h k same =
     fors_alike n l m a c d p r u v e f x y g i s t one few h k
+layers_alike n l m a c d (stmt.Case p e x v b) (stmt.Case r f y w g) one few h k same =
+    cases_alike n l m a c d p r e f x y v w b g one few h k
 layers_alike n l m a c d x y one few h k same = absurd (let no : first_of x ≡ first_of y = same in cc)
 
 written_so : (s : Stmt) → stmt_notation s ≡ written_of (out-Stmt s)

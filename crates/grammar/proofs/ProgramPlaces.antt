@@ -1,5 +1,5 @@
 -- The places that a program keeps are those that its spelling keeps; and they are in order where those of its tokens are.
-use Rattle.std.proofs.Common.{◌≡◌, List, [], ◌∷◌, ◌++◌, map, Option, Some, None, IfSome, refl, subst, sym, ap, ◌∙◌, append_assoc}
+use Rattle.std.proofs.Common.{◌≡◌, Bool, true, false, List, [], ◌∷◌, ◌++◌, map, Option, Some, None, IfSome, refl, subst, sym, ap, ◌∙◌, append_assoc}
 use Rattle.std.specs.List.{flat_map}
 use Rattle.std.proofs.lemmas.List.{append-nil}
 use Rattle.std.proofs.lemmas.List.Folds.{flat_map-map}
@@ -10,6 +10,15 @@ use Rattle.lexer.specs.declared.token.Kind.TheVariants as kind
 use Rattle.lexer.specs.declared.token.Symbol.TheVariants as symbol
 use Rattle.lexer.specs.declared.token.Word.TheVariants as word
 use Rattle.lexer.specs.declared.token.Token.{Token}
+use Rattle.std.specs.declared.alloc.Global.{Global}
+use Rattle.std.specs.declared.vec.Vec.{Vec}
+use Rattle.syntax_tree.specs.declared.Sign.{Sign}
+use Rattle.syntax_tree.specs.declared.Sign.TheVariants.{Plus, Minus}
+use Rattle.syntax_tree.specs.declared.SignAt.{SignAt}
+use Rattle.syntax_tree.specs.declared.ConstantValue.{ConstantValue}
+use Rattle.syntax_tree.specs.declared.ConstantValue.TheVariants as constant
+use Rattle.syntax_tree.specs.declared.CaseConstant.{CaseConstant}
+use Rattle.syntax_tree.specs.Places.{arms_of}
 use Rattle.syntax_tree.specs.declared.Name.{Name}
 use Rattle.syntax_tree.specs.declared.Actual.{Actual}
 use Rattle.syntax_tree.specs.declared.TypeDenoter.{TypeDenoter}
@@ -23,7 +32,7 @@ use Rattle.syntax_tree.specs.declared.Stmt.TheViews.{roll-Stmt}
 use Rattle.syntax_tree.specs.declared.Stmt.TheFolds.{map-Stmt, fold-roll-Stmt, ind-Stmt}
 use Rattle.syntax_tree.specs.Places.{Places, name_places, expr_places, actual_places, stmt_places, denoter_places, group_places, block_places, program_places}
 use Rattle.syntax_tree.specs.Places as place
-use Rattle.grammar.specs.Spelling.{Lexeme, Spelling, IsSpelledBy, Reads, Spells, joined, separated, in_parentheses, mark, word_symbol, of_kind_at, identifier, identifiers, direction_word, expr_spelling, actual_spelling, stmt_spelling, denoter_spelling, group_spelling, variables_spelling, block_spelling, program_spelling}
+use Rattle.grammar.specs.Spelling.{Lexeme, Spelling, IsSpelledBy, Reads, Spells, joined, separated, in_parentheses, mark, word_symbol, of_kind_at, identifier, identifiers, direction_word, sign, sign_spelling, value_lexeme, constant_spelling, arm_spelling, case_end, expr_spelling, actual_spelling, stmt_spelling, denoter_spelling, group_spelling, variables_spelling, block_spelling, program_spelling}
 use Rattle.grammar.specs.Spelling as spell
 use Rattle.grammar.proofs.TreePlaces.{kept, kept_places, kept_both, AllKept, each_kept, all_kept, joined_kept, separated_kept, parenthesized_kept, expr_kept, actual_kept}
 
@@ -37,6 +46,64 @@ KeptStmt = (s : Stmt) × StmtKept s
 
 abbrev stmt_parts : stmt.Stmt-F KeptStmt → stmt.Stmt-F Stmt
 stmt_parts = map-Stmt KeptStmt Stmt (λ s. s.0)
+
+one_sign_kept : (s : Sign) (p : Place) → p ∷ [] ≡ kept_places (sign s p ∷ [])
+one_sign_kept Plus p = refl
+one_sign_kept Minus p = refl
+
+sign_kept : (o : Option SignAt) → place.sign_places o ≡ kept_places (sign_spelling o)
+sign_kept None = refl
+sign_kept (Some s) = one_sign_kept s.sign s.place
+
+value_kept : (v : ConstantValue) → place.value_place v ∷ [] ≡ kept_places (value_lexeme v ∷ [])
+value_kept (constant.Number n p) = refl
+value_kept (constant.Name n) = refl
+
+constant_kept : (c : CaseConstant) → place.constant_places c ≡ kept_places (constant_spelling c)
+constant_kept c =
+    let first = sign_kept c.sign in
+    let others = value_kept c.value in
+    (λ i. first i ++ others i) ∙ sym (kept_both (sign_spelling c.sign) (value_lexeme c.value ∷ []))
+
+-- an arm behind its constants
+arm_kept : (row : List CaseConstant) (s : KeptStmt) → place.arm_places (row, stmt_places s.0) ≡ kept_places (arm_spelling (row, stmt_spelling s.0))
+arm_kept cs s =
+    let constants = separated_kept CaseConstant symbol.Comma constant_spelling place.constant_places cs
+    (each_kept CaseConstant constant_spelling place.constant_places cs constant_kept) in
+    let arm = s.1 in
+    (λ i. constants i ++ arm i) ∙ sym (kept_both (separated symbol.Comma (map constant_spelling cs)) (mark symbol.Colon ∷ stmt_spelling s.0))
+
+-- arms behind their constants
+arms_all_kept : (rows : List (Vec CaseConstant Global)) (v : List KeptStmt)
+    → AllKept (List CaseConstant × KeptStmt) (λ a. arm_spelling (a.0, stmt_spelling a.1.0)) (λ a. place.arm_places (a.0, stmt_places a.1.0)) (arms_of rows v)
+arms_all_kept [] v = tt
+arms_all_kept (r ∷ rows) [] = tt
+arms_all_kept (r ∷ rows) (s ∷ v) = (arm_kept r.items s, arms_all_kept rows v)
+
+arms_spelled : (rows : List (Vec CaseConstant Global)) (v : List KeptStmt)
+    → map arm_spelling (arms_of rows (map stmt_spelling (map (λ s. s.0) v))) ≡ map (λ a. arm_spelling (a.0, stmt_spelling a.1.0)) (arms_of rows v)
+arms_spelled [] v = refl
+arms_spelled (r ∷ rows) [] = refl
+arms_spelled (r ∷ rows) (s ∷ v) = ap (λ x. arm_spelling (r.items, stmt_spelling s.0) ∷ x) (arms_spelled rows v)
+
+arms_placed : (rows : List (Vec CaseConstant Global)) (v : List KeptStmt)
+    → flat_map place.arm_places (arms_of rows (map stmt_places (map (λ s. s.0) v))) ≡ flat_map (λ a. place.arm_places (a.0, stmt_places a.1.0)) (arms_of rows v)
+arms_placed [] v = refl
+arms_placed (r ∷ rows) [] = refl
+arms_placed (r ∷ rows) (s ∷ v) = ap (λ x. place.arm_places (r.items, stmt_places s.0) ++ x) (arms_placed rows v)
+
+arms_kept : (rows : List (Vec CaseConstant Global)) (v : List KeptStmt)
+    → flat_map place.arm_places (arms_of rows (map stmt_places (map (λ s. s.0) v)))
+    ≡ kept_places (separated symbol.Semicolon (map arm_spelling (arms_of rows (map stmt_spelling (map (λ s. s.0) v)))))
+arms_kept rows v =
+    arms_placed rows v
+    ∙ separated_kept (List CaseConstant × KeptStmt) symbol.Semicolon (λ a. arm_spelling (a.0, stmt_spelling a.1.0))
+    (λ a. place.arm_places (a.0, stmt_places a.1.0)) (arms_of rows v) (arms_all_kept rows v)
+    ∙ ap (λ x. kept_places (separated symbol.Semicolon x)) (sym (arms_spelled rows v))
+
+end_kept : (b : Bool) → kept_places (case_end b) ≡ []
+end_kept false = refl
+end_kept true = refl
 
 stmt_layer : (y : stmt.Stmt-F KeptStmt)
     → place.statement_step (map-Stmt Stmt Places stmt_places (stmt_parts y))
@@ -84,6 +151,14 @@ stmt_layer (stmt.For p n e d f b) =
     ap (λ ps. p ∷ n.place ∷ ps)
     ((λ i. first i ++ (last i ++ body i)) ∙ ap (λ ps. kept_places (expr_spelling e) ++ ps) (sym (kept_both (expr_spelling f) behind))
     ∙ sym (kept_both (expr_spelling e) (word_symbol (direction_word d) ∷ expr_spelling f ++ behind)))
+stmt_layer (stmt.Case p e rows v b) =
+    let index = expr_kept e in
+    let arms = arms_kept rows.items v.items in
+    let inner = separated symbol.Semicolon (map arm_spelling (arms_of rows.items (map stmt_spelling (map (λ s. s.0) v.items)))) in
+    ap (λ ps. p ∷ ps)
+    ((λ i. index i ++ arms i)
+    ∙ ap (λ ps. kept_places (expr_spelling e) ++ ps) (sym (append-nil _) ∙ (λ i. kept_places inner ++ sym (end_kept b) i) ∙ sym (kept_both inner (case_end b)))
+    ∙ sym (kept_both (expr_spelling e) (word_symbol word.Of ∷ inner ++ case_end b)))
 
 stmt_rolled : (y : stmt.Stmt-F KeptStmt) → StmtKept (roll-Stmt (stmt_parts y))
 stmt_rolled y =

@@ -51,6 +51,7 @@ first_of (stmt.If p e b o) = Some (kind.Word word.If)
 first_of (stmt.While p e b) = Some (kind.Word word.While)
 first_of (stmt.Repeat p v e) = Some (kind.Word word.Repeat)
 first_of (stmt.For p n e d f b) = Some (kind.Word word.For)
+first_of (stmt.Case p e rows arms b) = Some (kind.Word word.Case)
 
 -- the tokens begin with it, or nothing stands there
 abbrev pub BeginsSo : List Token → List Token → Option Kind → Type 0
@@ -66,6 +67,7 @@ begins_so a c (stmt.If p e b o) h = (ap next_kind h.2 ∙ ap Some h.3.kind, refl
 begins_so a c (stmt.While p e b) h = (ap next_kind h.2 ∙ ap Some h.3.kind, refl)
 begins_so a c (stmt.Repeat p v e) h = (ap next_kind h.2 ∙ ap Some h.3.kind, refl)
 begins_so a c (stmt.For p n e d f b) h = (ap next_kind h.2 ∙ ap Some h.3.kind, refl)
+begins_so a c (stmt.Case p e rows arms b) h = (ap next_kind h.2 ∙ ap Some h.3.kind, refl)
 
 form_at_of : (k : Kind) (a c : List Token) (o : Option Kind) → next_kind a ≡ Some k → ends_kind k ≡ false → EndsStmt c → BeginsSo a c o → o ≡ Some k
 form_at_of k a c None e other ends h = absurd (not_behind k c other ends (ap next_kind (sym h) ∙ e))

@@ -1,7 +1,7 @@
 -- What tokens begin with: a spelling of a form, well formed and nested within so many levels. Each of these says: the
 -- tokens begin with such a thing, and then the others are left.
 -- This doesn't say what a parser answers to them.
-use Rattle.std.specs.Prelude.{◌≡◌, ℕ, ◌+◌, ◌<◌, ◌≤◌, true, List, [], ◌∷◌, ◌++◌, map, length, Option, Some, None}
+use Rattle.std.specs.Prelude.{◌≡◌, ℕ, ◌+◌, ◌<◌, ◌≤◌, true, List, [], ◌∷◌, ◌++◌, map, length, Bool, ◌&&◌, Option, Some, None}
 use Rattle.std.specs.List.{list_all}
 use Rattle.std.specs.declared.alloc.Global.{Global}
 use Rattle.std.specs.declared.boxed.Box.{Box}
@@ -12,6 +12,7 @@ use Rattle.lexer.specs.declared.token.Symbol.TheVariants as symbol
 use Rattle.lexer.specs.declared.token.Token.{Token}
 use Rattle.lexer.specs.declared.token.Word.{Word}
 use Rattle.lexer.specs.declared.token.Word.TheVariants as word
+use Rattle.syntax_tree.specs.declared.CaseConstant.{CaseConstant}
 use Rattle.syntax_tree.specs.declared.Direction.{Direction}
 use Rattle.syntax_tree.specs.declared.Expr.{Expr}
 use Rattle.syntax_tree.specs.declared.Link.{Link}
@@ -21,8 +22,8 @@ use Rattle.syntax_tree.specs.declared.Name.{Name}
 use Rattle.syntax_tree.specs.declared.VariableGroup.{VariableGroup}
 use Rattle.syntax_tree.specs.declared.Block.{Block}
 use Rattle.syntax_tree.specs.declared.Program.{Program}
-use Rattle.grammar.specs.Spelling.{Spelling, Reads, expr_spelling, link_spelling, actual_spelling, stmt_spelling, joined, identifiers, group_spelling, variables_spelling, block_spelling, program_spelling, separated, in_parentheses, word_symbol, identifier, direction_word, of_kind_at, mark}
-use Rattle.grammar.specs.WellFormed.{expr_form, link_form, fits, relation_level, is_link, is_actual, is_statement, is_group, is_block, is_program}
+use Rattle.grammar.specs.Spelling.{Spelling, Reads, expr_spelling, link_spelling, actual_spelling, stmt_spelling, joined, identifiers, group_spelling, variables_spelling, block_spelling, program_spelling, separated, in_parentheses, word_symbol, identifier, direction_word, constant_spelling, arm_spelling, case_end, of_kind_at, mark}
+use Rattle.grammar.specs.WellFormed.{expr_form, link_form, fits, relation_level, is_link, has_items, is_actual, is_statement, is_group, is_block, is_program}
 use Rattle.grammar.specs.Following.{NoNext, LeavesNoElse}
 use Rattle.grammar.specs.Nesting.{expr_levels, link_levels, actual_levels, stmt_levels, deepest, nesting}
 
@@ -89,6 +90,37 @@ BeginsControl tokens others found =
 -- the first bound of a for statement, and its direction
 abbrev pub BeginsInitial : ℕ → List Token → List Token → Expr × Direction → Type 0
 BeginsInitial levels tokens others found = BeginsGuard (direction_word found.1) levels tokens others found.0
+
+-- a constant of a case
+abbrev pub BeginsConstant : List Token → List Token → CaseConstant → Type 0
+BeginsConstant tokens others c = Reads tokens (constant_spelling c) others
+
+-- one or more constants with a comma between each two
+abbrev pub BeginsConstants : List Token → List Token → List CaseConstant → Type 0
+BeginsConstants tokens others constants = BeginsList symbol.Comma tokens others (map constant_spelling constants)
+
+-- constants with the colon behind them
+pub record BeginsRow (tokens others : List Token) (constants : List CaseConstant) : Type 0 where
+  pub middle : List Token
+  pub list : BeginsConstants tokens middle constants
+  pub closed : Reads middle (mark symbol.Colon ∷ []) others
+
+-- an arm of a case: its constants, and the statement behind them
+abbrev pub Arm : Type 0
+Arm = List CaseConstant × Stmt
+
+abbrev pub arm_spelled : Arm → Spelling
+arm_spelled arm = arm_spelling (arm.0, stmt_spelling arm.1)
+
+abbrev pub arm_well : Arm → Bool
+arm_well arm = has_items arm.0 && is_statement arm.1
+
+-- one or more arms, and the `end` of the case, with a semicolon before it or none
+pub record BeginsArms (levels : ℕ) (tokens others : List Token) (found : List Arm × Bool) : Type 0 where
+  pub some : 0 < length found.0
+  pub spelled : Reads tokens (separated symbol.Semicolon (map arm_spelled found.0) ++ case_end found.1) others
+  pub formed : list_all arm_well found.0 ≡ true
+  pub nests : deepest (map (λ arm. stmt_levels arm.1) found.0) ≤ levels
 
 -- one or more statements
 pub record BeginsStatements (levels : ℕ) (tokens others : List Token) (statements : List Stmt) : Type 0 where

@@ -69,6 +69,7 @@ stmt_step (stmt.While place condition body) = 1 + max (expr_levels condition) bo
 stmt_step (stmt.Repeat place statements condition) = 1 + max (deepest statements.items) (expr_levels condition)
 stmt_step (stmt.For place variable first direction last body) =
     1 + max (expr_levels first) (max (expr_levels last) body.value)
+stmt_step (stmt.Case place index constants arms semicolon) = 1 + max (expr_levels index) (deepest arms.items)
 
 -- the levels of a statement, its own among them
 abbrev pub stmt_levels : Stmt → ℕ

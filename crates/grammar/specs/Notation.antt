@@ -7,6 +7,8 @@ use Rattle.std.specs.declared.boxed.Box.{Box}
 use Rattle.lexer.specs.declared.token.Kind.TheVariants as kind
 use Rattle.lexer.specs.declared.token.Symbol.TheVariants as symbol
 use Rattle.lexer.specs.declared.token.Word.TheVariants as word
+use Rattle.syntax_tree.specs.declared.CaseConstant.{CaseConstant}
+use Rattle.syntax_tree.specs.Places.{arms_of}
 use Rattle.syntax_tree.specs.declared.Name.{Name}
 use Rattle.syntax_tree.specs.declared.TypeDenoter.{TypeDenoter}
 use Rattle.syntax_tree.specs.declared.TypeDenoter.TheVariants as denoter
@@ -23,7 +25,7 @@ use Rattle.syntax_tree.specs.declared.Stmt.{Stmt}
 use Rattle.syntax_tree.specs.declared.Stmt.TheOpen.{Stmt-F}
 use Rattle.syntax_tree.specs.declared.Stmt.TheOpen as stmt
 use Rattle.syntax_tree.specs.declared.Stmt.TheFolds.{fold-Stmt}
-use Rattle.grammar.specs.Spelling.{Lexeme, of_kind_at, word_symbol, identifier, sign, operator, direction_word}
+use Rattle.grammar.specs.Spelling.{Lexeme, of_kind_at, word_symbol, identifier, sign, operator, direction_word, constant_spelling, case_end}
 
 -- the forms of expressions, of statements and of declarations
 pub data Shape : Type 0 where
@@ -43,6 +45,8 @@ pub data Shape : Type 0 where
   while_loop : Shape
   repeat_loop : Shape
   for_loop : Shape
+  case : Shape
+  arm : Shape
   group : Shape
   parameters : Shape
   block : Shape
@@ -111,6 +115,13 @@ abbrev pub alternative_notation : Option (Box Notation Global) → Notation
 alternative_notation None = []
 alternative_notation (Some alternative) = alternative.value
 
+-- a constant of a case, and an arm behind its constants
+abbrev pub constant_notation : CaseConstant → Notation
+constant_notation c = map token (constant_spelling c)
+
+abbrev pub arm_notation : List CaseConstant × Notation → Notation
+arm_notation a = bracketed arm (row (map constant_notation a.0) ++ a.1)
+
 -- one layer of a statement, its parts written out
 abbrev pub stmt_step : Stmt-F Notation → Notation
 stmt_step stmt.Empty = bracketed empty []
@@ -133,6 +144,10 @@ stmt_step (stmt.For place variable first direction last body) =
     bracketed for_loop
     (token (of_kind_at (kind.Word word.For) place) ∷ token (identifier variable) ∷ expr_notation first
     ++ (token (word_symbol (direction_word direction)) ∷ expr_notation last ++ body.value))
+stmt_step (stmt.Case place index constants arms semicolon) =
+    bracketed case
+    (token (of_kind_at (kind.Word word.Case) place) ∷ expr_notation index
+    ++ (row (map arm_notation (arms_of constants.items arms.items)) ++ map token (case_end semicolon)))
 
 -- a statement
 abbrev pub stmt_notation : Stmt → Notation

@@ -1,7 +1,7 @@
 -- The tokens that spell a syntax tree: ISO 7185:1990, 6.7.1 (expressions), 6.8 (statements), 6.2.1 (blocks), 6.5.1
 -- (variables), 6.10 (programs). A tree keeps its parentheses, so each tree has one spelling.
 -- This doesn't say which trees there may be: see WellFormed and Nesting.
-use Rattle.std.specs.Prelude.{◌≡◌, ℕ, List, [], ◌∷◌, ◌++◌, map, Option, Some, None, IfSome}
+use Rattle.std.specs.Prelude.{◌≡◌, ℕ, List, [], ◌∷◌, ◌++◌, map, Option, Some, None, IfSome, Bool, true, false}
 use Rattle.std.specs.declared.alloc.Global.{Global}
 use Rattle.std.specs.declared.boxed.Box.{Box}
 use Rattle.place.specs.declared.Place.{Place}
@@ -19,6 +19,11 @@ use Rattle.syntax_tree.specs.declared.Direction.{Direction}
 use Rattle.syntax_tree.specs.declared.Direction.TheVariants.{To, DownTo}
 use Rattle.syntax_tree.specs.declared.Operator.{Operator}
 use Rattle.syntax_tree.specs.declared.Operator.TheVariants as op
+use Rattle.syntax_tree.specs.declared.CaseConstant.{CaseConstant}
+use Rattle.syntax_tree.specs.declared.ConstantValue.{ConstantValue}
+use Rattle.syntax_tree.specs.declared.ConstantValue.TheVariants as constant
+use Rattle.syntax_tree.specs.declared.SignAt.{SignAt}
+use Rattle.syntax_tree.specs.Places.{arms_of}
 use Rattle.syntax_tree.specs.declared.TypeDenoter.{TypeDenoter}
 use Rattle.syntax_tree.specs.declared.TypeDenoter.TheVariants as denoter
 use Rattle.syntax_tree.specs.declared.VariableGroup.{VariableGroup}
@@ -169,6 +174,28 @@ abbrev pub direction_word : Direction → Word
 direction_word To = word.To
 direction_word DownTo = word.Downto
 
+-- the sign of a constant, where there is one
+abbrev pub sign_spelling : Option SignAt → Spelling
+sign_spelling None = []
+sign_spelling (Some s) = sign s.sign s.place ∷ []
+
+abbrev pub value_lexeme : ConstantValue → Lexeme
+value_lexeme (constant.Number value place) = of_kind_at (kind.Number value) place
+value_lexeme (constant.Name name) = identifier name
+
+-- a constant of a case (6.3)
+abbrev pub constant_spelling : CaseConstant → Spelling
+constant_spelling c = sign_spelling c.sign ++ value_lexeme c.value ∷ []
+
+-- an arm of a case behind its constants (6.8.3.5)
+abbrev pub arm_spelling : List CaseConstant × Spelling → Spelling
+arm_spelling arm = separated symbol.Comma (map constant_spelling arm.0) ++ mark symbol.Colon ∷ arm.1
+
+-- the `end` of a case, with a semicolon before it or none
+abbrev pub case_end : Bool → Spelling
+case_end false = word_symbol word.End ∷ []
+case_end true = mark symbol.Semicolon ∷ word_symbol word.End ∷ []
+
 -- one layer of a statement, its parts spelled
 abbrev pub stmt_step : Stmt-F Spelling → Spelling
 stmt_step stmt.Empty = []
@@ -188,6 +215,10 @@ stmt_step (stmt.Repeat place statements condition) =
 stmt_step (stmt.For place variable first direction last body) =
     of_kind_at (kind.Word word.For) place ∷ identifier variable ∷ mark symbol.Becomes ∷ expr_spelling first
     ++ (word_symbol (direction_word direction) ∷ expr_spelling last ++ (word_symbol word.Do ∷ body.value))
+stmt_step (stmt.Case place index constants arms semicolon) =
+    of_kind_at (kind.Word word.Case) place ∷ expr_spelling index
+    ++ (word_symbol word.Of ∷ separated symbol.Semicolon (map arm_spelling (arms_of constants.items arms.items))
+    ++ case_end semicolon)
 
 -- a statement (6.8)
 abbrev pub stmt_spelling : Stmt → Spelling

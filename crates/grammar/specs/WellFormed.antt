@@ -6,6 +6,8 @@ use Rattle.std.specs.Prelude.{ℕ, ◌+◌, if◌then◌else◌, List, [], ◌�
 use Rattle.std.specs.List.{list_all}
 use Rattle.std.specs.declared.alloc.Global.{Global}
 use Rattle.std.specs.declared.boxed.Box.{Box}
+use Rattle.std.specs.declared.vec.Vec.{Vec}
+use Rattle.syntax_tree.specs.declared.CaseConstant.{CaseConstant}
 use Rattle.syntax_tree.specs.declared.VariableGroup.{VariableGroup}
 use Rattle.syntax_tree.specs.declared.Block.{Block}
 use Rattle.syntax_tree.specs.declared.Program.{Program}
@@ -147,6 +149,10 @@ if_form condition consequence (Some alternative) = record {
   ends_open = alternative.value.ends_open;
 }
 
+-- a row of one or more constants stands before each arm of a case
+abbrev pub are_rows : List (Vec CaseConstant Global) → ℕ → Bool
+are_rows rows arms = nat_eq (length rows) arms && list_all (λ row. has_items row.items) rows
+
 -- one layer of a statement
 abbrev pub stmt_step : Stmt-F StmtForm → StmtForm
 stmt_step stmt.Empty = closed true
@@ -163,6 +169,10 @@ stmt_step (stmt.Repeat place statements condition) =
     (is_expression condition && (has_items statements.items && list_all (λ statement. statement.well) statements.items))
 stmt_step (stmt.For place variable first direction last body) =
     record { well = is_expression first && (is_expression last && body.value.well); ends_open = body.value.ends_open }
+stmt_step (stmt.Case place index constants arms semicolon) =
+    closed
+    (is_expression index && (are_rows constants.items (length arms.items)
+    && (has_items arms.items && list_all (λ arm. arm.well) arms.items)))
 
 -- the form of a statement
 abbrev pub stmt_form : Stmt → StmtForm

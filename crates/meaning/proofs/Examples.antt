@@ -1,5 +1,5 @@
 -- The definitions on small rows, worked out by hand.
-use Rattle.std.proofs.Common.{◌≡◌, inl, inr, ℕ, ℤ, ap, refl, true, false, pos, negsuc, List, [], ◌∷◌, Option, Some, None, Box, Global, codes, if◌then◌else◌, slice_get}
+use Rattle.std.proofs.Common.{◌≡◌, inl, inr, ℕ, ℤ, ap, refl, true, false, pos, negsuc, List, [], ◌∷◌, Option, Some, None, Box, Vec, Global, codes, if◌then◌else◌, slice_get}
 use Rattle.typed_tree.specs.declared.tree.Dyadic.{Dyadic}
 use Rattle.typed_tree.specs.declared.tree.Relation.{Relation}
 use Rattle.typed_tree.specs.declared.tree.Direction.{Direction}
@@ -20,7 +20,7 @@ use Rattle.meaning.specs.declared.store.Value.TheVariants.{Number}
 use Rattle.meaning.specs.Store.{Place, Step, Element, Environment, stored, written, undefined, overlap}
 use Rattle.meaning.specs.Integers.{is_integer_number}
 use Rattle.meaning.specs.Effect.{State, Reply, Gives, Stops, Action, Round, looped, ◌>>=◌, and_then, give, enter, fetch, store, undefine, use_turn, write, is_in, places, boolean_text, text_of}
-use Rattle.meaning.specs.Meaning.{Evaluation, Combination, Execution, effect_step, is_so, alternative_of, combined, while_round, repeat_round, for_between, Meaning, ended, link_step, in_turn, operated}
+use Rattle.meaning.specs.Meaning.{Evaluation, Combination, Execution, effect_step, is_so, alternative_of, combined, while_round, repeat_round, for_between, arm_of, Meaning, ended, link_step, in_turn, operated}
 use Rattle.meaning.specs.Meaning.{value_of, width_of, parameter_of, completed, first_state}
 use Rattle.meaning.specs.Meaning.{home_of, program_environment}
 use Rattle.meaning.specs.Laws.{Extends}
@@ -404,3 +404,22 @@ undefined_all_the_same :
     record { output = []; ending = Error 7 }
 unfolding everywhere
 undefined_all_the_same = refl
+
+-- a case whose arms write a number each, 1 before the constants 1 and 2, and 2 before the constants 2 and -1, at the site 7
+abbrev writes : ℕ → Execution
+writes number environment = write (number ∷ [])
+
+module _ (one other : Vec ℤ Global) (first : one.items ≡ pos 1 ∷ pos 2 ∷ []) (second : other.items ≡ pos 2 ∷ negsuc 0 ∷ []) where
+  abbrev of_case : ℤ → Meaning
+  of_case n = ended (arm_of 7 (one ∷ other ∷ []) (writes 1 ∷ writes 2 ∷ []) n everywhere (first_state [] 0))
+
+  -- the first arm that fits
+  first_arm : of_case (pos 2) ≡ record { output = 1 ∷ []; ending = Finished }
+  first_arm = rw first
+
+  second_arm : of_case (negsuc 0) ≡ record { output = 2 ∷ []; ending = Finished }
+  second_arm = rw (first, second)
+
+  -- no constants hold the value
+  no_arm : of_case (pos 3) ≡ record { output = []; ending = Error 7 }
+  no_arm = rw (first, second)

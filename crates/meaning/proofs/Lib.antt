@@ -1,5 +1,6 @@
 mod Counts
 mod Examples
+mod FoundArms
 mod LeftToRight
 pub mod Loops
 mod Resuming

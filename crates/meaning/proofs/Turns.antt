@@ -4,7 +4,7 @@ use Rattle.std.specs.Prelude.{int_div, int_le, not, if◌then◌else◌}
 use Rattle.std.specs.Int.{int_rem_euclid}
 use Rattle.std.specs.Ordering.{int_eq}
 use Rattle.std.proofs.Common.{◌≡◌, ◌≢◌, inl, inr, ℕ, zero, suc, ◌+◌, ◌≤◌, ℤ, pos, ◌+ℤ◌, ◌-ℤ◌, ◌*ℤ◌, arith}
-use Rattle.std.proofs.Common.{List, [], ◌∷◌, ◌++◌, append-nil, append_assoc, Bool, true, false, Option, Some, None, map, slice_get}
+use Rattle.std.proofs.Common.{List, [], ◌∷◌, ◌++◌, append-nil, append_assoc, Bool, true, false, Option, Some, None, Vec, Global, map, slice_get}
 use Rattle.std.proofs.Common.{sym, ◌∙◌, ap, subst, refl}
 use Rattle.typed_tree.specs.declared.tree.Block.{Block}
 use Rattle.typed_tree.specs.declared.tree.Direction.{Direction}
@@ -24,7 +24,7 @@ use Rattle.typed_tree.specs.declared.tree.Expr.TheOpen.{Expr-F, Link-F}
 use Rattle.typed_tree.specs.declared.tree.Expr.TheOpen.Expr-F.{Constant, Variable, Monadic as MonadicOf, Chain}
 use Rattle.typed_tree.specs.declared.tree.Expr.TheFolds.{map-Expr, map-Link, fold-roll-Expr, fold-roll-Link, ind-Expr}
 use Rattle.typed_tree.specs.declared.tree.Stmt.TheOpen.{Stmt-F}
-use Rattle.typed_tree.specs.declared.tree.Stmt.TheOpen.Stmt-F.{Empty, Assign, Write, Compound, If, While, Repeat, For}
+use Rattle.typed_tree.specs.declared.tree.Stmt.TheOpen.Stmt-F.{Empty, Assign, Write, Compound, If, While, Repeat, For, Case}
 use Rattle.typed_tree.specs.declared.tree.Stmt.TheFolds.{map-Stmt, fold-roll-Stmt, ind-Stmt}
 use Rattle.meaning.specs.declared.outcome.Ending.{Ending}
 use Rattle.meaning.specs.declared.outcome.Ending.TheVariants as ending
@@ -35,7 +35,7 @@ use Rattle.meaning.specs.Store.{Environment, Place, held}
 use Rattle.meaning.specs.Effect.{State, Reply, Gives, Stops, Action, Round, ◌>>=◌, and_then, give, stop, require, enter, take_turn, use_turn, another, looping, looped}
 use Rattle.meaning.specs.Effect.{fetched, fetch, store, undefine, write, is_in, is_positive, text_of}
 use Rattle.meaning.specs.Meaning.{Evaluation, Combination, Execution, value_step, link_step, effect_step, whole, operated, combined, in_turn, all_of}
-use Rattle.meaning.specs.Meaning.{width_of, parameter_of, line_ended, is_so, turn_if, while_round, repeat_round, for_round, for_rounds, for_between, value_of, link_of, effect_of, Meaning, run_of, run, ended}
+use Rattle.meaning.specs.Meaning.{width_of, parameter_of, line_ended, is_so, turn_if, while_round, repeat_round, for_round, for_rounds, for_between, is_among, arm_of, number_of, value_of, link_of, effect_of, Meaning, run_of, run, ended}
 use Rattle.meaning.specs.Meaning.{program_environment, first_state}
 use Rattle.meaning.specs.Laws.{with_turns, reply_with_turns, state_after, Begins, Extends, TurnsGoOn, TurnsExtendTheOutput, EndingsStay}
 
@@ -383,6 +383,15 @@ extended_for_between control first_fits direction last_fits body env done (Numbe
     extended_chosen (has_values direction first last) (for_rounds control first_fits direction last_fits body env first last) (give tt)
     (extended_for_rounds control first_fits direction last_fits body env done first last) (extended_give tt)
 
+-- the arm of a case at a value, or its error
+extended_arm : (site : ℕ) (rows : List (Vec ℤ Global)) (arms : List ExtendedStmt) (n : ℤ) (env : Environment) →
+    Extended (arm_of site rows (map effect_of (map (λ e. e.0) arms)) n env)
+extended_arm site [] arms n env = extended_stop (ending.Error site)
+extended_arm site (row ∷ rows) [] n env = extended_stop (ending.Error site)
+extended_arm site (row ∷ rows) (arm ∷ arms) n env =
+    extended_chosen (is_among row.items n) (effect_of arm.0 env) (arm_of site rows (map effect_of (map (λ e. e.0) arms)) n env) (arm.1 env)
+    (extended_arm site rows arms n env)
+
 -- the statements of one layer
 abbrev executed : Stmt-F Stmt → Execution
 executed y = effect_step (map-Stmt Stmt Execution effect_of y)
@@ -433,6 +442,11 @@ effect-parts (For number loop_number place control first first_fits direction la
     (λ b. extended_then (for_between control first_fits direction last_fits inner env a b) behind
     (extended_for_between control first_fits direction last_fits inner env (body.value.1 env) a b)
     (λ _. extended_undefine (env control)))))
+effect-parts (Case number site index constants arms) env =
+    let arm : Value → Action (Unit {0}) = λ v. arm_of site constants.items (map effect_of (map (λ e. e.0) arms.items)) (number_of v) env in
+    extended_then (enter number env) (λ _. value_of index env >>= arm) (extended_enter number env)
+    (λ _. extended_then (value_of index env) arm (extended_value index env)
+    (λ v. extended_arm site constants.items arms.items (number_of v) env))
 
 pub extended_effect : (e : Stmt) (env : Environment) → Extended (effect_of e env)
 extended_effect = ind-Stmt

@@ -13,7 +13,7 @@ use Rattle.typed_tree.specs.declared.tree.Stmt.{Stmt}
 use Rattle.typed_tree.specs.declared.tree.Expr.TheVariants as expr
 use Rattle.typed_tree.specs.declared.tree.Stmt.TheVariants as stmt
 use Rattle.typed_tree.specs.declared.tree.Expr.TheOpen.Expr-F.{Variable as Variable-F, Monadic as Monadic-F, Chain as Chain-F}
-use Rattle.typed_tree.specs.declared.tree.Stmt.TheOpen.Stmt-F.{Empty as Empty-F, Assign as Assign-F, Write as Write-F, Compound as Compound-F, If as If-F, While as While-F, Repeat as Repeat-F, For as For-F}
+use Rattle.typed_tree.specs.declared.tree.Stmt.TheOpen.Stmt-F.{Empty as Empty-F, Assign as Assign-F, Write as Write-F, Compound as Compound-F, If as If-F, While as While-F, Repeat as Repeat-F, For as For-F, Case as Case-F}
 use Rattle.typed_tree.specs.declared.tree.Expr.TheFolds.{fold-roll-Expr, fold_out-Link}
 use Rattle.typed_tree.specs.declared.tree.Stmt.TheFolds.{fold-roll-Stmt}
 use Rattle.meaning.specs.declared.store.Value.{Value}
@@ -24,7 +24,7 @@ use Rattle.meaning.specs.Store.{Environment, kept}
 use Rattle.meaning.specs.Effect.{State, Reply, Action, ◌>>=◌, and_then, give, require, enter, use_turn, another, looped}
 use Rattle.meaning.specs.Effect.{fetch, store, undefine, write, is_in, text_of}
 use Rattle.meaning.specs.Meaning.{Evaluation, Combination, Execution, value_step, link_step, effect_step, operated, combined, in_turn, all_of}
-use Rattle.meaning.specs.Meaning.{width_of, parameter_of, line_ended, is_so, turn_if, for_between, value_of, link_of, effect_of}
+use Rattle.meaning.specs.Meaning.{width_of, parameter_of, line_ended, is_so, turn_if, for_between, arm_of, number_of, value_of, link_of, effect_of}
 use Rattle.meaning.specs.Pending.{Resumption, pending_of, resumed, chosen, further, while_rounds, repeat_rounds, bounds_tested, value_before, counting, forgetting, turning, line_ending, linking, giving, with_top}
 use Rattle.meaning.specs.Pending.{positive, top_of, below_top}
 use Rattle.meaning.proofs.Turns.{extended_value, extended_effect, extended_statements}
@@ -101,6 +101,12 @@ effect-For n loop_number place control first first_fits direction last last_fits
     ap (λ (e : Stmt). effect_of e env) (sym (stmt.rolls-For n loop_number place control first first_fits direction last last_fits body))
     ∙ ap (λ (f : Execution). f env)
     (fold-roll-Stmt Execution effect_step (For-F n loop_number place control first first_fits direction last last_fits body))
+
+effect-Case : (n site : ℕ) (index : Expr) (constants : Vec (Vec ℤ Global) Global) (arms : Vec Stmt Global) (env : Environment) →
+    effect_of (stmt.Case n site index constants arms) env ≡
+    (enter n env >>= λ _. value_of index env >>= λ v. arm_of site constants.items (map effect_of arms.items) (number_of v) env)
+effect-Case n site index constants arms env = ap (λ (e : Stmt). effect_of e env) (sym (stmt.rolls-Case n site index constants arms))
+    ∙ ap (λ (f : Execution). f env) (fold-roll-Stmt Execution effect_step (Case-F n site index constants arms))
 
 -- the state after an entry
 abbrev pub entered : ℕ → Environment → State → State
@@ -361,6 +367,20 @@ does-for-round env control direction n last body next operands s =
     ∙ and_then-and_then (use_turn there) (λ _. effect_of body.now env >>= λ _. again (value_before direction last n)) then_rest
     ∙ and_then-same (use_turn there) _ _
     (λ _ t. and_then-and_then (effect_of body.now env t) (λ _. again (value_before direction last n)) then_rest)
+
+pub does-Case : (n site : ℕ) (index : Expr) (constants : Vec (Vec ℤ Global) Global) (arms : Vec Stmt Global) (given : Stmt) →
+    given ≡ stmt.Case n site index constants arms → (rows : Bor (List (Vec ℤ Global))) → rows.now ≡ constants.items →
+    (all : Bor (List Stmt)) → all.now ≡ arms.items → (env : Environment) (works : List Work) (operands : List Value) (s : State) →
+    executed env given works operands s ≡ evaluated env index (work.Case site rows all ∷ works) operands (entered n env s)
+does-Case n site index constants arms given is rows same all alike env works operands s =
+    let then_rest : Unit {0} → Action (Unit {0}) = λ _. pending_of env works operands in
+    let value : Reply Value = value_of index env (entered n env s) in
+    let arm : List (Vec ℤ Global) → List Stmt → Value → Action (Unit {0}) = λ l m v. arm_of site l (map effect_of m) (number_of v) env in
+    ap (λ (e : Stmt). executed env e works operands s) is
+    ∙ ap (λ (a : Action (Unit {0})). and_then (a s) then_rest) (effect-Case n site index constants arms env)
+    ∙ and_then-and_then value (arm constants.items arms.items) then_rest
+    ∙ ap (λ (l : List (Vec ℤ Global)). and_then value (λ v. arm l arms.items v >>= then_rest)) (sym same)
+    ∙ ap (λ (m : List Stmt). and_then value (λ v. arm rows.now m v >>= then_rest)) (sym alike)
 
 pub does-Statements : (first : Bor Stmt) (rest all : Bor (List Stmt)) → all.now ≡ first.now ∷ rest.now →
     (env : Environment) (works : List Work) (operands : List Value) (s : State) →

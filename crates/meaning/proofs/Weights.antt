@@ -9,7 +9,7 @@ use Rattle.typed_tree.specs.declared.tree.Expr.TheOpen.{Expr-F, Link-F}
 use Rattle.typed_tree.specs.declared.tree.Expr.TheOpen.Expr-F.{Constant, Variable, Monadic, Chain}
 use Rattle.typed_tree.specs.declared.tree.Expr.TheFolds.{map-Expr, map-Link, fold-roll-Expr, fold-roll-Link, fold_out-Link, ind-Expr}
 use Rattle.typed_tree.specs.declared.tree.Stmt.TheOpen.{Stmt-F}
-use Rattle.typed_tree.specs.declared.tree.Stmt.TheOpen.Stmt-F.{Empty, Assign, Write, Compound, If, While, Repeat, For}
+use Rattle.typed_tree.specs.declared.tree.Stmt.TheOpen.Stmt-F.{Empty, Assign, Write, Compound, If, While, Repeat, For, Case}
 use Rattle.typed_tree.specs.declared.tree.Stmt.TheFolds.{map-Stmt, fold-roll-Stmt, ind-Stmt}
 use Rattle.std.proofs.lemmas.List.Sums.{sum_by-cons}
 use Rattle.std.specs.declared.alloc.AllocError.{AllocError}
@@ -141,6 +141,11 @@ statement-parts (For number loop_number place control first first_fits direction
     let other = rising_expression last turns more in
     let rounds = rising_rounds (λ left. 3 + weight_of_statement body.value.0 left) turns more in
     omega (arith, one, other, rounds)
+statement-parts (Case number site index constants arms) =
+    λ turns more.
+    let given = rising_expression index turns more in
+    let all = rising_statements arms.items turns more in
+    omega (arith, given, all)
 
 rising_statement : (e : Stmt) → Rises (weight_of_statement e)
 rising_statement = ind-Stmt (λ e. Rises (weight_of_statement e))
@@ -191,6 +196,7 @@ rising_work (work.Bounds control first_fits direction last_fits body) =
 rising_work (work.For control direction value last body) = rising_for (weight_of_statement body.now)
 rising_work (work.Next control direction value last body) =
     λ turns more. let rounds = rising_for (weight_of_statement body.now) turns more in omega (arith, rounds)
+rising_work (work.Case site constants arms) = rising_row 1 weight_of_statement arms.now rising_statement
 rising_work (work.Parameters parameters ends_line) = rising_row 1 weight_of_parameter parameters.now rising_parameter
 rising_work (work.Parameter parameter) = rising_parameter parameter.now
 rising_work (work.Width parameter) = rising_width parameter.now.width

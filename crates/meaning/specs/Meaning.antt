@@ -2,7 +2,8 @@
 -- every value of an undefined variable an error, every result outside integer an error. A sign and a function come
 -- after their operand, an operator after its right one.
 -- It says nothing of code, of cells, or of what an implementation does where memory runs out.
-use Rattle.std.specs.Prelude.{ℕ, ℤ, pos, ◌+ℤ◌, ◌-ℤ◌, ◌*ℤ◌, neg_ℤ, int_div, int_le, int_lt, Bool, true, false, ◌&&◌, ◌||◌, not, List, [], ◌∷◌, Option, Some, None, if◌then◌else◌, map, nat_eq, slice_get}
+use Rattle.std.specs.Prelude.{ℕ, ℤ, pos, ◌+ℤ◌, ◌-ℤ◌, ◌*ℤ◌, neg_ℤ, int_div, int_le, int_lt, Bool, true, false, ◌&&◌, ◌||◌, not, List, [], ◌∷◌, Option, Some, None, Vec, if◌then◌else◌, map, nat_eq, slice_get}
+use Rattle.std.specs.List.{list_any}
 use Rattle.std.specs.declared.alloc.Global.{Global}
 use Rattle.std.specs.declared.boxed.Box.{Box}
 use Rattle.typed_tree.specs.declared.tree.Tree.{Tree}
@@ -29,7 +30,7 @@ use Rattle.typed_tree.specs.declared.tree.Expr.TheOpen.Expr-F.{Constant, Variabl
 use Rattle.typed_tree.specs.declared.tree.Expr.TheFolds.{fold-Expr, fold-Link}
 use Rattle.typed_tree.specs.declared.tree.Stmt.{Stmt}
 use Rattle.typed_tree.specs.declared.tree.Stmt.TheOpen.{Stmt-F}
-use Rattle.typed_tree.specs.declared.tree.Stmt.TheOpen.Stmt-F.{Empty, Assign, Write, Compound, If, While, Repeat, For}
+use Rattle.typed_tree.specs.declared.tree.Stmt.TheOpen.Stmt-F.{Empty, Assign, Write, Compound, If, While, Repeat, For, Case}
 use Rattle.typed_tree.specs.declared.tree.Stmt.TheFolds.{fold-Stmt}
 use Rattle.meaning.specs.declared.outcome.Ending.{Ending}
 use Rattle.meaning.specs.declared.outcome.Ending.TheVariants as ending
@@ -38,7 +39,7 @@ use Rattle.meaning.specs.declared.store.Value.TheVariants.{Number}
 use Rattle.meaning.specs.Integers.{is_integer_number, truth, is_true, is_odd, magnitude}
 use Rattle.meaning.specs.Store.{Environment, Place}
 use Rattle.meaning.specs.Counting.{has_values, value_behind}
-use Rattle.meaning.specs.Effect.{State, Reply, Gives, Stops, Action, Round, ◌>>=◌, give, require, enter, use_turn, looped}
+use Rattle.meaning.specs.Effect.{State, Reply, Gives, Stops, Action, Round, ◌>>=◌, give, stop, require, enter, use_turn, looped}
 use Rattle.meaning.specs.Effect.{fetch, store, undefine, write, is_in, is_positive, text_of}
 
 -- what an expression does in an environment: it gives its value
@@ -217,6 +218,22 @@ for_between control first_fits direction last_fits body env (Number first) (Numb
     then for_rounds control first_fits direction last_fits body env first last
     else give tt
 
+-- whether a row of case constants holds a value
+abbrev pub is_among : List ℤ → ℤ → Bool
+is_among row n = list_any (λ constant. int_eq constant n) row
+
+-- what is done at a value of the index: the arm whose constants hold it, or an error at the site where none do; the
+-- n-th row of constants stands before the n-th arm (6.8.3.5)
+abbrev pub arm_of : ℕ → List (Vec ℤ Global) → List Execution → ℤ → Execution
+arm_of site [] arms n env = stop (ending.Error site)
+arm_of site (row ∷ rows) [] n env = stop (ending.Error site)
+arm_of site (row ∷ rows) (arm ∷ arms) n env =
+    if is_among row.items n then arm env else arm_of site rows arms n env
+
+-- the number of a value
+abbrev pub number_of : Value → ℤ
+number_of (Number n) = n
+
 -- one layer of a statement
 abbrev pub effect_step : Stmt-F Execution → Execution
 effect_step (Empty number) env = enter number env
@@ -249,6 +266,10 @@ effect_step (For number loop_number place control first first_fits direction las
   b ← value_of last env
   _ ← for_between control first_fits direction last_fits body.value env a b
   undefine (env control)
+effect_step (Case number site index constants arms) env = do
+  _ ← enter number env
+  v ← value_of index env
+  arm_of site constants.items arms.items (number_of v) env
 
 -- what a statement does
 abbrev pub effect_of : Stmt → Execution

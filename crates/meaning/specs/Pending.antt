@@ -1,6 +1,6 @@
 -- What the work that an interpreter has still to do means: from its operands and the state, the topmost first.
 -- It says nothing of how many steps the work takes.
-use Rattle.std.specs.Prelude.{◌≡◌, ℕ, ℤ, pos, Bool, List, [], ◌∷◌, Option, Some, None, Result, Ok, Err, IfOk}
+use Rattle.std.specs.Prelude.{◌≡◌, ℕ, ℤ, pos, Bool, List, [], ◌∷◌, Option, Some, None, Result, Ok, Err, Vec, IfOk}
 use Rattle.std.specs.Prelude.{int_lt, if◌then◌else◌, drop, map, reverse, slice_get}
 use Rattle.std.specs.BTreeMap.{BTreeMap, get}
 use Rattle.std.specs.declared.alloc.AllocError.{AllocError}
@@ -26,7 +26,7 @@ use Rattle.meaning.specs.Effect.{State, Reply, Stops, Action, Round, ◌>>=◌, 
 use Rattle.meaning.specs.Effect.{another, looped, store, undefine, write, is_in, is_positive, text_of}
 use Rattle.meaning.specs.Meaning.{Combination, Execution, completed, ended, home_of, operated, combined, value_of, link_of}
 use Rattle.meaning.specs.Meaning.{effect_of, all_of, width_of, parameter_of, line_ended, is_so, turn_if, while_round, repeat_round}
-use Rattle.meaning.specs.Meaning.{for_between}
+use Rattle.meaning.specs.Meaning.{for_between, is_among, arm_of, number_of}
 use Rattle.meaning.specs.Counting.{has_values, next_value}
 
 -- what is done with the operands, the topmost first, and the state
@@ -76,6 +76,12 @@ bounds_tested direction first_fits (Number first) last_fits (Number last) =
     if has_values direction first last
     then both_bounds (bound_tested first_fits first) (bound_tested last_fits last)
     else Ok None
+
+-- the arm at a value of the index of a case, if any constants hold it
+abbrev pub arm_at : List (Vec ℤ Global) → List Stmt → ℤ → Option Stmt
+arm_at [] arms n = None
+arm_at (row ∷ rows) [] n = None
+arm_at (row ∷ rows) (arm ∷ arms) n = if is_among row.items n then Some arm else arm_at rows arms n
 
 -- the next value of a control variable on its way to the last one
 abbrev pub value_before : Direction → ℤ → ℤ → Option ℤ
@@ -184,6 +190,10 @@ resumed env (work.For control direction value last body) next operands = do
 resumed env (work.Next control direction value last body) next operands = do
   _ ← further (counting env control direction last body.now) (give (value_before direction last value))
   forgetting (env control) next operands
+resumed env (work.Case site constants arms) next operands =
+    with_top
+    (λ v below. arm_of site constants.now (map effect_of arms.now) (number_of v) env >>= λ _. next below)
+    operands
 resumed env (work.Parameters parameters ends_line) next operands = do
   _ ← all_of (map parameter_of parameters.now) env
   line_ending ends_line next operands

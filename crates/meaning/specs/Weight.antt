@@ -14,7 +14,7 @@ use Rattle.typed_tree.specs.declared.tree.Expr.TheOpen.Expr-F.{Constant, Variabl
 use Rattle.typed_tree.specs.declared.tree.Expr.TheFolds.{fold-Expr, fold-Link}
 use Rattle.typed_tree.specs.declared.tree.Stmt.{Stmt}
 use Rattle.typed_tree.specs.declared.tree.Stmt.TheOpen.{Stmt-F}
-use Rattle.typed_tree.specs.declared.tree.Stmt.TheOpen.Stmt-F.{Empty, Assign, Write, Compound, If, While, Repeat, For}
+use Rattle.typed_tree.specs.declared.tree.Stmt.TheOpen.Stmt-F.{Empty, Assign, Write, Compound, If, While, Repeat, For, Case}
 use Rattle.typed_tree.specs.declared.tree.Stmt.TheFolds.{fold-Stmt}
 use Rattle.meaning.specs.declared.outcome.Ending.{Ending}
 use Rattle.meaning.specs.declared.interpreter.Run.{Run}
@@ -92,6 +92,8 @@ statement_weight (Repeat n loop_number place statements condition) turns =
     repeat_weight (row_weight 1 statements.items) (weight_of_expression condition) turns
 statement_weight (For n loop_number place control first first_fits direction last last_fits body) turns =
     3 + weight_of_expression first turns + weight_of_expression last turns + for_weight body.value turns
+statement_weight (Case n site index constants arms) turns =
+    1 + weight_of_expression index turns + row_weight 1 arms.items turns
 
 abbrev pub weight_of_statement : Stmt → Weight
 weight_of_statement = fold-Stmt Weight statement_weight
@@ -120,6 +122,7 @@ weight_of turns (work.Bounds control first_fits direction last_fits body) =
     1 + for_weight (weight_of_statement body.now) turns
 weight_of turns (work.For control direction value last body) = for_weight (weight_of_statement body.now) turns
 weight_of turns (work.Next control direction value last body) = 1 + for_weight (weight_of_statement body.now) turns
+weight_of turns (work.Case site constants arms) = row_weight 1 (map weight_of_statement arms.now) turns
 weight_of turns (work.Parameters parameters ends_line) = row_weight 1 (map weight_of_parameter parameters.now) turns
 weight_of turns (work.Parameter parameter) = weight_of_parameter parameter.now turns
 weight_of turns (work.Width parameter) = weight_of_width parameter.now.width turns

@@ -6,8 +6,9 @@ ghost use Rattle.meaning.specs.Pending.{Does, Finishes, StoreAgrees, answered, g
 ghost use Rattle.meaning.specs.Pending.{top_of, below_top};
 ghost use Rattle.meaning.specs.Meaning.{home_of, meaning, run_of};
 
+use crate::arms::arm_at;
 use crate::operations::{
-    combined_value, operated_value, positive_width, tested_bounds, truth_of, value_in,
+    combined_value, number_of, operated_value, positive_width, tested_bounds, truth_of, value_in,
     value_toward, width_by_default,
 };
 use crate::outcome::{Ending, Outcome};
@@ -144,6 +145,11 @@ impl<'t> Run<'t, '_> {
                 last,
                 body,
             } => self.next_round(control, direction, value, last, body),
+            Work::Case {
+                site,
+                constants,
+                arms,
+            } => self.case(site, constants, arms),
             Work::Parameters {
                 parameters,
                 ends_line,
@@ -288,6 +294,20 @@ impl<'t> Run<'t, '_> {
                     direction: *direction,
                     last_fits: *last_fits,
                     body,
+                },
+            ),
+            Stmt::Case {
+                site,
+                index,
+                constants,
+                arms,
+                ..
+            } => self.plan(
+                Work::Value(index),
+                Work::Case {
+                    site: *site,
+                    constants,
+                    arms,
                 },
             ),
         }
@@ -477,6 +497,22 @@ impl<'t> Run<'t, '_> {
     {
         self.lose(control);
         Ok(None)
+    }
+
+    fn case(
+        &mut self,
+        site: u32,
+        constants: &'t [Vec<i32>],
+        arms: &'t [Stmt],
+    ) -> Result<Option<Ending>, AllocError>
+        ensures fewer { Lightens (Work.Case site constants.entry arms.entry) self.old result self.new }
+        ensures does { Does (λ env. resumed env (Work.Case site constants.entry arms.entry)) self.old result self.new }
+    {
+        let index = number_of(self.popped());
+        match arm_at(constants, arms, index) {
+            Some(arm) => self.do_next(Work::Statement(arm)),
+            None => Ok(Some(Ending::Error(site))),
+        }
     }
 
     fn parameters(

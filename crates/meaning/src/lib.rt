@@ -2,6 +2,7 @@
 //! (ISO 7185:1990, 6.7 to 6.10).
 #![tactic(auto)]
 
+mod arms;
 mod interpreter;
 pub mod laws;
 mod operations;

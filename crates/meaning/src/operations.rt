@@ -1,6 +1,6 @@
 ghost use Rattle.std.specs.Prelude.{◌≡◌, pos};
 ghost use Rattle.meaning.specs.Effect.{is_in, is_positive};
-ghost use Rattle.meaning.specs.Meaning.{combined, default_width, is_so, operated, relates, whole};
+ghost use Rattle.meaning.specs.Meaning.{combined, default_width, is_so, number_of, operated, relates, whole};
 ghost use Rattle.meaning.specs.Pending.{Answers, bound_tested, bounds_tested, checked, positive, value_before};
 
 use crate::store::{Ordinal, Value};
@@ -148,6 +148,14 @@ pub fn value_toward(direction: Direction, last: i32, value: i32) -> Option<i32>
         Direction::DownTo if last < value => Some(value - 1),
         _ => None,
     }
+}
+
+/// The number of a value.
+pub fn number_of(value: Value) -> Ordinal
+    ensures { result ≡ number_of value }
+{
+    let Value::Number(number) = value;
+    number
 }
 
 /// The truth value that a value is.

@@ -65,6 +65,12 @@ pub enum Work<'t> {
         last: i32,
         body: &'t Stmt,
     },
+    /// The arms of a case, whose index is topmost.
+    Case {
+        site: u32,
+        constants: &'t [Vec<i32>],
+        arms: &'t [Stmt],
+    },
     /// The parameters of a write, one after another, and behind them the line end of a writeln.
     Parameters {
         parameters: &'t [WriteParameter],

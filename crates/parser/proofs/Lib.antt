@@ -1,3 +1,4 @@
+pub mod Arms
 pub mod Chains
 pub mod Deep
 pub mod Exact

@@ -146,7 +146,7 @@ compound_closed levels a b c d p end statements opened list closed = record {
 }
 
 -- a statement that doesn't end in an if without else
-closed_whole : (s : Stmt) (others : List Token) → ends_open s ≡ false → LeavesNoElse s others
+pub closed_whole : (s : Stmt) (others : List Token) → ends_open s ≡ false → LeavesNoElse s others
 closed_whole s others closed e = let no : false ≡ true = sym closed ∙ e in cc
 
 -- a compound statement as a statement

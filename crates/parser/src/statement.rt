@@ -2,15 +2,16 @@ ghost use Rattle.std.specs.Prelude.{◌≡◌, ◌+◌, MatchResult, Some};
 ghost use Rattle.parser.specs.Refusing.{IsPlain, Refused};
 ghost use Rattle.grammar.specs.Following.{next_kind, EndsEach, EndsStmt, EndsStatements, Anything};
 ghost use Rattle.parser.specs.Reading.{ReadsEach, ReadsDeep};
-ghost use Rattle.parser.specs.Rules.{Read};
-ghost use Rattle.grammar.specs.Begins.{BeginsGuard, BeginsStmt, BeginsAlternative, BeginsStatements, BeginsControl, BeginsInitial, BeginsCompound};
+ghost use Rattle.parser.specs.Rules.{Read, ReadArms};
+ghost use Rattle.grammar.specs.Begins.{BeginsGuard, BeginsStmt, BeginsAlternative, BeginsStatements, BeginsControl, BeginsInitial, BeginsArms, BeginsCompound};
 
+use crate::arm::{behind_arm, row};
 use crate::expression::{actuals, expression};
 use crate::memory::{boxed, put};
 use lexer::token::{Kind, Symbol, Word};
 use place::Place;
 use std::alloc::Global;
-use syntax_tree::{Direction, Expr, Name, Stmt};
+use syntax_tree::{CaseConstant, Direction, Expr, Name, Stmt};
 use token_cursor::cursor::Cursor;
 use token_cursor::fault::ParseFault;
 use token_cursor::nesting::inside;
@@ -56,7 +57,7 @@ fn statements<'a>(
     }
 }
 
-// statement = [simple | compound | conditional | while_loop | repeat_loop | for_loop]
+// statement = [simple | compound | conditional | while_loop | repeat_loop | for_loop | case_of]
 /// A statement in something below which `levels` levels are left (6.8).
 #[cycle(statement)]
 fn statement<'a>(
@@ -78,6 +79,7 @@ fn statement<'a>(
         Some(Kind::Word(Word::While)) => while_loop(alloc, cursor, levels),
         Some(Kind::Word(Word::Repeat)) => repeat_loop(alloc, cursor, levels),
         Some(Kind::Word(Word::For)) => for_loop(alloc, cursor, levels),
+        Some(Kind::Word(Word::Case)) => case_of(alloc, cursor, levels),
         _ => Ok(Stmt::Empty),
     }
 }
@@ -252,6 +254,56 @@ fn initial<'a>(
     let first = expression(alloc, cursor, levels, Level::Relation)?;
     let direction = cursor.expect_direction()?;
     Ok((first, direction))
+}
+
+// case_of = "case" expression "of" arms
+/// A case statement (6.8.3.5), below which `levels` levels are left.
+#[cycle(statement)]
+fn case_of<'a>(
+    alloc: Global,
+    cursor: &mut Cursor<'_, 'a>,
+    levels: u32,
+) -> Result<Stmt<'a>, ParseFault>
+    ensures given { MatchResult result (Read (BeginsStmt (levels + 1)) cursor.old cursor.new)
+        (Refused (levels + 1) cursor.old) }
+    ensures exact { next_kind cursor.old.rest.now ≡ Some (Kind.Word Word.Case) →
+        ReadsDeep (levels + 1) BeginsStmt EndsStmt cursor.old cursor.new result }
+{
+    let place = cursor.expect_word(Word::Case)?;
+    let index = guard(alloc, cursor, levels, Word::Of)?;
+    let (constants, arms, semicolon) = arms(alloc, cursor, levels)?;
+    Ok(Stmt::Case {
+        place,
+        index,
+        constants,
+        arms,
+        semicolon,
+    })
+}
+
+// arms = row statement {";" row statement} [";"] "end"
+/// The rows of constants of a case, the arm behind each, and whether a semicolon stands before the
+/// `end`.
+#[cycle(statement)]
+fn arms<'a>(
+    alloc: Global,
+    cursor: &mut Cursor<'_, 'a>,
+    levels: u32,
+) -> Result<(Vec<Vec<CaseConstant<'a>>>, Vec<Stmt<'a>>, bool), ParseFault>
+    ensures given { MatchResult result
+        (λ found. ReadArms levels cursor.old cursor.new found.0.items found.1.items found.2)
+        (Refused levels cursor.old) }
+    ensures exact { ReadsDeep levels BeginsArms Anything cursor.old cursor.new result }
+{
+    let mut constants = Vec::new(alloc);
+    let mut arms = Vec::new(alloc);
+    loop {
+        put(&mut constants, row(alloc, cursor))?;
+        put(&mut arms, statement(alloc, cursor, levels))?;
+        if let Some(semicolon) = behind_arm(cursor)? {
+            return Ok((constants, arms, semicolon));
+        }
+    }
 }
 
 /// A statement that is part of another one, below which `levels` levels are left.

@@ -1,13 +1,19 @@
--- The places that a syntax tree keeps, in the order of the text: of names, numbers, operators and `:=`, of the opening
--- parenthesis of an expression, of the words `if`, `while`, `repeat` and `for`, and of the last `end`. It says nothing of what stands there.
+-- The places that a syntax tree keeps, in the order of the text: of names, numbers, operators, signs and `:=`, of the
+-- opening parenthesis of an expression, of the words `if`, `while`, `repeat`, `for` and `case`, and of the last `end`.
+-- It says nothing of what stands there.
 use Rattle.std.specs.Prelude.{List, [], ◌∷◌, ◌++◌, Option, Some, None, map, flat_map}
 use Rattle.std.specs.declared.alloc.Global.{Global}
 use Rattle.std.specs.declared.boxed.Box.{Box}
+use Rattle.std.specs.declared.vec.Vec.{Vec}
 use Rattle.place.specs.declared.Place.{Place}
 use Rattle.syntax_tree.specs.declared.Name.{Name}
 use Rattle.syntax_tree.specs.declared.TypeDenoter.{TypeDenoter}
 use Rattle.syntax_tree.specs.declared.TypeDenoter.TheVariants as denoter
 use Rattle.syntax_tree.specs.declared.VariableGroup.{VariableGroup}
+use Rattle.syntax_tree.specs.declared.CaseConstant.{CaseConstant}
+use Rattle.syntax_tree.specs.declared.ConstantValue.{ConstantValue}
+use Rattle.syntax_tree.specs.declared.ConstantValue.TheVariants as constant
+use Rattle.syntax_tree.specs.declared.SignAt.{SignAt}
 use Rattle.syntax_tree.specs.declared.Program.{Program}
 use Rattle.syntax_tree.specs.declared.Block.{Block}
 use Rattle.syntax_tree.specs.declared.Expr.{Expr}
@@ -18,7 +24,7 @@ use Rattle.syntax_tree.specs.declared.Expr.TheOpen.Expr-F.{Number, Name as NameO
 use Rattle.syntax_tree.specs.declared.Expr.TheFolds.{fold-Expr, fold-Actual, fold-Link}
 use Rattle.syntax_tree.specs.declared.Stmt.{Stmt}
 use Rattle.syntax_tree.specs.declared.Stmt.TheOpen.{Stmt-F}
-use Rattle.syntax_tree.specs.declared.Stmt.TheOpen.Stmt-F.{Empty, Assign, Call, Compound, If, While, Repeat, For}
+use Rattle.syntax_tree.specs.declared.Stmt.TheOpen.Stmt-F.{Empty, Assign, Call, Compound, If, While, Repeat, For, Case}
 use Rattle.syntax_tree.specs.declared.Stmt.TheFolds.{fold-Stmt}
 
 abbrev pub Places : Type 0
@@ -63,6 +69,27 @@ abbrev pub alternative_places : Option (Box Places Global) → Places
 alternative_places None = []
 alternative_places (Some places) = places.value
 
+abbrev pub sign_places : Option SignAt → Places
+sign_places None = []
+sign_places (Some sign) = sign.place ∷ []
+
+abbrev pub value_place : ConstantValue → Place
+value_place (constant.Number value place) = place
+value_place (constant.Name name) = name.place
+
+-- the places of a constant of a case
+abbrev pub constant_places : CaseConstant → Places
+constant_places c = sign_places c.sign ++ (value_place c.value ∷ [])
+
+-- the rows of constants of a case, each with the arm behind it
+abbrev pub arms_of : {A : Type 0} → List (Vec CaseConstant Global) → List A → List (List CaseConstant × A)
+arms_of [] arms = []
+arms_of (row ∷ rows) [] = []
+arms_of (row ∷ rows) (arm ∷ arms) = (row.items, arm) ∷ arms_of rows arms
+
+abbrev pub arm_places : List CaseConstant × Places → Places
+arm_places arm = flat_map constant_places arm.0 ++ arm.1
+
 abbrev pub statement_step : Stmt-F Places → Places
 statement_step Empty = []
 statement_step (Assign name becomes value) = name.place ∷ becomes ∷ expr_places value
@@ -74,6 +101,8 @@ statement_step (While place condition body) = place ∷ (expr_places condition +
 statement_step (Repeat place statements condition) = place ∷ (joined_places statements.items ++ expr_places condition)
 statement_step (For place variable first direction last body) =
     place ∷ variable.place ∷ (expr_places first ++ (expr_places last ++ body.value))
+statement_step (Case place index constants arms semicolon) =
+    place ∷ (expr_places index ++ flat_map arm_places (arms_of constants.items arms.items))
 
 -- the places of a statement
 abbrev pub stmt_places : Stmt → Places

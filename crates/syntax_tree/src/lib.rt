@@ -89,6 +89,37 @@ pub enum Stmt<'a> {
         last: Expr<'a>,
         body: Box<Stmt<'a>>,
     },
+    /// `case index of` arms `end` (6.8.3.5), with the place of the word `case`: one or more arms, the n-th row of
+    /// constants before the n-th of them, and perhaps a semicolon behind the last.
+    Case {
+        place: Place,
+        index: Expr<'a>,
+        constants: Vec<Vec<CaseConstant<'a>>>,
+        arms: Vec<Stmt<'a>>,
+        semicolon: bool,
+    },
+}
+
+/// A constant before an arm of a case (6.3), with a sign or none.
+#[derive(Clone, Copy)]
+pub struct CaseConstant<'a> {
+    pub sign: Option<SignAt>,
+    pub value: ConstantValue<'a>,
+}
+
+/// A sign where it stands.
+#[derive(Clone, Copy)]
+pub struct SignAt {
+    pub sign: Sign,
+    pub place: Place,
+}
+
+/// A constant without its sign.
+#[derive(Clone, Copy)]
+pub enum ConstantValue<'a> {
+    /// A number up to 2147483647.
+    Number { value: u32, place: Place },
+    Name(Name<'a>),
 }
 
 /// The way of a control variable (6.8.3.9).

@@ -1,5 +1,5 @@
 -- What stands inside the statements of a typed tree, as code makes them.
-use Rattle.std.proofs.Common.{◌≡◌, ℕ, Bool, List, [], ◌∷◌, ◌++◌, Option, Some, None, map, Box, Vec, sym, ap, ◌∙◌}
+use Rattle.std.proofs.Common.{◌≡◌, ℕ, ℤ, Bool, List, [], ◌∷◌, ◌++◌, Option, Some, None, map, Box, Vec, sym, ap, ◌∙◌}
 use Rattle.std.specs.declared.alloc.Global.{Global}
 use Rattle.place.specs.declared.Place.{Place}
 use Rattle.typed_tree.specs.declared.tree.Access.{Access}
@@ -65,6 +65,11 @@ inside_for number loop_number place control first first_fits direction last last
     rolled (stmt.For number loop_number place control first first_fits direction last last_fits body)
     (layer.For number loop_number place control first first_fits direction last last_fits body)
     (stmt.rolls-For number loop_number place control first first_fits direction last last_fits body)
+
+pub inside_case : (number site : ℕ) (index : Expr) (constants : Vec (Vec ℤ Global) Global) (arms : Vec Stmt Global)
+    → inside_of (stmt.Case number site index constants arms) ≡ all_inside (map inside_of arms.items)
+inside_case number site index constants arms =
+    rolled (stmt.Case number site index constants arms) (layer.Case number site index constants arms) (stmt.rolls-Case number site index constants arms)
 
 -- ---- rows of loops
 

@@ -1,6 +1,6 @@
 -- How the forms of a typed tree look, as code builds them; and that the look of a tree tells its entries, and whether its
 -- blocks are well formed.
-use Rattle.std.proofs.Common.{◌≡◌, ℕ, ℤ, Bool, [], ◌∷◌, ◌++◌, Some, None, sym, ap, ◌∙◌}
+use Rattle.std.proofs.Common.{◌≡◌, ℕ, ℤ, Bool, [], ◌∷◌, ◌++◌, map, Some, None, sym, ap, ◌∙◌}
 use Rattle.std.proofs.Common.{Box, Vec}
 use Rattle.std.specs.Prelude.{flat_map}
 use Rattle.std.specs.declared.alloc.Global.{Global}
@@ -21,7 +21,7 @@ use Rattle.typed_tree.specs.declared.tree.Stmt.{Stmt}
 use Rattle.typed_tree.specs.declared.tree.Stmt.TheVariants as stmt
 use Rattle.typed_tree.specs.declared.tree.Stmt.TheOpen as stmt_layer
 use Rattle.typed_tree.specs.declared.tree.Stmt.TheFolds.{fold-roll-Stmt}
-use Rattle.typed_tree.specs.Look.{Look, link_look, expression_look, look_expr, look_link, look_parameter, statement_look, look_stmt, Constant, Variable, Operation, Begins, Operator, Ends, Empty, Assign, Target, Fits, Write, Compound, If, Then, Else, While, Do, Repeat, Until, For}
+use Rattle.typed_tree.specs.Look.{Look, link_look, expression_look, look_expr, look_link, look_parameter, statement_look, look_stmt, Constant, Variable, Operation, Begins, Operator, Ends, Empty, Assign, Target, Fits, Write, Compound, If, Then, Else, While, Do, Repeat, Until, For, Case, arms_look}
 pub use Rattle.typed_tree.proofs.Measured.{entries_are, formed_are}
 
 -- ---- expressions
@@ -116,3 +116,10 @@ pub look_for : (number loop_number : ℕ) (place : Place) (control : ℕ) (first
 look_for number loop_number place control first first_fits direction last last_fits body =
     ap look_stmt (sym (stmt.rolls-For number loop_number place control first first_fits direction last last_fits body))
     ∙ fold-roll-Stmt Look statement_look (stmt_layer.For number loop_number place control first first_fits direction last last_fits body)
+
+pub look_case : (number site : ℕ) (index : Expr) (constants : Vec (Vec ℤ Global) Global) (arms : Vec Stmt Global)
+    → look_stmt (stmt.Case number site index constants arms)
+    ≡ Case number site ∷ (look_expr index ++ (arms_look constants.items (map look_stmt arms.items) ++ (Ends ∷ [])))
+look_case number site index constants arms =
+    ap look_stmt (sym (stmt.rolls-Case number site index constants arms))
+    ∙ fold-roll-Stmt Look statement_look (stmt_layer.Case number site index constants arms)

@@ -1,5 +1,6 @@
 -- What the look of a tree tells of its loops: their numbers.
-use Rattle.std.proofs.Common.{◌≡◌, ℕ, List, [], ◌∷◌, ◌++◌, map, Option, Some, None, refl, sym, ap, ap₂, ◌∙◌, append-nil}
+use Rattle.std.specs.declared.alloc.Global.{Global}
+use Rattle.std.proofs.Common.{Vec, ℤ, ◌≡◌, ℕ, List, [], ◌∷◌, ◌++◌, map, Option, Some, None, refl, sym, ap, ap₂, ◌∙◌, append-nil}
 use Rattle.std.specs.Prelude.{flat_map}
 use Rattle.std.proofs.lemmas.List.{map-append}
 use Rattle.std.proofs.lemmas.List.Concat.{flat_map-append}
@@ -14,11 +15,11 @@ use Rattle.typed_tree.specs.declared.tree.Expr.TheOpen.Expr-F.{Constant, Variabl
 use Rattle.typed_tree.specs.declared.tree.Expr.TheFolds.{map-Expr, map-Link, fold-roll-Expr, fold-roll-Link, ind-Expr}
 use Rattle.typed_tree.specs.declared.tree.Stmt.{Stmt}
 use Rattle.typed_tree.specs.declared.tree.Stmt.TheOpen.{Stmt-F}
-use Rattle.typed_tree.specs.declared.tree.Stmt.TheOpen.Stmt-F.{Empty, Assign, Write, Compound, If, While, Repeat, For}
+use Rattle.typed_tree.specs.declared.tree.Stmt.TheOpen.Stmt-F.{Empty, Assign, Write, Compound, If, While, Repeat, For, Case}
 use Rattle.typed_tree.specs.declared.tree.Stmt.TheFolds.{map-Stmt, fold-roll-Stmt, ind-Stmt}
 use Rattle.typed_tree.specs.Entries.{joined}
 use Rattle.typed_tree.specs.Loops.{Inside, statement_inside, inside_of, loops_of}
-use Rattle.typed_tree.specs.Look.{Mark, Look, link_look, expression_look, look_expr, look_link, look_width, look_parameter, statement_look, look_stmt, look_block}
+use Rattle.typed_tree.specs.Look.{Mark, Look, link_look, expression_look, look_expr, look_link, look_width, look_parameter, arms_look, statement_look, look_stmt, look_block}
 use Rattle.typed_tree.specs.Look.{tree_look, mark_loops, loops_of_look, Ends, Then, Else, Do, Until, Fits as FitsMark, Written as WrittenMark, Width as WidthMark, BlockEnds}
 
 -- a form, and then one that is no loop
@@ -102,6 +103,21 @@ numbers_joined (y ∷ ys) =
     flat_map-append mark_loops (look_stmt y.0) (joined (map look_stmt more)) ∙ ap₂ (λ a b. a ++ b) y.1 (numbers_joined ys)
     ∙ sym (map-append (λ l. l.0) (inside_of y.0).loops (flat_map (λ part. part.loops) (map inside_of more)))
 
+-- of the arms of a case
+numbers_arms : (rows : List (Vec ℤ Global)) (ys : List Numbered)
+    → loops_of_look (arms_look rows (map look_stmt (map (λ s. s.0) ys)))
+    ≡ map (λ l. l.0) (flat_map (λ part. part.loops) (map inside_of (map (λ s. s.0) ys)))
+numbers_arms [] [] = refl
+numbers_arms (row ∷ rows) [] = numbers_arms rows []
+numbers_arms [] (y ∷ ys) =
+    let more = map (λ s. s.0) ys in
+    flat_map-append mark_loops (look_stmt y.0) (arms_look [] (map look_stmt more)) ∙ ap₂ (λ a b. a ++ b) y.1 (numbers_arms [] ys)
+    ∙ sym (map-append (λ l. l.0) (inside_of y.0).loops (flat_map (λ part. part.loops) (map inside_of more)))
+numbers_arms (row ∷ rows) (y ∷ ys) =
+    let more = map (λ s. s.0) ys in
+    flat_map-append mark_loops (look_stmt y.0) (arms_look rows (map look_stmt more)) ∙ ap₂ (λ a b. a ++ b) y.1 (numbers_arms rows ys)
+    ∙ sym (map-append (λ l. l.0) (inside_of y.0).loops (flat_map (λ part. part.loops) (map inside_of more)))
+
 -- of an if, by what its two statements have
 numbers_chosen : (condition : Expr) (look rest : Look) (first second : Inside) → loops_of_look look ≡ numbers first → loops_of_look rest ≡ numbers second
     → loops_of_look (look_expr condition ++ (Then ∷ (look ++ (rest ++ (Ends ∷ []))))) ≡ map (λ l. l.0) (first.loops ++ second.loops)
@@ -138,6 +154,9 @@ numbers_layer (For number loop_number place control first first_fits direction l
     (behind (look_expr first) (FitsMark first_fits ∷ (look_expr last ++ (FitsMark last_fits ∷ Do ∷ inside))) (silent_expr first)
     ∙ behind (look_expr last) (FitsMark last_fits ∷ Do ∷ inside) (silent_expr last)
     ∙ ended (look_stmt body.value.0) Ends refl ∙ body.value.1)
+numbers_layer (Case number site index constants arms) =
+    let inside = arms_look constants.items (map look_stmt (map (λ s. s.0) arms.items)) in
+    behind (look_expr index) (inside ++ (Ends ∷ [])) (silent_expr index) ∙ ended inside Ends refl ∙ numbers_arms constants.items arms.items
 
 numbers_stmt : (s : Stmt) → loops_of_look (look_stmt s) ≡ numbers (inside_of s)
 numbers_stmt =

@@ -1,5 +1,6 @@
 -- What the look of a tree tells of it: the numbers of its entries, and whether its blocks are well formed.
-use Rattle.std.proofs.Common.{◌≡◌, ℕ, Bool, true, false, ◌&&◌, nat_lt, List, [], ◌∷◌, ◌++◌, map, Option, Some, None, refl, sym, ap, ap₂, ◌∙◌, append-nil}
+use Rattle.std.specs.declared.alloc.Global.{Global}
+use Rattle.std.proofs.Common.{Vec, ℤ, ◌≡◌, ℕ, Bool, true, false, ◌&&◌, nat_lt, List, [], ◌∷◌, ◌++◌, map, Option, Some, None, refl, sym, ap, ap₂, ◌∙◌, append-nil}
 use Rattle.std.proofs.Math.Bool.{and-true}
 use Rattle.std.specs.Prelude.{flat_map}
 use Rattle.std.specs.List.{list_all}
@@ -16,11 +17,11 @@ use Rattle.typed_tree.specs.declared.tree.Expr.TheOpen.Expr-F.{Constant, Variabl
 use Rattle.typed_tree.specs.declared.tree.Expr.TheFolds.{fold-Expr, fold-Link, map-Expr, map-Link, fold-roll-Expr, fold-roll-Link, ind-Expr}
 use Rattle.typed_tree.specs.declared.tree.Stmt.{Stmt}
 use Rattle.typed_tree.specs.declared.tree.Stmt.TheOpen.{Stmt-F}
-use Rattle.typed_tree.specs.declared.tree.Stmt.TheOpen.Stmt-F.{Empty, Assign, Write, Compound, If, While, Repeat, For}
+use Rattle.typed_tree.specs.declared.tree.Stmt.TheOpen.Stmt-F.{Empty, Assign, Write, Compound, If, While, Repeat, For, Case}
 use Rattle.typed_tree.specs.declared.tree.Stmt.TheFolds.{fold-Stmt, map-Stmt, fold-roll-Stmt, ind-Stmt}
 use Rattle.typed_tree.specs.Entries.{joined, expression_entries, link_entries, entries_of_expression, entries_of_width, entries_of_parameter, statement_entries, entries_of_statement, entries_of}
-use Rattle.typed_tree.specs.WellFormed.{all_hold, is_whole, monadic_is_well_formed, dyadic_is_well_formed, link_is_well_formed, expr_is_well_formed, is_well_formed_expr, is_well_formed_link, is_well_formed_width, is_well_formed_parameter, is_well_formed_test, stmt_is_well_formed, is_well_formed_stmt, is_well_formed_block}
-use Rattle.typed_tree.specs.Look.{Mark, Look, link_look, expression_look, look_expr, look_link, look_width, look_parameter, statement_look, look_stmt, look_block, tree_look, mark_entries, entries_of_look, is_formed_mark, Ends, If as IfMark, Then, Else, Do, Until, Fits as FitsMark, Written as WrittenMark, Width as WidthMark, BlockEnds}
+use Rattle.typed_tree.specs.WellFormed.{all_hold, is_whole, monadic_is_well_formed, dyadic_is_well_formed, link_is_well_formed, expr_is_well_formed, is_well_formed_expr, is_well_formed_link, is_well_formed_width, is_well_formed_parameter, is_well_formed_test, are_whole, stmt_is_well_formed, is_well_formed_stmt, is_well_formed_block}
+use Rattle.typed_tree.specs.Look.{Mark, Look, link_look, expression_look, look_expr, look_link, look_width, look_parameter, arms_look, statement_look, look_stmt, look_block, tree_look, mark_entries, entries_of_look, is_formed_mark, Ends, If as IfMark, Then, Else, Do, Until, Fits as FitsMark, Written as WrittenMark, Width as WidthMark, BlockEnds}
 
 -- ---- a measure of looks that is a fold over trees
 
@@ -148,6 +149,16 @@ entries_chosen number condition look rest =
     ∙ ap₂ (λ a b. a ++ b) (entries_expr condition)
     (flat_map-append mark_entries look (rest ++ (Ends ∷ [])) ∙ ap (λ row. entries_of_look look ++ row) (entries_ended rest Ends refl)))
 
+-- what the arms of a case enter
+entries_arms : (rows : List (Vec ℤ Global)) (ys : List (ToldStmt entries_of_look statement_entries))
+    → entries_of_look (arms_look rows (map look_stmt (map (λ s. s.0) ys))) ≡ joined (map entries_of_statement (map (λ s. s.0) ys))
+entries_arms [] [] = refl
+entries_arms (row ∷ rows) [] = entries_arms rows []
+entries_arms [] (y ∷ ys) =
+    flat_map-append mark_entries (look_stmt y.0) (arms_look [] (map look_stmt (map (λ s. s.0) ys))) ∙ ap₂ (λ a b. a ++ b) y.1 (entries_arms [] ys)
+entries_arms (row ∷ rows) (y ∷ ys) =
+    flat_map-append mark_entries (look_stmt y.0) (arms_look rows (map look_stmt (map (λ s. s.0) ys))) ∙ ap₂ (λ a b. a ++ b) y.1 (entries_arms rows ys)
+
 entries_stmt_layer : (y : Stmt-F (ToldStmt entries_of_look statement_entries))
     → entries_of_look (statement_look (map-Stmt Stmt Look look_stmt (stmt_opened entries_of_look statement_entries y)))
     ≡ statement_entries (map-Stmt Stmt (List ℕ) entries_of_statement (stmt_opened entries_of_look statement_entries y))
@@ -183,6 +194,11 @@ entries_stmt_layer (For number loop_number place control first first_fits direct
     ∙ ap₂ (λ a b. a ++ b) (entries_expr first)
     (flat_map-append mark_entries (look_expr last) (FitsMark last_fits ∷ Do ∷ inside)
     ∙ ap₂ (λ a b. a ++ b) (entries_expr last) (entries_ended (look_stmt body.value.0) Ends refl ∙ body.value.1)))
+entries_stmt_layer (Case number site index constants arms) =
+    let inside = arms_look constants.items (map look_stmt (map (λ s. s.0) arms.items)) in
+    ap (λ entries. number ∷ entries)
+    (flat_map-append mark_entries (look_expr index) (inside ++ (Ends ∷ []))
+    ∙ ap₂ (λ a b. a ++ b) (entries_expr index) (entries_ended inside Ends refl ∙ entries_arms constants.items arms.items))
 
 entries_stmt : (s : Stmt) → entries_of_look (look_stmt s) ≡ entries_of_statement s
 entries_stmt = measured_stmt entries_of_look statement_entries entries_stmt_layer
@@ -201,6 +217,12 @@ and_turned true true = refl
 and_turned true false = refl
 and_turned false true = refl
 and_turned false false = refl
+
+and_shifted : (a b c d : Bool) → (a && (b && (c && d))) ≡ ((a && c) && (b && d))
+and_shifted true true c d = refl
+and_shifted true false true d = refl
+and_shifted true false false d = refl
+and_shifted false b c d = refl
 
 module _ (variables sites : ℕ) where
   abbrev is_formed : Look → Bool
@@ -261,6 +283,20 @@ module _ (variables sites : ℕ) where
       ∙ ap₂ (λ a b. a && b) (formed_expr condition)
       (formed_cut look (rest ++ (Ends ∷ [])) ∙ ap (λ b. is_formed look && b) (formed_ended rest Ends refl))
 
+  -- whether the arms of a case are well formed
+  formed_arms : (rows : List (Vec ℤ Global)) (ys : List (ToldStmt is_formed (stmt_is_well_formed variables sites)))
+      → is_formed (arms_look rows (map look_stmt (map (λ s. s.0) ys)))
+      ≡ (list_all are_whole rows && all_hold (map (is_well_formed_stmt variables sites) (map (λ s. s.0) ys)))
+  formed_arms [] [] = refl
+  formed_arms (row ∷ rows) [] = ap (λ b. are_whole row && b) (formed_arms rows []) ∙ and_shifted (are_whole row) true (list_all are_whole rows) true
+  formed_arms [] (y ∷ ys) =
+      formed_cut (look_stmt y.0) (arms_look [] (map look_stmt (map (λ s. s.0) ys))) ∙ ap₂ (λ a b. a && b) y.1 (formed_arms [] ys)
+  formed_arms (row ∷ rows) (y ∷ ys) =
+      ap (λ b. are_whole row && b)
+      (formed_cut (look_stmt y.0) (arms_look rows (map look_stmt (map (λ s. s.0) ys))) ∙ ap₂ (λ a b. a && b) y.1 (formed_arms rows ys))
+      ∙ and_shifted (are_whole row) (is_well_formed_stmt variables sites y.0) (list_all are_whole rows)
+      (all_hold (map (is_well_formed_stmt variables sites) (map (λ s. s.0) ys)))
+
   formed_stmt_layer : (y : Stmt-F (ToldStmt is_formed (stmt_is_well_formed variables sites)))
       → is_formed (statement_look (map-Stmt Stmt Look look_stmt (opened_stmt y)))
       ≡ stmt_is_well_formed variables sites (map-Stmt Stmt Bool (is_well_formed_stmt variables sites) (opened_stmt y))
@@ -298,6 +334,11 @@ module _ (variables sites : ℕ) where
       (formed_cut (look_expr last) (FitsMark last_fits ∷ Do ∷ inside)
       ∙ ap₂ (λ a b. a && (is_well_formed_test variables sites last_fits && b)) (formed_expr last)
       (formed_ended (look_stmt body.value.0) Ends refl ∙ body.value.1)))
+  formed_stmt_layer (Case number site index constants arms) =
+      let inside = arms_look constants.items (map look_stmt (map (λ s. s.0) arms.items)) in
+      ap (λ b. nat_lt site sites && b)
+      (formed_cut (look_expr index) (inside ++ (Ends ∷ []))
+      ∙ ap₂ (λ a b. a && b) (formed_expr index) (formed_ended inside Ends refl ∙ formed_arms constants.items arms.items))
 
   formed_stmt : (s : Stmt) → is_formed (look_stmt s) ≡ is_well_formed_stmt variables sites s
   formed_stmt = measured_stmt is_formed (stmt_is_well_formed variables sites) formed_stmt_layer

@@ -13,7 +13,7 @@ use Rattle.typed_tree.specs.declared.tree.Expr.TheOpen.Expr-F.{Constant, Variabl
 use Rattle.typed_tree.specs.declared.tree.Expr.TheFolds.{fold-Expr}
 use Rattle.typed_tree.specs.declared.tree.Stmt.{Stmt}
 use Rattle.typed_tree.specs.declared.tree.Stmt.TheOpen.{Stmt-F}
-use Rattle.typed_tree.specs.declared.tree.Stmt.TheOpen.Stmt-F.{Empty, Assign, Write, Compound, If, While, Repeat, For}
+use Rattle.typed_tree.specs.declared.tree.Stmt.TheOpen.Stmt-F.{Empty, Assign, Write, Compound, If, While, Repeat, For, Case}
 use Rattle.typed_tree.specs.declared.tree.Stmt.TheFolds.{fold-Stmt}
 
 -- several rows as one
@@ -60,6 +60,8 @@ statement_entries (Repeat number loop_number place statements condition) =
     number ∷ (joined statements.items ++ entries_of_expression condition)
 statement_entries (For number loop_number place control first first_fits direction last last_fits body) =
     number ∷ (entries_of_expression first ++ (entries_of_expression last ++ body.value))
+statement_entries (Case number site index constants arms) =
+    number ∷ (entries_of_expression index ++ joined arms.items)
 
 -- the numbers of a statement's entries
 abbrev pub entries_of_statement : Stmt → List ℕ

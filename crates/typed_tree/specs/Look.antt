@@ -1,7 +1,8 @@
 -- How a typed tree looks: its forms in the order of the text, each told by what is decided of it: its number in the
 -- order of entry, the variable, the operation, its sites and places. What encloses others tells where it ends, so two
 -- trees that look alike are alike. It says nothing of which tree a program has.
-use Rattle.std.specs.Prelude.{ℕ, ℤ, ◌++◌, ◌&&◌, Bool, true, List, [], ◌∷◌, Option, Some, None, flat_map, nat_lt}
+use Rattle.std.specs.Prelude.{ℕ, ℤ, ◌++◌, ◌&&◌, Bool, true, List, [], ◌∷◌, Option, Some, None, Vec, flat_map, nat_lt}
+use Rattle.std.specs.List.{list_all}
 use Rattle.std.specs.declared.alloc.Global.{Global}
 use Rattle.std.specs.declared.boxed.Box.{Box}
 use Rattle.place.specs.declared.Place.{Place}
@@ -21,7 +22,7 @@ use Rattle.typed_tree.specs.declared.tree.Expr.TheOpen.Expr-F.{Constant as Const
 use Rattle.typed_tree.specs.declared.tree.Expr.TheFolds.{fold-Expr, fold-Link}
 use Rattle.typed_tree.specs.declared.tree.Stmt.{Stmt}
 use Rattle.typed_tree.specs.declared.tree.Stmt.TheOpen.{Stmt-F}
-use Rattle.typed_tree.specs.declared.tree.Stmt.TheOpen.Stmt-F.{Empty as EmptyOf, Assign as AssignOf, Write as WriteOf, Compound as CompoundOf, If as IfOf, While as WhileOf, Repeat as RepeatOf, For as ForOf}
+use Rattle.typed_tree.specs.declared.tree.Stmt.TheOpen.Stmt-F.{Empty as EmptyOf, Assign as AssignOf, Write as WriteOf, Compound as CompoundOf, If as IfOf, While as WhileOf, Repeat as RepeatOf, For as ForOf, Case as CaseOf}
 use Rattle.typed_tree.specs.declared.tree.Stmt.TheFolds.{fold-Stmt}
 use Rattle.typed_tree.specs.Entries.{joined}
 use Rattle.typed_tree.specs.WellFormed.{is_whole, monadic_is_well_formed, dyadic_is_well_formed, is_well_formed_test}
@@ -38,7 +39,7 @@ pub data Mark : Type 0 where
   Begins : Mark
   -- an operator between operands
   Operator : ℕ → Dyadic → Mark
-  -- a chain, a write, a compound statement, an if or a loop ends
+  -- a chain, a write, a compound statement, an if, a loop or a case ends
   Ends : Mark
   Empty : ℕ → Mark
   -- an assignment, with the place of `:=`
@@ -66,6 +67,9 @@ pub data Mark : Type 0 where
   Until : Mark
   -- a for: its number, the loop's number, the place of its word, the root of its control variable, and its way
   For : ℕ → ℕ → Place → ℕ → Direction → Mark
+  -- a case: its number, and its site; an arm begins, behind these constants
+  Case : ℕ → ℕ → Mark
+  Arm : List ℤ → Mark
   -- a block ends, at its last `end`
   BlockEnds : Place → Mark
 
@@ -103,6 +107,12 @@ abbrev pub look_alternative : Option (Box Look Global) → Look
 look_alternative None = []
 look_alternative (Some look) = Else ∷ look.value
 
+-- the n-th row of constants stands before the n-th arm
+abbrev pub arms_look : List (Vec ℤ Global) → List Look → Look
+arms_look rows [] = flat_map (λ row. Arm row.items ∷ []) rows
+arms_look [] (arm ∷ arms) = arm ++ arms_look [] arms
+arms_look (row ∷ rows) (arm ∷ arms) = Arm row.items ∷ (arm ++ arms_look rows arms)
+
 abbrev pub statement_look : Stmt-F Look → Look
 statement_look (EmptyOf number) = Empty number ∷ []
 statement_look (AssignOf number becomes target fits value) =
@@ -121,6 +131,8 @@ statement_look (ForOf number loop_number place control first first_fits directio
     For number loop_number place control direction
     ∷ (look_expr first
     ++ (Fits first_fits ∷ (look_expr last ++ (Fits last_fits ∷ Do ∷ (body.value ++ (Ends ∷ []))))))
+statement_look (CaseOf number site index constants arms) =
+    Case number site ∷ (look_expr index ++ (arms_look constants.items arms.items ++ (Ends ∷ [])))
 
 -- how a statement looks
 abbrev pub look_stmt : Stmt → Look
@@ -157,6 +169,8 @@ mark_entries Do = []
 mark_entries (Repeat number loop_number place) = number ∷ []
 mark_entries Until = []
 mark_entries (For number loop_number place control direction) = number ∷ []
+mark_entries (Case number site) = number ∷ []
+mark_entries (Arm constants) = []
 mark_entries (BlockEnds end) = []
 
 -- the numbers of the entries of what looks so
@@ -198,4 +212,6 @@ is_formed_mark variables sites Do = true
 is_formed_mark variables sites (Repeat number loop_number place) = true
 is_formed_mark variables sites Until = true
 is_formed_mark variables sites (For number loop_number place control direction) = nat_lt control variables
+is_formed_mark variables sites (Case number site) = nat_lt site sites
+is_formed_mark variables sites (Arm constants) = list_all is_whole constants
 is_formed_mark variables sites (BlockEnds end) = true

@@ -7,7 +7,7 @@ use Rattle.typed_tree.specs.declared.tree.Tree.{Tree}
 use Rattle.typed_tree.specs.declared.tree.Loop.{Loop}
 use Rattle.typed_tree.specs.declared.tree.Stmt.{Stmt}
 use Rattle.typed_tree.specs.declared.tree.Stmt.TheOpen.{Stmt-F}
-use Rattle.typed_tree.specs.declared.tree.Stmt.TheOpen.Stmt-F.{Empty, Assign, Write, Compound, If, While, Repeat, For}
+use Rattle.typed_tree.specs.declared.tree.Stmt.TheOpen.Stmt-F.{Empty, Assign, Write, Compound, If, While, Repeat, For, Case}
 use Rattle.typed_tree.specs.declared.tree.Stmt.TheFolds.{fold-Stmt}
 
 -- what stands inside a statement
@@ -53,6 +53,7 @@ statement_inside (Repeat number loop_number place statements condition) =
     looped loop_number (all_inside statements.items)
 statement_inside (For number loop_number place control first first_fits direction last last_fits body) =
     controlled control (looped loop_number body.value)
+statement_inside (Case number site index constants arms) = all_inside arms.items
 
 abbrev pub inside_of : Stmt → Inside
 inside_of = fold-Stmt Inside statement_inside

@@ -2,7 +2,7 @@
 -- variable is one of the program's (6.2.2), which its block declares, each test names a site of the table, each loop
 -- stands in the table of loops, there is a block, and the program has no more variables than a block has cells. It does
 -- not say that a tree is that of a program.
-use Rattle.std.specs.Prelude.{◌≡◌, ℕ, ℤ, ◌<◌, ◌≤◌, pos, neg_ℤ, ◌&&◌, Bool, true, List, Option, Some, None, int_le, nat_lt, nat_eq, length, map}
+use Rattle.std.specs.Prelude.{◌≡◌, ℕ, ℤ, ◌<◌, ◌≤◌, pos, neg_ℤ, ◌&&◌, Bool, true, List, Option, Some, None, Vec, int_le, nat_lt, nat_eq, length, map}
 use Rattle.std.specs.List.{list_all}
 use Rattle.std.specs.declared.alloc.Global.{Global}
 use Rattle.std.specs.declared.boxed.Box.{Box}
@@ -22,7 +22,7 @@ use Rattle.typed_tree.specs.declared.tree.Expr.TheOpen.Expr-F.{Constant, Variabl
 use Rattle.typed_tree.specs.declared.tree.Expr.TheFolds.{fold-Expr, fold-Link}
 use Rattle.typed_tree.specs.declared.tree.Stmt.{Stmt}
 use Rattle.typed_tree.specs.declared.tree.Stmt.TheOpen.{Stmt-F}
-use Rattle.typed_tree.specs.declared.tree.Stmt.TheOpen.Stmt-F.{Empty, Assign, Write, Compound, If, While, Repeat, For}
+use Rattle.typed_tree.specs.declared.tree.Stmt.TheOpen.Stmt-F.{Empty, Assign, Write, Compound, If, While, Repeat, For, Case}
 use Rattle.typed_tree.specs.declared.tree.Stmt.TheFolds.{fold-Stmt}
 use Rattle.typed_tree.specs.Loops.{loops_of, AreLoops}
 
@@ -33,6 +33,10 @@ all_hold tests = list_all (λ b. b) tests
 -- a number of type integer
 abbrev pub is_whole : ℤ → Bool
 is_whole value = int_le (neg_ℤ (pos 2147483647)) value && int_le value (pos 2147483647)
+
+-- the constants before an arm
+abbrev pub are_whole : Vec ℤ Global → Bool
+are_whole constants = list_all is_whole constants.items
 
 -- with so many variables and so many sites
 module _ (variables sites : ℕ) where
@@ -101,6 +105,9 @@ module _ (variables sites : ℕ) where
       && (is_well_formed_expr first
       && (is_well_formed_test first_fits
       && (is_well_formed_expr last && (is_well_formed_test last_fits && body.value))))
+  stmt_is_well_formed (Case number site index constants arms) =
+      nat_lt site sites
+      && (is_well_formed_expr index && (list_all are_whole constants.items && all_hold arms.items))
 
   -- a statement is well formed
   abbrev pub is_well_formed_stmt : Stmt → Bool

@@ -127,6 +127,15 @@ pub enum Stmt {
         last_fits: RangeTest,
         body: Box<Stmt>,
     },
+    /// The arm is executed before which the value of the index stands among the constants: the n-th row of constants
+    /// stands before the n-th arm. Where there is none it is an error, at the site.
+    Case {
+        number: u32,
+        site: u32,
+        index: Expr,
+        constants: Vec<Vec<i32>>,
+        arms: Vec<Stmt>,
+    },
 }
 
 /// The way of a control variable (6.8.3.9).

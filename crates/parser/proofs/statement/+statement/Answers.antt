@@ -19,9 +19,20 @@ use Rattle.parser.proofs.Exact.{stops_above, stops_memory, boxed_within}
 use Rattle.grammar.proofs.Parts.{parts_end}
 use Rattle.grammar.proofs.Reading.{reads_fewer, reads_no_more}
 use Rattle.parser.proofs.Reading.{unchanged}
-use Rattle.grammar.proofs.Chains.{then_ends, do_ends}
+use Rattle.grammar.proofs.Chains.{then_ends, do_ends, of_ends}
 use Rattle.grammar.proofs.Conditionals.{conditional_opened}
 use Rattle.grammar.proofs.Loops.{while_opened, repeat_opened, for_opened}
+use Rattle.grammar.proofs.Cases.{case_opened}
+use Rattle.parser.proofs.Arms.{gives-Case, case_arms_left, row_spelled, ArmList, ArmsGrow, arms_grow_first, arms_grow, arms_close, arm_stmt_next, arms_left, no_arms_left, arms_stop, arms_go_on}
+use Rattle.grammar.proofs.Arms.{arms_begin}
+use Rattle.grammar.specs.Begins.{BeginsRow}
+use Rattle.parser.specs.Refusing.{IsPlain}
+use Rattle.parser.specs.Reading.{ReadsEach}
+use Rattle.parser.specs.Rules.{ReadBehindArm}
+use Rattle.token_cursor.specs.declared.fault.ParseFault.TheVariants.{Memory}
+use Rattle.grammar.specs.Following.{Anything}
+use Rattle.std.proofs.Common.{None}
+use Rattle.grammar.specs.Spelling.{constant_spelling}
 use Rattle.grammar.proofs.Statements.{ends_value, compounded, opened_compound, statement_list_parts, statement_list_begins, statement_list_goes_on}
 use Rattle.parser.proofs.ExactStatements.{statement_answer, statement_list_left, branches_left, alternative_left, alternative_taken, while_body_left, until_left, until_taken, bounds_left, final_left, for_body_left}
 use Rattle.parser.proofs.Statements.{gives-Empty, StatementsGrow, statements_grow_first, statements_grow, compound_closed, compound_stands, guard_spelled, gives-If, gives-While, gives-Repeat, gives-For}
@@ -497,3 +508,197 @@ for_loop-returns-clause-exact t c = λ first depth s others h ends.
     let f = final_left c.args.levels depth c.control.new.cursor c.initial.new.cursor (c.in_ok-first.first, c.in_ok-first.direction) others c.in_ok-first.ensures.exact b in
     let l = for_body_left c.args.levels depth c.initial.new.cursor c.guard.new.cursor c.in_ok-last.last others (c.in_ok-last.ensures.exact do_ends) f in
     c.in_ok-body.ensures.exact l.below l.body others l.begun ends
+
+pub statement-returns-in-Some-Word-Case-clause-exact : goal.statement-returns-in-Some-Word-Case-clause-exact
+statement-returns-in-Some-Word-Case-clause-exact t c = λ depth s others h ends.
+    let first : next_kind c.args.cursor.now.rest.now ≡ Some (kind.Word word.Case) = search rules in
+    subst (λ n. ReadWithin n depth others c.case_of.new.cursor c.case_of.result) c.in_ok-levels.ensures.left
+    (c.case_of.ensures.exact first depth s others h ends)
+
+pub case_of-returns-in_err-index-clause-given : goal.case_of-returns-in_err-index-clause-given
+case_of-returns-in_err-index-clause-given t c =
+    let fault = c.in_err-index.field-0.0 in
+    handed_on _ _ c.from_residual-in_err-index.result fault c.from_residual-in_err-index.ensures
+    (refused_behind (c.args.levels + 1) c.args.cursor.now c.expect_word.new.self (of_kind_at (kind.Word word.Case) c.in_ok-place.place ∷ []) fault
+    c.in_ok-place.ensures.spelled c.in_err-index.ensures.given)
+
+pub case_of-returns-in_err-constants-clause-given : goal.case_of-returns-in_err-constants-clause-given
+case_of-returns-in_err-constants-clause-given t c =
+    let n = c.args.levels in
+    let fault = c.in_err-constants.field-0.0 in
+    let index = c.in_ok-index.index in
+    handed_on _ _ c.from_residual-in_err-constants.result fault c.from_residual-in_err-constants.ensures
+    (refused_behind_opening n (n + 1) c.args.cursor.now c.expect_word.new.self (kind.Word word.Case) c.in_ok-place.place fault refl refl
+    c.in_ok-place.ensures.spelled
+    (refused_behind n c.expect_word.new.self c.guard.new.cursor (expr_spelling index ++ word_symbol word.Of ∷ []) fault
+    (guard_spelled word.Of n c.expect_word.new.self c.guard.new.cursor index c.in_ok-index.ensures.given) c.in_err-constants.ensures.given))
+
+pub case_of-returns-clause-given : goal.case_of-returns-clause-given
+case_of-returns-clause-given t c =
+    let found = c.in_ok-constants in
+    gives-Case c.args.levels c.args.cursor.now c.expect_word.new.self c.guard.new.cursor c.arms.new.cursor c.in_ok-place.place c.in_ok-index.index
+    found.constants found.arms found.semicolon c.in_ok-place.ensures.spelled c.in_ok-index.ensures.given found.ensures.given
+
+pub case_of-returns-in_err-index-clause-exact : goal.case_of-returns-in_err-index-clause-exact
+case_of-returns-in_err-index-clause-exact t c = λ first depth s others h ends.
+    let o = case_opened depth c.in_ok-place.place c.args.cursor.now.rest.now c.expect_word.new.self.rest.now others s c.in_ok-place.ensures.spelled h ends in
+    let p = o.parts in
+    let fault = c.in_err-index.field-0.0 in
+    handed_on _ _ c.from_residual-in_err-index.result fault c.from_residual-in_err-index.ensures
+    (stops_above (c.args.levels + 1) c.args.levels depth p.below fault refl p.less
+    (c.in_err-index.ensures.exact of_ends p.below o.index p.middle p.guarded tt))
+
+pub case_of-returns-in_err-constants-clause-exact : goal.case_of-returns-in_err-constants-clause-exact
+case_of-returns-in_err-constants-clause-exact t c = λ first depth s others h ends.
+    let o = case_opened depth c.in_ok-place.place c.args.cursor.now.rest.now c.expect_word.new.self.rest.now others s c.in_ok-place.ensures.spelled h ends in
+    let l = case_arms_left c.args.levels depth c.expect_word.new.self c.guard.new.cursor c.in_ok-index.index others (c.in_ok-index.ensures.exact of_ends) o in
+    let fault = c.in_err-constants.field-0.0 in
+    handed_on _ _ c.from_residual-in_err-constants.result fault c.from_residual-in_err-constants.ensures
+    (stops_above (c.args.levels + 1) c.args.levels depth l.below fault refl l.less (c.in_err-constants.ensures.exact l.below l.found others l.arms tt))
+
+pub case_of-returns-clause-exact : goal.case_of-returns-clause-exact
+case_of-returns-clause-exact t c = λ first depth s others h ends.
+    let o = case_opened depth c.in_ok-place.place c.args.cursor.now.rest.now c.expect_word.new.self.rest.now others s c.in_ok-place.ensures.spelled h ends in
+    let l = case_arms_left c.args.levels depth c.expect_word.new.self c.guard.new.cursor c.in_ok-index.index others (c.in_ok-index.ensures.exact of_ends) o in
+    c.in_ok-constants.ensures.exact l.below l.found others l.arms tt
+
+pub arms-loop-arms-init : goal.arms-loop-arms-init
+arms-loop-arms-init t c = (
+  emptied (λ xs. ArmsGrow c.args.levels c.args.cursor.now c.args.cursor.now xs c.new-arms.result.items) c.new-constants.result.items
+      c.new-constants.ensures.items
+      (emptied (λ ys. ArmsGrow c.args.levels c.args.cursor.now c.args.cursor.now [] ys) c.new-arms.result.items c.new-arms.ensures.items
+      (arms_grow_first c.args.levels c.args.cursor.now)),
+  arms_begin c.args.cursor.now.rest.now,
+  front_none c.args.cursor.now.rest.now,
+)
+
+pub arms-loop-arms-preserved : goal.arms-loop-arms-preserved
+arms-loop-arms-preserved t c =
+    let rows = last c.loop-arms.constants.items c.put.new.list.items c.row.result c.in_ok-put.ensures.given in
+    let headed = was_read (λ r. Read BeginsRow c.loop-arms.cursor c.row.new.cursor r.items) IsPlain c.row.result rows.item rows.is c.row.ensures.given in
+    let now = last c.loop-arms.arms.items c.put-in-loop-arms.new.list.items c.statement.result c.in_ok-put-2.ensures.given in
+    let given = was_read (Read (BeginsStmt c.args.levels) c.row.new.cursor c.statement.new.cursor) (Refused c.args.levels c.row.new.cursor) c.statement.result
+    now.item now.is c.statement.ensures.given in
+    let list = pushed (λ xs. ArmList c.args.levels c.args.cursor.now c.statement.new.cursor xs c.put-in-loop-arms.new.list.items) c.loop-arms.constants.items
+    c.put.new.list.items rows.item rows.grown
+    (pushed (λ ys. ArmList c.args.levels c.args.cursor.now c.statement.new.cursor (c.loop-arms.constants.items ++ rows.item ∷ []) ys) c.loop-arms.arms.items
+    c.put-in-loop-arms.new.list.items now.item now.grown (c.loop-arms.invariant.0.1 c.row.new.cursor c.statement.new.cursor rows.item now.item headed given)) in
+    let next = arm_stmt_next c.args.cursor.now.rest.now c.loop-arms.cursor c.row.new.cursor rows.item
+    (subst (λ r. ReadsEach BeginsRow Anything c.loop-arms.cursor c.row.new.cursor r) rows.is c.row.ensures.exact) c.loop-arms.invariant.1 in
+    let left = arms_left c.args.levels c.args.cursor.now.rest.now c.row.new.cursor c.statement.new.cursor now.item
+    (subst (λ r. ReadsDeep c.args.levels BeginsStmt EndsStmt c.row.new.cursor c.statement.new.cursor r) now.is c.statement.ensures.exact) next in
+    let is : c.in_ok-semicolon.field-0 ≡ None = search rules in
+    let behind = subst (λ o. ReadBehindArm c.statement.new.cursor c.behind_arm.new.cursor o) is c.in_ok-semicolon.ensures.given in
+    let front = front_on (mark symbol.Semicolon ∷ []) c.args.cursor.now.rest.now c.statement.new.cursor.rest.now c.behind_arm.new.cursor.rest.now
+    (front_on (stmt_spelling now.item) c.args.cursor.now.rest.now c.row.new.cursor.rest.now c.statement.new.cursor.rest.now
+    (front_on (separated symbol.Comma (map constant_spelling rows.item.items) ++ mark symbol.Colon ∷ []) c.args.cursor.now.rest.now c.loop-arms.cursor.rest.now
+    c.row.new.cursor.rest.now c.loop-arms.invariant.2 (row_spelled c.loop-arms.cursor c.row.new.cursor rows.item.items headed)) given.spelled) behind.0 in (
+      arms_grow c.args.levels c.args.cursor.now c.statement.new.cursor c.behind_arm.new.cursor c.put.new.list.items c.put-in-loop-arms.new.list.items list behind.0,
+      arms_go_on c.args.cursor.now.rest.now c.statement.new.cursor.rest.now c.behind_arm.new.cursor.rest.now behind.0 behind.1 left,
+      front,
+    )
+
+pub arms-loop-arms-smaller : goal.arms-loop-arms-smaller
+arms-loop-arms-smaller t c =
+    let rows = last c.loop-arms.constants.items c.put.new.list.items c.row.result c.in_ok-put.ensures.given in
+    let headed = was_read (λ r. Read BeginsRow c.loop-arms.cursor c.row.new.cursor r.items) IsPlain c.row.result rows.item rows.is c.row.ensures.given in
+    let now = last c.loop-arms.arms.items c.put-in-loop-arms.new.list.items c.statement.result c.in_ok-put-2.ensures.given in
+    let given = was_read (Read (BeginsStmt c.args.levels) c.row.new.cursor c.statement.new.cursor) (Refused c.args.levels c.row.new.cursor) c.statement.result
+    now.item now.is c.statement.ensures.given in
+    let is : c.in_ok-semicolon.field-0 ≡ None = search rules in
+    let behind = subst (λ o. ReadBehindArm c.statement.new.cursor c.behind_arm.new.cursor o) is c.in_ok-semicolon.ensures.given in
+    let one = reads_no_more (separated symbol.Comma (map constant_spelling rows.item.items) ++ mark symbol.Colon ∷ []) c.loop-arms.cursor.rest.now
+    c.row.new.cursor.rest.now (row_spelled c.loop-arms.cursor c.row.new.cursor rows.item.items headed) in
+    let two = reads_no_more (stmt_spelling now.item) c.row.new.cursor.rest.now c.statement.new.cursor.rest.now given.spelled in
+    let three = reads_fewer (mark symbol.Semicolon) [] c.statement.new.cursor.rest.now c.behind_arm.new.cursor.rest.now behind.0 in
+    omega arith
+
+pub arms-returns-in_err-put-clause-given : goal.arms-returns-in_err-put-clause-given
+arms-returns-in_err-put-clause-given t c =
+    let fault = c.in_err-put.field-0.0 in
+    handed_on _ _ c.from_residual.result fault c.from_residual.ensures
+    (refused_plain c.args.levels c.args.cursor.now fault (not_kept (λ r. Read BeginsRow c.loop-arms.cursor c.row.new.cursor r.items) IsPlain c.row.result fault tt
+    c.row.ensures.given c.in_err-put.ensures.given))
+
+pub arms-returns-in_err-put-clause-exact : goal.arms-returns-in_err-put-clause-exact
+arms-returns-in_err-put-clause-exact t c = λ depth found others h _.
+    let p = c.loop-arms.invariant.1 depth found others h in
+    let fault = c.in_err-put.field-0.0 in
+    handed_on _ _ c.from_residual.result fault c.from_residual.ensures
+    (stops_memory c.args.levels depth fault (not_kept (λ _. c.row.new.cursor.rest.now ≡ p.middle) (λ why. why ≡ Memory) c.row.result fault refl
+    (c.row.ensures.exact p.constants p.middle p.headed tt) c.in_err-put.ensures.given))
+
+pub arms-returns-in_err-put-2-clause-given : goal.arms-returns-in_err-put-2-clause-given
+arms-returns-in_err-put-2-clause-given t c =
+    let fault = c.in_err-put-2.field-0.0 in
+    let start = c.row.new.cursor in
+    let rows = last c.loop-arms.constants.items c.put.new.list.items c.row.result c.in_ok-put.ensures.given in
+    let headed = was_read (λ r. Read BeginsRow c.loop-arms.cursor c.row.new.cursor r.items) IsPlain c.row.result rows.item rows.is c.row.ensures.given in
+    let refused : Refused c.args.levels start fault = not_kept (Read (BeginsStmt c.args.levels) start c.statement.new.cursor) (Refused c.args.levels start)
+    c.statement.result fault (memory_refused c.args.levels start) c.statement.ensures.given c.in_err-put-2.ensures.given in
+    handed_on _ _ c.from_residual-in_err-put-2.result fault c.from_residual-in_err-put-2.ensures
+    (refused_behind_front c.args.levels c.args.cursor.now start fault
+    (front_on (separated symbol.Comma (map constant_spelling rows.item.items) ++ mark symbol.Colon ∷ []) c.args.cursor.now.rest.now c.loop-arms.cursor.rest.now
+    start.rest.now c.loop-arms.invariant.2 (row_spelled c.loop-arms.cursor start rows.item.items headed)) refused)
+
+pub arms-returns-in_err-put-2-clause-exact : goal.arms-returns-in_err-put-2-clause-exact
+arms-returns-in_err-put-2-clause-exact t c = λ depth found others h _.
+    let rows = last c.loop-arms.constants.items c.put.new.list.items c.row.result c.in_ok-put.ensures.given in
+    let next = arm_stmt_next c.args.cursor.now.rest.now c.loop-arms.cursor c.row.new.cursor rows.item
+    (subst (λ r. ReadsEach BeginsRow Anything c.loop-arms.cursor c.row.new.cursor r) rows.is c.row.ensures.exact) c.loop-arms.invariant.1 in
+    let p = next depth found others h in
+    let fault = c.in_err-put-2.field-0.0 in
+    handed_on _ _ c.from_residual-in_err-put-2.result fault c.from_residual-in_err-put-2.ensures
+    (not_kept (λ _. c.statement.new.cursor.rest.now ≡ p.behind) (Stops c.args.levels depth) c.statement.result fault tt
+    (c.statement.ensures.exact depth p.statement p.behind p.begun p.ends) c.in_err-put-2.ensures.given)
+
+pub arms-returns-in_err-semicolon-clause-given : goal.arms-returns-in_err-semicolon-clause-given
+arms-returns-in_err-semicolon-clause-given t c =
+    let fault = c.in_err-semicolon.field-0.0 in
+    handed_on _ _ c.from_residual-in_err-semicolon.result fault c.from_residual-in_err-semicolon.ensures
+    (refused_plain c.args.levels c.args.cursor.now fault c.in_err-semicolon.ensures.given)
+
+pub arms-returns-in_err-semicolon-clause-exact : goal.arms-returns-in_err-semicolon-clause-exact
+arms-returns-in_err-semicolon-clause-exact t c = λ depth found others h _.
+    let rows = last c.loop-arms.constants.items c.put.new.list.items c.row.result c.in_ok-put.ensures.given in
+    let headed = was_read (λ r. Read BeginsRow c.loop-arms.cursor c.row.new.cursor r.items) IsPlain c.row.result rows.item rows.is c.row.ensures.given in
+    let now = last c.loop-arms.arms.items c.put-in-loop-arms.new.list.items c.statement.result c.in_ok-put-2.ensures.given in
+    let given = was_read (Read (BeginsStmt c.args.levels) c.row.new.cursor c.statement.new.cursor) (Refused c.args.levels c.row.new.cursor) c.statement.result
+    now.item now.is c.statement.ensures.given in
+    let next = arm_stmt_next c.args.cursor.now.rest.now c.loop-arms.cursor c.row.new.cursor rows.item
+    (subst (λ r. ReadsEach BeginsRow Anything c.loop-arms.cursor c.row.new.cursor r) rows.is c.row.ensures.exact) c.loop-arms.invariant.1 in
+    let left = arms_left c.args.levels c.args.cursor.now.rest.now c.row.new.cursor c.statement.new.cursor now.item
+    (subst (λ r. ReadsDeep c.args.levels BeginsStmt EndsStmt c.row.new.cursor c.statement.new.cursor r) now.is c.statement.ensures.exact) next in
+    absurd (no_arms_left depth c.statement.new.cursor.rest.now others c.in_err-semicolon.ensures.missed.0 c.in_err-semicolon.ensures.missed.1
+    (left depth found others h))
+
+pub arms-returns-in-Some-clause-given : goal.arms-returns-in-Some-clause-given
+arms-returns-in-Some-clause-given t c =
+    let rows = last c.loop-arms.constants.items c.put.new.list.items c.row.result c.in_ok-put.ensures.given in
+    let headed = was_read (λ r. Read BeginsRow c.loop-arms.cursor c.row.new.cursor r.items) IsPlain c.row.result rows.item rows.is c.row.ensures.given in
+    let now = last c.loop-arms.arms.items c.put-in-loop-arms.new.list.items c.statement.result c.in_ok-put-2.ensures.given in
+    let given = was_read (Read (BeginsStmt c.args.levels) c.row.new.cursor c.statement.new.cursor) (Refused c.args.levels c.row.new.cursor) c.statement.result
+    now.item now.is c.statement.ensures.given in
+    let list = pushed (λ xs. ArmList c.args.levels c.args.cursor.now c.statement.new.cursor xs c.put-in-loop-arms.new.list.items) c.loop-arms.constants.items
+    c.put.new.list.items rows.item rows.grown
+    (pushed (λ ys. ArmList c.args.levels c.args.cursor.now c.statement.new.cursor (c.loop-arms.constants.items ++ rows.item ∷ []) ys) c.loop-arms.arms.items
+    c.put-in-loop-arms.new.list.items now.item now.grown (c.loop-arms.invariant.0.1 c.row.new.cursor c.statement.new.cursor rows.item now.item headed given)) in
+    let is : c.in_ok-semicolon.field-0 ≡ Some c.in-Some.semicolon = search rules in
+    let behind = subst (λ o. ReadBehindArm c.statement.new.cursor c.behind_arm.new.cursor o) is c.in_ok-semicolon.ensures.given in
+    arms_close c.args.levels c.args.cursor.now c.statement.new.cursor c.behind_arm.new.cursor c.put.new.list.items c.put-in-loop-arms.new.list.items c.in-Some.semicolon list
+    behind
+
+pub arms-returns-in-Some-clause-exact : goal.arms-returns-in-Some-clause-exact
+arms-returns-in-Some-clause-exact t c = λ depth found others h _.
+    let rows = last c.loop-arms.constants.items c.put.new.list.items c.row.result c.in_ok-put.ensures.given in
+    let headed = was_read (λ r. Read BeginsRow c.loop-arms.cursor c.row.new.cursor r.items) IsPlain c.row.result rows.item rows.is c.row.ensures.given in
+    let now = last c.loop-arms.arms.items c.put-in-loop-arms.new.list.items c.statement.result c.in_ok-put-2.ensures.given in
+    let given = was_read (Read (BeginsStmt c.args.levels) c.row.new.cursor c.statement.new.cursor) (Refused c.args.levels c.row.new.cursor) c.statement.result
+    now.item now.is c.statement.ensures.given in
+    let next = arm_stmt_next c.args.cursor.now.rest.now c.loop-arms.cursor c.row.new.cursor rows.item
+    (subst (λ r. ReadsEach BeginsRow Anything c.loop-arms.cursor c.row.new.cursor r) rows.is c.row.ensures.exact) c.loop-arms.invariant.1 in
+    let left = arms_left c.args.levels c.args.cursor.now.rest.now c.row.new.cursor c.statement.new.cursor now.item
+    (subst (λ r. ReadsDeep c.args.levels BeginsStmt EndsStmt c.row.new.cursor c.statement.new.cursor r) now.is c.statement.ensures.exact) next in
+    let is : c.in_ok-semicolon.field-0 ≡ Some c.in-Some.semicolon = search rules in
+    let behind = subst (λ o. ReadBehindArm c.statement.new.cursor c.behind_arm.new.cursor o) is c.in_ok-semicolon.ensures.given in
+    arms_stop depth c.statement.new.cursor.rest.now c.behind_arm.new.cursor.rest.now others c.in-Some.semicolon behind (left depth found others h)

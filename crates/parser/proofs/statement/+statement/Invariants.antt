@@ -2,6 +2,8 @@ use Rattle.std.proofs.Common.{◌+◌, ◌*◌}
 use Rattle.token_cursor.specs.Cursor.{left}
 use Rattle.grammar.proofs.Statements.{StatementNext}
 use Rattle.parser.proofs.Deep.{Front}
+use Rattle.grammar.proofs.Arms.{ArmNext}
+use Rattle.parser.proofs.Arms.{ArmsGrow}
 use Rattle.parser.proofs.Statements.{StatementsGrow}
 use Rattle.parser.proofs.statement.+statement.Given as goal
 
@@ -26,6 +28,12 @@ decreases-repeat_loop l = 4 * l.levels + 3
 abbrev pub decreases-for_loop : goal.decreases-for_loop
 decreases-for_loop l = 4 * l.levels + 3
 
+abbrev pub decreases-case_of : goal.decreases-case_of
+decreases-case_of l = 4 * l.levels + 3
+
+abbrev pub decreases-arms : goal.decreases-arms
+decreases-arms l = 4 * l.levels + 1
+
 abbrev pub decreases-alternative : goal.decreases-alternative
 decreases-alternative l = 4 * l.levels + 2
 
@@ -39,3 +47,11 @@ invariant-statements-loop-statements l =
 
 abbrev pub decreases-statements-loop-statements : goal.decreases-statements-loop-statements
 decreases-statements-loop-statements l = left l.cursor
+
+abbrev pub invariant-arms-loop-arms : goal.invariant-arms-loop-arms
+invariant-arms-loop-arms l =
+    ArmsGrow l.levels l.fn.cursor l.cursor l.constants.items l.arms.items × ArmNext l.fn.cursor.rest.now l.cursor.rest.now
+    × Front l.fn.cursor.rest.now l.cursor.rest.now
+
+abbrev pub decreases-arms-loop-arms : goal.decreases-arms-loop-arms
+decreases-arms-loop-arms l = left l.cursor

@@ -1,6 +1,6 @@
 use Rattle.std.proofs.Common.{reverse, refl}
 use Rattle.meaning.proofs.Resuming.{continues_as, goes_on_to}
-use Rattle.meaning.proofs.Unrolling.{entered, does-Empty, does-Assign, does-Write, does-Compound, does-If, does-While, does-Repeat, does-For}
+use Rattle.meaning.proofs.Unrolling.{entered, does-Empty, does-Assign, does-Write, does-Compound, does-If, does-While, does-Repeat, does-For, does-Case}
 use Rattle.meaning.proofs.interpreter.Run.statement.Goals as goal
 
 pub returns-in-Empty-clause-does : goal.returns-in-Empty-clause-does
@@ -70,3 +70,12 @@ returns-in-For-clause-does c = λ env s agrees.
     (does-For given.number given.loop_number given.place given.control given.first given.first_fits given.direction given.last given.last_fits given.body
     c.args.statement.now given.is c.deref-in-For.result.now c.deref-in-For.ensures env (reverse old.pending.items) (reverse old.values.items) s)
     (c.plan_values.ensures.does env (entered given.number env s) agrees)
+
+pub returns-in-Case-clause-does : goal.returns-in-Case-clause-does
+returns-in-Case-clause-does c = λ env s agrees.
+    let old = c.args.self.now in
+    let given = c.in-Case in
+    continues_as env old c.plan-in-Case.new.self _ _ c.plan-in-Case.result
+    (does-Case given.number given.site given.index given.constants given.arms c.args.statement.now given.is c.deref-in-Case.result
+    c.deref-in-Case.ensures.value c.deref-in-Case-2.result c.deref-in-Case-2.ensures.value env (reverse old.pending.items) (reverse old.values.items) s)
+    (c.plan-in-Case.ensures.does env (entered given.number env s) agrees)

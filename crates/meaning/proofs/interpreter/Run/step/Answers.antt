@@ -58,6 +58,9 @@ returns-in-Next-clause-does c =
     does_as old new c.args.work _ c.next_round.result given.is
     (passed does given.value given.last fits last_fits c.next_round.ensures.does)
 
+pub returns-in-Case-clause-does : goal.returns-in-Case-clause-does
+returns-in-Case-clause-does c = does_as c.args.self.now c.case.new.self c.args.work _ c.case.result c.in-Case.is c.case.ensures.does
+
 pub returns-in-Parameters-clause-does : goal.returns-in-Parameters-clause-does
 returns-in-Parameters-clause-does c =
     does_as c.args.self.now c.parameters.new.self c.args.work _ c.parameters.result c.in-Parameters.is c.parameters.ensures.does
