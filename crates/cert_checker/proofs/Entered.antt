@@ -29,8 +29,8 @@ use Rattle.cert_checker.specs.declared.visits.Visits.{Visits}
 use Rattle.cert_checker.specs.Promise.{LinksEntries}
 use Rattle.abstract_state.specs.State.{State, Dead, start}
 use Rattle.cert_checker.specs.View.{all_counted, counted}
-use Rattle.cert_checker.specs.Loops.{claims_on, limits_at, round_of, touched, with_own, without_own}
-use Rattle.cert_checker.specs.Ways.{Way, turn_begun, way_of, where_counts}
+use Rattle.structured_states.specs.Loops.{claims_on, limits_at, round_of, touched, with_own, without_own}
+use Rattle.structured_states.specs.Ways.{Way, turn_begun, way_of, where_counts}
 use Rattle.abstract_state.specs.Loops.{head}
 use Rattle.abstract_state.specs.Conditions.{bound_form}
 use Rattle.place.specs.declared.Place.{Place}

@@ -12,7 +12,7 @@ use Rattle.abstract_state.specs.Loops.{is_among}
 use Rattle.abstract_state.proofs.Looped.{kept-itself, kept-then}
 use Rattle.abstract_state.proofs.Apart.{part, part-overlaps, place-itself, share-none, written-stored, other-kept}
 use Rattle.abstract_state.proofs.Knows.{place_of, at-place, entire-value}
-use Rattle.cert_checker.specs.Loops.{Round, all_control, all_list, limits_at, touched}
+use Rattle.structured_states.specs.Loops.{Round, all_control, all_list, limits_at, touched}
 
 -- each variable's value lies in the range of its type
 abbrev pub InTypes : List Interval → Environment → Store → Type 0

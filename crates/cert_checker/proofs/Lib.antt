@@ -1,11 +1,7 @@
 pub mod Among
-pub mod Behind
-pub mod Claims
 pub mod Entered
 pub mod Held
 pub mod Keeping
-pub mod Touched
-pub mod OnWay
 pub mod Sound
 pub mod SoundFor
 pub mod SoundForms

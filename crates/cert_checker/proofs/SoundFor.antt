@@ -25,17 +25,17 @@ use Rattle.abstract_state.proofs.Changed.{assigned-known}
 use Rattle.abstract_state.proofs.Knows.{at-place, place_of}
 use Rattle.abstract_state.proofs.Looped.{replaced-known, undefined-known}
 use Rattle.abstract_state.proofs.Ranged.{included-in, is_in-limits, limits-is_in}
-use Rattle.cert_checker.specs.Loops.{Round, all_control, limits_at, round_of, touched, with_own, without_own}
-use Rattle.cert_checker.specs.Ways.{Way, met, turn_begun, turn_ended, way_out, where_counts, with_values}
+use Rattle.structured_states.specs.Loops.{Round, all_control, limits_at, round_of, touched, with_own, without_own}
+use Rattle.structured_states.specs.Ways.{Way, met, turn_begun, turn_ended, way_out, where_counts, with_values}
 use Rattle.cert_checker.specs.Walk as walk
 use Rattle.cert_checker.specs.Walk.{Context, Walked, Walking, followed, steady_in}
 use Rattle.cert_checker.specs.declared.fault.Rule.TheVariants.{Changes}
 use Rattle.cert_checker.proofs.Keeping.{Keeps, control-kept, gone-keeps, gone-kept, gone-none, gone-typed, keeps-itself, keeps-then, own-value, written-typed}
-use Rattle.cert_checker.proofs.OnWay.{Between, MayBe, begun-known, counts-known, counts-ordered, ended-known, kept-may, met-in, next-between, ordered-itself, untouched-form}
+use Rattle.structured_states.proofs.OnWay.{Between, MayBe, begun-known, counts-known, counts-ordered, ended-known, kept-may, met-in, next-between, ordered-itself, untouched-form}
 use Rattle.cert_checker.proofs.Sound.{World, IsPartOf, Stands, Good, IsForetold, Passes, Sound, Any_value, unbroken-left, unbroken-right, part-left, part-right, nothing-new, good-give, good-weaker, good-then, stands-as}
 use Rattle.cert_checker.proofs.SoundLoops.{Foretold, RoundEnds, inner, kept-rule, loop-good, loop_begun, rounds-outer, rounds-own, turn-then, ways-good, with_head}
 use Rattle.cert_checker.proofs.SoundOperations.{within-sound}
-use Rattle.cert_checker.proofs.Touched.{inside-uncontrolled, inside-untouched, own-controls, own-untouched}
+use Rattle.structured_states.proofs.Touched.{inside-uncontrolled, inside-untouched, own-controls, own-untouched}
 
 -- a number between two of a range lies in the range
 between-in : (direction : Direction) (range : Interval) (x y n : ℤ) → HasMember range x → HasMember range y → Between direction x y n → HasMember range n

@@ -37,11 +37,11 @@ use Rattle.cert_checker.proofs.Keeping.{written-kept, written-typed, keeps-then}
 use Rattle.abstract_state.proofs.Changed.{IsOfForm, assigned-known}
 use Rattle.abstract_state.proofs.Refined.{expression-kept, form-known}
 use Rattle.typed_tree.specs.declared.tree.Direction.{Direction}
-use Rattle.cert_checker.specs.Ways.{way_of}
-use Rattle.cert_checker.proofs.OnWay.{of-form_may}
+use Rattle.structured_states.specs.Ways.{way_of}
+use Rattle.structured_states.proofs.OnWay.{of-form_may}
 use Rattle.cert_checker.proofs.SoundFor.{for-good}
 use Rattle.abstract_state.specs.Conditions.{bound_form}
-use Rattle.cert_checker.specs.Loops.{all_list, limits_at}
+use Rattle.structured_states.specs.Loops.{all_list, limits_at}
 use Rattle.cert_checker.specs.declared.fault.Rule.TheVariants.{Changes}
 use Rattle.domain.specs.Facts.{Bound}
 use Rattle.domain.specs.Interval.{Interval, is_included}

@@ -23,7 +23,7 @@ use Rattle.abstract_state.specs.declared.known.Known.TheVariants.{Ordinal}
 use Rattle.abstract_state.proofs.Ranged.{IsKnown}
 use Rattle.abstract_state.proofs.Knows.{joined-known_one, joined-known_other}
 use Rattle.abstract_state.proofs.Refined.{branched-known}
-use Rattle.cert_checker.specs.Loops.{Round, claims_on, limits_at, round_of, touched, with_own, without_own}
+use Rattle.structured_states.specs.Loops.{Round, claims_on, limits_at, round_of, touched, with_own, without_own}
 use Rattle.abstract_state.specs.Loops.{gives_all, head}
 use Rattle.abstract_state.specs.Knows.{IsKept, Shows, moment}
 use Rattle.abstract_state.proofs.Looped.{given-all_known, head-known}

@@ -32,8 +32,9 @@ use Rattle.abstract_state.specs.Conditions.{bound_form}
 use Rattle.domain.specs.Facts.{Bound}
 use Rattle.abstract_state.specs.State.{State, Dead, Live, is_defined, joined_states, limits_of, range_of, with_defined}
 use Rattle.cert_checker.specs.Walk.{Breach, Context, Linked, Walked, Walking, use_of, tested, positive, within, width_test, assign, change, fitting, ◌>>=◌, give, ordinal, enter, variable_walk, operated, combined, in_turn, value_walk, link_walk, parameter_walk, statement_walk, all_of, assignment, block_walk, branches, breach_unless, facts_given, first_context, program_walk, followed, here, loop_walk, parted, repeat_round, while_round, with_state, where_so, numbers_of}
-use Rattle.cert_checker.specs.View.{context_of, all_counted, counted, else_walk, AtHead, EntersLoop, IsBegun, IsMoved, kept_round, LeavesLoop, loop_in, Meets, Parts, Walks, Goes}
-use Rattle.cert_checker.specs.Loops.{Claims, Round, all_list, claims_on, limits_at, touched, with_own, without_own}
+use Rattle.structured_states.specs.View.{kept_round}
+use Rattle.cert_checker.specs.View.{context_of, all_counted, counted, else_walk, AtHead, EntersLoop, IsBegun, IsMoved, LeavesLoop, loop_in, Meets, Parts, Walks, Goes}
+use Rattle.structured_states.specs.Loops.{Claims, Round, all_list, claims_on, limits_at, touched, with_own, without_own}
 use Rattle.abstract_state.specs.Loops.{gives_all, head, is_among}
 use Rattle.std.specs.List.{list_all}
 use Rattle.std.proofs.lemmas.List.Folds.{list_all-map}
@@ -43,6 +44,7 @@ use Rattle.typed_tree.specs.declared.tree.Tree.{Tree}
 use Rattle.certificate.specs.declared.Certificate.{Certificate}
 use Rattle.cert_checker.specs.declared.fault.Rule.TheVariants.{LoopEntry, LoopTurn, Changes}
 use Rattle.cert_checker.specs.Promise.{first_breach, IsBreachOf}
+use Rattle.structured_states.proofs.Claims.{item-cut, drop-past}
 
 -- ---- the walk, form by form
 
@@ -187,12 +189,6 @@ given-up {A} walk old new before after fault (Err other) is goes =
     subst (λ f. Goes walk old before (Err f) new after) (sym is.1) goes
 
 -- ---- a list of pieces, from one of them on
-
-pub item-cut : {X : Type 0} (items : List X) (i : ℕ) (x : X) → i < length items → x ≡ get_or items i x → drop i items ≡ x ∷ drop (i + 1) items
-item-cut items i x inside is = rw add-one (drop-cons items i x inside ∙ ap (λ y. y ∷ drop (suc i) items) (sym is))
-
-pub drop-past : {X : Type 0} (items : List X) (i : ℕ) → length items ≤ i → drop i items ≡ []
-drop-past items i past = drop_all i items past
 
 all-cut : {X : Type 0} (walk : X → Walking (Unit {0})) (items : List X) (i : ℕ) (x : X) → i < length items → x ≡ get_or items i x
     → all_of (map walk (drop i items)) ≡ (walk x >>= λ _. all_of (map walk (drop (i + 1) items)))

@@ -21,8 +21,8 @@ use Rattle.cert_checker.specs.Promise.{IsBreachOf}
 use Rattle.std.specs.Result.{IsErr, IsErrAnd}
 use Rattle.domain.specs.Interval.{Interval}
 use Rattle.abstract_state.specs.declared.known.Known.TheVariants.{Ordinal}
-use Rattle.cert_checker.specs.declared.ways.Way.{Way as KeptWay}
-use Rattle.cert_checker.specs.Ways.{End, Way, end_of, met, turn_begun, turn_ended, way_of, way_out, where_counts, with_values}
+use Rattle.structured_states.specs.declared.ways.Way.{Way as KeptWay}
+use Rattle.structured_states.specs.Ways.{End, Way, end_of, met, turn_begun, turn_ended, way_of, way_out, where_counts, with_values}
 use Rattle.cert_checker.specs.Walk.{Walked, Walking, ◌>>=◌, assign, changed_by, control_change, enter, followed, for_round, for_turns, for_walk, give, loop_walk, numbers_of, parted, rounds_of, statement_walk, steady_in, tested_end, tested_way, value_walk, with_state, within}
 use Rattle.cert_checker.specs.View.{Goes, IsMoved, Moves, Parts, Walks, all_counted, context_of, said_tested}
 use Rattle.cert_checker.proofs.Steps.{breach-same, breach-stays, branches-stopped, goes-as, goes-stopped, goes-then, moved-same, walks-give}

@@ -2,7 +2,6 @@
 -- It does not say what a walk is.
 use Rattle.std.specs.Prelude.{◌≡◌, ℕ, ◌+◌, Bool, ◌&&◌, true, false, List, [], ◌∷◌, ◌++◌, Option, Some, None, Result, Ok, Err, nat_eq, map}
 use Rattle.std.specs.declared.alloc.Global.{Global}
-use denote.Ref.{Bor}
 use Rattle.std.specs.declared.boxed.Box.{Box}
 use Rattle.certificate.specs.declared.Certificate.{Certificate}
 use Rattle.typed_tree.specs.declared.tree.Tree.{Tree}
@@ -10,16 +9,14 @@ use Rattle.typed_tree.specs.declared.tree.Stmt.{Stmt}
 use Rattle.cert_checker.specs.declared.fault.CheckFault.{CheckFault}
 use Rattle.cert_checker.specs.declared.fault.CheckFault.TheVariants.{Memory}
 use Rattle.abstract_state.specs.declared.state.State.{State as Kept}
-use Rattle.abstract_state.specs.View.{said_form, viewed}
+use Rattle.abstract_state.specs.View.{viewed}
+use Rattle.structured_states.specs.View.{kept_round, said_claims, said_way}
 use Rattle.cert_checker.specs.declared.visits.Visits.{Visits}
 use Rattle.cert_checker.specs.declared.walk.Walk.{Walk}
-use Rattle.cert_checker.specs.declared.rounds.Round.{Round as KeptRound}
-use Rattle.cert_checker.specs.declared.ways.End.{End as KeptEnd}
-use Rattle.cert_checker.specs.declared.ways.Way.{Way as KeptWay}
-use Rattle.certificate.specs.declared.LoopClaims.{LoopClaims as KeptClaims}
-use Rattle.cert_checker.specs.Loops.{Claims, Round, claims_of, claims_on, controls_inside, limits_at, round_of, touched, with_own, without_own}
-use Rattle.cert_checker.specs.Ways.{End, Way}
-use Rattle.certificate.specs.Contents.{LoopClaims, loop_of}
+use Rattle.structured_states.specs.declared.rounds.Round.{Round as KeptRound}
+use Rattle.structured_states.specs.declared.ways.Way.{Way as KeptWay}
+use Rattle.structured_states.specs.Loops.{Round, claims_on, controls_inside, limits_at, round_of, touched, with_own, without_own}
+use Rattle.structured_states.specs.Ways.{Way}
 use Rattle.abstract_state.specs.Loops.{gives_all, head}
 use Rattle.place.specs.declared.Place.{Place}
 use Rattle.abstract_state.specs.State.{State, Dead, joined_states}
@@ -36,42 +33,6 @@ counted number visits =
 abbrev pub all_counted : List ℕ → Visits → Visits
 all_counted [] visits = visits
 all_counted (number ∷ numbers) visits = all_counted numbers (counted number visits)
-
--- claims that the checker has found, as the definitions see them
-abbrev pub found_as : Option (Bor KeptClaims) → Option LoopClaims
-found_as None = None
-found_as (Some claims) = Some (loop_of claims.now)
-
--- what they claim of a loop
-abbrev pub said_claims : Option (Bor KeptClaims) → Claims
-said_claims claims = claims_of (found_as claims)
-
--- a loop of the checker: the loop itself, at its head, and round its body
-abbrev pub loop_of_round : KeptRound → Round
-loop_of_round round = record { changes = (said_claims round.claims).changes; controls = round.controls.now }
-
-abbrev pub head_round : KeptRound → Round
-head_round round = with_own round.own (loop_of_round round)
-
-abbrev pub kept_round : KeptRound → Round
-kept_round round = without_own round.own (loop_of_round round)
-
--- a variable is a loop's own control variable
-abbrev pub is_own : ℕ → Option ℕ → Bool
-is_own root None = false
-is_own root (Some control) = nat_eq control root
-
--- the way of a control variable, as the definitions see it
-abbrev pub said_end : KeptEnd → End
-said_end end = record { form = said_form end.form; fits = end.fits; values = end.values }
-
-abbrev pub said_way : KeptWay → Way
-said_way way = record {
-  control = way.control;
-  direction = way.direction;
-  first = said_end way.first;
-  last = said_end way.last;
-}
 
 -- what a walk of the checker goes by
 abbrev pub context_of : Walk → Context

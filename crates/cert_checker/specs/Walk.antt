@@ -36,8 +36,8 @@ use Rattle.abstract_state.specs.State.{State, Dead, start, integer, is_dead, is_
 use Rattle.abstract_state.specs.Changes.{assigned}
 use Rattle.abstract_state.specs.Conditions.{bound_form, branched}
 use Rattle.abstract_state.specs.Loops.{gives_all, head, with_undefined}
-use Rattle.cert_checker.specs.Loops.{Round, all_control, all_limits, all_list, claims_on, limits_at, round_of, touched, with_own, without_own}
-use Rattle.cert_checker.specs.Ways.{End, Way, met, steady, turn_begun, turn_ended, way_of, way_out, where_counts, with_values}
+use Rattle.structured_states.specs.Loops.{Round, all_control, all_limits, all_list, claims_on, limits_at, round_of, touched, with_own, without_own}
+use Rattle.structured_states.specs.Ways.{End, Way, met, steady, turn_begun, turn_ended, way_of, way_out, where_counts, with_values}
 
 -- what a walk goes by: the program and its certificate, the values of the variables' types, and the loops round the
 -- point, the outermost first

@@ -1,23 +1,23 @@
 ghost use Rattle.std.specs.Prelude.{◌≡◌, ◌&&◌, [], true, false, map, IfOk, MatchResult};
 ghost use Rattle.cert_checker.specs.Walk.{enter, variable_walk, tested, within, positive, divisor, whole, operated, combined, value_walk, link_walk, width_test, width_walk, parameter_walk, all_of, fitting, assignment, assign, change, control_change, may_control, where_so, while_round, repeat_round, for_round, rounds_of, for_turns, for_walk, tested_way, steady_in, statement_walk, block_walk, program_walk};
 ghost use Rattle.typed_tree.specs.Entries.{entries_of};
-ghost use Rattle.cert_checker.specs.View.{EntersLoop, Goes, IsBegun, IsLoop, LeavesLoop, Meets, Moves, Parts, all_counted, context_of, else_walk, said_state, said_tested, said_way};
+ghost use Rattle.structured_states.specs.View.{said_way};
+ghost use Rattle.cert_checker.specs.View.{EntersLoop, Goes, IsBegun, IsLoop, LeavesLoop, Meets, Moves, Parts, all_counted, context_of, else_walk, said_state, said_tested};
 ghost use Rattle.abstract_state.specs.declared.known.Known.TheVariants.{Ordinal};
 ghost use Rattle.abstract_state.specs.View.{said_form, viewed};
 ghost use Rattle.abstract_state.specs.Loops.{with_undefined};
 ghost use Rattle.abstract_state.specs.State.{joined_states, limits_of};
 ghost use Rattle.abstract_state.specs.Conditions.{bound_form};
-ghost use Rattle.cert_checker.specs.Loops.{limits_at};
+ghost use Rattle.structured_states.specs.Loops.{limits_at};
 ghost use Rattle.cert_checker.specs.Promise.{IsBreachOf};
 ghost use Rattle.domain.specs.Interval.{is_included};
-ghost use Rattle.cert_checker.specs.Ways.{turn_begun, turn_ended, way_out, where_counts};
+ghost use Rattle.structured_states.specs.Ways.{turn_begun, turn_ended, way_out, where_counts};
 
 use crate::fault::{CheckFault, Rule};
 use crate::rounds::{
     Round, all_control, all_limits, all_list, claims_on, controls_inside, limits_at,
 };
 use crate::visits::Visits;
-use crate::ways::{End, Way};
 use abstract_state::{Known, State, bound_form, limits};
 use certificate::Certificate;
 use domain::Domain;
@@ -25,6 +25,10 @@ use domain::interval::Interval;
 use place::Place;
 use std::alloc::{AllocError, Global};
 use std::mem;
+use structured_states::rounds::{
+    Round, all_control, all_limits, all_list, claims_on, controls_inside, limits_at,
+};
+use structured_states::ways::{End, Way};
 use typed_tree::tree::{
     Access, Block, Dyadic, Expr, Link, Monadic, RangeTest, Stmt, Tree, Width, WriteParameter,
 };

@@ -1,6 +1,7 @@
 use Rattle.std.proofs.Common.{refl, map, true, false, Some, None, Ok, Err}
 use Rattle.cert_checker.specs.Walk.{all_of, for_round, for_turns, for_walk, repeat_round, rounds_of, statement_walk, where_so, while_round}
-use Rattle.cert_checker.specs.View.{else_walk, said_end, said_way}
+use Rattle.structured_states.specs.View.{said_end, said_way}
+use Rattle.cert_checker.specs.View.{else_walk}
 use Rattle.cert_checker.proofs.Steps.{all-step, all-end, given-up, if-begun, branches-done, branches-stopped, loop-done, loop-stopped, while-begun, repeat-begun, while_round-done, repeat_round-done}
 use Rattle.cert_checker.proofs.StepsFor.{for-begun, for-last_stopped, for-stopped, rounds-go, turns-done, turns-not_begun, turns-not_tested, way-same}
 use Rattle.cert_checker.proofs.walk.Walk.+statement.Goals as goal

@@ -4,9 +4,9 @@ use Rattle.std.proofs.lemmas.List.Folds.{list_all-map}
 use Rattle.domain.specs.Interval.{is_included}
 use Rattle.abstract_state.specs.State.{limits_of}
 use Rattle.abstract_state.specs.Loops.{is_among}
-use Rattle.cert_checker.specs.declared.rounds.Round.{Round as KeptRound}
-use Rattle.cert_checker.specs.Loops.{Round, all_control, limits_at}
-use Rattle.cert_checker.specs.View.{kept_round}
+use Rattle.structured_states.specs.declared.rounds.Round.{Round as KeptRound}
+use Rattle.structured_states.specs.Loops.{Round, all_control, limits_at}
+use Rattle.structured_states.specs.View.{kept_round}
 use Rattle.cert_checker.proofs.walk.Walk.may_control.Goals as goal
 
 pub returns-then-all_control : goal.returns-then-all_control

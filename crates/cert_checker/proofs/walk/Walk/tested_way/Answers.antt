@@ -1,4 +1,4 @@
-use Rattle.cert_checker.specs.View.{said_way}
+use Rattle.structured_states.specs.View.{said_way}
 use Rattle.cert_checker.proofs.StepsFor.{control-stopped, last-stopped, tests-done, tests-first, way-given_up}
 use Rattle.cert_checker.proofs.walk.Walk.tested_way.Goals as goal
 

@@ -1,9 +1,9 @@
 use Rattle.std.proofs.Common.{rules, ◌≡◌, subst, ap, sym, ◌∙◌, pos, ◌-ℤ◌, ◌+ℤ◌, to_z, of_z, w64}
 use Rattle.std.proofs.lemmas.Int.{to_z-of_z}
 use Rattle.domain.specs.Interval.{IsEnd, at_least, at_most, difference, held, sum}
-use Rattle.cert_checker.specs.Ways.{single, values_behind}
-use Rattle.cert_checker.proofs.Behind.{held-above, held-below}
-use Rattle.cert_checker.proofs.ways.Way.values_behind.Goals as goal
+use Rattle.structured_states.specs.Ways.{single, values_behind}
+use Rattle.structured_states.proofs.Behind.{held-above, held-below}
+use Rattle.structured_states.proofs.ways.Way.values_behind.Goals as goal
 
 pub returns-in-To : goal.returns-in-To
 returns-in-To c =

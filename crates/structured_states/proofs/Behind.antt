@@ -2,7 +2,7 @@
 use Rattle.std.proofs.Common.{arith, ◌≡◌, ◌∙◌, ap, refl, ℤ, pos, neg_ℤ, ◌+ℤ◌, ◌-ℤ◌, Bool, true, false, cond, ◌||◌}
 use Rattle.std.proofs.lemmas.Int.{ints, clamps}
 use Rattle.domain.specs.Interval.{Interval, IsEnd, at_least, at_most, difference, held, is_vacant, nearest_end, sum, vacant}
-use Rattle.cert_checker.specs.Ways.{single}
+use Rattle.structured_states.specs.Ways.{single}
 
 end-itself : (z : ℤ) → IsEnd z → nearest_end z ≡ z
 end-itself z (low, high) = omega (arith, ints, clamps)

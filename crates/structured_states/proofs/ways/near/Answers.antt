@@ -5,7 +5,7 @@ use Rattle.domain.specs.Facts.{said_bound}
 use Rattle.domain.specs.Interval.{at_least, at_most}
 use Rattle.abstract_state.specs.State.{bound_range, range_of}
 use Rattle.abstract_state.specs.View.{viewed}
-use Rattle.cert_checker.proofs.ways.near.Goals as goal
+use Rattle.structured_states.proofs.ways.near.Goals as goal
 
 pub returns-in-Plus : goal.returns-in-Plus
 returns-in-Plus c =

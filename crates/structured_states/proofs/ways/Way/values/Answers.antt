@@ -1,8 +1,8 @@
 use Rattle.std.proofs.Common.{rules, ◌≡◌, ap, sym, ◌∙◌, to_z, of_z, w64}
 use Rattle.std.proofs.lemmas.Int.{to_z-of_z}
 use Rattle.domain.specs.Interval.{at_least, at_most}
-use Rattle.cert_checker.specs.Ways.{on_way}
-use Rattle.cert_checker.proofs.ways.Way.values.Goals as goal
+use Rattle.structured_states.specs.Ways.{on_way}
+use Rattle.structured_states.proofs.ways.Way.values.Goals as goal
 
 pub returns-in-To : goal.returns-in-To
 returns-in-To c =

@@ -4,8 +4,8 @@ ghost use Rattle.domain.specs.Facts.{said};
 ghost use Rattle.abstract_state.specs.Loops.{gives_all, head, is_among};
 ghost use Rattle.abstract_state.specs.View.{viewed};
 ghost use Rattle.certificate.specs.Contents.{loop_of, section_of};
-ghost use Rattle.cert_checker.specs.Loops.{all_limits, claims_on, controls_inside, found_among, found_in, limits_at, touched, type_limits};
-ghost use Rattle.cert_checker.specs.View.{found_as, head_round, is_own, kept_round, said_claims};
+ghost use Rattle.structured_states.specs.Loops.{all_limits, claims_on, controls_inside, found_among, found_in, limits_at, touched, type_limits};
+ghost use Rattle.structured_states.specs.View.{found_as, head_round, is_own, kept_round, said_claims};
 
 use abstract_state::{State, limits};
 use certificate::{Certificate, LoopClaims, Section};
@@ -17,13 +17,13 @@ use types::TypeTable;
 
 /// A loop round the walk.
 #[derive(Clone, Copy)]
-pub(crate) struct Round<'a> {
+pub struct Round<'a> {
     /// What the certificate claims of it.
-    pub(crate) claims: Option<&'a LoopClaims>,
+    pub claims: Option<&'a LoopClaims>,
     /// The control variables of the for statements inside it.
-    pub(crate) controls: &'a [u32],
+    pub controls: &'a [u32],
     /// Its own control variable, if it is a for statement.
-    pub(crate) own: Option<u32>,
+    pub own: Option<u32>,
 }
 
 impl<'a> Round<'a> {
@@ -45,7 +45,7 @@ impl<'a> Round<'a> {
 
     /// Whether a turn gives a variable another value.
     #[tactic(auto, using(crate::proofs::Touched::touched_parts))]
-    pub(crate) fn touches(&self, root: u32) -> bool
+    pub fn touches(&self, root: u32) -> bool
         ensures { result ≡ is_among root (touched (head_round self.now)) }
     {
         self.is_own(root) || is_among(self.controls, root) || is_among(self.changes(), root)
@@ -82,14 +82,14 @@ impl<'a> Round<'a> {
     }
 
     /// Whether a state gives its facts.
-    pub(crate) fn is_given(&self, state: &State) -> bool
+    pub fn is_given(&self, state: &State) -> bool
         ensures { result ≡ gives_all (viewed state.now) (said_claims self.now.claims).facts }
     {
         state.gives_all(self.facts())
     }
 
     /// Brings a state to its head.
-    pub(crate) fn head(
+    pub fn head(
         &self,
         alloc: Global,
         state: &mut State,
@@ -133,21 +133,21 @@ fn is_among(roots: &[u32], root: u32) -> bool
 }
 
 /// Whether each of these loops lists a variable.
-pub(crate) fn all_list(rounds: &[Round], root: u32) -> bool
+pub fn all_list(rounds: &[Round], root: u32) -> bool
     ensures { result ≡ list_all (λ round. is_among root (kept_round round).changes) rounds.now }
 {
     rounds.iter().all(|round| round.lists(root))
 }
 
 /// Whether in each of these loops is a for statement that a variable controls.
-pub(crate) fn all_control(rounds: &[Round], root: u32) -> bool
+pub fn all_control(rounds: &[Round], root: u32) -> bool
     ensures { result ≡ list_all (λ round. is_among root (kept_round round).controls) rounds.now }
 {
     rounds.iter().all(|round| round.controls(root))
 }
 
 /// The control variables of the for statements inside the loop of a number.
-pub(crate) fn controls_inside(tree: &Tree, number: u32) -> &[u32]
+pub fn controls_inside(tree: &Tree, number: u32) -> &[u32]
     ensures { result.now ≡ controls_inside tree.now number }
 {
     match tree.loops.get(number as usize) {
@@ -157,7 +157,7 @@ pub(crate) fn controls_inside(tree: &Tree, number: u32) -> &[u32]
 }
 
 /// What a certificate claims of the loop of a number.
-pub(crate) fn claims_on(certificate: &Certificate, number: u32) -> Option<&LoopClaims>
+pub fn claims_on(certificate: &Certificate, number: u32) -> Option<&LoopClaims>
     ensures { said_claims result ≡ claims_on certificate.now number }
 {
     found_in(&certificate.sections, number)
@@ -188,7 +188,7 @@ fn found_among(loops: &[LoopClaims], number: u32) -> Option<&LoopClaims>
 }
 
 /// The values of the type of each variable, by root number.
-pub(crate) fn all_limits(alloc: Global, tree: &Tree) -> Result<Vec<Interval>, AllocError>
+pub fn all_limits(alloc: Global, tree: &Tree) -> Result<Vec<Interval>, AllocError>
     ensures { IfOk result (λ found. found.items ≡ all_limits tree.now) }
 {
     let mut found = Vec::with_capacity(alloc, tree.variables.len())?;
@@ -209,7 +209,7 @@ fn type_limits(types: &TypeTable, variable: Variable) -> Interval
 }
 
 /// The values of a variable by those of all.
-pub(crate) fn limits_at(limits: &[Interval], root: u32) -> Interval
+pub fn limits_at(limits: &[Interval], root: u32) -> Interval
     ensures { result ≡ limits_at limits.now root }
 {
     match limits.get(root as usize) {

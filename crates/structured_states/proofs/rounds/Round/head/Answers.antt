@@ -1,8 +1,8 @@
 use Rattle.std.proofs.Common.{ap, ◌∙◌, ◌++◌, sym}
 use Rattle.abstract_state.specs.View.{viewed}
-use Rattle.cert_checker.specs.View.{head_round, loop_of_round, said_claims}
-use Rattle.cert_checker.proofs.Touched.{head-same, own-changes}
-use Rattle.cert_checker.proofs.rounds.Round.head.Goals as goal
+use Rattle.structured_states.specs.View.{head_round, loop_of_round, said_claims}
+use Rattle.structured_states.proofs.Touched.{head-same, own-changes}
+use Rattle.structured_states.proofs.rounds.Round.head.Goals as goal
 
 pub returns : goal.returns
 returns c =

@@ -3,9 +3,9 @@ ghost use Rattle.domain.specs.Facts.{said_bound};
 ghost use Rattle.domain.specs.Interval.{IsEnd, at_least, at_most};
 ghost use Rattle.abstract_state.specs.State.{bound_range};
 ghost use Rattle.abstract_state.specs.View.{said_form, viewed};
-ghost use Rattle.cert_checker.specs.Loops.{touched};
-ghost use Rattle.cert_checker.specs.View.{head_round, said_end, said_way};
-ghost use Rattle.cert_checker.specs.Ways.{end_of, in_order, met, next, on_way, own, relation_of, steady, turn_begun, turn_ended, unless_touched, values_behind, where_counts, with_values};
+ghost use Rattle.structured_states.specs.Loops.{touched};
+ghost use Rattle.structured_states.specs.View.{head_round, said_end, said_way};
+ghost use Rattle.structured_states.specs.Ways.{end_of, in_order, met, next, on_way, own, relation_of, steady, turn_begun, turn_ended, unless_touched, values_behind, where_counts, with_values};
 
 use crate::rounds::Round;
 use abstract_state::{Known, State, bound_form};
@@ -16,16 +16,16 @@ use typed_tree::tree::{Direction, Expr, RangeTest, Relation};
 
 /// A bound of a for statement.
 #[derive(Clone, Copy)]
-pub(crate) struct End {
-    pub(crate) form: Option<Bound>,
-    pub(crate) fits: RangeTest,
+pub struct End {
+    pub form: Option<Bound>,
+    pub fits: RangeTest,
     /// Where its value lies.
-    pub(crate) values: Interval,
+    pub values: Interval,
 }
 
 impl End {
     /// An expression as a bound.
-    pub(crate) fn new(expression: &Expr, fits: RangeTest, known: Known) -> End
+    pub fn new(expression: &Expr, fits: RangeTest, known: Known) -> End
         ensures { said_end result ≡ end_of expression.now fits known }
     {
         End {
@@ -36,7 +36,7 @@ impl End {
     }
 
     /// Where its value lies, met with what a state knows of its form.
-    pub(crate) fn met(&self, state: &State) -> Interval
+    pub fn met(&self, state: &State) -> Interval
         ensures { result ≡ met (said_form self.now.form) (viewed state.now) self.now.values }
     {
         match self.form {
@@ -75,16 +75,16 @@ fn shifted(end: i64, number: i32) -> i64
 
 /// A control variable on its way from a first bound to a last one.
 #[derive(Clone, Copy)]
-pub(crate) struct Way {
-    pub(crate) control: u32,
-    pub(crate) direction: Direction,
-    pub(crate) first: End,
-    pub(crate) last: End,
+pub struct Way {
+    pub control: u32,
+    pub direction: Direction,
+    pub first: End,
+    pub last: End,
 }
 
 impl Way {
     /// The way of bounds with values of these ranges.
-    pub(crate) fn with_values(self, first: Interval, last: Interval) -> Way
+    pub fn with_values(self, first: Interval, last: Interval) -> Way
         ensures { said_way result ≡ with_values first last (said_way self) }
     {
         Way {
@@ -101,7 +101,7 @@ impl Way {
     }
 
     /// The way with the forms of its bounds that the turns of its loop leave as they are.
-    pub(crate) fn steady(self, round: &Round) -> Way
+    pub fn steady(self, round: &Round) -> Way
         ensures { said_way result ≡ steady (touched (head_round round.now)) (said_way self) }
     {
         Way {
@@ -118,7 +118,7 @@ impl Way {
     }
 
     /// What is known where it has values, or where it has none.
-    pub(crate) fn relate(&self, state: &mut State, counts: bool) -> Result<(), AllocError>
+    pub fn relate(&self, state: &mut State, counts: bool) -> Result<(), AllocError>
         ensures { IfOk result (λ _. viewed state.new ≡ where_counts counts (said_way self.now) (viewed state.old)) }
     {
         match (self.first.form, self.last.form) {
@@ -130,7 +130,7 @@ impl Way {
     }
 
     /// Where a turn begins.
-    pub(crate) fn begin_turn(&self, state: &mut State) -> Result<(), AllocError>
+    pub fn begin_turn(&self, state: &mut State) -> Result<(), AllocError>
         ensures { IfOk result (λ _. viewed state.new ≡ turn_begun (said_way self.now) (viewed state.old)) }
     {
         let range = self.values(state.range(self.control));
@@ -141,7 +141,7 @@ impl Way {
     }
 
     /// Where a turn ends and another follows.
-    pub(crate) fn end_turn(&self, state: &mut State) -> Result<(), AllocError>
+    pub fn end_turn(&self, state: &mut State) -> Result<(), AllocError>
         ensures { IfOk result (λ _. viewed state.new ≡ turn_ended (said_way self.now) (viewed state.old)) }
     {
         let range = self.values_behind(state.range(self.control));

@@ -8,8 +8,8 @@ use Rattle.domain.specs.Interval.{Interval}
 use Rattle.domain.specs.Facts.{Fact}
 use Rattle.abstract_state.specs.State.{State}
 use Rattle.abstract_state.specs.Loops.{head, is_among}
-use Rattle.cert_checker.specs.Loops.{Round, all_but, limits_at, touched, with_own, without_own}
-use Rattle.cert_checker.specs.View.{is_own}
+use Rattle.structured_states.specs.Loops.{Round, all_but, limits_at, touched, with_own, without_own}
+use Rattle.structured_states.specs.View.{is_own}
 
 true-false : (a b : Bool) → a ≡ b → a ≡ true → b ≡ false → ⊥
 true-false a b is one other = cc

@@ -1,0 +1,4 @@
+pub mod Behind
+pub mod Claims
+pub mod OnWay
+pub mod Touched

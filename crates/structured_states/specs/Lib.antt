@@ -1,0 +1,3 @@
+pub mod Loops
+pub mod View
+pub mod Ways
