@@ -1,5 +1,5 @@
 -- The walk over a program links a state to each of its entries, once and in their order.
-use Rattle.std.proofs.Common.{arith, ◌+◌, ◌≡◌, ◌∙◌, sym, ap, ap₂, refl, ℕ, true, false, List, [], ◌∷◌, ◌++◌, Option, Some, None, length, map, append-nil}
+use Rattle.std.proofs.Common.{arith, ◌+◌, ◌≡◌, ◌∙◌, sym, ap, ap₂, refl, ℕ, ℤ, true, false, List, [], ◌∷◌, ◌++◌, Option, Some, None, length, map, append-nil}
 use Rattle.std.proofs.lemmas.List.{map-append}
 use Rattle.std.specs.Prelude.{flat_map}
 use Rattle.typed_tree.specs.declared.tree.Monadic.{Monadic}
@@ -17,7 +17,7 @@ use Rattle.typed_tree.specs.declared.tree.Expr.TheOpen.Expr-F.{Constant, Variabl
 use Rattle.typed_tree.specs.declared.tree.Expr.TheFolds.{fold-Link, map-Expr, map-Link, fold-roll-Expr, fold-roll-Link, ind-Expr}
 use Rattle.typed_tree.specs.declared.tree.Stmt.{Stmt}
 use Rattle.typed_tree.specs.declared.tree.Stmt.TheOpen.{Stmt-F}
-use Rattle.typed_tree.specs.declared.tree.Stmt.TheOpen.Stmt-F.{Empty, Assign, Write, Compound, If, While, Repeat, For}
+use Rattle.typed_tree.specs.declared.tree.Stmt.TheOpen.Stmt-F.{Empty, Assign, Write, Compound, If, While, Repeat, For, Case}
 use Rattle.typed_tree.specs.declared.tree.Stmt.TheFolds.{map-Stmt, fold-roll-Stmt, ind-Stmt}
 use Rattle.typed_tree.specs.declared.tree.Tree.{Tree}
 use Rattle.typed_tree.specs.declared.tree.Block.{Block}
@@ -27,14 +27,19 @@ use Rattle.abstract_state.specs.declared.known.Known.{Known}
 use Rattle.abstract_state.specs.declared.known.Known.TheVariants.{Ordinal}
 use Rattle.cert_checker.specs.declared.visits.Visits.{Visits}
 use Rattle.cert_checker.specs.Promise.{LinksEntries}
-use Rattle.abstract_state.specs.State.{State, Dead, start}
+use Rattle.abstract_state.specs.State.{State, Dead, joined_states, start}
 use Rattle.cert_checker.specs.View.{all_counted, counted}
 use Rattle.structured_states.specs.Loops.{claims_on, limits_at, round_of, touched, with_own, without_own}
 use Rattle.structured_states.specs.Ways.{Way, turn_begun, way_of, where_counts}
 use Rattle.abstract_state.specs.Loops.{head}
-use Rattle.abstract_state.specs.Conditions.{bound_form}
+use Rattle.std.specs.Prelude.{drop, slice_get}
+use Rattle.std.specs.declared.alloc.Global.{Global}
+use Rattle.std.specs.declared.vec.Vec.{Vec}
+use Rattle.abstract_state.specs.Conditions.{bound_form, condition_of}
+use Rattle.abstract_state.specs.Forms.{root_of}
+use Rattle.structured_states.specs.Cases.{arm_start, constants_before}
 use Rattle.place.specs.declared.Place.{Place}
-use Rattle.cert_checker.specs.Walk.{Context, Linked, Walking, Combination, ◌>>=◌, first_context, numbers_of, operated, combined, width_test, fitting, assign, change, for_round, for_turns, for_walk, loop_walk, steady_in, tested_way, while_round, repeat_round, value_step, link_step, value_walk, link_walk, width_walk, parameter_walk, statement_step, statement_walk, in_turn, where_so, all_of, block_walk, program_walk}
+use Rattle.cert_checker.specs.Walk.{Context, Linked, Walking, Combination, ◌>>=◌, first_context, numbers_of, operated, combined, width_test, fitting, assign, arms_walk, case_walk, change, for_round, for_turns, for_walk, index_test, loop_walk, steady_in, tested_way, while_round, repeat_round, value_step, link_step, value_walk, link_walk, width_walk, parameter_walk, statement_step, statement_walk, in_turn, where_so, all_of, block_walk, program_walk}
 
 -- a walk links states to these, in whatever context and from whatever state
 abbrev Enters : {A : Type 0} → Walking A → List ℕ → Type 0
@@ -204,6 +209,23 @@ module _ (number : ℕ) (place : Place) (body : Walking (Unit {0})) (numbers : L
       and_no_more (turns.linked ++ []) [] numbers
       (and_no_more turns.linked [] numbers (turns_of-entered way context (where_counts true way state)) refl) refl
 
+-- the arms of a case
+arms-entered : (base : State) (index : Option ℕ) (rows : List (Vec ℤ Global)) (arms : List EnteredStmt)
+    → Enters (arms_walk base index rows (map statement_walk (map (λ s. s.0) arms))) (joined (map entries_of_statement (map (λ s. s.0) arms)))
+arms-entered base index rows [] context state = refl
+arms-entered base index rows (arm ∷ arms) context state =
+    let start = arm_start index (slice_get rows 0) base in
+    let first = statement_walk arm.0 context start in
+    let rest = arms_walk base index (drop 1 rows) (map statement_walk (map (λ s. s.0) arms)) context (joined_states state first.after) in
+    and_then first.linked rest.linked _ _ (arm.1 context start) (arms-entered base index (drop 1 rows) arms context (joined_states state first.after))
+
+case-entered : (site : ℕ) (index : Expr) (rows : List (Vec ℤ Global)) (arms : List EnteredStmt) (known : Known)
+    → Enters (case_walk site index rows (map statement_walk (map (λ s. s.0) arms)) known) (joined (map entries_of_statement (map (λ s. s.0) arms)))
+case-entered site index rows arms (Ordinal range) context state =
+    let inner = map statement_walk (map (λ (s : EnteredStmt). s.0) arms) in
+    let base = index_test site (constants_before (length inner) rows) range context state in
+    arms-entered base.value (root_of (condition_of index).form) rows arms context base.after
+
 while-entered : (condition : Expr) (body : Walking (Unit {0})) (numbers : List ℕ) → Enters body numbers
     → Enters (while_round condition body) (entries_of_expression condition ++ numbers)
 while-entered condition body numbers each context state =
@@ -264,6 +286,13 @@ statement-parts (For number loop_number place control first first_fits direction
     (and_then from.linked (to.linked ++ rest.linked) _ _ (value-entered first context state)
     (and_then to.linked rest.linked _ _ (value-entered last context from.after)
     (for-entered loop_number place (statement_walk body.value.0) (entries_of_statement body.value.0) body.value.1 way context to.after)))
+statement-parts (Case number site index constants arms) context state =
+    let inner = map statement_walk (map (λ (s : EnteredStmt). s.0) arms.items) in
+    let first = value_walk index context state in
+    let rest = case_walk site index constants.items inner first.value context first.after in
+    ap (λ numbers. number ∷ numbers)
+    (and_then first.linked rest.linked _ _ (value-entered index context state)
+    (case-entered site index constants.items arms.items first.value context first.after))
 
 statement-entered : (s : Stmt) → Enters (statement_walk s) (entries_of_statement s)
 statement-entered = ind-Stmt (λ s. Enters (statement_walk s) (entries_of_statement s))

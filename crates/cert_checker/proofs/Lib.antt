@@ -3,10 +3,12 @@ pub mod Entered
 pub mod Held
 pub mod Keeping
 pub mod Sound
+pub mod SoundCase
 pub mod SoundFor
 pub mod SoundForms
 pub mod SoundLoops
 pub mod SoundOperations
 pub mod SoundProgram
 pub mod Steps
+pub mod StepsCase
 pub mod StepsFor

@@ -1,9 +1,10 @@
 -- The walk of the checker over a program, one equation a form: the state after it, the sites that it leaves open, the
 -- rules that are broken, and the state at each entry into a statement or expression (ISO 7185:1990, 6.7, 6.8).
 -- It does not say that a program does what the walk says of it.
-use Rattle.std.specs.Prelude.{ℕ, pos, Bool, true, false, not, ◌&&◌, ◌||◌, int_le, List, [], ◌∷◌, ◌++◌, Option, Some, None, if◌then◌else◌, map, length}
+use Rattle.std.specs.Prelude.{ℕ, ℤ, pos, drop, slice_get, Bool, true, false, not, ◌&&◌, ◌||◌, int_le, List, [], ◌∷◌, ◌++◌, Option, Some, None, if◌then◌else◌, map, length}
 use Rattle.std.specs.declared.alloc.Global.{Global}
 use Rattle.std.specs.declared.boxed.Box.{Box}
+use Rattle.std.specs.declared.vec.Vec.{Vec}
 use Rattle.place.specs.declared.Place.{Place}
 use Rattle.certificate.specs.declared.Certificate.{Certificate}
 use Rattle.typed_tree.specs.declared.tree.Tree.{Tree}
@@ -23,7 +24,7 @@ use Rattle.typed_tree.specs.declared.tree.Expr.TheOpen.Expr-F.{Constant, Variabl
 use Rattle.typed_tree.specs.declared.tree.Expr.TheFolds.{fold-Expr, fold-Link}
 use Rattle.typed_tree.specs.declared.tree.Stmt.{Stmt}
 use Rattle.typed_tree.specs.declared.tree.Stmt.TheOpen.{Stmt-F}
-use Rattle.typed_tree.specs.declared.tree.Stmt.TheOpen.Stmt-F.{Empty, Assign, Write, Compound, If, While, Repeat, For}
+use Rattle.typed_tree.specs.declared.tree.Stmt.TheOpen.Stmt-F.{Empty, Assign, Write, Compound, If, While, Repeat, For, Case}
 use Rattle.typed_tree.specs.declared.tree.Stmt.TheFolds.{fold-Stmt}
 use Rattle.domain.specs.Interval.{Interval, is_included, has_number, common, sum, difference, negated, product, squared, absolute, quotient, remainder, without_zero_end, at_least, both, either, complement, truth_values}
 use Rattle.cert_checker.specs.declared.fault.Rule.{Rule}
@@ -34,7 +35,9 @@ use Rattle.abstract_state.specs.declared.known.Known.{Known}
 use Rattle.abstract_state.specs.declared.known.Known.TheVariants.{Ordinal}
 use Rattle.abstract_state.specs.State.{State, Dead, start, integer, is_dead, is_defined, joined_states, limits_of, range_of, with_defined, unless_empty}
 use Rattle.abstract_state.specs.Changes.{assigned}
-use Rattle.abstract_state.specs.Conditions.{bound_form, branched}
+use Rattle.abstract_state.specs.Conditions.{bound_form, branched, condition_of}
+use Rattle.abstract_state.specs.Forms.{root_of}
+use Rattle.structured_states.specs.Cases.{arm_start, constants_before, covers, hull}
 use Rattle.abstract_state.specs.Loops.{gives_all, head, with_undefined}
 use Rattle.structured_states.specs.Loops.{Round, all_control, all_limits, all_list, claims_on, limits_at, round_of, touched, with_own, without_own}
 use Rattle.structured_states.specs.Ways.{End, Way, met, steady, turn_begun, turn_ended, way_of, way_out, where_counts, with_values}
@@ -419,6 +422,35 @@ for_walk number place body way = do
   _ ← parted (where_counts true way) (where_counts false way) (for_turns number place body way) (give tt)
   changed_by (with_undefined way.control)
 
+-- ---- case statements
+
+-- the test of an index at a site: what is known where it is one of the constants; no way behind the statement is known
+-- yet
+abbrev pub index_test : ℕ → List ℤ → Interval → Walking State
+index_test site constants range = do
+  _ ← tested (covers constants (length constants) range) site (common range (hull constants))
+  base ← here
+  _ ← with_state Dead
+  give base
+
+-- an arm, from what is known where it is executed; behind it the way meets those through the arms before
+abbrev pub arm_walk : State → Walking (Unit {0}) → Walking (Unit {0})
+arm_walk start arm context behind =
+    record (arm context start) { after = joined_states behind (arm context start).after }
+
+-- the arms, one after another, by the rows of constants
+abbrev pub arms_walk : State → Option ℕ → List (Vec ℤ Global) → List (Walking (Unit {0})) → Walking (Unit {0})
+arms_walk base index rows [] = give tt
+arms_walk base index rows (arm ∷ arms) = do
+  _ ← arm_walk (arm_start index (slice_get rows 0) base) arm
+  arms_walk base index (drop 1 rows) arms
+
+-- a case, from the value of its index
+abbrev pub case_walk : ℕ → Expr → List (Vec ℤ Global) → List (Walking (Unit {0})) → Known → Walking (Unit {0})
+case_walk site index rows arms (Ordinal range) = do
+  base ← index_test site (constants_before (length arms) rows) range
+  arms_walk base (root_of (condition_of index).form) rows arms
+
 -- one layer of a statement
 abbrev pub statement_step : Stmt-F (Walking (Unit {0})) → Walking (Unit {0})
 statement_step (Empty number) = enter number
@@ -446,6 +478,10 @@ statement_step (For number loop_number place control first first_fits direction 
   from ← value_walk first
   to ← value_walk last
   for_walk loop_number place body.value (way_of control direction first first_fits last last_fits from to)
+statement_step (Case number site index constants arms) = do
+  _ ← enter number
+  known ← value_walk index
+  case_walk site index constants.items arms.items known
 
 -- the walk over a statement
 abbrev pub statement_walk : Stmt → Walking (Unit {0})

@@ -1,5 +1,5 @@
 ghost use Rattle.std.specs.Prelude.{◌≡◌, ◌&&◌, [], true, false, map, IfOk, MatchResult};
-ghost use Rattle.cert_checker.specs.Walk.{enter, variable_walk, tested, within, positive, divisor, whole, operated, combined, value_walk, link_walk, width_test, width_walk, parameter_walk, all_of, fitting, assignment, assign, change, control_change, may_control, where_so, while_round, repeat_round, for_round, rounds_of, for_turns, for_walk, tested_way, steady_in, statement_walk, block_walk, program_walk};
+ghost use Rattle.cert_checker.specs.Walk.{enter, variable_walk, tested, within, positive, divisor, whole, operated, combined, value_walk, link_walk, width_test, width_walk, parameter_walk, all_of, fitting, assignment, assign, change, control_change, may_control, where_so, while_round, repeat_round, for_round, rounds_of, for_turns, for_walk, index_test, arm_walk, arms_walk, case_walk, tested_way, steady_in, statement_walk, block_walk, program_walk};
 ghost use Rattle.typed_tree.specs.Entries.{entries_of};
 ghost use Rattle.structured_states.specs.View.{said_way};
 ghost use Rattle.cert_checker.specs.View.{EntersLoop, Goes, IsBegun, IsLoop, LeavesLoop, Meets, Moves, Parts, all_counted, context_of, else_walk, said_state, said_tested};
@@ -8,23 +8,22 @@ ghost use Rattle.abstract_state.specs.View.{said_form, viewed};
 ghost use Rattle.abstract_state.specs.Loops.{with_undefined};
 ghost use Rattle.abstract_state.specs.State.{joined_states, limits_of};
 ghost use Rattle.abstract_state.specs.Conditions.{bound_form};
+ghost use Rattle.structured_states.specs.Cases.{constants_before};
 ghost use Rattle.structured_states.specs.Loops.{limits_at};
 ghost use Rattle.cert_checker.specs.Promise.{IsBreachOf};
 ghost use Rattle.domain.specs.Interval.{is_included};
 ghost use Rattle.structured_states.specs.Ways.{turn_begun, turn_ended, way_out, where_counts};
 
 use crate::fault::{CheckFault, Rule};
-use crate::rounds::{
-    Round, all_control, all_limits, all_list, claims_on, controls_inside, limits_at,
-};
 use crate::visits::Visits;
-use abstract_state::{Known, State, bound_form, limits};
+use abstract_state::{Known, State, bound_form, entire, limits};
 use certificate::Certificate;
 use domain::Domain;
 use domain::interval::Interval;
 use place::Place;
 use std::alloc::{AllocError, Global};
 use std::mem;
+use structured_states::cases::{arm_start, constants_before, covers, hull};
 use structured_states::rounds::{
     Round, all_control, all_limits, all_list, claims_on, controls_inside, limits_at,
 };
@@ -193,6 +192,18 @@ impl<'a> Walk<'a> {
                 };
                 self.for_statement(*loop_number, *place, body, way, visits)
             }
+            Stmt::Case {
+                number,
+                site,
+                index,
+                constants,
+                arms,
+            } => {
+                self.enter(*number, visits)?;
+                let known = self.expression(index, visits)?;
+                let range = known.range();
+                self.case_statement(arms, *site, index, constants, range, visits)
+            }
         }
     }
 
@@ -306,6 +317,55 @@ impl<'a> Walk<'a> {
         self.begin_turn(&way)?;
         self.statement(body, visits)?;
         self.end_turn(&way)
+    }
+
+    /// A case, from the range of its index.
+    #[cycle(statement)]
+    fn case_statement(
+        &mut self,
+        arms: &[Stmt],
+        site: u32,
+        index: &Expr,
+        constants: &[Vec<i32>],
+        range: Interval,
+        visits: &mut Visits,
+    ) -> Result<(), CheckFault>
+        ensures { Goes (case_walk site index.now constants.now (map statement_walk arms.now) (Ordinal range))
+            self.old visits.old result self.new visits.new }
+    {
+        let base = self.index_test(site, constants, arms.len(), range)?;
+        self.arms(arms, &base, entire(index), constants, visits)
+    }
+
+    /// The arms of a case.
+    #[cycle(statement)]
+    fn arms(
+        &mut self,
+        arms: &[Stmt],
+        base: &State,
+        index: Option<u32>,
+        constants: &[Vec<i32>],
+        visits: &mut Visits,
+    ) -> Result<(), CheckFault>
+        ensures { Goes (arms_walk (viewed base.now) index constants.now (map statement_walk arms.now))
+            self.old visits.old result self.new visits.new }
+    {
+        for i in 0..arms.len() {
+            let start = arm_start(self.alloc, base, index, constants, i)?;
+            self.arm(&arms[i], start, visits)?;
+        }
+        Ok(())
+    }
+
+    /// An arm, from what is known where it is executed.
+    #[cycle(statement)]
+    fn arm(&mut self, arm: &Stmt, start: State, visits: &mut Visits) -> Result<(), CheckFault>
+        ensures { Goes (arm_walk (viewed start) (statement_walk arm.now)) self.old visits.old result
+            self.new visits.new }
+    {
+        let behind = mem::replace(&mut self.state, start);
+        self.statement(arm, visits)?;
+        self.meet(behind)
     }
 
     /// The statement behind `else`, if there is one.
@@ -659,6 +719,26 @@ impl<'a> Walk<'a> {
         out.replace(self.alloc, way.control, way.last.form)?;
         way.end_turn(&mut self.state)?;
         Ok(out)
+    }
+}
+
+// What a case does with its index.
+impl<'a> Walk<'a> {
+    /// The test of an index: what is known where it is one of the constants.
+    fn index_test(
+        &mut self,
+        site: u32,
+        constants: &[Vec<i32>],
+        arms: usize,
+        range: Interval,
+    ) -> Result<State, CheckFault>
+        ensures { (visits : Visits) → Goes (index_test site (constants_before arms constants.now) range)
+            self.old visits (said_state result) self.new visits }
+    {
+        let constants = constants_before(self.alloc, arms, constants)?;
+        let passed = range.meet(&hull(&constants));
+        self.test(covers(&constants, range), site, passed)?;
+        Ok(mem::replace(&mut self.state, State::Dead))
     }
 }
 

@@ -1,9 +1,12 @@
-use Rattle.std.proofs.Common.{refl, map, true, false, Some, None, Ok, Err}
-use Rattle.cert_checker.specs.Walk.{all_of, for_round, for_turns, for_walk, repeat_round, rounds_of, statement_walk, where_so, while_round}
+use Rattle.std.proofs.Common.{refl, length, map, true, false, Some, None, Ok, Err}
+use Rattle.cert_checker.specs.Walk.{all_of, arms_walk, case_walk, for_round, for_turns, for_walk, repeat_round, rounds_of, statement_walk, where_so, while_round}
 use Rattle.structured_states.specs.View.{said_end, said_way}
 use Rattle.cert_checker.specs.View.{else_walk}
 use Rattle.cert_checker.proofs.Steps.{all-step, all-end, given-up, if-begun, branches-done, branches-stopped, loop-done, loop-stopped, while-begun, repeat-begun, while_round-done, repeat_round-done}
 use Rattle.cert_checker.proofs.StepsFor.{for-begun, for-last_stopped, for-stopped, rounds-go, turns-done, turns-not_begun, turns-not_tested, way-same}
+use Rattle.cert_checker.proofs.StepsCase.{arms-end, arms-step, arms-stopped, case-begun, case-not_tested, case-tested}
+use Rattle.abstract_state.specs.View.{viewed}
+use Rattle.abstract_state.specs.declared.known.Known.TheVariants.{Ordinal}
 use Rattle.cert_checker.proofs.walk.Walk.+statement.Goals as goal
 
 pub statements-loop-statement-preserved : goal.statements-loop-statement-preserved
@@ -204,3 +207,56 @@ statement-returns-in_ok-to-in-For t c =
     (way-same it.control it.direction it.first it.last it.first_fits it.last_fits c.in_ok-from-in-For.from c.in_ok-to-in-For.to (said_end c.new.result)
     (said_end c.new-in-For.result) c.new.ensures c.new-in-For.ensures)
     c.in_ok-enter-in-For.ensures c.in_ok-from-in-For.ensures c.in_ok-to-in-For.ensures c.for_statement.ensures
+
+pub arms-loop-i-preserved : goal.arms-loop-i-preserved
+arms-loop-i-preserved t c = λ result new after goes.
+    let here = c.loop-i in
+    here.invariant result new after
+    (arms-step (viewed c.args.base.now) c.args.index c.args.constants.now c.args.arms.now here.i c.index-arms-i.result c.loop-i-test.true c.index-arms-i.is
+    (viewed c.in_ok-start.start) c.in_ok-start.ensures here.self c.arm.new.self new here.visits c.arm.new.visits after tt result c.in_ok-arm.ensures goes)
+
+pub arms-returns : goal.arms-returns
+arms-returns t c =
+    let here = c.loop-i in
+    here.invariant (Ok tt) here.self here.visits
+    (arms-end (viewed c.args.base.now) c.args.index c.args.constants.now c.args.arms.now here.i here.self here.visits c.loop-i-test.false)
+
+pub case_statement-returns-in_err-base : goal.case_statement-returns-in_err-base
+case_statement-returns-in_err-base t c =
+    let visits = c.args.visits.now in
+    let fault = c.in_err-base.field-0.0 in
+    let left = c.from_residual in
+    let walk = case_walk c.args.site c.args.index.now c.args.constants.now (map statement_walk c.args.arms.now) (Ordinal c.args.range) in
+    given-up walk c.args.self.now c.index_test.new.self visits visits fault left.result left.ensures
+    (case-not_tested c.args.site c.args.index.now c.args.constants.now c.args.arms.now c.args.range (length c.args.arms.now) c.args.self.now
+    c.index_test.new.self visits visits fault refl (c.in_err-base.ensures visits))
+
+pub case_statement-returns : goal.case_statement-returns
+case_statement-returns t c =
+    let visits = c.args.visits.now in
+    case-tested c.args.site c.args.index.now c.args.constants.now c.args.arms.now c.args.range (length c.args.arms.now) c.entire.result c.in_ok-base.base
+    c.args.self.now c.index_test.new.self c.arms.new.self visits c.arms.new.visits c.arms.result refl c.entire.ensures (c.in_ok-base.ensures visits)
+    c.arms.ensures
+
+pub statement-returns-in_ok-known-in-Case : goal.statement-returns-in_ok-known-in-Case
+statement-returns-in_ok-known-in-Case t c =
+    let it = c.in-Case in
+    case-begun c.args.statement.now it.number it.site it.index it.constants it.arms c.deref-in-Case-2.result.now c.deref-in-Case.result.now
+    c.in_ok-known-in-Case.known c.range-range.result c.args.self.now c.enter-in-Case.new.self c.expression-in-Case.new.self c.case_statement.new.self
+    c.args.visits.now c.enter-in-Case.new.visits c.expression-in-Case.new.visits c.case_statement.new.visits c.case_statement.result it.is
+    c.deref-in-Case-2.ensures.value c.deref-in-Case.ensures.value c.range-range.ensures c.in_ok-enter-in-Case.ensures c.in_ok-known-in-Case.ensures
+    c.case_statement.ensures
+
+pub arms-returns-in_err-arm : goal.arms-returns-in_err-arm
+arms-returns-in_err-arm t c =
+    let here = c.loop-i in
+    let new = c.arm.new.self in
+    let after = c.arm.new.visits in
+    let fault = c.in_err-arm.field-0.0 in
+    let left = c.from_residual-in_err-arm in
+    let base = viewed c.args.base.now in
+    given-up (arms_walk base c.args.index c.args.constants.now (map statement_walk c.args.arms.now)) c.args.self.now new c.args.visits.now after fault left.result
+    left.ensures
+    (here.invariant (Err fault) new after
+    (arms-stopped base c.args.index c.args.constants.now c.args.arms.now here.i c.index-arms-i.result c.loop-i-test.true c.index-arms-i.is
+    (viewed c.in_ok-start.start) c.in_ok-start.ensures here.self new here.visits after fault c.in_err-arm.ensures))
