@@ -36,17 +36,17 @@ module _ (variables : ℕ) (env : Environment) (store : Store) where
   abbrev IsHere : Bound → ℤ → Type 0
   IsHere bound n = IsBound (moment env store) bound n
 
-  bound-here : (state : State) (bound : Bound) (n : ℤ) → Known state → IsHere bound n → HasMember (bound_range state bound) n
+  pub bound-here : (state : State) (bound : Bound) (n : ℤ) → Known state → IsHere bound n → HasMember (bound_range state bound) n
   bound-here Dead bound n known is = absurd known
   bound-here (Live facts) bound n known is = bound-in facts (moment env store) known.hold bound n is
 
-  root-here : (state : State) (root : ℕ) (n : ℤ) → Known state → HasNumber (moment env store) root n → HasMember (range_of state root) n
+  pub root-here : (state : State) (root : ℕ) (n : ℤ) → Known state → HasNumber (moment env store) root n → HasMember (range_of state root) n
   root-here Dead root n known has = absurd known
   root-here (Live facts) root n known has = known.hold.ranges root [] (Number n) refl has
 
   -- ---- a bound and a number
 
-  narrowed-known : (state : State) (root : ℕ) (range : Interval) (n : ℤ) → HasNumber (moment env store) root n → HasMember range n → Known state
+  pub narrowed-known : (state : State) (root : ℕ) (range : Interval) (n : ℤ) → HasNumber (moment env store) root n → HasMember range n → Known state
       → Known (narrowed root range state)
   narrowed-known state root range n has inside known =
       nonempty-known variables env range (with_range root range state) store (Number n) inside
@@ -99,7 +99,7 @@ module _ (variables : ℕ) (env : Environment) (store : Store) where
 
   -- ---- two bounds
 
-  order-known : (state : State) (a b : Bound) (x y k : ℤ) → IsHere a x → IsHere b y → (x +ℤ k) ≤ℤ y → Known state → Known (with_order a k b state)
+  pub order-known : (state : State) (a b : Bound) (x y k : ℤ) → IsHere a x → IsHere b y → (x +ℤ k) ≤ℤ y → Known state → Known (with_order a k b state)
   order-known state (Plus root m) (Plus other n) x y k (p, p_is, x_is) (q, q_is, y_is) less known =
       ordered-known variables env state store root other p q ((n -ℤ m) -ℤ k) p_is q_is (omega (arith, ints)) known
   order-known state (fact.Number m) b x y k left right less known = known

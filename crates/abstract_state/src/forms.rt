@@ -117,7 +117,7 @@ fn literal(expression: &Expr) -> Option<i32>
 }
 
 /// An entire variable, by its root number.
-fn entire(expression: &Expr) -> Option<u32>
+pub fn entire(expression: &Expr) -> Option<u32>
     ensures { result ≡ root_of (condition_of expression.now).form }
 {
     match expression {

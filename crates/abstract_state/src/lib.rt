@@ -10,6 +10,6 @@ mod loops;
 mod orders;
 mod state;
 
-pub use forms::bound_form;
+pub use forms::{bound_form, entire};
 pub use known::Known;
 pub use state::{State, limits};

@@ -1,5 +1,5 @@
 -- The walk over a program links a state to each of its entries, once and in their order.
-use Rattle.std.proofs.Common.{arith, ◌+◌, ◌≡◌, ◌∙◌, sym, ap, ap₂, refl, ℕ, true, false, List, [], ◌∷◌, ◌++◌, Option, Some, None, length, map, append-nil}
+use Rattle.std.proofs.Common.{arith, ◌+◌, ◌≡◌, ◌∙◌, sym, ap, ap₂, refl, ℕ, ℤ, true, false, List, [], ◌∷◌, ◌++◌, Option, Some, None, length, map, append-nil}
 use Rattle.std.proofs.lemmas.List.{map-append}
 use Rattle.std.specs.Prelude.{flat_map}
 use Rattle.typed_tree.specs.declared.tree.Monadic.{Monadic}
@@ -17,7 +17,7 @@ use Rattle.typed_tree.specs.declared.tree.Expr.TheOpen.Expr-F.{Constant, Variabl
 use Rattle.typed_tree.specs.declared.tree.Expr.TheFolds.{fold-Link, map-Expr, map-Link, fold-roll-Expr, fold-roll-Link, ind-Expr}
 use Rattle.typed_tree.specs.declared.tree.Stmt.{Stmt}
 use Rattle.typed_tree.specs.declared.tree.Stmt.TheOpen.{Stmt-F}
-use Rattle.typed_tree.specs.declared.tree.Stmt.TheOpen.Stmt-F.{Empty, Assign, Write, Compound, If, While, Repeat}
+use Rattle.typed_tree.specs.declared.tree.Stmt.TheOpen.Stmt-F.{Empty, Assign, Write, Compound, If, While, Repeat, For, Case}
 use Rattle.typed_tree.specs.declared.tree.Stmt.TheFolds.{map-Stmt, fold-roll-Stmt, ind-Stmt}
 use Rattle.typed_tree.specs.declared.tree.Tree.{Tree}
 use Rattle.typed_tree.specs.declared.tree.Block.{Block}
@@ -27,13 +27,19 @@ use Rattle.abstract_state.specs.declared.known.Known.{Known}
 use Rattle.abstract_state.specs.declared.known.Known.TheVariants.{Ordinal}
 use Rattle.cert_checker.specs.declared.visits.Visits.{Visits}
 use Rattle.cert_checker.specs.Promise.{LinksEntries}
-use Rattle.abstract_state.specs.State.{State, Dead, start}
+use Rattle.abstract_state.specs.State.{State, Dead, joined_states, start}
 use Rattle.cert_checker.specs.View.{all_counted, counted}
-use Rattle.cert_checker.specs.Loops.{claims_on, limits_at, round_of, touched}
+use Rattle.structured_states.specs.Loops.{claims_on, limits_at, round_of, touched, with_own, without_own}
+use Rattle.structured_states.specs.Ways.{Way, turn_begun, way_of, where_counts}
 use Rattle.abstract_state.specs.Loops.{head}
-use Rattle.abstract_state.specs.Conditions.{bound_form}
+use Rattle.std.specs.Prelude.{drop, slice_get}
+use Rattle.std.specs.declared.alloc.Global.{Global}
+use Rattle.std.specs.declared.vec.Vec.{Vec}
+use Rattle.abstract_state.specs.Conditions.{bound_form, condition_of}
+use Rattle.abstract_state.specs.Forms.{root_of}
+use Rattle.structured_states.specs.Cases.{arm_start, constants_before}
 use Rattle.place.specs.declared.Place.{Place}
-use Rattle.cert_checker.specs.Walk.{Context, Linked, Walking, Combination, ◌>>=◌, first_context, numbers_of, operated, combined, width_test, fitting, assign, change, loop_walk, while_round, repeat_round, value_step, link_step, value_walk, link_walk, width_walk, parameter_walk, statement_step, statement_walk, in_turn, where_so, all_of, block_walk, program_walk}
+use Rattle.cert_checker.specs.Walk.{Context, Linked, Walking, Combination, ◌>>=◌, first_context, numbers_of, operated, combined, width_test, fitting, assign, arms_walk, case_walk, change, for_round, for_turns, for_walk, index_test, loop_walk, steady_in, tested_way, while_round, repeat_round, value_step, link_step, value_walk, link_walk, width_walk, parameter_walk, statement_step, statement_walk, in_turn, where_so, all_of, block_walk, program_walk}
 
 -- a walk links states to these, in whatever context and from whatever state
 abbrev Enters : {A : Type 0} → Walking A → List ℕ → Type 0
@@ -173,13 +179,52 @@ statements-entered (statement ∷ statements) context state =
     and_then first.linked rest.linked _ _ (statement.1 context state) (statements-entered statements context first.after)
 
 -- a loop enters what a round of it does
-loop-entered : (number : ℕ) (place : Place) (round : Walking State) (numbers : List ℕ) → Enters round numbers → Enters (loop_walk number place round) numbers
-loop-entered number place round numbers each context state =
+loop-entered : (number : ℕ) (place : Place) (control : Option ℕ) (round : Walking State) (numbers : List ℕ) → Enters round numbers
+    → Enters (loop_walk number place control round) numbers
+loop-entered number place control round numbers each context state =
     let claims = claims_on context.certificate number in
-    let own = round_of claims in
-    let within : Context = record context { rounds = context.rounds ++ own ∷ [] } in
+    let loop = round_of context.tree context.certificate number in
+    let own = with_own control loop in
+    let within : Context = record context { rounds = context.rounds ++ without_own control loop ∷ [] } in
     let start = head (limits_at context.limits) (touched own) own.controls claims.facts state in
     and_no_more (round within start).linked [] numbers (each within start) refl
+
+module _ (number : ℕ) (place : Place) (body : Walking (Unit {0})) (numbers : List ℕ) (each : Enters body numbers) where
+  -- a for enters what its body does
+  for_round-entered : (way : Way) → Enters (for_round way body) numbers
+  for_round-entered way context state =
+      let begun = turn_begun way state in
+      and_no_more (body context begun).linked [] numbers (each context begun) refl
+
+  turns_of-entered : (way : Way) → Enters (for_turns number place body way) numbers
+  turns_of-entered way context state =
+      let tested = tested_way place way context state in
+      let begun = assign tested.value.control tested.value.first.form (Ordinal tested.value.first.values) context tested.after in
+      loop-entered number place (Some tested.value.control) (for_round (steady_in context number tested.value) body) numbers
+      (for_round-entered (steady_in context number tested.value)) context begun.after
+
+  for-entered : (way : Way) → Enters (for_walk number place body way) numbers
+  for-entered way context state =
+      let turns = for_turns number place body way context (where_counts true way state) in
+      and_no_more (turns.linked ++ []) [] numbers
+      (and_no_more turns.linked [] numbers (turns_of-entered way context (where_counts true way state)) refl) refl
+
+-- the arms of a case
+arms-entered : (base : State) (index : Option ℕ) (rows : List (Vec ℤ Global)) (arms : List EnteredStmt)
+    → Enters (arms_walk base index rows (map statement_walk (map (λ s. s.0) arms))) (joined (map entries_of_statement (map (λ s. s.0) arms)))
+arms-entered base index rows [] context state = refl
+arms-entered base index rows (arm ∷ arms) context state =
+    let start = arm_start index (slice_get rows 0) base in
+    let first = statement_walk arm.0 context start in
+    let rest = arms_walk base index (drop 1 rows) (map statement_walk (map (λ s. s.0) arms)) context (joined_states state first.after) in
+    and_then first.linked rest.linked _ _ (arm.1 context start) (arms-entered base index (drop 1 rows) arms context (joined_states state first.after))
+
+case-entered : (site : ℕ) (index : Expr) (rows : List (Vec ℤ Global)) (arms : List EnteredStmt) (known : Known)
+    → Enters (case_walk site index rows (map statement_walk (map (λ s. s.0) arms)) known) (joined (map entries_of_statement (map (λ s. s.0) arms)))
+case-entered site index rows arms (Ordinal range) context state =
+    let inner = map statement_walk (map (λ (s : EnteredStmt). s.0) arms) in
+    let base = index_test site (constants_before (length inner) rows) range context state in
+    arms-entered base.value (root_of (condition_of index).form) rows arms context base.after
 
 while-entered : (condition : Expr) (body : Walking (Unit {0})) (numbers : List ℕ) → Enters body numbers
     → Enters (while_round condition body) (entries_of_expression condition ++ numbers)
@@ -224,14 +269,30 @@ statement-parts (If number condition consequence (Some alternative)) context sta
     (and_then yes.linked no.linked _ _ (consequence.value.1 context (where_so true condition first.value first.after))
     (alternative.value.1 context (where_so false condition first.value first.after))))
 statement-parts (While number loop_number place condition body) context state =
-    ap (λ numbers. number ∷ numbers) (loop-entered loop_number place (while_round condition (statement_walk body.value.0))
+    ap (λ numbers. number ∷ numbers) (loop-entered loop_number place None (while_round condition (statement_walk body.value.0))
     (entries_of_expression condition ++ entries_of_statement body.value.0)
     (while-entered condition (statement_walk body.value.0) (entries_of_statement body.value.0) body.value.1) context state)
 statement-parts (Repeat number loop_number place statements condition) context state =
     let inner = map statement_walk (map (λ (s : EnteredStmt). s.0) statements.items) in
     let numbers = joined (map entries_of_statement (map (λ (s : EnteredStmt). s.0) statements.items)) in
-    ap (λ numbers. number ∷ numbers) (loop-entered loop_number place (repeat_round (all_of inner) condition) (numbers ++ entries_of_expression condition)
+    ap (λ numbers. number ∷ numbers) (loop-entered loop_number place None (repeat_round (all_of inner) condition) (numbers ++ entries_of_expression condition)
     (repeat-entered (all_of inner) condition numbers (statements-entered statements.items)) context state)
+statement-parts (For number loop_number place control first first_fits direction last last_fits body) context state =
+    let from = value_walk first context state in
+    let to = value_walk last context from.after in
+    let way = way_of control direction first first_fits last last_fits from.value to.value in
+    let rest = for_walk loop_number place (statement_walk body.value.0) way context to.after in
+    ap (λ numbers. number ∷ numbers)
+    (and_then from.linked (to.linked ++ rest.linked) _ _ (value-entered first context state)
+    (and_then to.linked rest.linked _ _ (value-entered last context from.after)
+    (for-entered loop_number place (statement_walk body.value.0) (entries_of_statement body.value.0) body.value.1 way context to.after)))
+statement-parts (Case number site index constants arms) context state =
+    let inner = map statement_walk (map (λ (s : EnteredStmt). s.0) arms.items) in
+    let first = value_walk index context state in
+    let rest = case_walk site index constants.items inner first.value context first.after in
+    ap (λ numbers. number ∷ numbers)
+    (and_then first.linked rest.linked _ _ (value-entered index context state)
+    (case-entered site index constants.items arms.items first.value context first.after))
 
 statement-entered : (s : Stmt) → Enters (statement_walk s) (entries_of_statement s)
 statement-entered = ind-Stmt (λ s. Enters (statement_walk s) (entries_of_statement s))

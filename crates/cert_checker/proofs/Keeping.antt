@@ -1,18 +1,18 @@
 -- What of the store a piece of a program keeps, for each loop round it; and that values lie in the ranges of their types.
-use Rattle.std.proofs.Common.{◌≡◌, ◌≢◌, ⊎_elim, ◌∙◌, sym, ap, refl, subst, ℕ, ◌<◌, Bool, true, false, cond, ◌||◌, nat_eq, List, [], Option, Some, None}
+use Rattle.std.proofs.Common.{◌≡◌, ◌≢◌, ⊎_elim, ◌∙◌, sym, ap, refl, subst, ℕ, ◌<◌, Bool, true, false, cond, ◌||◌, nat_eq, List, [], ◌∷◌, Option, Some, None}
 use Rattle.std.specs.List.{Contains, list_all}
-use Rattle.std.proofs.lemmas.Bool.{cases_eq}
+use Rattle.std.proofs.lemmas.Bool.{cases_eq, false_from_ne_true}
 use Rattle.std.proofs.lemmas.List.Folds.{list_any-append, list_all_at}
 use Rattle.domain.specs.Interval.{Interval}
 use Rattle.meaning.specs.declared.store.Value.{Value}
-use Rattle.meaning.specs.Store.{Environment, Place, Step, Store, place_eq, stored, written}
-use Rattle.abstract_state.specs.Holds.{IsIn, part_of, value_at}
+use Rattle.meaning.specs.Store.{Environment, Place, Step, Store, place_eq, stored, undefined, written}
+use Rattle.abstract_state.specs.Holds.{IsIn, Separate, part_of, value_at}
 use Rattle.abstract_state.specs.Knows.{IsKept, Shows, moment}
 use Rattle.abstract_state.specs.Loops.{is_among}
 use Rattle.abstract_state.proofs.Looped.{kept-itself, kept-then}
-use Rattle.abstract_state.proofs.Apart.{part, written-stored, other-kept}
+use Rattle.abstract_state.proofs.Apart.{part, part-overlaps, place-itself, share-none, written-stored, other-kept}
 use Rattle.abstract_state.proofs.Knows.{place_of, at-place, entire-value}
-use Rattle.cert_checker.specs.Loops.{Round, all_list, limits_at, touched}
+use Rattle.structured_states.specs.Loops.{Round, all_control, all_list, limits_at, touched}
 
 -- each variable's value lies in the range of its type
 abbrev pub InTypes : List Interval → Environment → Store → Type 0
@@ -63,6 +63,15 @@ among-touched : (root : ℕ) (round : Round) → is_among root round.changes ≡
 among-touched root round is = list_any-append (λ other. nat_eq other root) round.controls round.changes
     ∙ ap (λ b. is_among root round.controls || b) is ∙ or-true (is_among root round.controls)
 
+control-touched : (root : ℕ) (round : Round) → is_among root round.controls ≡ true → is_among root (touched round) ≡ true
+control-touched root round is = list_any-append (λ other. nat_eq other root) round.controls round.changes
+    ∙ ap (λ b. b || is_among root round.changes) is
+
+-- a variable that isn't among some isn't one that is
+apart-among : (root other : ℕ) (roots : List ℕ) → is_among root roots ≡ true → is_among other roots ≡ false → root ≢ other
+apart-among root other roots is isnt same =
+    true-false (is_among other roots) (subst (λ (r : ℕ). is_among r roots ≡ true) same is) isnt
+
 module _ (variables : ℕ) (env : Environment) (shows : Shows variables env) (store : Store) (root : ℕ) (v : Value) (within : root < variables) where
   abbrev after : Store
   after = written store (place_of env root) v
@@ -72,7 +81,7 @@ module _ (variables : ℕ) (env : Environment) (shows : Shows variables env) (st
   others other differ steps =
       other-kept env shows.separate store v root other (place_of env root) (at-place variables env shows root within) differ (env other) refl steps
 
-  own-value : value_at (moment env after) root [] ≡ Some v
+  pub own-value : value_at (moment env after) root [] ≡ Some v
   own-value = entire-value variables env shows after root within ∙ written-stored store (place_of env root) v
 
   -- each loop lists it, so no other is changed
@@ -84,9 +93,60 @@ module _ (variables : ℕ) (env : Environment) (shows : Shows variables env) (st
     defined = λ other among steps has. still-value store (place_of env root) v (env other) steps has;
   }
 
+  -- the same where in each loop is a for statement that it controls
+  pub control-kept : (rounds : List Round) → all_control root rounds ≡ true → Keeps env rounds store after
+  control-kept rounds controls round inside =
+      let own = all-pass (λ (one : Round). is_among root one.controls) rounds round (is_among root round.controls) refl inside controls in
+      record {
+        values = λ other among steps. others other (apart-among root other (touched round) (control-touched root round own) among) steps;
+        defined = λ other among steps has. still-value store (place_of env root) v (env other) steps has;
+      }
+
   pub written-typed : (limits : List Interval) → InTypes limits env store → IsIn (limits_at limits root) v → InTypes limits env after
   written-typed limits typed inside other w is = ⊎_elim
       (λ same.
       let one : v ≡ w = some-same v w (sym own-value ∙ subst (λ (r : ℕ). value_at (moment env after) r [] ≡ Some w) (sym same) is) in
       subst (λ (r : ℕ). IsIn (limits_at limits r) w) same (subst (IsIn (limits_at limits root)) one inside))
       (λ differ. typed other w (sym (others other differ []) ∙ is)) (cases_eq root other)
+
+-- ---- a variable becomes undefined
+
+entry-apart : (env : Environment) → Separate env [] → (store : Store) (entry : Option Value) (a b : ℕ) (p : Place) → env a ≡ Some p → a ≢ b
+    → (found : Option Place) → env b ≡ found → (steps : List Step) → part_of ((p, entry) ∷ store) found steps ≡ part_of store found steps
+entry-apart env separate store entry a b p at_a differ None at_b steps = refl
+entry-apart env separate store entry a b p at_a differ (Some q) at_b steps =
+    ap (λ (same : Bool). cond same entry (stored store (part q steps)))
+    (false_from_ne_true (place_eq p (part q steps)) (λ same. share-none env separate a b p q at_a at_b differ (part-overlaps p q steps same)))
+
+module _ (variables : ℕ) (env : Environment) (shows : Shows variables env) (store : Store) (root : ℕ) (within : root < variables) where
+  abbrev gone : Store
+  gone = undefined store (place_of env root)
+
+  gone-others : (other : ℕ) → root ≢ other → (steps : List Step) → value_at (moment env gone) other steps ≡ value_at (moment env store) other steps
+  gone-others other differ steps =
+      entry-apart env shows.separate store None root other (place_of env root) (at-place variables env shows root within) differ (env other) refl steps
+
+  nothing-stored : (v : Value) (found : Option Value) → found ≡ None → found ≡ Some v → ⊥
+  nothing-stored v found none is = cc
+
+  pub gone-none : (v : Value) → value_at (moment env gone) root [] ≡ Some v → ⊥
+  gone-none v is =
+      nothing-stored v (value_at (moment env gone) root [])
+      (entire-value variables env shows gone root within
+      ∙ ap (λ (same : Bool). cond same None (stored store (place_of env root))) (place-itself (place_of env root))) is
+
+  pub gone-kept : (touched controls : List ℕ) → is_among root touched ≡ true → is_among root controls ≡ true → IsKept env touched controls store gone
+  gone-kept touched controls is_touched is_control = record {
+    values = λ other among steps. gone-others other (apart-among root other touched is_touched among) steps;
+    defined = λ other among steps has. (has.0, gone-others other (apart-among root other controls is_control among) steps ∙ has.1);
+  }
+
+  pub gone-keeps : (rounds : List Round) → all_control root rounds ≡ true → Keeps env rounds store gone
+  gone-keeps rounds controls round inside =
+      let own = all-pass (λ (one : Round). is_among root one.controls) rounds round (is_among root round.controls) refl inside controls in
+      gone-kept (touched round) round.controls (control-touched root round own) own
+
+  pub gone-typed : (limits : List Interval) → InTypes limits env store → InTypes limits env gone
+  gone-typed limits typed other w is = ⊎_elim
+      (λ same. absurd (gone-none w (subst (λ (r : ℕ). value_at (moment env gone) r [] ≡ Some w) (sym same) is)))
+      (λ differ. typed other w (sym (gone-others other differ []) ∙ is)) (cases_eq root other)

@@ -206,13 +206,13 @@ sound-enter world env shows number context state s unbroken part stands =
     }
 
 -- an error at a site that is left open
-errs-here : (world : World) (site : ℕ) → Contains world.ids site → site < world.sites → (id : ℕ) → Error site ≡ Error id
+pub errs-here : (world : World) (site : ℕ) → Contains world.ids site → site < world.sites → (id : ℕ) → Error site ≡ Error id
     → Contains world.ids id × (id < world.sites)
 errs-here world site listed within id is =
     let same : site ≡ id = cc in
     subst (λ (n : ℕ). Contains world.ids n × (n < world.sites)) same (listed, within)
 
-open-here : (site : ℕ) (closed : Bool) → (closed ≡ true → ⊥) → Contains (left_open closed site) site
+pub open-here : (site : ℕ) (closed : Bool) → (closed ≡ true → ⊥) → Contains (left_open closed site) site
 open-here site true unclosed = absurd (unclosed refl)
 open-here site false unclosed = (0, omega arith, refl)
 
@@ -261,13 +261,13 @@ abbrev pub Passes : Bool → Value → Interval → Unit {0} → Type 0
 Passes test v range done = IsIn range v × (test ≡ true)
 
 -- where a site is closed, no run comes or the test holds
-closed-passes : (variables : ℕ) (env : Environment) (state : State) (store : Store) (closed test : Bool) → Knows variables env state store
+pub closed-passes : (variables : ℕ) (env : Environment) (state : State) (store : Store) (closed test : Bool) → Knows variables env state store
     → (closed ≡ true → test ≡ true)
     → (is_dead state || closed) ≡ true → test ≡ true
 closed-passes variables env Dead store closed test known holds is = absurd known
 closed-passes variables env (Live facts) store closed test known holds is = holds is
 
-false-true : ◌≡◌ {A = Bool} false true → ⊥
+pub false-true : ◌≡◌ {A = Bool} false true → ⊥
 false-true is = cc
 
 -- a test at a site: it holds where the site is closed, and what passes lies in the range that passes

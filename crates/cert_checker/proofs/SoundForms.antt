@@ -1,5 +1,5 @@
 -- The walk over expressions, statements and programs is sound, form by form.
-use Rattle.std.proofs.Common.{◌≡◌, refl, sym, subst, ℕ, ◌<◌, Bool, true, false, cond, ◌&&◌, nat_lt, List, [], ◌∷◌, map, Option, Some, None}
+use Rattle.std.proofs.Common.{◌≡◌, ◌∙◌, refl, sym, subst, ℕ, ◌<◌, Bool, true, false, cond, ◌&&◌, ◌||◌, ℤ, length, nat_lt, List, [], ◌∷◌, map, Option, Some, None}
 use Rattle.std.proofs.lemmas.Bool.{and_parts, ltb-true}
 use Rattle.typed_tree.specs.declared.tree.Access.{Access}
 use Rattle.typed_tree.specs.declared.tree.RangeTest.{RangeTest}
@@ -14,13 +14,13 @@ use Rattle.typed_tree.specs.declared.tree.Expr.TheViews.{roll-Expr, roll-Link}
 use Rattle.typed_tree.specs.declared.tree.Expr.TheFolds.{map-Expr, map-Link, fold-roll-Expr, fold-roll-Link, ind-Expr}
 use Rattle.typed_tree.specs.declared.tree.Stmt.{Stmt}
 use Rattle.typed_tree.specs.declared.tree.Stmt.TheOpen.{Stmt-F}
-use Rattle.typed_tree.specs.declared.tree.Stmt.TheOpen.Stmt-F.{Empty, Assign, Write, Compound, If, While, Repeat}
+use Rattle.typed_tree.specs.declared.tree.Stmt.TheOpen.Stmt-F.{Empty, Assign, Write, Compound, If, While, Repeat, For, Case}
 use Rattle.typed_tree.specs.declared.tree.Stmt.TheViews.{roll-Stmt}
 use Rattle.typed_tree.specs.declared.tree.Stmt.TheFolds.{map-Stmt, fold-roll-Stmt, ind-Stmt}
-use Rattle.typed_tree.specs.WellFormed.{all_hold, is_well_formed_test, dyadic_is_well_formed, expr_is_well_formed, is_well_formed_expr, is_well_formed_link, is_well_formed_parameter, is_well_formed_stmt, is_well_formed_width, is_whole, link_is_well_formed, monadic_is_well_formed, stmt_is_well_formed}
+use Rattle.typed_tree.specs.WellFormed.{all_hold, is_well_formed_test, dyadic_is_well_formed, expr_is_well_formed, is_well_formed_expr, is_well_formed_link, is_well_formed_parameter, is_well_formed_stmt, is_well_formed_width, are_whole, is_whole, link_is_well_formed, monadic_is_well_formed, stmt_is_well_formed}
 use Rattle.meaning.specs.declared.store.Value.{Value}
 use Rattle.meaning.specs.declared.store.Value.TheVariants.{Number}
-use Rattle.meaning.specs.Store.{Environment, Place as StorePlace}
+use Rattle.meaning.specs.Store.{Environment, Place as StorePlace, Store}
 use Rattle.meaning.specs.Effect as effect
 use Rattle.meaning.specs.Effect.{is_in, is_positive, text_of}
 use Rattle.meaning.specs.Meaning as meaning
@@ -28,27 +28,56 @@ use Rattle.meaning.specs.Meaning.{Evaluation, Execution, is_so, value_of, link_o
 use Rattle.abstract_state.specs.declared.known.Known.{Known}
 use Rattle.abstract_state.specs.declared.known.Known.TheVariants.{Ordinal}
 use Rattle.cert_checker.specs.Walk as walk
-use Rattle.cert_checker.specs.Walk.{Context, Walking, followed, value_walk, link_walk, parameter_walk, width_walk, statement_walk}
-use Rattle.abstract_state.proofs.Ranged.{IsKnown, constant-in, included-in, is_in-limits}
+use Rattle.cert_checker.specs.Walk.{Context, Walked, Walking, followed, value_walk, link_walk, parameter_walk, width_walk, statement_walk}
+use Rattle.abstract_state.proofs.Ranged.{IsKnown, common-in, constant-in, included-in, is_in-limits}
 use Rattle.abstract_state.proofs.Knows.{Shows, at-place, moment}
-use Rattle.cert_checker.proofs.Sound.{World, Sound, Any_value, Passes, sound-then, sound-given, sound-written, sound-give, sound-enter, sound-use, IsPartOf, IsForetold, Stands, Good, good-then, good-weaker, nothing-new, unbroken-left, unbroken-right, part-left, part-right}
+use Rattle.cert_checker.proofs.Sound.{World, Sound, Any_value, Passes, sound-then, sound-given, sound-written, sound-give, sound-enter, sound-use, IsPartOf, IsForetold, Stands, Good, good-then, good-weaker, nothing-new, unbroken-left, unbroken-right, part-left, part-right, closed-passes, errs-here, open-here, stands-as}
 use Rattle.cert_checker.proofs.SoundLoops.{Foretold, sound-choice, sound-loop, sound-while, sound-repeat, kept-rule}
 use Rattle.cert_checker.proofs.Keeping.{written-kept, written-typed, keeps-then}
 use Rattle.abstract_state.proofs.Changed.{IsOfForm, assigned-known}
-use Rattle.abstract_state.proofs.Refined.{form-known}
-use Rattle.abstract_state.specs.Conditions.{bound_form}
-use Rattle.cert_checker.specs.Loops.{all_list, limits_at}
+use Rattle.abstract_state.proofs.Refined.{expression-kept, form-known}
+use Rattle.typed_tree.specs.declared.tree.Direction.{Direction}
+use Rattle.structured_states.specs.Ways.{way_of}
+use Rattle.structured_states.proofs.OnWay.{of-form_may}
+use Rattle.cert_checker.proofs.SoundFor.{for-good}
+use Rattle.cert_checker.proofs.SoundCase.{arm-missing, arms-behind, at-constants_known, entire-number, first-constants}
+use Rattle.structured_states.specs.Cases.{at_constants, constants_before, covers, hull}
+use Rattle.structured_states.proofs.Covered.{among-hull, covered, either-way}
+use Rattle.std.specs.declared.alloc.Global.{Global}
+use Rattle.std.specs.declared.vec.Vec.{Vec}
+use Rattle.std.specs.List.{list_all}
+use Rattle.std.proofs.lemmas.List.{length-map}
+use Rattle.std.proofs.lemmas.List.Elements.{Contains-append_left}
+use Rattle.abstract_state.specs.Forms.{root_of}
+use Rattle.abstract_state.proofs.Knows.{joined-known_other, nonempty-known}
+use Rattle.abstract_state.specs.Conditions.{bound_form, condition_of}
+use Rattle.structured_states.specs.Loops.{all_list, limits_at}
 use Rattle.cert_checker.specs.declared.fault.Rule.TheVariants.{Changes}
 use Rattle.domain.specs.Facts.{Bound}
-use Rattle.domain.specs.Interval.{Interval, is_included}
-use Rattle.abstract_state.specs.State.{State, limits_of}
-use Rattle.abstract_state.specs.Holds.{IsIn}
+use Rattle.domain.specs.Interval.{Interval, common, is_included}
+use Rattle.abstract_state.specs.State.{State, Dead, is_dead, joined_states, limits_of}
+use Rattle.abstract_state.specs.Holds.{HasNumber, IsIn}
 use Rattle.place.specs.declared.Place.{Place}
 use Rattle.cert_checker.proofs.SoundOperations.{IsKnownOf, given-sound, operated-sound, combined-sound, positive-sound, fitting-sound}
 
 -- the walk over an action that gives no value is sound
 abbrev pub SoundAction : World → Environment → effect.Action (Unit {0}) → Walking (Unit {0}) → Type 0
 SoundAction world env action walking = Sound {A = Unit {0}} {B = Unit {0}} world env Any_value action walking
+
+-- one of two actions, by a truth value
+by-arm : (world : World) (env : Environment) (context : Context) (whole : Walked (Unit {0})) (t : effect.State) (one other : effect.Action (Unit {0})) (b : Bool)
+    → (b ≡ true → Good world (Foretold world env context whole t.store) t.visited (one t))
+    → (b ≡ false → Good world (Foretold world env context whole t.store) t.visited (other t))
+    → Good world (Foretold world env context whole t.store) t.visited (cond b one other t)
+by-arm world env context whole t one other true taken skipped = taken refl
+by-arm world env context whole t one other false taken skipped = skipped refl
+
+only-other : (a b : Bool) → a ≡ false → (a || b) ≡ true → b ≡ true
+only-other false b isnt is = is
+only-other true b isnt is = absurd (cc)
+
+true-isnt_false : (b : Bool) → b ≡ true → b ≡ false → ⊥
+true-isnt_false b is isnt = cc
 
 module _ (world : World) (env : Environment) (shows : Shows world.variables env) where
   abbrev well_expr : Expr → Bool
@@ -372,6 +401,176 @@ module _ (world : World) (env : Environment) (shows : Shows world.variables env)
       (walk.◌>>=◌ (value_walk condition) (walk.branches condition true_walk false_walk))
       (sound-choice world env condition consequence alternative true_walk false_walk (value-sound condition well) one other)
 
+  site-within : (fits : RangeTest) → is_well_formed_test world.variables world.sites fits ≡ true → fits.site < world.sites
+  site-within fits well =
+      ltb-true fits.site world.sites (and_parts (nat_lt fits.site world.sites) (is_whole fits.range.first && is_whole fits.range.last) well).0
+
+  -- a for, from the values of its bounds
+  bounds-good : (number : ℕ) (place : Place) (control : ℕ) (first : Expr) (first_fits : RangeTest) (direction : Direction) (last : Expr) (last_fits : RangeTest)
+      (execution : Execution) (walking : Walking (Unit {0})) → SoundAction world env (execution env) walking → control < world.variables
+      → first_fits.site < world.sites → last_fits.site < world.sites → (from to : Known) (a b : Value) (context : Context) (state : State) (t : effect.State)
+      → (walk.for_walk number place walking (way_of control direction first first_fits last last_fits from to) context state).broken ≡ []
+      → IsPartOf world (walk.for_walk number place walking (way_of control direction first first_fits last last_fits from to) context state)
+      → Stands world env context state t.store → IsOfForm (moment env t.store) (bound_form first) a → IsOfForm (moment env t.store) (bound_form last) b
+      → IsKnown from a → IsKnown to b
+      → Good world (Foretold world env context
+      (walk.for_walk number place walking (way_of control direction first first_fits last last_fits from to) context state) t.store) t.visited
+      (effect.◌>>=◌ (meaning.for_between control first_fits direction last_fits execution env a b) (λ done. effect.undefine (env control)) t)
+  bounds-good number place control first first_fits direction last last_fits execution walking one within first_site last_site (Ordinal from) (Ordinal to)
+      (Number x) (Number y) context state t unbroken part stands first_form last_form in_first in_last =
+      for-good world env shows number execution walking one place context state (way_of control direction first first_fits last last_fits (Ordinal from) (Ordinal to))
+      x y within first_site last_site t unbroken part stands (of-form_may env t.store (bound_form first) x first_form)
+      (of-form_may env t.store (bound_form last) y last_form) in_first in_last
+
+  for-sound : (number : ℕ) (place : Place) (control : ℕ) (first : Expr) (first_fits : RangeTest) (direction : Direction) (last : Expr) (last_fits : RangeTest)
+      (execution : Execution) (walking : Walking (Unit {0})) → SoundAction world env (execution env) walking → control < world.variables
+      → well_expr first ≡ true → first_fits.site < world.sites → well_expr last ≡ true → last_fits.site < world.sites
+      → SoundAction world env
+      (effect.◌>>=◌ (value_of first env) (λ a. effect.◌>>=◌ (value_of last env) (λ b.
+      effect.◌>>=◌ (meaning.for_between control first_fits direction last_fits execution env a b) (λ done. effect.undefine (env control)))))
+      (walk.◌>>=◌ (value_walk first) (λ from. walk.◌>>=◌ (value_walk last) (λ to.
+      walk.for_walk number place walking (way_of control direction first first_fits last last_fits from to))))
+  for-sound number place control first first_fits direction last last_fits execution walking one within first_well first_site last_well last_site
+      context state s unbroken part stands =
+      let from = value_walk first context state in
+      let to = value_walk last context from.after in
+      let rest = walk.for_walk number place walking (way_of control direction first first_fits last last_fits from.value to.value) context to.after in
+      let more = followed to rest in
+      let Q = Foretold world env context (followed from more) s.store in
+      let finish = λ (a b : Value). effect.◌>>=◌ (meaning.for_between control first_fits direction last_fits execution env a b) (λ done. effect.undefine (env control)) in
+      let more_unbroken = unbroken-right from.broken more.broken unbroken in
+      let more_part = part-right world from more part in
+      good-then world (IsForetold world env IsKnown context from s.store) Q s.visited (value_of first env s) (λ a. effect.◌>>=◌ (value_of last env) (finish a))
+      (value-sound first first_well context state s (unbroken-left from.broken more.broken unbroken) (part-left world from more part) stands)
+      (λ a t first_is first_told.
+      good-then world (IsForetold world env IsKnown context to t.store) Q t.visited (value_of last env t) (finish a)
+      (value-sound last last_well context from.after t (unbroken-left to.broken rest.broken more_unbroken) (part-left world to rest more_part) first_told.stands)
+      (λ b u last_is last_told.
+      let form = subst (λ (store : Store). IsOfForm (moment env store) (bound_form first) a) (sym (expression-kept last env t u b last_is))
+      (form-known first env s t a first_is) in
+      good-weaker world (Foretold world env context rest u.store) Q u.visited (finish a b u)
+      (λ done w is then. record {
+        tie = tt;
+        stands = then.stands;
+        kept = keeps-then env context.rounds s.store t.store w.store first_told.kept
+            (keeps-then env context.rounds t.store u.store w.store last_told.kept then.kept);
+      })
+      (bounds-good number place control first first_fits direction last last_fits execution walking one within first_site last_site from.value to.value a b
+      context to.after u (unbroken-right to.broken rest.broken more_unbroken) (part-right world to rest more_part) last_told.stands form
+      (form-known last env t u b last_is) first_told.tie last_told.tie)))
+
+  -- ---- case statements
+
+  abbrev bodies : List ProvedStmt → List Stmt
+  bodies arms = map (λ (s : ProvedStmt). s.0) arms
+
+  abbrev arms_walked : State → Option ℕ → List (Vec ℤ Global) → List ProvedStmt → Walking (Unit {0})
+  arms_walked base index rows arms = walk.arms_walk base index rows (map statement_walk (bodies arms))
+
+  -- the arm whose constants have the value of the index
+  arms-good : (site : ℕ) (base : State) (index : Option ℕ) (n : ℤ) (context : Context) (t : effect.State) → Stands world env context base t.store
+      → ((root : ℕ) → index ≡ Some root → HasNumber (moment env t.store) root n) → (rows : List (Vec ℤ Global)) (arms : List ProvedStmt) (behind : State)
+      → all_hold (map well_stmt (bodies arms)) ≡ true → (arms_walked base index rows arms context behind).broken ≡ []
+      → IsPartOf world (arms_walked base index rows arms context behind) → meaning.is_among (constants_before (length (bodies arms)) rows) n ≡ true
+      → Good world (Foretold world env context (arms_walked base index rows arms context behind) t.store) t.visited
+      (meaning.arm_of site rows (map effect_of (bodies arms)) n env t)
+  arms-good site base index n context t stands has rows [] behind well unbroken part among = absurd (cc)
+  arms-good site base index n context t stands has [] (arm ∷ arms) behind well unbroken part among = absurd (cc)
+  arms-good site base index n context t stands has (row ∷ rows) (arm ∷ arms) behind well unbroken part among =
+      let start = at_constants index row.items base in
+      let first = statement_walk arm.0 context start in
+      let met = walk.arm_walk start (statement_walk arm.0) context behind in
+      let rest = arms_walked base index rows arms context (joined_states behind first.after) in
+      let whole = followed met rest in
+      let own_part = part-left world met rest part in
+      let first_part : IsPartOf world first = record { ids = own_part.ids; linked = own_part.linked } in
+      let parts = and_parts (well_stmt arm.0) (all_hold (map well_stmt (bodies arms))) well in
+      let action = effect_of arm.0 env in
+      let others = meaning.arm_of site rows (map effect_of (bodies arms)) n env in
+      by-arm world env context whole t action others (meaning.is_among row.items n)
+      (λ is.
+      good-weaker world (Foretold world env context first t.store) (Foretold world env context whole t.store) t.visited (action t)
+      (λ done u gives told. record {
+        tie = tt;
+        stands = stands-as world env context first.after whole.after u.store told.stands
+            (arms-behind world.variables env u.store base index rows (map statement_walk (bodies arms)) context (joined_states behind first.after)
+            (joined-known_other world.variables env behind first.after u.store told.stands.known));
+        kept = told.kept;
+      })
+      (arm.1 parts.0 context start t (unbroken-left first.broken rest.broken unbroken) first_part
+      (stands-as world env context base start t.store stands
+      (at-constants_known world.variables env t.store index row.items base n has is stands.known))))
+      (λ isnt.
+      good-weaker world (Foretold world env context rest t.store) (Foretold world env context whole t.store) t.visited (others t)
+      (λ done u gives told. record { tie = tt; stands = told.stands; kept = told.kept })
+      (arms-good site base index n context t stands has rows arms (joined_states behind first.after) parts.1 (unbroken-right first.broken rest.broken unbroken)
+      (part-right world met rest part)
+      (only-other (meaning.is_among row.items n) (meaning.is_among (constants_before (length (bodies arms)) rows) n) isnt
+      (sym (first-constants row rows (length (bodies arms)) n) ∙ among))))
+
+  -- from the value of the index on
+  case-good : (site : ℕ) (index : Expr) (rows : List (Vec ℤ Global)) (arms : List ProvedStmt) (known : Known) (v : Value) (context : Context) (state : State)
+      (t : effect.State) → site < world.sites → all_hold (map well_stmt (bodies arms)) ≡ true
+      → (walk.case_walk site index rows (map statement_walk (bodies arms)) known context state).broken ≡ []
+      → IsPartOf world (walk.case_walk site index rows (map statement_walk (bodies arms)) known context state) → Stands world env context state t.store
+      → IsOfForm (moment env t.store) (bound_form index) v → IsKnown known v
+      → Good world (Foretold world env context (walk.case_walk site index rows (map statement_walk (bodies arms)) known context state) t.store) t.visited
+      (meaning.arm_of site rows (map effect_of (bodies arms)) (meaning.number_of v) env t)
+  case-good site index rows arms (Ordinal range) (Number n) context state t below well unbroken part stands form inside =
+      let walks = map statement_walk (bodies arms) in
+      let constants = constants_before (length walks) rows in
+      let closed = covers constants (length constants) range in
+      let passed = common range (hull constants) in
+      let test = walk.tested closed site passed context state in
+      let tested = walk.index_test site constants range context state in
+      let root = root_of (condition_of index).form in
+      let rest = walk.arms_walk test.after root rows walks context Dead in
+      let whole = walk.case_walk site index rows walks (Ordinal range) context state in
+      let same_length = length-map (bodies arms) statement_walk in
+      either-way (meaning.is_among constants n)
+      (λ among.
+      let base_stands = stands-as world env context state test.after t.store stands
+      (nonempty-known world.variables env passed state t.store (Number n)
+      (common-in range (hull constants) (Number n) inside (among-hull constants n among)) stands.known) in
+      good-weaker world (Foretold world env context rest t.store) (Foretold world env context whole t.store) t.visited
+      (meaning.arm_of site rows (map effect_of (bodies arms)) n env t)
+      (λ done u gives told. record { tie = tt; stands = told.stands; kept = told.kept })
+      (arms-good site test.after root n context t base_stands (λ r is. entire-number (condition_of index).form (moment env t.store) n r form is) rows arms Dead
+      well (unbroken-right tested.broken rest.broken unbroken) (part-right world tested rest part)
+      (subst (λ k. meaning.is_among (constants_before k rows) n ≡ true) same_length among)))
+      (λ missing.
+      let unclosed : (is_dead state || closed) ≡ true → ⊥ = λ is.
+      true-isnt_false (meaning.is_among constants n)
+      (closed-passes world.variables env state t.store closed (meaning.is_among constants n) stands.known
+      (λ covered_is. covered constants (length constants) range n covered_is inside) is) missing in
+      subst (λ (reply : effect.Reply (Unit {0})). Good world (Foretold world env context whole t.store) t.visited reply)
+      (sym (arm-missing site rows (map effect_of (bodies arms)) n env t
+      (subst (λ k. meaning.is_among (constants_before k rows) n ≡ false) (same_length ∙ sym (length-map (bodies arms) effect_of)) missing)))
+      (record {
+        errs = errs-here world site (part.ids site (Contains-append_left tested.open_ids rest.open_ids site
+            (Contains-append_left test.open_ids [] site (open-here site (is_dead state || closed) unclosed)))) below;
+        new = nothing-new world t.visited;
+        gives = tt;
+      }))
+
+  case-sound : (site : ℕ) (index : Expr) (rows : List (Vec ℤ Global)) (arms : List ProvedStmt) → site < world.sites → well_expr index ≡ true
+      → all_hold (map well_stmt (bodies arms)) ≡ true
+      → SoundAction world env
+      (effect.◌>>=◌ (value_of index env) (λ v. meaning.arm_of site rows (map effect_of (bodies arms)) (meaning.number_of v) env))
+      (walk.◌>>=◌ (value_walk index) (walk.case_walk site index rows (map statement_walk (bodies arms))))
+  case-sound site index rows arms below index_well well context state s unbroken part stands =
+      let first = value_walk index context state in
+      let rest = walk.case_walk site index rows (map statement_walk (bodies arms)) first.value context first.after in
+      let finish = λ (v : Value). meaning.arm_of site rows (map effect_of (bodies arms)) (meaning.number_of v) env in
+      good-then world (IsForetold world env IsKnown context first s.store) (Foretold world env context (followed first rest) s.store) s.visited
+      (value_of index env s) finish
+      (value-sound index index_well context state s (unbroken-left first.broken rest.broken unbroken) (part-left world first rest part) stands)
+      (λ v t is told.
+      good-weaker world (Foretold world env context rest t.store) (Foretold world env context (followed first rest) s.store) t.visited (finish v t)
+      (λ done u gives then. record { tie = tt; stands = then.stands; kept = keeps-then env context.rounds s.store t.store u.store told.kept then.kept })
+      (case-good site index rows arms first.value v context first.after t below well (unbroken-right first.broken rest.broken unbroken)
+      (part-right world first rest part) told.stands (form-known index env s t v is) told.tie))
+
   abbrev StmtLayer : Stmt-F Stmt → Type 0
   StmtLayer x =
       SoundStatement (stmt_is_well_formed world.variables world.sites (map-Stmt Stmt Bool well_stmt x))
@@ -406,7 +605,7 @@ module _ (world : World) (env : Environment) (shows : Shows world.variables env)
       let parts = and_parts (well_expr condition) (well_stmt body.value.0) well in
       let round = meaning.while_round (value_of condition) (effect_of body.value.0) env in
       let walked = walk.while_round condition (statement_walk body.value.0) in
-      entered-sound {A = Unit {0}} {B = Unit {0}} Any_value number (effect.looped round tt) (walk.loop_walk loop_number place walked)
+      entered-sound {A = Unit {0}} {B = Unit {0}} Any_value number (effect.looped round tt) (walk.loop_walk loop_number place None walked)
       (sound-loop world env shows loop_number place round tt walked
       (λ a. sound-while world env condition (effect_of body.value.0) (statement_walk body.value.0) (value-sound condition parts.0) (body.value.1 parts.1)))
   statement-layer (Repeat number loop_number place statements condition) well =
@@ -416,9 +615,33 @@ module _ (world : World) (env : Environment) (shows : Shows world.variables env)
       let bodies = walk.all_of (map statement_walk inner) in
       let round = meaning.repeat_round body (value_of condition) env in
       let walked = walk.repeat_round bodies condition in
-      entered-sound {A = Unit {0}} {B = Unit {0}} Any_value number (effect.looped round tt) (walk.loop_walk loop_number place walked)
+      entered-sound {A = Unit {0}} {B = Unit {0}} Any_value number (effect.looped round tt) (walk.loop_walk loop_number place None walked)
       (sound-loop world env shows loop_number place round tt walked
       (λ a. sound-repeat world env condition body bodies (all-sound statements.items parts.0) (value-sound condition parts.1)))
+  statement-layer (For number loop_number place control first first_fits direction last last_fits body) well =
+      let is_test = is_well_formed_test world.variables world.sites in
+      let one = and_parts (nat_lt control world.variables) (well_expr first && (is_test first_fits && (well_expr last && (is_test last_fits && well_stmt body.value.0)))) well in
+      let two = and_parts (well_expr first) (is_test first_fits && (well_expr last && (is_test last_fits && well_stmt body.value.0))) one.1 in
+      let three = and_parts (is_test first_fits) (well_expr last && (is_test last_fits && well_stmt body.value.0)) two.1 in
+      let four = and_parts (well_expr last) (is_test last_fits && well_stmt body.value.0) three.1 in
+      let five = and_parts (is_test last_fits) (well_stmt body.value.0) four.1 in
+      let execution = effect_of body.value.0 in
+      let finish = λ (a b : Value). effect.◌>>=◌ (meaning.for_between control first_fits direction last_fits execution env a b) (λ done. effect.undefine (env control)) in
+      entered-sound {A = Unit {0}} {B = Unit {0}} Any_value number
+      (effect.◌>>=◌ (value_of first env) (λ a. effect.◌>>=◌ (value_of last env) (finish a)))
+      (walk.◌>>=◌ (value_walk first) (λ from. walk.◌>>=◌ (value_walk last) (λ to.
+      walk.for_walk loop_number place (statement_walk body.value.0) (way_of control direction first first_fits last last_fits from to))))
+      (for-sound loop_number place control first first_fits direction last last_fits execution (statement_walk body.value.0) (body.value.1 five.1)
+      (ltb-true control world.variables one.0) two.0 (site-within first_fits three.0) four.0 (site-within last_fits five.0))
+  statement-layer (Case number site index constants arms) well =
+      let inner = bodies arms.items in
+      let one = and_parts (nat_lt site world.sites) (well_expr index && (list_all are_whole constants.items && all_hold (map well_stmt inner))) well in
+      let two = and_parts (well_expr index) (list_all are_whole constants.items && all_hold (map well_stmt inner)) one.1 in
+      let three = and_parts (list_all are_whole constants.items) (all_hold (map well_stmt inner)) two.1 in
+      entered-sound {A = Unit {0}} {B = Unit {0}} Any_value number
+      (effect.◌>>=◌ (value_of index env) (λ v. meaning.arm_of site constants.items (map effect_of inner) (meaning.number_of v) env))
+      (walk.◌>>=◌ (value_walk index) (walk.case_walk site index constants.items (map statement_walk inner)))
+      (case-sound site index constants.items arms.items (ltb-true site world.sites one.0) two.0 three.1)
 
   along-statement : {a b : Bool} {execution executed : Execution} {walking walked : Walking (Unit {0})} → a ≡ b → execution ≡ executed → walking ≡ walked
       → SoundStatement b executed walked → SoundStatement a execution walking

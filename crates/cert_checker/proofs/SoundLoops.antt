@@ -23,7 +23,7 @@ use Rattle.abstract_state.specs.declared.known.Known.TheVariants.{Ordinal}
 use Rattle.abstract_state.proofs.Ranged.{IsKnown}
 use Rattle.abstract_state.proofs.Knows.{joined-known_one, joined-known_other}
 use Rattle.abstract_state.proofs.Refined.{branched-known}
-use Rattle.cert_checker.specs.Loops.{Round, claims_on, limits_at, round_of, touched}
+use Rattle.structured_states.specs.Loops.{Round, claims_on, limits_at, round_of, touched, with_own, without_own}
 use Rattle.abstract_state.specs.Loops.{gives_all, head}
 use Rattle.abstract_state.specs.Knows.{IsKept, Shows, moment}
 use Rattle.abstract_state.proofs.Looped.{given-all_known, head-known}
@@ -64,6 +64,22 @@ other-way world env context one other start store done told = record {
   kept = told.kept;
 }
 
+-- one of two ways, by a truth value
+pub ways-good : (world : World) (env : Environment) (one_action other_action : Action (Unit {0})) (one other : Walked (Unit {0})) (b : Bool)
+    (context : Context) (t : effect.State)
+    → (b ≡ true → one.broken ≡ [] → IsPartOf world one → Good world (Foretold world env context one t.store) t.visited (one_action t))
+    → (b ≡ false → other.broken ≡ [] → IsPartOf world other → Good world (Foretold world env context other t.store) t.visited (other_action t))
+    → (walk.either_of one other).broken ≡ [] → IsPartOf world (walk.either_of one other)
+    → Good world (Foretold world env context (walk.either_of one other) t.store) t.visited (cond b one_action other_action t)
+ways-good world env one_action other_action one other true context t taken skipped unbroken part =
+    good-weaker world (Foretold world env context one t.store) (Foretold world env context (walk.either_of one other) t.store) t.visited (one_action t)
+    (λ done u is told. one-way world env context one other t.store u.store done told)
+    (taken refl (unbroken-left one.broken other.broken unbroken) (part-left world one other (record { ids = part.ids; linked = part.linked })))
+ways-good world env one_action other_action one other false context t taken skipped unbroken part =
+    good-weaker world (Foretold world env context other t.store) (Foretold world env context (walk.either_of one other) t.store) t.visited (other_action t)
+    (λ done u is told. other-way world env context one other t.store u.store done told)
+    (skipped refl (unbroken-right one.broken other.broken unbroken) (part-right world one other (record { ids = part.ids; linked = part.linked })))
+
 -- the choice of a branch by a truth value
 chosen-good : (world : World) (env : Environment) (one_action other_action : Action (Unit {0})) (condition : Expr) (consequence alternative : Walking (Unit {0}))
     (known : Known) (b : Bool) (context : Context) (state : State) (t : effect.State)
@@ -74,20 +90,12 @@ chosen-good : (world : World) (env : Environment) (one_action other_action : Act
     → Stands world env context (where_so b condition known state) t.store
     → Good world (Foretold world env context (walk.branches condition consequence alternative known context state) t.store) t.visited
     (cond b one_action other_action t)
-chosen-good world env one_action other_action condition consequence alternative known true context state t one other unbroken part stands =
-    let first = consequence context (where_so true condition known state) in
-    let second = alternative context (where_so false condition known state) in
-    let own : IsPartOf world first = part-left world first second (record { ids = part.ids; linked = part.linked }) in
-    good-weaker world (Foretold world env context first t.store) (Foretold world env context (walk.either_of first second) t.store) t.visited (one_action t)
-    (λ done u is told. one-way world env context first second t.store u.store done told)
-    (one context (where_so true condition known state) t (unbroken-left first.broken second.broken unbroken) own stands)
-chosen-good world env one_action other_action condition consequence alternative known false context state t one other unbroken part stands =
-    let first = consequence context (where_so true condition known state) in
-    let second = alternative context (where_so false condition known state) in
-    let own : IsPartOf world second = part-right world first second (record { ids = part.ids; linked = part.linked }) in
-    good-weaker world (Foretold world env context second t.store) (Foretold world env context (walk.either_of first second) t.store) t.visited (other_action t)
-    (λ done u is told. other-way world env context first second t.store u.store done told)
-    (other context (where_so false condition known state) t (unbroken-right first.broken second.broken unbroken) own stands)
+chosen-good world env one_action other_action condition consequence alternative known b context state t one other unbroken part stands =
+    let at = λ (c : Bool). where_so c condition known state in
+    ways-good world env one_action other_action (consequence context (at true)) (alternative context (at false)) b context t
+    (λ is unbroken part. one context (at true) t unbroken part (subst (λ (c : Bool). Stands world env context (at c) t.store) is stands))
+    (λ is unbroken part. other context (at false) t unbroken part (subst (λ (c : Bool). Stands world env context (at c) t.store) is stands))
+    unbroken part
 
 -- a condition, and then one of two branches
 pub sound-choice : (world : World) (env : Environment) (condition : Expr) (one_action other_action : Action (Unit {0}))
@@ -153,6 +161,14 @@ SoundRound {A} world env round walking =
     → Stands world env context state s.store
     → Good world (EndsHold world env context (walking context state).after (walking context state).value s.store {A = A}) s.visited (round s)
 
+-- the same of a round that begins with a change of the store, by the loops round it: where another follows, the state at its end holds behind the change
+-- with which that begins, and something is so of both
+abbrev pub RoundEnds : {A : Type 0} → World → Environment → Context → List Round → (at : A → Store → Store) → (Fits : A → Store → Type 0) → (again out : State)
+    → Store → Option A → Store → Type 0
+RoundEnds world env context rounds at Fits again out start =
+    Turns (λ a store. Stands world env context again (at a store) × Keeps env rounds start (at a store) × Fits a (at a store))
+    (λ store. Stands world env context out store × Keeps env rounds start store)
+
 -- ---- the head of a loop
 
 abbrev AllHold : List Fact → Environment → Store → Type 0
@@ -169,32 +185,56 @@ type-limits : (one other : List Interval) (root : ℕ) (v : Value) → one ≡ o
 type-limits one other root v is inside = subst (λ (limits : List Interval). IsIn (limits_at limits root) v) (sym is) inside
 
 -- of the loops round a round of a loop, the last is the loop itself
-rounds-own : (env : Environment) (rounds : List Round) (own : Round) (before after : Store) → Keeps env (rounds ++ own ∷ []) before after
+pub rounds-own : (env : Environment) (rounds : List Round) (own : Round) (before after : Store) → Keeps env (rounds ++ own ∷ []) before after
     → IsKept env (touched own) own.controls before after
 rounds-own env rounds own before after kept = kept own (Contains-append_right rounds (own ∷ []) own (0, omega arith, refl))
 
-rounds-outer : (env : Environment) (rounds : List Round) (own : Round) (before after : Store) → Keeps env (rounds ++ own ∷ []) before after
+pub rounds-outer : (env : Environment) (rounds : List Round) (own : Round) (before after : Store) → Keeps env (rounds ++ own ∷ []) before after
     → Keeps env rounds before after
 rounds-outer env rounds own before after kept round inside = kept round (Contains-append_left rounds (own ∷ []) round inside)
 
-module _ (world : World) (env : Environment) (shows : Shows world.variables env) (context : Context) (state : State) (start : Store)
-    (own : Round) (facts : List Fact) (again out : State) (stands : Stands world env context state start) where
-  -- inside the loop
+-- a loop by its number, and perhaps a control variable: at its head, and inside it
+abbrev pub at_head : Context → ℕ → Option ℕ → Round
+at_head context number control = with_own control (round_of context.tree context.certificate number)
+
+abbrev pub inner : Context → ℕ → Option ℕ → Context
+inner context number control =
+    record context { rounds = context.rounds ++ without_own control (round_of context.tree context.certificate number) ∷ [] }
+
+abbrev pub with_head : Context → ℕ → Option ℕ → List Round
+with_head context number control = context.rounds ++ at_head context number control ∷ []
+
+abbrev pub loop_begun : Context → ℕ → Option ℕ → State → State
+loop_begun context number control state =
+    let own = at_head context number control in
+    head (limits_at context.limits) (touched own) own.controls (claims_on context.certificate number).facts state
+
+module _ {A : Type 0} (world : World) (env : Environment) (shows : Shows world.variables env) (context : Context) (number : ℕ) (control : Option ℕ) (state : State)
+    (start : Store) (at : A → Store → Store) (Fits : A → Store → Type 0) (again out : State) (stands : Stands world env context state start) where
+  abbrev facts : List Fact
+  facts = (claims_on context.certificate number).facts
+
+  abbrev own : Round
+  own = at_head context number control
+
   abbrev within : Context
-  within = record context { rounds = context.rounds ++ own ∷ [] }
+  within = inner context number control
+
+  abbrev rounds : List Round
+  rounds = with_head context number control
 
   abbrev begun : State
-  begun = head (limits_at context.limits) (touched own) own.controls facts state
+  begun = loop_begun context number control state
 
   -- at the start of a round the head holds, and behind the loop its way out
-  abbrev AtHead : Store → Type 0
-  AtHead store = Stands world env within begun store × Keeps env within.rounds start store
+  abbrev AtHead : A → Store → Type 0
+  AtHead a store = Stands world env within begun (at a store) × Keeps env rounds start (at a store) × Fits a (at a store)
 
   abbrev AtOut : Store → Type 0
   AtOut store = Stands world env context out store × Keeps env context.rounds start store
 
   -- the loop's facts hold there, and nothing changed but what the loop touches: so the head holds
-  head-stands : (store : Store) → InTypes world.limits env store → Keeps env within.rounds start store → AllHold facts env store
+  head-stands : (store : Store) → InTypes world.limits env store → Keeps env rounds start store → AllHold facts env store
       → Stands world env within begun store
   head-stands store typed kept hold = record {
     limits_are = stands.limits_are;
@@ -205,58 +245,92 @@ module _ (world : World) (env : Environment) (shows : Shows world.variables env)
   }
 
   -- behind a round
-  round-turns : {A : Type 0} → gives_all again facts ≡ true → (before after : Store) → Keeps env within.rounds start before → (more : Option A)
-      → EndsHold world env within again out before more after → Turns (λ a store. AtHead store) AtOut more after
+  round-turns : gives_all again facts ≡ true → (before after : Store) → Keeps env rounds start before → (more : Option A)
+      → RoundEnds world env within rounds at Fits again out before more after → Turns AtHead AtOut more after
   round-turns given before after kept None (stood, own_kept) = (
     record { limits_are = stood.limits_are; known = stood.known; typed = stood.typed },
-    rounds-outer env context.rounds own start after (keeps-then env within.rounds start before after kept own_kept),
+    rounds-outer env context.rounds own start after (keeps-then env rounds start before after kept own_kept),
   )
-  round-turns given before after kept (Some b) (stood, own_kept) =
-      let all = keeps-then env within.rounds start before after kept own_kept in
-      (head-stands after stood.typed all (given-all_known world.variables env again after facts stood.known given), all)
+  round-turns given before after kept (Some b) (stood, own_kept, fits) =
+      let all = keeps-then env rounds start before (at b after) kept own_kept in
+      (head-stands (at b after) stood.typed all (given-all_known world.variables env again (at b after) facts stood.known given), all, fits)
 
--- a loop whose round is sound
-pub sound-loop : {A : Type 0} (world : World) (env : Environment) → Shows world.variables env → (number : ℕ) (place : SourcePlace) (round : effect.Round A) (a : A)
-    (walking : Walking State)
-    → ((b : A) → SoundRound world env (round b) walking)
-    → Sound {A = Unit {0}} {B = Unit {0}} world env Any_value (effect.looped round a) (walk.loop_walk number place walking)
-sound-loop {A} world env shows number place round a walking each context state s unbroken part stands =
-    let claims = claims_on context.certificate number in
-    let own = round_of claims in
-    let facts = claims.facts in
-    let begun = head (limits_at context.limits) (touched own) own.controls facts state in
-    let within : Context = record context { rounds = context.rounds ++ own ∷ [] } in
+-- a loop whose rounds are sound
+pub loop-good : {A : Type 0} (world : World) (env : Environment) → Shows world.variables env → (number : ℕ) (place : SourcePlace) (control : Option ℕ)
+    (round : effect.Round A) (walking : Walking State) (at : A → Store → Store) (Fits : A → Store → Type 0) (context : Context) (state : State) (a : A)
+    (s : effect.State)
+    → ((b : A) (t : effect.State) → (walking (inner context number control) (loop_begun context number control state)).broken ≡ []
+    → IsPartOf world (walking (inner context number control) (loop_begun context number control state))
+    → Stands world env (inner context number control) (loop_begun context number control state) (at b t.store) → Fits b (at b t.store)
+    → Good world (RoundEnds world env (inner context number control) (with_head context number control) at Fits
+    (walking (inner context number control) (loop_begun context number control state)).after
+    (walking (inner context number control) (loop_begun context number control state)).value (at b t.store)) t.visited (round b t))
+    → (walk.loop_walk number place control walking context state).broken ≡ [] → IsPartOf world (walk.loop_walk number place control walking context state)
+    → Stands world env context state (at a s.store) → Fits a (at a s.store)
+    → Good world (Foretold world env context (walk.loop_walk number place control walking context state) (at a s.store)) s.visited (effect.looped round a s)
+loop-good {A} world env shows number place control round walking at Fits context state a s each unbroken part stands fits =
+    let facts = (claims_on context.certificate number).facts in
+    let own = at_head context number control in
+    let begun = loop_begun context number control state in
+    let within = inner context number control in
+    let rounds = with_head context number control in
+    let start = at a s.store in
     let turn = walking within begun in
     let entry = walk.facts_given LoopEntry place facts context state in
     let entering = walk.enter_head own facts context state in
     let turned = walk.facts_given LoopTurn place facts context turn.after in
     let after_turn = followed turned (walk.with_state turn.value context turn.after) in
     let from_head = followed turn after_turn in
-    let whole = walk.loop_walk number place walking context state in
+    let whole = walk.loop_walk number place control walking context state in
     let from_entry = unbroken-right entry.broken (turn.broken ++ (turned.broken ++ [])) unbroken in
-    let given = given-all_known world.variables env state s.store facts stands.known
+    let given = given-all_known world.variables env state start facts stands.known
     (kept-rule (gives_all state facts) LoopEntry place (unbroken-left entry.broken (turn.broken ++ (turned.broken ++ [])) unbroken)) in
     let given_again = kept-rule (gives_all turn.after facts) LoopTurn place
     (unbroken-left turned.broken [] (unbroken-right turn.broken (turned.broken ++ []) from_entry)) in
     let turn_part : IsPartOf world turn = part-left world turn after_turn (part-right world entering from_head (part-right world entry (followed entering from_head) part)) in
-    let P = λ (b : A). AtHead world env shows context state s.store own facts turn.after turn.value stands in
-    let Q : Store → Type 0 = AtOut world env shows context state s.store own facts turn.after turn.value stands in
-    let begin_kept = keeps-itself env within.rounds s.store in
-    let start : P a s.store =
-    (head-stands world env shows context state s.store own facts turn.after turn.value stands s.store stands.typed begin_kept given, begin_kept) in
-    let rounds : (b : A) (t : effect.State) → P b t.store → Good world (Turns P Q) t.visited (round b t) =
+    let P = AtHead world env shows context number control state start at Fits turn.after turn.value stands in
+    let Q : Store → Type 0 = AtOut world env shows context number control state start at Fits turn.after turn.value stands in
+    let begin_kept = keeps-itself env rounds start in
+    let first : P a s.store =
+    (head-stands world env shows context number control state start at Fits turn.after turn.value stands start stands.typed begin_kept given, begin_kept, fits) in
+    let turns : (b : A) (t : effect.State) → P b t.store → Good world (Turns P Q) t.visited (round b t) =
     λ b t holds.
-    good-weaker world (EndsHold world env within turn.after turn.value t.store {A = A}) (Turns P Q) t.visited (round b t)
-    (λ more u is told. round-turns world env shows context state s.store own facts turn.after turn.value stands given_again t.store u.store holds.1 more told)
-    (each b within begun t (unbroken-left turn.broken (turned.broken ++ []) from_entry) turn_part holds.0) in
-    good-weaker world (λ (done : Unit {0}) store. Q store) (Foretold world env context whole s.store) s.visited (effect.looped round a s)
+    good-weaker world (RoundEnds world env within rounds at Fits turn.after turn.value (at b t.store)) (Turns P Q) t.visited (round b t)
+    (λ more u is told.
+    round-turns world env shows context number control state start at Fits turn.after turn.value stands given_again (at b t.store) u.store holds.1 more told)
+    (each b t (unbroken-left turn.broken (turned.broken ++ []) from_entry) turn_part holds.0 holds.2) in
+    good-weaker world (λ (done : Unit {0}) store. Q store) (Foretold world env context whole start) s.visited (effect.looped round a s)
     (λ done t is so. record { tie = tt; stands = so.0; kept = so.1 })
-    (looping-good world P Q round rounds s.turns a s start)
+    (looping-good world P Q round turns s.turns a s first)
+
+-- a round that begins with no change of the store
+plain-ends : {A : Type 0} (world : World) (env : Environment) (context : Context) (again out : State) (start : Store) (more : Option A) (store : Store)
+    → EndsHold world env context again out start more store
+    → RoundEnds world env context context.rounds (λ a store. store) (λ a store. Unit {0}) again out start more store
+plain-ends world env context again out start None store told = told
+plain-ends world env context again out start (Some a) store (stood, kept) = (stood, kept, tt)
+
+-- a loop that is no for statement
+pub sound-loop : {A : Type 0} (world : World) (env : Environment) → Shows world.variables env → (number : ℕ) (place : SourcePlace) (round : effect.Round A) (a : A)
+    (walking : Walking State)
+    → ((b : A) → SoundRound world env (round b) walking)
+    → Sound {A = Unit {0}} {B = Unit {0}} world env Any_value (effect.looped round a) (walk.loop_walk number place None walking)
+sound-loop {A} world env shows number place round a walking each context state s unbroken part stands =
+    let within = inner context number None in
+    let begun = loop_begun context number None state in
+    let turn = walking within begun in
+    loop-good world env shows number place None round walking (λ b store. store) (λ b store. Unit {0}) context state a s
+    (λ b t unbroken part holds fits.
+    good-weaker world (EndsHold world env within turn.after turn.value t.store {A = A})
+    (RoundEnds world env within within.rounds (λ b store. store) (λ b store. Unit {0}) turn.after turn.value t.store) t.visited (round b t)
+    (λ more u is told. plain-ends world env within turn.after turn.value t.store more u.store told)
+    (each b within begun t unbroken part holds))
+    unbroken part stands tt
 
 -- ---- a turn
 
 -- behind the use of a turn, the store is the same
-turn-then : {C : Type 0} (world : World) (Q : C → Store → Type 0) (next : Unit {0} → Action C) (t : effect.State)
+pub turn-then : {C : Type 0} (world : World) (Q : C → Store → Type 0) (next : Unit {0} → Action C) (t : effect.State)
     → ((u : effect.State) → u.store ≡ t.store → u.visited ≡ t.visited → Good world Q u.visited (next tt u)) → (n : ℕ)
     → Good world Q t.visited (and_then (effect.take_turn n t) next)
 turn-then world Q next t then zero = record { errs = λ id is. absurd (cc); new = nothing-new world t.visited; gives = tt }

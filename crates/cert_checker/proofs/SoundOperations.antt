@@ -33,7 +33,7 @@ module _ (world : World) (env : Environment) where
   -- ---- tests
 
   -- a value that has to lie in limits
-  within-sound : (limits : Interval) (site : ℕ) (range : Interval) (v : Value) (test : Bool) → site < world.sites → (test ≡ true → IsIn limits v)
+  pub within-sound : (limits : Interval) (site : ℕ) (range : Interval) (v : Value) (test : Bool) → site < world.sites → (test ≡ true → IsIn limits v)
       → (IsIn limits v → test ≡ true)
       → IsIn range v → Sound world env (Passes test v) (effect.require test site) (walk.within limits site range)
   within-sound limits site range v test below lies fits inside =

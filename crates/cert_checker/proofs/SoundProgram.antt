@@ -26,7 +26,7 @@ use Rattle.abstract_state.specs.Holds.{Separate, StateHolds, part_of}
 use Rattle.meaning.specs.declared.store.Value.{Value}
 use Rattle.cert_checker.specs.Promise.{open_in, AreNumbered, ClosedNeverErr, HoldsAt, StatesHold, moment_of, visits_of}
 use Rattle.abstract_state.proofs.Knows.{Shows, Knows, known-start}
-use Rattle.cert_checker.specs.Loops.{all_limits}
+use Rattle.structured_states.specs.Loops.{all_limits}
 use Rattle.cert_checker.proofs.Sound.{World, IsPartOf, Meets, New, ErrsWithin, unbroken-left, part-left, part-right}
 use Rattle.cert_checker.proofs.SoundForms.{statement-sound}
 

@@ -1,6 +1,5 @@
 -- What the checker did over a piece of a program, from what it did over the parts of the piece.
-use Rattle.std.proofs.Common.{rules, ◌≡◌, ◌≤◌, Bool, true, false, ◌&&◌, Option, Some, None, Result, Ok, Err, ℕ, ℤ, ◌+◌, List, [], ◌∷◌, ◌++◌, length, map, refl, sym, ap, ◌∙◌, subst, append_assoc, append-nil, ◌<◌, get_or, drop, drop-cons, add-one, suc}
-use Rattle.std.proofs.lemmas.List.{drop_all}
+use Rattle.std.proofs.Common.{rules, ◌≡◌, ◌≤◌, Bool, true, false, ◌&&◌, Option, Some, None, Result, Ok, Err, ℕ, ℤ, ◌+◌, List, [], ◌∷◌, ◌++◌, length, map, refl, sym, ap, ◌∙◌, subst, append_assoc, append-nil, ◌<◌, get_or, drop}
 use Rattle.std.specs.Result.{IsErr, IsErrAnd}
 use Rattle.std.specs.Prelude.{MatchResult}
 use Rattle.place.specs.declared.Place.{Place as SourcePlace}
@@ -31,9 +30,10 @@ use Rattle.abstract_state.specs.Changes.{assigned}
 use Rattle.abstract_state.specs.Conditions.{bound_form}
 use Rattle.domain.specs.Facts.{Bound}
 use Rattle.abstract_state.specs.State.{State, Dead, Live, is_defined, joined_states, limits_of, range_of, with_defined}
-use Rattle.cert_checker.specs.Walk.{Breach, Context, Linked, Walked, Walking, use_of, tested, positive, within, width_test, assign, change, fitting, ◌>>=◌, give, ordinal, enter, variable_walk, operated, combined, in_turn, value_walk, link_walk, parameter_walk, statement_walk, all_of, assignment, block_walk, branches, breach_unless, facts_given, first_context, program_walk, followed, here, loop_walk, repeat_round, while_round, with_state, where_so, numbers_of}
-use Rattle.cert_checker.specs.View.{context_of, all_counted, counted, else_walk, AtHead, EntersLoop, IsBegun, IsMoved, kept_round, LeavesLoop, Meets, Parts, Walks, Goes}
-use Rattle.cert_checker.specs.Loops.{Claims, Round, all_list, claims_on, limits_at, round_of, touched}
+use Rattle.cert_checker.specs.Walk.{Breach, Context, Linked, Walked, Walking, use_of, tested, positive, within, width_test, assign, change, fitting, ◌>>=◌, give, ordinal, enter, variable_walk, operated, combined, in_turn, value_walk, link_walk, parameter_walk, statement_walk, all_of, assignment, block_walk, branches, breach_unless, facts_given, first_context, program_walk, followed, here, loop_walk, parted, repeat_round, while_round, with_state, where_so, numbers_of}
+use Rattle.structured_states.specs.View.{kept_round}
+use Rattle.cert_checker.specs.View.{context_of, all_counted, counted, else_walk, AtHead, EntersLoop, IsBegun, IsMoved, LeavesLoop, loop_in, Meets, Parts, Walks, Goes}
+use Rattle.structured_states.specs.Loops.{Claims, Round, all_list, claims_on, limits_at, touched, with_own, without_own}
 use Rattle.abstract_state.specs.Loops.{gives_all, head, is_among}
 use Rattle.std.specs.List.{list_all}
 use Rattle.std.proofs.lemmas.List.Folds.{list_all-map}
@@ -43,6 +43,7 @@ use Rattle.typed_tree.specs.declared.tree.Tree.{Tree}
 use Rattle.certificate.specs.declared.Certificate.{Certificate}
 use Rattle.cert_checker.specs.declared.fault.Rule.TheVariants.{LoopEntry, LoopTurn, Changes}
 use Rattle.cert_checker.specs.Promise.{first_breach, IsBreachOf}
+use Rattle.structured_states.proofs.Claims.{item-cut, drop-past}
 
 -- ---- the walk, form by form
 
@@ -87,12 +88,12 @@ statement-If number condition consequence (Some statement) = search (rules, stmt
 
 pub statement-While : (number loop_number : ℕ) (place : SourcePlace) (condition : Expr) (body : Box Stmt Global)
     → statement_walk (stmt.While number loop_number place condition body)
-    ≡ (enter number >>= λ _. loop_walk loop_number place (while_round condition (statement_walk body.value)))
+    ≡ (enter number >>= λ _. loop_walk loop_number place None (while_round condition (statement_walk body.value)))
 statement-While number loop_number place condition body = search (rules, stmt_lemmas)
 
 pub statement-Repeat : (number loop_number : ℕ) (place : SourcePlace) (statements : Vec Stmt Global) (condition : Expr)
     → statement_walk (stmt.Repeat number loop_number place statements condition)
-    ≡ (enter number >>= λ _. loop_walk loop_number place (repeat_round (all_of (map statement_walk statements.items)) condition))
+    ≡ (enter number >>= λ _. loop_walk loop_number place None (repeat_round (all_of (map statement_walk statements.items)) condition))
 statement-Repeat number loop_number place statements condition = search (rules, stmt_lemmas)
 
 -- ---- one piece of a walk after another
@@ -140,7 +141,7 @@ first-stays : (one two : List Breach) (breach : Breach) → first_breach one ≡
 first-stays [] two breach is = cc
 first-stays (first ∷ one) two breach is = is
 
-breach-stays : {A B : Type 0} (walked : Walked A) (more : Walked B) (fault : CheckFault) (both : Walked B) → both.broken ≡ walked.broken ++ more.broken
+pub breach-stays : {A B : Type 0} (walked : Walked A) (more : Walked B) (fault : CheckFault) (both : Walked B) → both.broken ≡ walked.broken ++ more.broken
     → IsBreachOf walked fault → IsBreachOf both fault
 breach-stays walked more Memory both are is = tt
 breach-stays walked more Foreign both are is = is
@@ -148,7 +149,7 @@ breach-stays walked more (Broken rule place) both are is =
     ap first_breach are ∙ first-stays walked.broken more.broken (record { rule = rule; place = place }) is
 
 -- the rules that are broken are the same
-breach-same : {A B : Type 0} (walked : Walked A) (other : Walked B) (fault : CheckFault) → walked.broken ≡ other.broken → IsBreachOf walked fault
+pub breach-same : {A B : Type 0} (walked : Walked A) (other : Walked B) (fault : CheckFault) → walked.broken ≡ other.broken → IsBreachOf walked fault
     → IsBreachOf other fault
 breach-same walked other Memory same is = tt
 breach-same walked other Foreign same is = is
@@ -187,12 +188,6 @@ given-up {A} walk old new before after fault (Err other) is goes =
     subst (λ f. Goes walk old before (Err f) new after) (sym is.1) goes
 
 -- ---- a list of pieces, from one of them on
-
-pub item-cut : {X : Type 0} (items : List X) (i : ℕ) (x : X) → i < length items → x ≡ get_or items i x → drop i items ≡ x ∷ drop (i + 1) items
-item-cut items i x inside is = rw add-one (drop-cons items i x inside ∙ ap (λ y. y ∷ drop (suc i) items) (sym is))
-
-pub drop-past : {X : Type 0} (items : List X) (i : ℕ) → length items ≤ i → drop i items ≡ []
-drop-past items i past = drop_all i items past
 
 all-cut : {X : Type 0} (walk : X → Walking (Unit {0})) (items : List X) (i : ℕ) (x : X) → i < length items → x ≡ get_or items i x
     → all_of (map walk (drop i items)) ≡ (walk x >>= λ _. all_of (map walk (drop (i + 1) items)))
@@ -365,34 +360,34 @@ tested-stopped walk test next old new visits fault result is left stopped =
 -- ---- branches
 
 -- from where only the state of the checker was moved, a piece is walked from that state
-moved-same : {A : Type 0} (walking : Walking A) (state : State) (old new : Walk) → IsMoved state old new
+pub moved-same : {A : Type 0} (walking : Walking A) (state : State) (old new : Walk) → IsMoved state old new
     → walking (context_of new) (viewed new.state) ≡ walking (context_of old) state
 moved-same walking state old new moved =
     ap (λ context. walking context (viewed new.state)) (ap context_of moved.only_state) ∙ ap (walking (context_of old)) moved.says
 
 -- the ways of two branches, and where they meet
-pub branches-walk : (condition : Expr) (true_walk false_walk : Walking (Unit {0})) (known : Known) (old taken mid start done new : Walk) (before between after : Visits)
-    → IsMoved (where_so true condition known (viewed old.state)) old taken → Walks true_walk taken before mid between tt
-    → IsMoved (where_so false condition known (viewed old.state)) mid start → Walks false_walk start between done after tt
+pub branches-walk : (one_state other_state : State → State) (one_walk other_walk : Walking (Unit {0})) (old taken mid start done new : Walk) (before between after : Visits)
+    → IsMoved (one_state (viewed old.state)) old taken → Walks one_walk taken before mid between tt
+    → IsMoved (other_state (viewed old.state)) mid start → Walks other_walk start between done after tt
     → IsMoved (joined_states (viewed mid.state) (viewed done.state)) done new
-    → Walks (branches condition true_walk false_walk known) old before new after tt
-branches-walk condition true_walk false_walk known old taken mid start done new before between after to_yes one to_no two met =
-    let first : Walked (Unit {0}) = true_walk (context_of old) (where_so true condition known (viewed old.state)) in
-    let second : Walked (Unit {0}) = false_walk (context_of old) (where_so false condition known (viewed old.state)) in
-    let first_same = moved-same true_walk (where_so true condition known (viewed old.state)) old taken to_yes in
+    → Walks (parted one_state other_state one_walk other_walk) old before new after tt
+branches-walk one_state other_state one_walk other_walk old taken mid start done new before between after to_yes one to_no two met =
+    let first : Walked (Unit {0}) = one_walk (context_of old) (one_state (viewed old.state)) in
+    let second : Walked (Unit {0}) = other_walk (context_of old) (other_state (viewed old.state)) in
+    let first_same = moved-same one_walk (one_state (viewed old.state)) old taken to_yes in
     let context : context_of mid ≡ context_of old = one.context_is ∙ ap context_of to_yes.only_state in
-    let second_same : false_walk (context_of start) (viewed start.state) ≡ second =
-    moved-same false_walk (where_so false condition known (viewed old.state)) mid start to_no ∙ ap (λ x. false_walk x (where_so false condition known (viewed old.state))) context in
+    let second_same : other_walk (context_of start) (viewed start.state) ≡ second =
+    moved-same other_walk (other_state (viewed old.state)) mid start to_no ∙ ap (λ x. other_walk x (other_state (viewed old.state))) context in
     let first_after = one.state_is ∙ ap (λ w. w.after) first_same in
     let second_after = two.state_is ∙ ap (λ w. w.after) second_same in
-    let first_open = one.open_is ∙ ap (λ (w : Walk). w.open_ids.items ++ (true_walk (context_of taken) (viewed taken.state)).open_ids) to_yes.only_state
+    let first_open = one.open_is ∙ ap (λ (w : Walk). w.open_ids.items ++ (one_walk (context_of taken) (viewed taken.state)).open_ids) to_yes.only_state
     ∙ ap (λ w. old.open_ids.items ++ w.open_ids) first_same in
     record {
       context_is = ap context_of met.only_state ∙ two.context_is ∙ ap context_of to_no.only_state ∙ context;
       value_is = refl;
       state_is = met.says ∙ ap (λ s. joined_states s (viewed done.state)) first_after ∙ ap (joined_states first.after) second_after;
       open_is = ap (λ (w : Walk). w.open_ids.items) met.only_state ∙ two.open_is
-          ∙ ap (λ (w : Walk). w.open_ids.items ++ (false_walk (context_of start) (viewed start.state)).open_ids) to_no.only_state
+          ∙ ap (λ (w : Walk). w.open_ids.items ++ (other_walk (context_of start) (viewed start.state)).open_ids) to_no.only_state
           ∙ ap (λ w. mid.open_ids.items ++ w.open_ids) second_same ∙ ap (λ ids. ids ++ second.open_ids) first_open
           ∙ append_assoc old.open_ids.items first.open_ids second.open_ids;
       visits_are = two.visits_are ∙ ap (λ w. all_counted (numbers_of w.linked) between) second_same
@@ -403,32 +398,32 @@ branches-walk condition true_walk false_walk known old taken mid start done new 
     }
 
 -- where the ways meet, or no memory is found there
-pub branches-done : (condition : Expr) (true_walk false_walk : Walking (Unit {0})) (known : Known) (old taken mid start done new : Walk) (before between after : Visits)
+pub branches-done : (one_state other_state : State → State) (one_walk other_walk : Walking (Unit {0})) (old taken mid start done new : Walk) (before between after : Visits)
     (behind otherwise : Kept) (result : Result (Unit {0}) CheckFault)
-    → Parts condition known old (Ok otherwise) taken → Walks true_walk taken before mid between tt
-    → behind ≡ mid.state → start.state ≡ otherwise → start ≡ record mid { state = start.state } → Walks false_walk start between done after tt
+    → Parts one_state other_state old (Ok otherwise) taken → Walks one_walk taken before mid between tt
+    → behind ≡ mid.state → start.state ≡ otherwise → start ≡ record mid { state = start.state } → Walks other_walk start between done after tt
     → Meets behind done result new
-    → Goes (branches condition true_walk false_walk known) old before result new after
-branches-done condition true_walk false_walk known old taken mid start done new before between after behind otherwise (Ok value) parts one behind_is replaced only two
+    → Goes (parted one_state other_state one_walk other_walk) old before result new after
+branches-done one_state other_state one_walk other_walk old taken mid start done new before between after behind otherwise (Ok value) parts one behind_is replaced only two
     met =
-    let to_no : IsMoved (where_so false condition known (viewed old.state)) mid start = record { only_state = only; says = ap viewed replaced ∙ parts.1 } in
-    branches-walk condition true_walk false_walk known old taken mid start done new before between after parts.0 one to_no two
+    let to_no : IsMoved (other_state (viewed old.state)) mid start = record { only_state = only; says = ap viewed replaced ∙ parts.1 } in
+    branches-walk one_state other_state one_walk other_walk old taken mid start done new before between after parts.0 one to_no two
     (subst (λ (s : Kept). IsMoved (joined_states (viewed s) (viewed done.state)) done new) behind_is met)
-branches-done condition true_walk false_walk known old taken mid start done new before between after behind otherwise (Err fault) parts one behind_is replaced only two
+branches-done one_state other_state one_walk other_walk old taken mid start done new before between after behind otherwise (Err fault) parts one behind_is replaced only two
     is =
-    subst (IsBreachOf (branches condition true_walk false_walk known (context_of old) (viewed old.state))) (sym is) tt
+    subst (IsBreachOf (parted one_state other_state one_walk other_walk (context_of old) (viewed old.state))) (sym is) tt
 
--- the checker gave up on the way where the condition is true
-pub branches-stopped : (condition : Expr) (true_walk false_walk : Walking (Unit {0})) (known : Known) (old taken new : Walk) (before after : Visits) (otherwise : Kept)
+-- the checker gave up on the first way
+pub branches-stopped : (one_state other_state : State → State) (one_walk other_walk : Walking (Unit {0})) (old taken new : Walk) (before after : Visits) (otherwise : Kept)
     (fault : CheckFault)
-    → Parts condition known old (Ok otherwise) taken → IsBreachOf (true_walk (context_of taken) (viewed taken.state)) fault
-    → Goes (branches condition true_walk false_walk known) old before (Err fault) new after
-branches-stopped condition true_walk false_walk known old taken new before after otherwise fault parts is =
-    let first : Walked (Unit {0}) = true_walk (context_of old) (where_so true condition known (viewed old.state)) in
-    let second : Walked (Unit {0}) = false_walk (context_of old) (where_so false condition known (viewed old.state)) in
-    breach-stays first second fault (branches condition true_walk false_walk known (context_of old) (viewed old.state)) refl
-    (breach-same (true_walk (context_of taken) (viewed taken.state)) first fault
-    (ap (λ w. w.broken) (moved-same true_walk (where_so true condition known (viewed old.state)) old taken parts.0)) is)
+    → Parts one_state other_state old (Ok otherwise) taken → IsBreachOf (one_walk (context_of taken) (viewed taken.state)) fault
+    → Goes (parted one_state other_state one_walk other_walk) old before (Err fault) new after
+branches-stopped one_state other_state one_walk other_walk old taken new before after otherwise fault parts is =
+    let first : Walked (Unit {0}) = one_walk (context_of old) (one_state (viewed old.state)) in
+    let second : Walked (Unit {0}) = other_walk (context_of old) (other_state (viewed old.state)) in
+    breach-stays first second fault (parted one_state other_state one_walk other_walk (context_of old) (viewed old.state)) refl
+    (breach-same (one_walk (context_of taken) (viewed taken.state)) first fault
+    (ap (λ w. w.broken) (moved-same one_walk (one_state (viewed old.state)) old taken parts.0)) is)
 
 -- a conditional statement from its entry on
 pub if-begun : (statement : Stmt) (number : ℕ) (condition : Expr) (consequence : Box Stmt Global) (alternative : Option (Box Stmt Global)) (inner : Stmt)
@@ -449,31 +444,35 @@ if-begun statement number condition consequence alternative inner old entered va
 -- ---- loops
 
 -- where no facts are given at the entry, a loop stops there
-pub loop-not_entered : (number : ℕ) (place : SourcePlace) (walking : Walking State) (old new : Walk) (before after : Visits) (fault : CheckFault)
-    → EntersLoop number place old (Err fault) new → Goes (loop_walk number place walking) old before (Err fault) new after
-loop-not_entered number place walking old new before after fault is =
+pub loop-not_entered : (number : ℕ) (place : SourcePlace) (control : Option ℕ) (walking : Walking State) (old new : Walk) (before after : Visits) (fault : CheckFault)
+    → EntersLoop number place control old (Err fault) new → Goes (loop_walk number place control walking) old before (Err fault) new after
+loop-not_entered number place control walking old new before after fault is =
     let claims = claims_on old.certificate.now number in
+    let own = with_own control (loop_in number old) in
     let context = context_of old in
     let state = viewed old.state in
     let entry = facts_given LoopEntry place claims.facts context state in
-    let begun = head (limits_at old.limits.items) (touched (round_of claims)) [] claims.facts state in
-    let turn = walking (record context { rounds = context.rounds ++ round_of claims ∷ [] }) begun in
+    let begun = head (limits_at old.limits.items) (touched own) own.controls claims.facts state in
+    let turn = walking (record context { rounds = context.rounds ++ without_own control (loop_in number old) ∷ [] }) begun in
     let rest : Walked (Unit {0}) = followed turn
     (followed (facts_given LoopTurn place claims.facts context turn.after) (with_state turn.value context turn.after)) in
-    breach-stays entry rest fault (loop_walk number place walking context state) refl is
+    breach-stays entry rest fault (loop_walk number place control walking context state) refl is
 
-module _ (number : ℕ) (place : SourcePlace) (walking : Walking State) (old headed : Walk) (at_head : AtHead number old headed) where
+module _ (number : ℕ) (place : SourcePlace) (control : Option ℕ) (walking : Walking State) (old headed : Walk) (at_head : AtHead number control old headed) where
   abbrev claims : Claims
   claims = claims_on old.certificate.now number
 
+  abbrev own : Round
+  own = with_own control (loop_in number old)
+
   abbrev inner_context : Context
-  inner_context = record (context_of old) { rounds = (context_of old).rounds ++ round_of claims ∷ [] }
+  inner_context = record (context_of old) { rounds = (context_of old).rounds ++ without_own control (loop_in number old) ∷ [] }
 
   abbrev turn : Walked State
-  turn = walking inner_context (head (limits_at old.limits.items) (touched (round_of claims)) [] claims.facts (viewed old.state))
+  turn = walking inner_context (head (limits_at old.limits.items) (touched own) own.controls claims.facts (viewed old.state))
 
   abbrev whole : Walked (Unit {0})
-  whole = loop_walk number place walking (context_of old) (viewed old.state)
+  whole = loop_walk number place control walking (context_of old) (viewed old.state)
 
   turn-same : walking (context_of headed) (viewed headed.state) ≡ turn
   turn-same = ap (λ context. walking context (viewed headed.state)) at_head.context_is ∙ ap (walking inner_context) at_head.state_is
@@ -486,7 +485,7 @@ module _ (number : ℕ) (place : SourcePlace) (walking : Walking State) (old hea
 
   -- the checker gave up in a round
   pub loop-stopped : (new : Walk) (before after : Visits) (fault : CheckFault) → IsBreachOf (walking (context_of headed) (viewed headed.state)) fault
-      → Goes (loop_walk number place walking) old before (Err fault) new after
+      → Goes (loop_walk number place control walking) old before (Err fault) new after
   loop-stopped new before after fault is =
       let rest : Walked (Unit {0}) = followed (facts_given LoopTurn place claims.facts (context_of old) turn.after) (with_state turn.value (context_of old) turn.after) in
       breach-stays turn rest fault whole entered-unbroken
@@ -513,9 +512,9 @@ module _ (number : ℕ) (place : SourcePlace) (walking : Walking State) (old hea
     whole-broken = entered-unbroken ∙ ap (λ b. b ++ (breach_unless (gives_all turn.after claims.facts) LoopTurn place ++ [])) turn-unbroken
 
     pub loop-done : (result : Result (Unit {0}) CheckFault) (new : Walk) → LeavesLoop number place behind rounded result new
-        → Goes (loop_walk number place walking) old before result new after
+        → Goes (loop_walk number place control walking) old before result new after
     loop-done (Ok value) new left =
-        let behind_loop = left (context_of old).rounds (round_of claims) (ap (λ (context : Context). context.rounds) context-within) in
+        let behind_loop = left (context_of old).rounds (without_own control (loop_in number old)) (ap (λ (context : Context). context.rounds) context-within) in
         let given : gives_all turn.after claims.facts ≡ true =
         ap (λ (s : State). gives_all s claims.facts) (sym after-same)
         ∙ ap (λ (c : Claims). gives_all (viewed rounded.state) c.facts) (sym claims-same) ∙ behind_loop.given in
@@ -541,35 +540,35 @@ module _ (number : ℕ) (place : SourcePlace) (walking : Walking State) (old hea
 pub while-begun : (statement : Stmt) (number loop_number : ℕ) (place : SourcePlace) (condition : Expr) (body : Box Stmt Global) (inner : Stmt)
     (old entered new : Walk) (before between end : Visits) (result : Result (Unit {0}) CheckFault)
     → statement ≡ stmt.While number loop_number place condition body → inner ≡ body.value → Walks (enter number) old before entered between tt
-    → Goes (loop_walk loop_number place (while_round condition (statement_walk inner))) entered between result new end
+    → Goes (loop_walk loop_number place None (while_round condition (statement_walk inner))) entered between result new end
     → Goes (statement_walk statement) old before result new end
 while-begun statement number loop_number place condition body inner old entered new before between end result is inner_is one two =
-    let looped = loop_walk loop_number place (while_round condition (statement_walk body.value)) in
+    let looped = loop_walk loop_number place None (while_round condition (statement_walk body.value)) in
     goes-as (statement_walk statement) (enter number >>= λ _. looped) old new before end result
     (ap statement_walk is ∙ statement-While number loop_number place condition body)
     (goes-then (enter number) (λ _. looped) old entered new before between end tt result one
-    (goes-as looped (loop_walk loop_number place (while_round condition (statement_walk inner))) entered new between end result
-    (ap (λ s. loop_walk loop_number place (while_round condition (statement_walk s))) (sym inner_is)) two))
+    (goes-as looped (loop_walk loop_number place None (while_round condition (statement_walk inner))) entered new between end result
+    (ap (λ s. loop_walk loop_number place None (while_round condition (statement_walk s))) (sym inner_is)) two))
 
 pub repeat-begun : (statement : Stmt) (number loop_number : ℕ) (place : SourcePlace) (statements : Vec Stmt Global) (condition : Expr) (items : List Stmt)
     (old entered new : Walk) (before between end : Visits) (result : Result (Unit {0}) CheckFault)
     → statement ≡ stmt.Repeat number loop_number place statements condition → items ≡ statements.items → Walks (enter number) old before entered between tt
-    → Goes (loop_walk loop_number place (repeat_round (all_of (map statement_walk items)) condition)) entered between result new end
+    → Goes (loop_walk loop_number place None (repeat_round (all_of (map statement_walk items)) condition)) entered between result new end
     → Goes (statement_walk statement) old before result new end
 repeat-begun statement number loop_number place statements condition items old entered new before between end result is items_are one two =
-    let looped = loop_walk loop_number place (repeat_round (all_of (map statement_walk statements.items)) condition) in
+    let looped = loop_walk loop_number place None (repeat_round (all_of (map statement_walk statements.items)) condition) in
     goes-as (statement_walk statement) (enter number >>= λ _. looped) old new before end result
     (ap statement_walk is ∙ statement-Repeat number loop_number place statements condition)
     (goes-then (enter number) (λ _. looped) old entered new before between end tt result one
-    (goes-as looped (loop_walk loop_number place (repeat_round (all_of (map statement_walk items)) condition)) entered new between end result
-    (ap (λ l. loop_walk loop_number place (repeat_round (all_of (map statement_walk l)) condition)) (sym items_are)) two))
+    (goes-as looped (loop_walk loop_number place None (repeat_round (all_of (map statement_walk items)) condition)) entered new between end result
+    (ap (λ l. loop_walk loop_number place None (repeat_round (all_of (map statement_walk l)) condition)) (sym items_are)) two))
 
 -- ---- rounds
 
 -- a round of a while: the condition, and then the body where it is true
 pub while_round-done : (condition : Expr) (body : Walking (Unit {0})) (known : Known) (old valued taken new : Walk) (before between after : Visits)
     (behind : Kept)
-    → Walks (value_walk condition) old before valued between known → Parts condition known valued (Ok behind) taken → Walks body taken between new after tt
+    → Walks (value_walk condition) old before valued between known → Parts (where_so true condition known) (where_so false condition known) valued (Ok behind) taken → Walks body taken between new after tt
     → Walks (while_round condition body) old before new after (viewed behind)
 while_round-done condition body known old valued taken new before between after behind one parts two =
     let was : Walked (Unit {0}) = body (context_of valued) (where_so true condition known (viewed valued.state)) in
@@ -591,7 +590,7 @@ while_round-done condition body known old valued taken new before between after 
 pub repeat_round-done : (body : Walking (Unit {0})) (condition : Expr) (known : Known) (old bodied valued taken new : Walk) (before between after : Visits)
     (again behind : Kept)
     → Walks body old before bodied between tt → Walks (value_walk condition) bodied between valued after known
-    → Parts condition known valued (Ok again) taken → behind ≡ taken.state → new.state ≡ again → new ≡ record taken { state = new.state }
+    → Parts (where_so true condition known) (where_so false condition known) valued (Ok again) taken → behind ≡ taken.state → new.state ≡ again → new ≡ record taken { state = new.state }
     → Walks (repeat_round body condition) old before new after (viewed behind)
 repeat_round-done body condition known old bodied valued taken new before between after again behind one two parts behind_is again_is only =
     let rest = λ (known : Known). here >>= λ tested. (with_state (where_so false condition known tested) >>= λ _. give (where_so true condition known tested)) in

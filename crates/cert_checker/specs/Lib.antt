@@ -1,4 +1,3 @@
-pub mod Loops
 pub mod Names
 pub mod View
 pub mod Walk

@@ -1,29 +1,27 @@
 -- The checker's own values as the definitions see them, and that the checker has walked over a piece of a program.
 -- It does not say what a walk is.
-use Rattle.std.specs.Prelude.{◌≡◌, ℕ, ◌+◌, ◌&&◌, true, false, List, [], ◌∷◌, ◌++◌, Option, Some, None, Result, Ok, Err, nat_eq, map}
+use Rattle.std.specs.Prelude.{◌≡◌, ℕ, ◌+◌, ◌&&◌, true, List, [], ◌∷◌, ◌++◌, Option, Some, None, Result, Ok, Err, nat_eq, map}
 use Rattle.std.specs.declared.alloc.Global.{Global}
-use denote.Ref.{Bor}
 use Rattle.std.specs.declared.boxed.Box.{Box}
 use Rattle.certificate.specs.declared.Certificate.{Certificate}
 use Rattle.typed_tree.specs.declared.tree.Tree.{Tree}
-use Rattle.typed_tree.specs.declared.tree.Expr.{Expr}
 use Rattle.typed_tree.specs.declared.tree.Stmt.{Stmt}
 use Rattle.cert_checker.specs.declared.fault.CheckFault.{CheckFault}
 use Rattle.cert_checker.specs.declared.fault.CheckFault.TheVariants.{Memory}
-use Rattle.abstract_state.specs.declared.known.Known.{Known}
 use Rattle.abstract_state.specs.declared.state.State.{State as Kept}
 use Rattle.abstract_state.specs.View.{viewed}
+use Rattle.structured_states.specs.View.{kept_round, said_claims, said_way}
 use Rattle.cert_checker.specs.declared.visits.Visits.{Visits}
 use Rattle.cert_checker.specs.declared.walk.Walk.{Walk}
-use Rattle.cert_checker.specs.declared.rounds.Round.{Round as KeptRound}
-use Rattle.certificate.specs.declared.LoopClaims.{LoopClaims as KeptClaims}
-use Rattle.cert_checker.specs.Loops.{Claims, Round, claims_of, claims_on, limits_at, round_of, touched}
-use Rattle.certificate.specs.Contents.{LoopClaims, loop_of}
+use Rattle.structured_states.specs.declared.rounds.Round.{Round as KeptRound}
+use Rattle.structured_states.specs.declared.ways.Way.{Way as KeptWay}
+use Rattle.structured_states.specs.Loops.{Round, claims_on, controls_inside, limits_at, round_of, touched, with_own, without_own}
+use Rattle.structured_states.specs.Ways.{Way}
 use Rattle.abstract_state.specs.Loops.{gives_all, head}
 use Rattle.place.specs.declared.Place.{Place}
 use Rattle.abstract_state.specs.State.{State, Dead, joined_states}
 use Rattle.cert_checker.specs.Promise.{IsBreachOf}
-use Rattle.cert_checker.specs.Walk.{Context, Walking, facts_given, first_context, give, numbers_of, statement_walk, where_so}
+use Rattle.cert_checker.specs.Walk.{Context, Walking, facts_given, first_context, give, numbers_of, statement_walk}
 use Rattle.cert_checker.specs.declared.fault.Rule.TheVariants.{LoopEntry, LoopTurn}
 
 -- the counter after an entry of a number
@@ -35,19 +33,6 @@ counted number visits =
 abbrev pub all_counted : List ℕ → Visits → Visits
 all_counted [] visits = visits
 all_counted (number ∷ numbers) visits = all_counted numbers (counted number visits)
-
--- claims that the checker has found, as the definitions see them
-abbrev pub found_as : Option (Bor KeptClaims) → Option LoopClaims
-found_as None = None
-found_as (Some claims) = Some (loop_of claims.now)
-
--- what they claim of a loop
-abbrev pub said_claims : Option (Bor KeptClaims) → Claims
-said_claims claims = claims_of (found_as claims)
-
--- a loop round the checker
-abbrev pub kept_round : KeptRound → Round
-kept_round round = round_of (said_claims round.claims)
 
 -- what a walk of the checker goes by
 abbrev pub context_of : Walk → Context
@@ -80,12 +65,16 @@ pub record IsMoved (state : State) (old new : Walk) : Type 0 where
   pub only_state : new ≡ record old { state = new.state }
   pub says : viewed new.state ≡ state
 
--- the checker goes on where a condition is true, and has the state where it is false; or it found no memory
-abbrev pub Parts : Expr → Known → Walk → Result Kept CheckFault → Walk → Type 0
-Parts condition known old (Ok otherwise) new =
-    IsMoved (where_so true condition known (viewed old.state)) old new
-    × (viewed otherwise ≡ where_so false condition known (viewed old.state))
-Parts condition known old (Err fault) new = fault ≡ Memory
+-- the checker goes on from a changed state; or it found no memory
+abbrev pub Moves : {A : Type 0} → (State → State) → Walk → Result A CheckFault → Walk → Type 0
+Moves change old (Ok done) new = IsMoved (change (viewed old.state)) old new
+Moves change old (Err fault) new = fault ≡ Memory
+
+-- the checker goes on from one state, and has another; or it found no memory
+abbrev pub Parts : (one other : State → State) → Walk → Result Kept CheckFault → Walk → Type 0
+Parts one other old (Ok otherwise) new =
+    IsMoved (one (viewed old.state)) old new × (viewed otherwise ≡ other (viewed old.state))
+Parts one other old (Err fault) new = fault ≡ Memory
 
 -- the checker goes on where the way from an earlier state meets that to the present one; or it found no memory
 abbrev pub Meets : Kept → Walk → Result (Unit {0}) CheckFault → Walk → Type 0
@@ -102,22 +91,38 @@ abbrev pub said_state : Result Kept CheckFault → Result State CheckFault
 said_state (Ok state) = Ok (viewed state)
 said_state (Err fault) = Err fault
 
+-- so is the way of a control variable
+abbrev pub said_tested : Result KeptWay CheckFault → Result Way CheckFault
+said_tested (Ok way) = Ok (said_way way)
+said_tested (Err fault) = Err fault
+
+-- a loop of the checker is that of a number, perhaps of a for statement with a control variable
+pub record IsLoop (number : ℕ) (control : Option ℕ) (walk : Walk) (round : KeptRound) : Type 0 where
+  pub own_is : round.own ≡ control
+  pub claims_are : said_claims round.claims ≡ claims_on walk.certificate.now number
+  pub controls_are : round.controls.now ≡ controls_inside walk.tree.now number
+
+-- the loop of a number in the program of the checker
+abbrev pub loop_in : ℕ → Walk → Round
+loop_in number walk = round_of walk.tree.now walk.certificate.now number
+
 -- the checker came to the head of a loop, whose facts were given
-pub record AtHead (number : ℕ) (old new : Walk) : Type 0 where
+pub record AtHead (number : ℕ) (control : Option ℕ) (old new : Walk) : Type 0 where
   pub given : gives_all (viewed old.state) (claims_on old.certificate.now number).facts ≡ true
   pub context_is : context_of new
       ≡ record (context_of old) {
-        rounds = (context_of old).rounds ++ round_of (claims_on old.certificate.now number) ∷ [];
+        rounds = (context_of old).rounds ++ without_own control (loop_in number old) ∷ [];
       }
   pub state_is : viewed new.state
-      ≡ head (limits_at old.limits.items) (touched (round_of (claims_on old.certificate.now number))) []
+      ≡ head (limits_at old.limits.items) (touched (with_own control (loop_in number old)))
+      (with_own control (loop_in number old)).controls
       (claims_on old.certificate.now number).facts (viewed old.state)
   pub open_is : new.open_ids ≡ old.open_ids
 
 -- the checker came to the head of a loop of a number and a place, or its facts weren't given, or it found no memory
-abbrev pub EntersLoop : ℕ → Place → Walk → Result (Unit {0}) CheckFault → Walk → Type 0
-EntersLoop number place old (Ok done) new = AtHead number old new
-EntersLoop number place old (Err fault) new =
+abbrev pub EntersLoop : ℕ → Place → Option ℕ → Walk → Result (Unit {0}) CheckFault → Walk → Type 0
+EntersLoop number place control old (Ok done) new = AtHead number control old new
+EntersLoop number place control old (Err fault) new =
     IsBreachOf
     (facts_given LoopEntry place (claims_on old.certificate.now number).facts (context_of old) (viewed old.state))
     fault

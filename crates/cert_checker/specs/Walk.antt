@@ -1,9 +1,10 @@
 -- The walk of the checker over a program, one equation a form: the state after it, the sites that it leaves open, the
 -- rules that are broken, and the state at each entry into a statement or expression (ISO 7185:1990, 6.7, 6.8).
 -- It does not say that a program does what the walk says of it.
-use Rattle.std.specs.Prelude.{ℕ, pos, Bool, true, false, not, ◌&&◌, ◌||◌, int_le, List, [], ◌∷◌, ◌++◌, Option, Some, None, if◌then◌else◌, map, length}
+use Rattle.std.specs.Prelude.{ℕ, ℤ, pos, drop, slice_get, Bool, true, false, not, ◌&&◌, ◌||◌, int_le, List, [], ◌∷◌, ◌++◌, Option, Some, None, if◌then◌else◌, map, length}
 use Rattle.std.specs.declared.alloc.Global.{Global}
 use Rattle.std.specs.declared.boxed.Box.{Box}
+use Rattle.std.specs.declared.vec.Vec.{Vec}
 use Rattle.place.specs.declared.Place.{Place}
 use Rattle.certificate.specs.declared.Certificate.{Certificate}
 use Rattle.typed_tree.specs.declared.tree.Tree.{Tree}
@@ -23,7 +24,7 @@ use Rattle.typed_tree.specs.declared.tree.Expr.TheOpen.Expr-F.{Constant, Variabl
 use Rattle.typed_tree.specs.declared.tree.Expr.TheFolds.{fold-Expr, fold-Link}
 use Rattle.typed_tree.specs.declared.tree.Stmt.{Stmt}
 use Rattle.typed_tree.specs.declared.tree.Stmt.TheOpen.{Stmt-F}
-use Rattle.typed_tree.specs.declared.tree.Stmt.TheOpen.Stmt-F.{Empty, Assign, Write, Compound, If, While, Repeat}
+use Rattle.typed_tree.specs.declared.tree.Stmt.TheOpen.Stmt-F.{Empty, Assign, Write, Compound, If, While, Repeat, For, Case}
 use Rattle.typed_tree.specs.declared.tree.Stmt.TheFolds.{fold-Stmt}
 use Rattle.domain.specs.Interval.{Interval, is_included, has_number, common, sum, difference, negated, product, squared, absolute, quotient, remainder, without_zero_end, at_least, both, either, complement, truth_values}
 use Rattle.cert_checker.specs.declared.fault.Rule.{Rule}
@@ -34,9 +35,12 @@ use Rattle.abstract_state.specs.declared.known.Known.{Known}
 use Rattle.abstract_state.specs.declared.known.Known.TheVariants.{Ordinal}
 use Rattle.abstract_state.specs.State.{State, Dead, start, integer, is_dead, is_defined, joined_states, limits_of, range_of, with_defined, unless_empty}
 use Rattle.abstract_state.specs.Changes.{assigned}
-use Rattle.abstract_state.specs.Conditions.{bound_form, branched}
-use Rattle.abstract_state.specs.Loops.{gives_all, head}
-use Rattle.cert_checker.specs.Loops.{Round, all_limits, all_list, claims_on, limits_at, round_of, touched}
+use Rattle.abstract_state.specs.Conditions.{bound_form, branched, condition_of}
+use Rattle.abstract_state.specs.Forms.{root_of}
+use Rattle.structured_states.specs.Cases.{arm_start, constants_before, covers, hull}
+use Rattle.abstract_state.specs.Loops.{gives_all, head, with_undefined}
+use Rattle.structured_states.specs.Loops.{Round, all_control, all_limits, all_list, claims_on, limits_at, round_of, touched, with_own, without_own}
+use Rattle.structured_states.specs.Ways.{End, Way, met, steady, turn_begun, turn_ended, way_of, way_out, where_counts, with_values}
 
 -- what a walk goes by: the program and its certificate, the values of the variables' types, and the loops round the
 -- point, the outermost first
@@ -287,11 +291,15 @@ either_of one other = record (followed one other) { after = joined_states one.af
 abbrev pub where_so : Bool → Expr → Known → State → State
 where_so truth condition (Ordinal range) state = branched truth condition range state
 
+-- two ways from a state, each of them taken from what is known there
+abbrev pub parted : (one_state other_state : State → State) → (one other : Walking (Unit {0})) → Walking (Unit {0})
+parted one_state other_state one other context state =
+    either_of (one context (one_state state)) (other context (other_state state))
+
 -- what is executed where a condition is true, and what is where it is false
 abbrev pub branches : Expr → (consequence alternative : Walking (Unit {0})) → Known → Walking (Unit {0})
-branches condition consequence alternative known context state =
-    either_of (consequence context (where_so true condition known state))
-    (alternative context (where_so false condition known state))
+branches condition consequence alternative known =
+    parted (where_so true condition known) (where_so false condition known) consequence alternative
 
 -- the statement behind `else`, or nothing where there is none
 abbrev pub alternative_walk : Option (Box (Walking (Unit {0})) Global) → Walking (Unit {0})
@@ -335,21 +343,113 @@ enter_head round facts context state =
 abbrev pub inside : {A : Type 0} → Round → Walking A → Walking A
 inside round walking context = walking (record context { rounds = context.rounds ++ round ∷ [] })
 
--- a loop with the place of its first word: its facts are given where it is entered and after each turn, and from its
--- head one round is walked
-abbrev pub loop_by : Place → Round → List Fact → Walking State → Walking (Unit {0})
-loop_by place round facts walking = do
+-- a loop with the place of its first word, at its head and round its body: its facts are given where it is entered and
+-- after each turn, and from its head one round is walked
+abbrev pub loop_by : Place → (at_head round_body : Round) → List Fact → Walking State → Walking (Unit {0})
+loop_by place at_head round_body facts walking = do
   _ ← facts_given LoopEntry place facts
-  _ ← enter_head round facts
-  behind ← inside round walking
+  _ ← enter_head at_head facts
+  behind ← inside round_body walking
   _ ← facts_given LoopTurn place facts
   with_state behind
 
--- the loop of a number
-abbrev pub loop_walk : ℕ → Place → Walking State → Walking (Unit {0})
-loop_walk number place walking context =
-    loop_by place (round_of (claims_on context.certificate number)) (claims_on context.certificate number).facts walking
-    context
+-- the loop of a number, and of a control variable, if it is a for statement
+abbrev pub loop_walk : ℕ → Place → Option ℕ → Walking State → Walking (Unit {0})
+loop_walk number place control walking context =
+    let loop = round_of context.tree context.certificate number in
+    loop_by place (with_own control loop) (without_own control loop) (claims_on context.certificate number).facts
+    walking context
+
+-- ---- for statements
+
+-- what is known is changed
+abbrev pub changed_by : (State → State) → Walking (Unit {0})
+changed_by change context state = with_state (change state) context state
+
+-- a variable may control a for statement whose bounds are tested for two ranges: these are those of its type, and in
+-- each loop round it is a for statement that this variable controls
+abbrev pub may_control : Context → ℕ → (first last : OrdinalRange) → Bool
+may_control context root first last =
+    let limits = limits_at context.limits root in
+    all_control root context.rounds && (is_included (limits_of first) limits && is_included (limits_of last) limits)
+
+-- a for statement at a place changes its control variable
+abbrev pub control_change : Place → ℕ → (first last : OrdinalRange) → Walking (Unit {0})
+control_change place root first last context = asked (may_control context root first last) Changes place context
+
+-- the test of a bound: where its value lies that passes
+abbrev pub tested_end : State → End → Walking Interval
+tested_end start end = within (limits_of end.fits.range) end.fits.site (met end.form start end.values)
+
+-- the tests of both bounds, by what is known where there are values
+abbrev pub tested_way : Place → Way → Walking Way
+tested_way place way = do
+  start ← here
+  first ← tested_end start way.first
+  last ← tested_end start way.last
+  _ ← control_change place way.control way.first.fits.range way.last.fits.range
+  give (with_values first last way)
+
+-- a round of a for: a turn, and then the control variable is the last bound, or has its next value
+abbrev pub for_round : Way → Walking (Unit {0}) → Walking State
+for_round way body = do
+  _ ← changed_by (turn_begun way)
+  _ ← body
+  ended ← here
+  _ ← with_state (turn_ended way ended)
+  give (way_out way ended)
+
+-- the way through the loop of a number, whose turns leave the forms of untouched bounds as they are
+abbrev pub steady_in : Context → ℕ → Way → Way
+steady_in context number way =
+    steady (touched (with_own (Some way.control) (round_of context.tree context.certificate number))) way
+
+-- the rounds of a for, from its control variable's first value
+abbrev pub rounds_of : ℕ → Place → Walking (Unit {0}) → Way → Walking (Unit {0})
+rounds_of number place body way context =
+    loop_walk number place (Some way.control) (for_round (steady_in context number way) body) context
+
+-- a for where there are values: the bounds are tested, and the control variable is the first
+abbrev pub for_turns : ℕ → Place → Walking (Unit {0}) → Way → Walking (Unit {0})
+for_turns number place body way = do
+  tested ← tested_way place way
+  _ ← assign tested.control tested.first.form (Ordinal tested.first.values)
+  rounds_of number place body tested
+
+-- a for, from the values of its bounds: behind it the control variable is undefined
+abbrev pub for_walk : ℕ → Place → Walking (Unit {0}) → Way → Walking (Unit {0})
+for_walk number place body way = do
+  _ ← parted (where_counts true way) (where_counts false way) (for_turns number place body way) (give tt)
+  changed_by (with_undefined way.control)
+
+-- ---- case statements
+
+-- the test of an index at a site: what is known where it is one of the constants; no way behind the statement is known
+-- yet
+abbrev pub index_test : ℕ → List ℤ → Interval → Walking State
+index_test site constants range = do
+  _ ← tested (covers constants (length constants) range) site (common range (hull constants))
+  base ← here
+  _ ← with_state Dead
+  give base
+
+-- an arm, from what is known where it is executed; behind it the way meets those through the arms before
+abbrev pub arm_walk : State → Walking (Unit {0}) → Walking (Unit {0})
+arm_walk start arm context behind =
+    record (arm context start) { after = joined_states behind (arm context start).after }
+
+-- the arms, one after another, by the rows of constants
+abbrev pub arms_walk : State → Option ℕ → List (Vec ℤ Global) → List (Walking (Unit {0})) → Walking (Unit {0})
+arms_walk base index rows [] = give tt
+arms_walk base index rows (arm ∷ arms) = do
+  _ ← arm_walk (arm_start index (slice_get rows 0) base) arm
+  arms_walk base index (drop 1 rows) arms
+
+-- a case, from the value of its index
+abbrev pub case_walk : ℕ → Expr → List (Vec ℤ Global) → List (Walking (Unit {0})) → Known → Walking (Unit {0})
+case_walk site index rows arms (Ordinal range) = do
+  base ← index_test site (constants_before (length arms) rows) range
+  arms_walk base (root_of (condition_of index).form) rows arms
 
 -- one layer of a statement
 abbrev pub statement_step : Stmt-F (Walking (Unit {0})) → Walking (Unit {0})
@@ -369,10 +469,19 @@ statement_step (If number condition consequence alternative) = do
   branches condition consequence.value (alternative_walk alternative) known
 statement_step (While number loop_number place condition body) = do
   _ ← enter number
-  loop_walk loop_number place (while_round condition body.value)
+  loop_walk loop_number place None (while_round condition body.value)
 statement_step (Repeat number loop_number place statements condition) = do
   _ ← enter number
-  loop_walk loop_number place (repeat_round (all_of statements.items) condition)
+  loop_walk loop_number place None (repeat_round (all_of statements.items) condition)
+statement_step (For number loop_number place control first first_fits direction last last_fits body) = do
+  _ ← enter number
+  from ← value_walk first
+  to ← value_walk last
+  for_walk loop_number place body.value (way_of control direction first first_fits last last_fits from to)
+statement_step (Case number site index constants arms) = do
+  _ ← enter number
+  known ← value_walk index
+  case_walk site index constants.items arms.items known
 
 -- the walk over a statement
 abbrev pub statement_walk : Stmt → Walking (Unit {0})

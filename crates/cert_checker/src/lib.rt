@@ -11,7 +11,6 @@ ghost use Rattle.cert_checker.specs.Walk.{program_walk};
 pub mod fault;
 mod names;
 mod open_sites;
-mod rounds;
 mod visits;
 mod walk;
 

@@ -1,23 +1,33 @@
-ghost use Rattle.std.specs.Prelude.{◌≡◌, [], map, IfOk, MatchResult};
-ghost use Rattle.cert_checker.specs.Walk.{enter, variable_walk, tested, within, positive, divisor, whole, operated, combined, value_walk, link_walk, width_test, width_walk, parameter_walk, all_of, fitting, assignment, assign, change, while_round, repeat_round, statement_walk, block_walk, program_walk};
+ghost use Rattle.std.specs.Prelude.{◌≡◌, ◌&&◌, [], true, false, map, IfOk, MatchResult};
+ghost use Rattle.cert_checker.specs.Walk.{enter, variable_walk, tested, within, positive, divisor, whole, operated, combined, value_walk, link_walk, width_test, width_walk, parameter_walk, all_of, fitting, assignment, assign, change, control_change, may_control, where_so, while_round, repeat_round, for_round, rounds_of, for_turns, for_walk, index_test, arm_walk, arms_walk, case_walk, tested_way, steady_in, statement_walk, block_walk, program_walk};
 ghost use Rattle.typed_tree.specs.Entries.{entries_of};
-ghost use Rattle.cert_checker.specs.View.{EntersLoop, Goes, IsBegun, LeavesLoop, Meets, Parts, all_counted, else_walk, said_claims, said_state};
-ghost use Rattle.abstract_state.specs.View.{viewed};
-ghost use Rattle.abstract_state.specs.Loops.{gives_all, head};
-ghost use Rattle.cert_checker.specs.Loops.{limits_at};
+ghost use Rattle.structured_states.specs.View.{said_way};
+ghost use Rattle.cert_checker.specs.View.{EntersLoop, Goes, IsBegun, IsLoop, LeavesLoop, Meets, Moves, Parts, all_counted, context_of, else_walk, said_state, said_tested};
+ghost use Rattle.abstract_state.specs.declared.known.Known.TheVariants.{Ordinal};
+ghost use Rattle.abstract_state.specs.View.{said_form, viewed};
+ghost use Rattle.abstract_state.specs.Loops.{with_undefined};
+ghost use Rattle.abstract_state.specs.State.{joined_states, limits_of};
 ghost use Rattle.abstract_state.specs.Conditions.{bound_form};
+ghost use Rattle.structured_states.specs.Cases.{constants_before};
+ghost use Rattle.structured_states.specs.Loops.{limits_at};
 ghost use Rattle.cert_checker.specs.Promise.{IsBreachOf};
+ghost use Rattle.domain.specs.Interval.{is_included};
+ghost use Rattle.structured_states.specs.Ways.{turn_begun, turn_ended, way_out, where_counts};
 
 use crate::fault::{CheckFault, Rule};
-use crate::rounds::{Round, all_limits, all_list, claims_on, limits_at};
 use crate::visits::Visits;
-use abstract_state::{Known, State, bound_form, limits};
-use certificate::{Certificate, LoopClaims};
+use abstract_state::{Known, State, bound_form, entire, limits};
+use certificate::Certificate;
 use domain::Domain;
 use domain::interval::Interval;
 use place::Place;
 use std::alloc::{AllocError, Global};
 use std::mem;
+use structured_states::cases::{arm_start, constants_before, covers, hull};
+use structured_states::rounds::{
+    Round, all_control, all_limits, all_list, claims_on, controls_inside, limits_at,
+};
+use structured_states::ways::{End, Way};
 use typed_tree::tree::{
     Access, Block, Dyadic, Expr, Link, Monadic, RangeTest, Stmt, Tree, Width, WriteParameter,
 };
@@ -143,7 +153,7 @@ impl<'a> Walk<'a> {
                 body,
             } => {
                 self.enter(*number, visits)?;
-                self.enter_loop(*loop_number, *place)?;
+                self.enter_loop(*loop_number, *place, None)?;
                 let behind = self.while_round(body, condition, visits)?;
                 self.leave_loop(*loop_number, *place, behind)
             }
@@ -155,9 +165,44 @@ impl<'a> Walk<'a> {
                 condition,
             } => {
                 self.enter(*number, visits)?;
-                self.enter_loop(*loop_number, *place)?;
+                self.enter_loop(*loop_number, *place, None)?;
                 let behind = self.repeat_round(statements, condition, visits)?;
                 self.leave_loop(*loop_number, *place, behind)
+            }
+            Stmt::For {
+                number,
+                loop_number,
+                place,
+                control,
+                first,
+                first_fits,
+                direction,
+                last,
+                last_fits,
+                body,
+            } => {
+                self.enter(*number, visits)?;
+                let from = self.expression(first, visits)?;
+                let to = self.expression(last, visits)?;
+                let way = Way {
+                    control: *control,
+                    direction: *direction,
+                    first: End::new(first, *first_fits, from),
+                    last: End::new(last, *last_fits, to),
+                };
+                self.for_statement(*loop_number, *place, body, way, visits)
+            }
+            Stmt::Case {
+                number,
+                site,
+                index,
+                constants,
+                arms,
+            } => {
+                self.enter(*number, visits)?;
+                let known = self.expression(index, visits)?;
+                let range = known.range();
+                self.case_statement(arms, *site, index, constants, range, visits)
             }
         }
     }
@@ -205,6 +250,122 @@ impl<'a> Walk<'a> {
         let known = self.expression(condition, visits)?;
         let again = self.part(condition, known)?;
         Ok(mem::replace(&mut self.state, again))
+    }
+
+    /// A for, from the values of its bounds.
+    #[cycle(statement)]
+    fn for_statement(
+        &mut self,
+        number: u32,
+        place: Place,
+        body: &Stmt,
+        way: Way,
+        visits: &mut Visits,
+    ) -> Result<(), CheckFault>
+        ensures { Goes (for_walk number place (statement_walk body.now) (said_way way))
+            self.old visits.old result self.new visits.new }
+    {
+        let never = self.part_way(&way)?;
+        self.for_turns(number, place, body, way, visits)?;
+        self.leave_way(way.control, never)
+    }
+
+    /// A for where there are values.
+    #[cycle(statement)]
+    fn for_turns(
+        &mut self,
+        number: u32,
+        place: Place,
+        body: &Stmt,
+        way: Way,
+        visits: &mut Visits,
+    ) -> Result<(), CheckFault>
+        ensures { Goes (for_turns number place (statement_walk body.now) (said_way way))
+            self.old visits.old result self.new visits.new }
+    {
+        let tested = self.tested_way(place, way)?;
+        self.begin_way(&tested)?;
+        self.rounds_of(number, place, body, tested, visits)
+    }
+
+    /// The rounds of a for.
+    #[cycle(statement)]
+    fn rounds_of(
+        &mut self,
+        number: u32,
+        place: Place,
+        body: &Stmt,
+        way: Way,
+        visits: &mut Visits,
+    ) -> Result<(), CheckFault>
+        ensures { Goes (rounds_of number place (statement_walk body.now) (said_way way))
+            self.old visits.old result self.new visits.new }
+    {
+        let control = way.control;
+        let steady = self.steady_in(number, way);
+        self.enter_loop(number, place, Some(control))?;
+        let behind = self.for_round(body, steady, visits)?;
+        self.leave_loop(number, place, behind)
+    }
+
+    /// A round of a for, from the loop's head; the state behind the loop.
+    #[cycle(statement)]
+    fn for_round(&mut self, body: &Stmt, way: Way, visits: &mut Visits) -> Result<State, CheckFault>
+        ensures { Goes (for_round (said_way way) (statement_walk body.now)) self.old visits.old (said_state result)
+            self.new visits.new }
+    {
+        self.begin_turn(&way)?;
+        self.statement(body, visits)?;
+        self.end_turn(&way)
+    }
+
+    /// A case, from the range of its index.
+    #[cycle(statement)]
+    fn case_statement(
+        &mut self,
+        arms: &[Stmt],
+        site: u32,
+        index: &Expr,
+        constants: &[Vec<i32>],
+        range: Interval,
+        visits: &mut Visits,
+    ) -> Result<(), CheckFault>
+        ensures { Goes (case_walk site index.now constants.now (map statement_walk arms.now) (Ordinal range))
+            self.old visits.old result self.new visits.new }
+    {
+        let base = self.index_test(site, constants, arms.len(), range)?;
+        self.arms(arms, &base, entire(index), constants, visits)
+    }
+
+    /// The arms of a case.
+    #[cycle(statement)]
+    fn arms(
+        &mut self,
+        arms: &[Stmt],
+        base: &State,
+        index: Option<u32>,
+        constants: &[Vec<i32>],
+        visits: &mut Visits,
+    ) -> Result<(), CheckFault>
+        ensures { Goes (arms_walk (viewed base.now) index constants.now (map statement_walk arms.now))
+            self.old visits.old result self.new visits.new }
+    {
+        for i in 0..arms.len() {
+            let start = arm_start(self.alloc, base, index, constants, i)?;
+            self.arm(&arms[i], start, visits)?;
+        }
+        Ok(())
+    }
+
+    /// An arm, from what is known where it is executed.
+    #[cycle(statement)]
+    fn arm(&mut self, arm: &Stmt, start: State, visits: &mut Visits) -> Result<(), CheckFault>
+        ensures { Goes (arm_walk (viewed start) (statement_walk arm.now)) self.old visits.old result
+            self.new visits.new }
+    {
+        let behind = mem::replace(&mut self.state, start);
+        self.statement(arm, visits)?;
+        self.meet(behind)
     }
 
     /// The statement behind `else`, if there is one.
@@ -376,7 +537,8 @@ impl<'a> Walk<'a> {
 impl<'a> Walk<'a> {
     /// Goes on where a condition is true; the state where it is false.
     fn part(&mut self, condition: &Expr, known: Known) -> Result<State, CheckFault>
-        ensures { Parts condition.now known self.old result self.new }
+        ensures { Parts (where_so true condition.now known) (where_so false condition.now known)
+            self.old result self.new }
     {
         let range = known.range();
         let mut otherwise = self.state.copied(self.alloc)?;
@@ -398,18 +560,23 @@ impl<'a> Walk<'a> {
 // Where a loop begins and ends.
 impl<'a> Walk<'a> {
     /// Goes on at the head of a loop, whose facts have to be given here.
-    fn enter_loop(&mut self, number: u32, place: Place) -> Result<(), CheckFault>
-        ensures { EntersLoop number place self.old result self.new }
+    fn enter_loop(
+        &mut self,
+        number: u32,
+        place: Place,
+        control: Option<u32>,
+    ) -> Result<(), CheckFault>
+        ensures { EntersLoop number place control self.old result self.new }
     {
-        let claims = claims_on(self.certificate, number);
-        if !gives_all(&self.state, claims) {
+        let round = self.round(number, control);
+        if !round.is_given(&self.state) {
             return Err(CheckFault::Broken {
                 rule: Rule::LoopEntry,
                 place,
             });
         }
-        head(&mut self.state, &self.limits, claims)?;
-        self.rounds.push(Round { claims })?;
+        round.head(self.alloc, &mut self.state, &self.limits)?;
+        self.rounds.push(round)?;
         Ok(())
     }
 
@@ -417,7 +584,7 @@ impl<'a> Walk<'a> {
     fn leave_loop(&mut self, number: u32, place: Place, behind: State) -> Result<(), CheckFault>
         ensures { LeavesLoop number place behind self.old result self.new }
     {
-        let is_given = gives_all(&self.state, claims_on(self.certificate, number));
+        let is_given = self.round(number, None).is_given(&self.state);
         if !is_given {
             return Err(CheckFault::Broken {
                 rule: Rule::LoopTurn,
@@ -427,6 +594,151 @@ impl<'a> Walk<'a> {
         self.rounds.pop();
         self.state = behind;
         Ok(())
+    }
+
+    /// The loop of a number, perhaps of a for statement with a control variable.
+    fn round(&self, number: u32, control: Option<u32>) -> Round<'a>
+        ensures { IsLoop number control self.now result }
+    {
+        Round {
+            claims: claims_on(self.certificate, number),
+            controls: controls_inside(self.tree, number),
+            own: control,
+        }
+    }
+}
+
+// What a for does with its control variable.
+impl<'a> Walk<'a> {
+    /// Goes on where there are values; the state where there are none.
+    fn part_way(&mut self, way: &Way) -> Result<State, CheckFault>
+        ensures { Parts (where_counts true (said_way way.now)) (where_counts false (said_way way.now))
+            self.old result self.new }
+    {
+        let mut never = self.state.copied(self.alloc)?;
+        way.relate(&mut never, false)?;
+        way.relate(&mut self.state, true)?;
+        Ok(never)
+    }
+
+    /// Goes on behind both ways, where the control variable is undefined.
+    fn leave_way(&mut self, control: u32, never: State) -> Result<(), CheckFault>
+        ensures { Moves (λ state. with_undefined control (joined_states state (viewed never)))
+            self.old result self.new }
+    {
+        self.state.join(self.alloc, never)?;
+        self.state.undefine(control);
+        Ok(())
+    }
+
+    /// The tests of both bounds.
+    fn tested_way(&mut self, place: Place, way: Way) -> Result<Way, CheckFault>
+        ensures { (visits : Visits)
+            → Goes (tested_way place (said_way way)) self.old visits (said_tested result) self.new visits }
+    {
+        let first = way.first.met(&self.state);
+        let last = way.last.met(&self.state);
+        let first = self.tested_end(way.first.fits, first)?;
+        let last = self.tested_end(way.last.fits, last)?;
+        self.control_change(place, &way)?;
+        Ok(way.with_values(first, last))
+    }
+
+    /// The test of a bound whose value lies in a range.
+    fn tested_end(&mut self, fits: RangeTest, range: Interval) -> Result<Interval, CheckFault>
+        ensures { (visits : Visits)
+            → Goes (within (limits_of fits.range) fits.site range) self.old visits result self.new visits }
+    {
+        self.within(limits(fits.range), fits.site, range)
+    }
+
+    /// In each loop round the walk is a for statement that the variable controls, and its values are of its type.
+    fn control_change(&mut self, place: Place, way: &Way) -> Result<(), CheckFault>
+        ensures { (visits : Visits) → Goes (control_change place way.now.control way.now.first.fits.range
+            way.now.last.fits.range) self.old visits result self.new visits }
+    {
+        if self.may_control(way) {
+            Ok(())
+        } else {
+            Err(CheckFault::Broken {
+                rule: Rule::Changes,
+                place,
+            })
+        }
+    }
+
+    /// Whether it is so.
+    fn may_control(&self, way: &Way) -> bool
+        ensures { result ≡ may_control (context_of self.now) way.now.control way.now.first.fits.range
+            way.now.last.fits.range }
+    {
+        all_control(&self.rounds, way.control) && self.fits(way)
+    }
+
+    /// Whether both bounds are tested for the control variable's type.
+    fn fits(&self, way: &Way) -> bool
+        ensures { result ≡ (is_included (limits_of way.now.first.fits.range)
+            (limits_at self.now.limits.items way.now.control)
+            && is_included (limits_of way.now.last.fits.range) (limits_at self.now.limits.items way.now.control)) }
+    {
+        let own = limits_at(&self.limits, way.control);
+        limits(way.first.fits.range).leq(&own) && limits(way.last.fits.range).leq(&own)
+    }
+
+    /// The control variable is the first bound.
+    fn begin_way(&mut self, way: &Way) -> Result<(), CheckFault>
+        ensures { (visits : Visits)
+            → Goes (assign way.now.control (said_form way.now.first.form) (Ordinal way.now.first.values))
+            self.old visits result self.new visits }
+    {
+        self.state
+            .assign(way.control, way.first.values, way.first.form)?;
+        Ok(())
+    }
+
+    /// The way with the forms of its bounds that the turns of its loop leave as they are.
+    fn steady_in(&self, number: u32, way: Way) -> Way
+        ensures { said_way result ≡ steady_in (context_of self.now) number (said_way way) }
+    {
+        way.steady(&self.round(number, Some(way.control)))
+    }
+
+    /// Goes on where a turn begins.
+    fn begin_turn(&mut self, way: &Way) -> Result<(), CheckFault>
+        ensures { Moves (turn_begun (said_way way.now)) self.old result self.new }
+    {
+        way.begin_turn(&mut self.state)?;
+        Ok(())
+    }
+
+    /// Goes on where another turn follows; the state where none does.
+    fn end_turn(&mut self, way: &Way) -> Result<State, CheckFault>
+        ensures { Parts (turn_ended (said_way way.now)) (way_out (said_way way.now)) self.old result self.new }
+    {
+        let mut out = self.state.copied(self.alloc)?;
+        out.replace(self.alloc, way.control, way.last.form)?;
+        way.end_turn(&mut self.state)?;
+        Ok(out)
+    }
+}
+
+// What a case does with its index.
+impl<'a> Walk<'a> {
+    /// The test of an index: what is known where it is one of the constants.
+    fn index_test(
+        &mut self,
+        site: u32,
+        constants: &[Vec<i32>],
+        arms: usize,
+        range: Interval,
+    ) -> Result<State, CheckFault>
+        ensures { (visits : Visits) → Goes (index_test site (constants_before arms constants.now) range)
+            self.old visits (said_state result) self.new visits }
+    {
+        let constants = constants_before(self.alloc, arms, constants)?;
+        let passed = range.meet(&hull(&constants));
+        self.test(covers(&constants, range), site, passed)?;
+        Ok(mem::replace(&mut self.state, State::Dead))
     }
 }
 
@@ -535,30 +847,5 @@ impl<'a> Walk<'a> {
         }
         self.state.unless_empty(passed);
         Ok(passed)
-    }
-}
-
-/// Whether a state gives the facts of a loop.
-fn gives_all(state: &State, claims: Option<&LoopClaims>) -> bool
-    ensures { result ≡ gives_all (viewed state.now) (said_claims claims.entry).facts }
-{
-    match claims {
-        None => true,
-        Some(claims) => state.gives_all(&claims.facts),
-    }
-}
-
-/// Brings a state to the head of a loop.
-fn head(
-    state: &mut State,
-    limits: &[Interval],
-    claims: Option<&LoopClaims>,
-) -> Result<(), AllocError>
-    ensures { IfOk result (λ _. viewed state.new ≡ head (limits_at limits.now) (said_claims claims.entry).changes []
-        (said_claims claims.entry).facts (viewed state.old)) }
-{
-    match claims {
-        None => Ok(()),
-        Some(claims) => state.head(limits, &claims.changes, &[], &claims.facts),
     }
 }

@@ -1,7 +1,12 @@
-use Rattle.std.proofs.Common.{refl, map, Ok, Err}
-use Rattle.cert_checker.specs.Walk.{all_of, repeat_round, statement_walk, while_round}
+use Rattle.std.proofs.Common.{refl, length, map, true, false, Some, None, Ok, Err}
+use Rattle.cert_checker.specs.Walk.{all_of, arms_walk, case_walk, for_round, for_turns, for_walk, repeat_round, rounds_of, statement_walk, where_so, while_round}
+use Rattle.structured_states.specs.View.{said_end, said_way}
 use Rattle.cert_checker.specs.View.{else_walk}
 use Rattle.cert_checker.proofs.Steps.{all-step, all-end, given-up, if-begun, branches-done, branches-stopped, loop-done, loop-stopped, while-begun, repeat-begun, while_round-done, repeat_round-done}
+use Rattle.cert_checker.proofs.StepsFor.{for-begun, for-last_stopped, for-stopped, rounds-go, turns-done, turns-not_begun, turns-not_tested, way-same}
+use Rattle.cert_checker.proofs.StepsCase.{arms-end, arms-step, arms-stopped, case-begun, case-not_tested, case-tested}
+use Rattle.abstract_state.specs.View.{viewed}
+use Rattle.abstract_state.specs.declared.known.Known.TheVariants.{Ordinal}
 use Rattle.cert_checker.proofs.walk.Walk.+statement.Goals as goal
 
 pub statements-loop-statement-preserved : goal.statements-loop-statement-preserved
@@ -32,7 +37,7 @@ statement-returns-in_err-statement-in-If t c =
     (if-begun c.args.statement.now it.number it.condition it.consequence it.alternative c.deref-in-If.result.now c.args.self.now c.enter-in-If.new.self
     valued new c.args.visits.now c.enter-in-If.new.visits between after known (Err fault) it.is c.deref-in-If.ensures c.in_ok-enter-in-If.ensures
     c.in_ok-known-in-If.ensures
-    (branches-stopped it.condition (statement_walk c.deref-in-If.result.now) (else_walk it.alternative) known valued c.part.new.self new between after
+    (branches-stopped (where_so true it.condition known) (where_so false it.condition known) (statement_walk c.deref-in-If.result.now) (else_walk it.alternative) valued c.part.new.self new between after
     c.in_ok-otherwise-in-If.otherwise fault c.in_ok-otherwise-in-If.ensures c.in_err-statement-in-If.ensures))
 
 pub statement-returns-in_ok-alternative-in-If : goal.statement-returns-in_ok-alternative-in-If
@@ -43,7 +48,7 @@ statement-returns-in_ok-alternative-in-If t c =
     if-begun c.args.statement.now it.number it.condition it.consequence it.alternative c.deref-in-If.result.now c.args.self.now c.enter-in-If.new.self
     valued c.meet.new.self c.args.visits.now c.enter-in-If.new.visits c.expression.new.visits c.alternative.new.visits known c.meet.result
     it.is c.deref-in-If.ensures c.in_ok-enter-in-If.ensures c.in_ok-known-in-If.ensures
-    (branches-done it.condition (statement_walk c.deref-in-If.result.now) (else_walk it.alternative) known valued c.part.new.self c.statement.new.self _
+    (branches-done (where_so true it.condition known) (where_so false it.condition known) (statement_walk c.deref-in-If.result.now) (else_walk it.alternative) valued c.part.new.self c.statement.new.self _
     c.alternative.new.self c.meet.new.self c.expression.new.visits c.statement.new.visits c.alternative.new.visits c.replace-behind.result
     c.in_ok-otherwise-in-If.otherwise c.meet.result c.in_ok-otherwise-in-If.ensures c.in_ok-statement-in-If.ensures c.replace-behind.ensures.value
     c.replace-behind.ensures.after refl c.in_ok-alternative-in-If.ensures c.meet.ensures)
@@ -68,7 +73,7 @@ statement-returns-in_ok-behind-in-While t c =
     let between = c.enter-in-While.new.visits in
     while-begun c.args.statement.now it.number it.loop_number it.place it.condition it.body c.deref-in-While.result.now c.args.self.now entered c.leave_loop.new.self
     c.args.visits.now between c.while_round.new.visits c.leave_loop.result it.is c.deref-in-While.ensures c.in_ok-enter-in-While.ensures
-    (loop-done it.loop_number it.place walking entered c.enter_loop.new.self c.in_ok-enter_loop-in-While.ensures c.while_round.new.self between
+    (loop-done it.loop_number it.place None walking entered c.enter_loop.new.self c.in_ok-enter_loop-in-While.ensures c.while_round.new.self between
     c.while_round.new.visits c.in_ok-behind-in-While.behind c.in_ok-behind-in-While.ensures c.leave_loop.result c.leave_loop.new.self c.leave_loop.ensures)
 
 pub statement-returns-in_err-behind-in-While : goal.statement-returns-in_err-behind-in-While
@@ -84,7 +89,7 @@ statement-returns-in_err-behind-in-While t c =
     given-up (statement_walk c.args.statement.now) c.args.self.now new c.args.visits.now after fault left.result left.ensures
     (while-begun c.args.statement.now it.number it.loop_number it.place it.condition it.body c.deref-in-While.result.now c.args.self.now entered new
     c.args.visits.now between after (Err fault) it.is c.deref-in-While.ensures c.in_ok-enter-in-While.ensures
-    (loop-stopped it.loop_number it.place walking entered c.enter_loop.new.self c.in_ok-enter_loop-in-While.ensures new between after fault
+    (loop-stopped it.loop_number it.place None walking entered c.enter_loop.new.self c.in_ok-enter_loop-in-While.ensures new between after fault
     c.in_err-behind-in-While.ensures))
 
 pub statement-returns-in_ok-behind-in-Repeat : goal.statement-returns-in_ok-behind-in-Repeat
@@ -95,7 +100,7 @@ statement-returns-in_ok-behind-in-Repeat t c =
     let between = c.enter-in-Repeat.new.visits in
     repeat-begun c.args.statement.now it.number it.loop_number it.place it.statements it.condition c.deref-in-Repeat.result.now c.args.self.now entered c.leave_loop-in-Repeat.new.self
     c.args.visits.now between c.repeat_round.new.visits c.leave_loop-in-Repeat.result it.is c.deref-in-Repeat.ensures.value c.in_ok-enter-in-Repeat.ensures
-    (loop-done it.loop_number it.place walking entered c.enter_loop-in-Repeat.new.self c.in_ok-enter_loop-in-Repeat.ensures c.repeat_round.new.self between
+    (loop-done it.loop_number it.place None walking entered c.enter_loop-in-Repeat.new.self c.in_ok-enter_loop-in-Repeat.ensures c.repeat_round.new.self between
     c.repeat_round.new.visits c.in_ok-behind-in-Repeat.behind c.in_ok-behind-in-Repeat.ensures c.leave_loop-in-Repeat.result c.leave_loop-in-Repeat.new.self c.leave_loop-in-Repeat.ensures)
 
 pub statement-returns-in_err-behind-in-Repeat : goal.statement-returns-in_err-behind-in-Repeat
@@ -111,5 +116,147 @@ statement-returns-in_err-behind-in-Repeat t c =
     given-up (statement_walk c.args.statement.now) c.args.self.now new c.args.visits.now after fault left.result left.ensures
     (repeat-begun c.args.statement.now it.number it.loop_number it.place it.statements it.condition c.deref-in-Repeat.result.now c.args.self.now entered new
     c.args.visits.now between after (Err fault) it.is c.deref-in-Repeat.ensures.value c.in_ok-enter-in-Repeat.ensures
-    (loop-stopped it.loop_number it.place walking entered c.enter_loop-in-Repeat.new.self c.in_ok-enter_loop-in-Repeat.ensures new between after fault
+    (loop-stopped it.loop_number it.place None walking entered c.enter_loop-in-Repeat.new.self c.in_ok-enter_loop-in-Repeat.ensures new between after fault
     c.in_err-behind-in-Repeat.ensures))
+
+pub for_statement-returns-in_err-for_turns : goal.for_statement-returns-in_err-for_turns
+for_statement-returns-in_err-for_turns t c =
+    let way = said_way c.args.way in
+    let body = statement_walk c.args.body.now in
+    let fault = c.in_err-for_turns.field-0.0 in
+    let left = c.from_residual-in_err-for_turns in
+    let new = c.for_turns.new.self in
+    let after = c.for_turns.new.visits in
+    given-up (for_walk c.args.number c.args.place body way) c.args.self.now new c.args.visits.now after fault left.result left.ensures
+    (for-stopped c.args.number c.args.place body way c.in_ok-never.never c.args.self.now c.part_way.new.self new c.args.visits.now after fault
+    c.in_ok-never.ensures c.in_err-for_turns.ensures)
+
+pub for_turns-returns-in_err-tested : goal.for_turns-returns-in_err-tested
+for_turns-returns-in_err-tested t c =
+    let way = said_way c.args.way in
+    let body = statement_walk c.args.body.now in
+    let fault = c.in_err-tested.field-0.0 in
+    let left = c.from_residual in
+    given-up (for_turns c.args.number c.args.place body way) c.args.self.now c.tested_way.new.self c.args.visits.now c.args.visits.now fault left.result
+    left.ensures
+    (turns-not_tested c.args.number c.args.place body way c.args.self.now c.tested_way.new.self c.args.visits.now c.args.visits.now fault
+    (c.in_err-tested.ensures c.args.visits.now))
+
+pub for_turns-returns-in_err-begin_way : goal.for_turns-returns-in_err-begin_way
+for_turns-returns-in_err-begin_way t c =
+    let way = said_way c.args.way in
+    let body = statement_walk c.args.body.now in
+    let visits = c.args.visits.now in
+    let fault = c.in_err-begin_way.field-0.0 in
+    let left = c.from_residual-in_err-begin_way in
+    given-up (for_turns c.args.number c.args.place body way) c.args.self.now c.begin_way.new.self visits visits fault left.result left.ensures
+    (turns-not_begun c.args.number c.args.place body way c.args.self.now c.tested_way.new.self visits (said_way c.in_ok-tested.tested)
+    (c.in_ok-tested.ensures visits) c.begin_way.new.self visits fault (c.in_err-begin_way.ensures visits))
+
+pub for_turns-returns : goal.for_turns-returns
+for_turns-returns t c =
+    let visits = c.args.visits.now in
+    turns-done c.args.number c.args.place (statement_walk c.args.body.now) (said_way c.args.way) c.args.self.now c.tested_way.new.self visits
+    (said_way c.in_ok-tested.tested) (c.in_ok-tested.ensures visits) c.begin_way.new.self c.rounds_of.new.self c.rounds_of.new.visits c.rounds_of.result
+    (c.in_ok-begin_way.ensures visits) c.rounds_of.ensures
+
+pub rounds_of-returns-in_err-behind : goal.rounds_of-returns-in_err-behind
+rounds_of-returns-in_err-behind t c =
+    let way = said_way c.args.way in
+    let steady = said_way c.steady_in-steady.result in
+    let body = statement_walk c.args.body.now in
+    let fault = c.in_err-behind.field-0.0 in
+    let left = c.from_residual-in_err-behind in
+    let new = c.for_round.new.self in
+    let after = c.for_round.new.visits in
+    given-up (rounds_of c.args.number c.args.place body way) c.args.self.now new c.args.visits.now after fault left.result left.ensures
+    (rounds-go c.args.number c.args.place body way steady c.args.self.now new c.args.visits.now after (Err fault) c.steady_in-steady.ensures
+    (loop-stopped c.args.number c.args.place (Some c.args.way.control) (for_round steady body) c.args.self.now c.enter_loop.new.self
+    c.in_ok-enter_loop.ensures new c.args.visits.now after fault c.in_err-behind.ensures))
+
+pub rounds_of-returns : goal.rounds_of-returns
+rounds_of-returns t c =
+    let way = said_way c.args.way in
+    let steady = said_way c.steady_in-steady.result in
+    let body = statement_walk c.args.body.now in
+    rounds-go c.args.number c.args.place body way steady c.args.self.now c.leave_loop.new.self c.args.visits.now c.for_round.new.visits c.leave_loop.result
+    c.steady_in-steady.ensures
+    (loop-done c.args.number c.args.place (Some c.args.way.control) (for_round steady body) c.args.self.now c.enter_loop.new.self
+    c.in_ok-enter_loop.ensures c.for_round.new.self c.args.visits.now c.for_round.new.visits c.in_ok-behind.behind c.in_ok-behind.ensures
+    c.leave_loop.result c.leave_loop.new.self c.leave_loop.ensures)
+
+pub statement-returns-in_err-to-in-For : goal.statement-returns-in_err-to-in-For
+statement-returns-in_err-to-in-For t c =
+    let it = c.in-For in
+    let fault = c.in_err-to-in-For.field-0.0 in
+    let left = c.from_residual-in_err-to-in-For in
+    given-up (statement_walk c.args.statement.now) c.args.self.now c.expression-in-For-2.new.self c.args.visits.now c.expression-in-For-2.new.visits fault
+    left.result left.ensures
+    (for-last_stopped c.args.statement.now it.number it.loop_number it.place it.control it.first it.first_fits it.direction it.last it.last_fits it.body
+    c.in_ok-from-in-For.from c.args.self.now c.enter-in-For.new.self c.expression-in-For.new.self c.expression-in-For-2.new.self c.args.visits.now
+    c.enter-in-For.new.visits c.expression-in-For.new.visits c.expression-in-For-2.new.visits fault it.is c.in_ok-enter-in-For.ensures
+    c.in_ok-from-in-For.ensures c.in_err-to-in-For.ensures)
+
+pub statement-returns-in_ok-to-in-For : goal.statement-returns-in_ok-to-in-For
+statement-returns-in_ok-to-in-For t c =
+    let it = c.in-For in
+    for-begun c.args.statement.now it.number it.loop_number it.place it.control it.first it.first_fits it.direction it.last it.last_fits it.body
+    c.deref-in-For.result.now _ c.in_ok-from-in-For.from c.in_ok-to-in-For.to c.args.self.now c.enter-in-For.new.self c.expression-in-For.new.self
+    c.expression-in-For-2.new.self c.for_statement.new.self c.args.visits.now c.enter-in-For.new.visits c.expression-in-For.new.visits
+    c.expression-in-For-2.new.visits c.for_statement.new.visits c.for_statement.result it.is c.deref-in-For.ensures
+    (way-same it.control it.direction it.first it.last it.first_fits it.last_fits c.in_ok-from-in-For.from c.in_ok-to-in-For.to (said_end c.new.result)
+    (said_end c.new-in-For.result) c.new.ensures c.new-in-For.ensures)
+    c.in_ok-enter-in-For.ensures c.in_ok-from-in-For.ensures c.in_ok-to-in-For.ensures c.for_statement.ensures
+
+pub arms-loop-i-preserved : goal.arms-loop-i-preserved
+arms-loop-i-preserved t c = λ result new after goes.
+    let here = c.loop-i in
+    here.invariant result new after
+    (arms-step (viewed c.args.base.now) c.args.index c.args.constants.now c.args.arms.now here.i c.index-arms-i.result c.loop-i-test.true c.index-arms-i.is
+    (viewed c.in_ok-start.start) c.in_ok-start.ensures here.self c.arm.new.self new here.visits c.arm.new.visits after tt result c.in_ok-arm.ensures goes)
+
+pub arms-returns : goal.arms-returns
+arms-returns t c =
+    let here = c.loop-i in
+    here.invariant (Ok tt) here.self here.visits
+    (arms-end (viewed c.args.base.now) c.args.index c.args.constants.now c.args.arms.now here.i here.self here.visits c.loop-i-test.false)
+
+pub case_statement-returns-in_err-base : goal.case_statement-returns-in_err-base
+case_statement-returns-in_err-base t c =
+    let visits = c.args.visits.now in
+    let fault = c.in_err-base.field-0.0 in
+    let left = c.from_residual in
+    let walk = case_walk c.args.site c.args.index.now c.args.constants.now (map statement_walk c.args.arms.now) (Ordinal c.args.range) in
+    given-up walk c.args.self.now c.index_test.new.self visits visits fault left.result left.ensures
+    (case-not_tested c.args.site c.args.index.now c.args.constants.now c.args.arms.now c.args.range (length c.args.arms.now) c.args.self.now
+    c.index_test.new.self visits visits fault refl (c.in_err-base.ensures visits))
+
+pub case_statement-returns : goal.case_statement-returns
+case_statement-returns t c =
+    let visits = c.args.visits.now in
+    case-tested c.args.site c.args.index.now c.args.constants.now c.args.arms.now c.args.range (length c.args.arms.now) c.entire.result c.in_ok-base.base
+    c.args.self.now c.index_test.new.self c.arms.new.self visits c.arms.new.visits c.arms.result refl c.entire.ensures (c.in_ok-base.ensures visits)
+    c.arms.ensures
+
+pub statement-returns-in_ok-known-in-Case : goal.statement-returns-in_ok-known-in-Case
+statement-returns-in_ok-known-in-Case t c =
+    let it = c.in-Case in
+    case-begun c.args.statement.now it.number it.site it.index it.constants it.arms c.deref-in-Case-2.result.now c.deref-in-Case.result.now
+    c.in_ok-known-in-Case.known c.range-range.result c.args.self.now c.enter-in-Case.new.self c.expression-in-Case.new.self c.case_statement.new.self
+    c.args.visits.now c.enter-in-Case.new.visits c.expression-in-Case.new.visits c.case_statement.new.visits c.case_statement.result it.is
+    c.deref-in-Case-2.ensures.value c.deref-in-Case.ensures.value c.range-range.ensures c.in_ok-enter-in-Case.ensures c.in_ok-known-in-Case.ensures
+    c.case_statement.ensures
+
+pub arms-returns-in_err-arm : goal.arms-returns-in_err-arm
+arms-returns-in_err-arm t c =
+    let here = c.loop-i in
+    let new = c.arm.new.self in
+    let after = c.arm.new.visits in
+    let fault = c.in_err-arm.field-0.0 in
+    let left = c.from_residual-in_err-arm in
+    let base = viewed c.args.base.now in
+    given-up (arms_walk base c.args.index c.args.constants.now (map statement_walk c.args.arms.now)) c.args.self.now new c.args.visits.now after fault left.result
+    left.ensures
+    (here.invariant (Err fault) new after
+    (arms-stopped base c.args.index c.args.constants.now c.args.arms.now here.i c.index-arms-i.result c.loop-i-test.true c.index-arms-i.is
+    (viewed c.in_ok-start.start) c.in_ok-start.ensures here.self new here.visits after fault c.in_err-arm.ensures))

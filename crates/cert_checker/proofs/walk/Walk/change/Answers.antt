@@ -3,9 +3,9 @@ use Rattle.std.specs.List.{list_all}
 use Rattle.domain.specs.Interval.{is_included}
 use Rattle.abstract_state.specs.State.{limits_of}
 use Rattle.abstract_state.specs.Loops.{is_among}
-use Rattle.cert_checker.specs.declared.rounds.Round.{Round as KeptRound}
-use Rattle.cert_checker.specs.Loops.{limits_at}
-use Rattle.cert_checker.specs.View.{kept_round}
+use Rattle.structured_states.specs.declared.rounds.Round.{Round as KeptRound}
+use Rattle.structured_states.specs.Loops.{limits_at}
+use Rattle.structured_states.specs.View.{kept_round}
 use Rattle.cert_checker.proofs.Steps.{change-done, unfit, unlisted}
 use Rattle.cert_checker.proofs.walk.Walk.change.Goals.{else-fits-via-then-fits+else-all_list, else-fits-via-else-fits}
 use Rattle.cert_checker.proofs.walk.Walk.change.Goals as goal

@@ -1,10 +1,11 @@
 -- What a certificate claims of a loop, and what the checker goes by where a turn of it begins (ISO 7185:1990, 6.8.3.6).
 -- It does not say that a loop keeps to that.
-use Rattle.std.specs.Prelude.{ℕ, List, [], ◌∷◌, ◌++◌, Option, Some, None, Bool, if◌then◌else◌, map, nat_eq, slice_index_or}
+use Rattle.std.specs.Prelude.{ℕ, List, [], ◌∷◌, ◌++◌, Option, Some, None, Bool, not, if◌then◌else◌, filter, map, nat_eq, slice_get, slice_index_or}
 use Rattle.std.specs.List.{list_all}
 use Rattle.types.specs.declared.form.OrdinalRange.{OrdinalRange}
 use Rattle.types.specs.declared.form.TypeForm.{TypeForm}
 use Rattle.types.specs.Types.{range_of}
+use Rattle.typed_tree.specs.declared.tree.Loop.{Loop}
 use Rattle.typed_tree.specs.declared.tree.Tree.{Tree}
 use Rattle.typed_tree.specs.declared.tree.Variable.{Variable}
 use Rattle.certificate.specs.declared.Certificate.{Certificate}
@@ -52,9 +53,33 @@ pub record Round : Type 0 where
   pub changes : List ℕ
   pub controls : List ℕ
 
--- a loop, by its claims
-abbrev pub round_of : Claims → Round
-round_of claims = record { changes = claims.changes; controls = [] }
+-- the control variables of the for statements inside a loop, by its row in the table; none where it has no row
+abbrev pub controls_of : Option Loop → List ℕ
+controls_of None = []
+controls_of (Some row) = row.controls.items
+
+abbrev pub controls_inside : Tree → ℕ → List ℕ
+controls_inside tree number = controls_of (slice_get tree.loops.items number)
+
+-- the loop of a number
+abbrev pub round_of : Tree → Certificate → ℕ → Round
+round_of tree certificate number =
+    record { changes = (claims_on certificate number).changes; controls = controls_inside tree number }
+
+-- a loop at its head: a for statement has a control variable of its own
+abbrev pub with_own : Option ℕ → Round → Round
+with_own None round = round
+with_own (Some control) round = record round { controls = control ∷ round.controls }
+
+-- some variables but one
+abbrev pub all_but : ℕ → List ℕ → List ℕ
+all_but root roots = filter (λ other. not (nat_eq other root)) roots
+
+-- a loop round its body: nothing in the body of a for statement changes the control variable
+abbrev pub without_own : Option ℕ → Round → Round
+without_own None round = round
+without_own (Some control) round =
+    record { changes = all_but control round.changes; controls = all_but control round.controls }
 
 -- what a loop touches
 abbrev pub touched : Round → List ℕ
@@ -79,3 +104,7 @@ limits_at limits root = slice_index_or limits root vacant
 -- each of these loops lists a variable
 abbrev pub all_list : ℕ → List Round → Bool
 all_list root rounds = list_all (λ round. is_among root round.changes) rounds
+
+-- in each of them is a for statement that a variable controls
+abbrev pub all_control : ℕ → List Round → Bool
+all_control root rounds = list_all (λ round. is_among root round.controls) rounds

@@ -1,7 +1,7 @@
 use Rattle.std.proofs.Common.{◌≡◌, map, drop}
 use Rattle.certificate.specs.Contents.{loop_of}
-use Rattle.cert_checker.specs.Loops.{found_among}
-use Rattle.cert_checker.proofs.rounds.found_among.Given as goal
+use Rattle.structured_states.specs.Loops.{found_among}
+use Rattle.structured_states.proofs.rounds.found_among.Given as goal
 
 -- nothing was found so far
 abbrev pub invariant-loop-claims : goal.invariant-loop-claims

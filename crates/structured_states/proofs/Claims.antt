@@ -1,11 +1,16 @@
 -- The claims of a certificate on a loop, from one of several on; and lists that are made element by element.
-use Rattle.std.proofs.Common.{◌≡◌, ◌∙◌, sym, ap, ℕ, ◌+◌, ◌<◌, ◌≤◌, Bool, cond, nat_eq, List, [], ◌∷◌, ◌++◌, Option, Some, None, length, map, drop, take, get_or}
-use Rattle.std.proofs.lemmas.List.{take_more, map-append}
+use Rattle.std.proofs.Common.{◌≡◌, ◌∙◌, sym, ap, ℕ, ◌+◌, ◌<◌, ◌≤◌, Bool, cond, nat_eq, List, [], ◌∷◌, ◌++◌, Option, Some, None, length, map, drop, drop-cons, take, get_or, add-one, suc}
+use Rattle.std.proofs.lemmas.List.{drop_all, take_more, map-append}
 use Rattle.certificate.specs.declared.LoopClaims.{LoopClaims as KeptClaims}
 use Rattle.certificate.specs.declared.Section.{Section as KeptSection}
 use Rattle.certificate.specs.Contents.{LoopClaims, loop_of, section_of}
-use Rattle.cert_checker.specs.Loops.{found_among, found_in, or_else}
-use Rattle.cert_checker.proofs.Steps.{item-cut, drop-past}
+use Rattle.structured_states.specs.Loops.{found_among, found_in, or_else}
+
+pub item-cut : {X : Type 0} (items : List X) (i : ℕ) (x : X) → i < length items → x ≡ get_or items i x → drop i items ≡ x ∷ drop (i + 1) items
+item-cut items i x inside is = rw add-one (drop-cons items i x inside ∙ ap (λ y. y ∷ drop (suc i) items) (sym is))
+
+pub drop-past : {X : Type 0} (items : List X) (i : ℕ) → length items ≤ i → drop i items ≡ []
+drop-past items i past = drop_all i items past
 
 pub among-cut : (number : ℕ) (loops : List KeptClaims) (i : ℕ) (one : KeptClaims) (same : Bool) → i < length loops → one ≡ get_or loops i one
     → nat_eq one.number number ≡ same

@@ -1,7 +1,7 @@
 use Rattle.std.proofs.Common.{◌≡◌, map, drop}
 use Rattle.certificate.specs.Contents.{section_of}
-use Rattle.cert_checker.specs.Loops.{found_in}
-use Rattle.cert_checker.proofs.rounds.found_in.Given as goal
+use Rattle.structured_states.specs.Loops.{found_in}
+use Rattle.structured_states.proofs.rounds.found_in.Given as goal
 
 -- nothing was found so far
 abbrev pub invariant-loop-section : goal.invariant-loop-section

@@ -1,6 +1,6 @@
 use Rattle.std.proofs.Common.{◌≡◌, map, take}
-use Rattle.cert_checker.specs.Loops.{type_limits}
-use Rattle.cert_checker.proofs.rounds.all_limits.Given as goal
+use Rattle.structured_states.specs.Loops.{type_limits}
+use Rattle.structured_states.proofs.rounds.all_limits.Given as goal
 
 -- so far
 abbrev pub invariant-loop-variable : goal.invariant-loop-variable

@@ -1,0 +1,74 @@
+-- A case statement is sound: its index is a constant of the arm that is executed, or its site is open.
+use Rattle.std.proofs.Common.{arith, ◌≡◌, ◌∙◌, sym, ap, refl, subst, ℕ, suc, ℤ, Bool, true, false, cond, ◌||◌, List, [], ◌∷◌, length, Option, Some, None}
+use Rattle.std.specs.Prelude.{drop, slice_get}
+use Rattle.std.specs.Ordering.{int_eq}
+use Rattle.std.specs.declared.alloc.Global.{Global}
+use Rattle.std.specs.declared.vec.Vec.{Vec}
+use Rattle.std.proofs.lemmas.Int.{ints}
+use Rattle.std.proofs.lemmas.List.Folds.{list_any-append}
+use Rattle.domain.specs.Interval.{common}
+use Rattle.meaning.specs.declared.store.Value.TheVariants.{Number}
+use Rattle.meaning.specs.declared.outcome.Ending.TheVariants.{Error}
+use Rattle.meaning.specs.Effect as effect
+use Rattle.meaning.specs.Meaning.{Execution, arm_of, is_among}
+use Rattle.meaning.specs.Store.{Environment, Store}
+use Rattle.abstract_state.specs.State.{State, joined_states, range_of}
+use Rattle.abstract_state.specs.Forms.{Form, Literal, Signed, Entire, Moved, Other, bound_of, root_of}
+use Rattle.abstract_state.specs.Holds.{HasNumber, Moment}
+use Rattle.abstract_state.specs.Knows.{IsOfForm, Knows, moment}
+use Rattle.abstract_state.proofs.Bounded.{narrowed-known, root-here}
+use Rattle.abstract_state.proofs.Knows.{joined-known_one}
+use Rattle.abstract_state.proofs.Ranged.{common-in}
+use Rattle.structured_states.specs.Cases.{arm_start, at_constants, constants_before, hull}
+use Rattle.structured_states.proofs.Covered.{among-hull}
+use Rattle.cert_checker.specs.Walk.{Context, Walking, arms_walk}
+
+-- an entire variable has the number of the expression that it is
+pub entire-number : (form : Form) (m : Moment) (n : ℤ) (root : ℕ) → IsOfForm m (bound_of form) (Number n) → root_of form ≡ Some root → HasNumber m root n
+entire-number (Entire other) m n root (k, same, (old, has, sum)) is =
+    let number : n ≡ k = cc in
+    let variable : other ≡ root = cc in
+    let value : old ≡ n = omega (arith, ints) in
+    subst (λ (r : ℕ). HasNumber m r n) variable (subst (λ (v : ℤ). HasNumber m other v) value has)
+entire-number (Literal value) m n root of_form is = absurd (cc)
+entire-number (Signed value) m n root of_form is = absurd (cc)
+entire-number (Moved other k) m n root of_form is = absurd (cc)
+entire-number Other m n root of_form is = absurd (cc)
+
+-- what is known at an arm whose constants have the value of the index
+pub at-constants_known : (variables : ℕ) (env : Environment) (store : Store) (index : Option ℕ) (row : List ℤ) (base : State) (n : ℤ)
+    → ((root : ℕ) → index ≡ Some root → HasNumber (moment env store) root n) → is_among row n ≡ true → Knows variables env base store
+    → Knows variables env (at_constants index row base) store
+at-constants_known variables env store None row base n has among known = known
+at-constants_known variables env store (Some root) row base n has among known =
+    narrowed-known variables env store base root (common (range_of base root) (hull row)) n (has root refl)
+    (common-in (range_of base root) (hull row) (Number n) (root-here variables env store base root n known (has root refl)) (among-hull row n among)) known
+
+-- what is known behind an arm is known behind those after it
+pub arms-behind : (variables : ℕ) (env : Environment) (store : Store) (base : State) (index : Option ℕ) (rows : List (Vec ℤ Global))
+    (arms : List (Walking (Unit {0}))) (context : Context) (behind : State) → Knows variables env behind store
+    → Knows variables env (arms_walk base index rows arms context behind).after store
+arms-behind variables env store base index rows [] context behind known = known
+arms-behind variables env store base index rows (arm ∷ arms) context behind known =
+    let first = arm context (arm_start index (slice_get rows 0) base) in
+    arms-behind variables env store base index (drop 1 rows) arms context (joined_states behind first.after)
+    (joined-known_one variables env behind first.after store known)
+
+-- the constants before a first arm, and before the others
+pub first-constants : (row : Vec ℤ Global) (rows : List (Vec ℤ Global)) (arms : ℕ) (n : ℤ)
+    → is_among (constants_before (suc arms) (row ∷ rows)) n ≡ (is_among row.items n || is_among (constants_before arms rows) n)
+first-constants row rows arms n = list_any-append (λ constant. int_eq constant n) row.items (constants_before arms rows)
+
+neither-one : (a b : Bool) → (a || b) ≡ false → (a ≡ false) × (b ≡ false)
+neither-one false b is = (refl, is)
+neither-one true b is = absurd (cc)
+
+-- where no constant is the value, it is an error
+pub arm-missing : (site : ℕ) (rows : List (Vec ℤ Global)) (arms : List Execution) (n : ℤ) (env : Environment) (t : effect.State)
+    → is_among (constants_before (length arms) rows) n ≡ false → arm_of site rows arms n env t ≡ effect.Stops (Error site) t
+arm-missing site [] arms n env t missing = refl
+arm-missing site (row ∷ rows) [] n env t missing = refl
+arm-missing site (row ∷ rows) (arm ∷ arms) n env t missing =
+    let parts = neither-one (is_among row.items n) (is_among (constants_before (length arms) rows) n)
+    (sym (first-constants row rows (length arms) n) ∙ missing) in
+    ap (λ (b : Bool). cond b (arm env) (arm_of site rows arms n env) t) parts.0 ∙ arm-missing site rows arms n env t parts.1

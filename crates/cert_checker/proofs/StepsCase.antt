@@ -1,0 +1,206 @@
+-- What the checker did over a case statement, from what it did over the parts of it.
+use Rattle.std.proofs.Common.{rules, ◌≡◌, ◌≤◌, ◌<◌, refl, sym, subst, ap, ◌∙◌, ℕ, zero, suc, ◌+◌, add-one, ℤ, Bool, List, [], ◌∷◌, ◌++◌, append-nil, length, map, drop, get_or, Option, Result, Ok, Err}
+use Rattle.std.specs.Prelude.{slice_get}
+use Rattle.std.specs.Result.{IsErr, IsErrAnd}
+use Rattle.std.specs.declared.vec.Vec.{Vec}
+use Rattle.std.specs.declared.alloc.Global.{Global}
+use Rattle.std.proofs.lemmas.List.{length-map}
+use Rattle.typed_tree.specs.declared.tree.Expr.{Expr}
+use Rattle.typed_tree.specs.declared.tree.Stmt.{Stmt}
+use Rattle.typed_tree.specs.declared.tree.Stmt.TheVariants as stmt
+use Rattle.typed_tree.specs.declared.tree.Stmt.TheFolds.{the_lemmas as stmt_lemmas}
+use Rattle.domain.specs.Interval.{Interval, common}
+use Rattle.cert_checker.specs.declared.fault.CheckFault.{CheckFault}
+use Rattle.cert_checker.specs.declared.visits.Visits.{Visits}
+use Rattle.cert_checker.specs.declared.walk.Walk.{Walk}
+use Rattle.abstract_state.specs.declared.known.Known.{Known}
+use Rattle.abstract_state.specs.declared.known.Known.TheVariants.{Ordinal}
+use Rattle.abstract_state.specs.declared.state.State.{State as Kept}
+use Rattle.abstract_state.specs.View.{viewed}
+use Rattle.abstract_state.specs.State.{State, Dead, joined_states}
+use Rattle.abstract_state.specs.Conditions.{condition_of}
+use Rattle.abstract_state.specs.Forms.{root_of}
+use Rattle.structured_states.specs.Cases.{arm_start, constants_before, covers, hull}
+use Rattle.structured_states.proofs.Claims.{item-cut, drop-past}
+use Rattle.cert_checker.specs.Promise.{IsBreachOf}
+use Rattle.cert_checker.specs.Walk.{Walked, Walking, ◌>>=◌, arm_walk, arms_walk, case_walk, enter, give, here, index_test, numbers_of, statement_walk, tested, value_walk, with_state}
+use Rattle.cert_checker.specs.View.{Goes, IsMoved, Meets, Walks, all_counted, context_of, said_state}
+use Rattle.cert_checker.proofs.Steps.{breach-same, goes-as, goes-stopped, goes-then, moved-same, walks-give, walks-then}
+
+pub statement-Case : (number site : ℕ) (index : Expr) (constants : Vec (Vec ℤ Global) Global) (arms : Vec Stmt Global)
+    → statement_walk (stmt.Case number site index constants arms)
+    ≡ (enter number >>= λ _. (value_walk index >>= case_walk site index constants.items (map statement_walk arms.items)))
+statement-Case number site index constants arms = search (rules, stmt_lemmas)
+
+-- a case from its entry on
+pub case-begun : (statement : Stmt) (number site : ℕ) (index : Expr) (constants : Vec (Vec ℤ Global) Global) (arms : Vec Stmt Global)
+    (rows : List (Vec ℤ Global)) (items : List Stmt) (known : Known) (range : Interval) (old entered valued new : Walk) (before between after end : Visits)
+    (result : Result (Unit {0}) CheckFault)
+    → statement ≡ stmt.Case number site index constants arms → rows ≡ constants.items → items ≡ arms.items → known ≡ Ordinal range
+    → Walks (enter number) old before entered between tt → Walks (value_walk index) entered between valued after known
+    → Goes (case_walk site index rows (map statement_walk items) (Ordinal range)) valued after result new end
+    → Goes (statement_walk statement) old before result new end
+case-begun statement number site index constants arms rows items known range old entered valued new before between after end result is rows_are items_are
+    known_is one two three =
+    let rest = case_walk site index constants.items (map statement_walk arms.items) in
+    goes-as (statement_walk statement) (enter number >>= λ _. (value_walk index >>= rest)) old new before end result
+    (ap statement_walk is ∙ statement-Case number site index constants arms)
+    (goes-then (enter number) (λ _. value_walk index >>= rest) old entered new before between end tt result one
+    (goes-then (value_walk index) rest entered valued new between after end known result two
+    (goes-as (rest known) (case_walk site index rows (map statement_walk items) (Ordinal range)) valued new after end result
+    (ap rest known_is ∙ ap (λ r. case_walk site index r (map statement_walk arms.items) (Ordinal range)) (sym rows_are)
+    ∙ ap (λ l. case_walk site index rows (map statement_walk l) (Ordinal range)) (sym items_are)) three)))
+
+-- the index was tested: what is known then, and the arms
+pub case-tested : (site : ℕ) (index : Expr) (rows : List (Vec ℤ Global)) (arms : List Stmt) (range : Interval) (count : ℕ) (root : Option ℕ) (base : Kept)
+    (old tested new : Walk) (before after : Visits) (result : Result (Unit {0}) CheckFault)
+    → count ≡ length arms → root ≡ root_of (condition_of index).form
+    → Walks (index_test site (constants_before count rows) range) old before tested before (viewed base)
+    → Goes (arms_walk (viewed base) root rows (map statement_walk arms)) tested before result new after
+    → Goes (case_walk site index rows (map statement_walk arms) (Ordinal range)) old before result new after
+case-tested site index rows arms range count root base old tested new before after result count_is root_is one two =
+    let inner = map statement_walk arms in
+    let many : count ≡ length inner = count_is ∙ sym (length-map arms statement_walk) in
+    let rest = λ (base : State). arms_walk base (root_of (condition_of index).form) rows inner in
+    goes-then (index_test site (constants_before (length inner) rows) range) rest old tested new before before after (viewed base) result
+    (subst (λ n. Walks (index_test site (constants_before n rows) range) old before tested before (viewed base)) many one)
+    (subst (λ r. Goes (arms_walk (viewed base) r rows inner) tested before result new after) root_is two)
+
+pub case-not_tested : (site : ℕ) (index : Expr) (rows : List (Vec ℤ Global)) (arms : List Stmt) (range : Interval) (count : ℕ) (old new : Walk)
+    (before after : Visits) (fault : CheckFault)
+    → count ≡ length arms → IsBreachOf (index_test site (constants_before count rows) range (context_of old) (viewed old.state)) fault
+    → Goes (case_walk site index rows (map statement_walk arms) (Ordinal range)) old before (Err fault) new after
+case-not_tested site index rows arms range count old new before after fault count_is is =
+    let inner = map statement_walk arms in
+    let many : count ≡ length inner = count_is ∙ sym (length-map arms statement_walk) in
+    let rest = λ (base : State). arms_walk base (root_of (condition_of index).form) rows inner in
+    goes-stopped (index_test site (constants_before (length inner) rows) range) rest old new before after fault
+    (subst (λ n. IsBreachOf (index_test site (constants_before n rows) range (context_of old) (viewed old.state)) fault) many is)
+
+-- ---- the test of an index
+
+pub index-done : (site : ℕ) (constants : List ℤ) (range : Interval) (closed : Bool) (passed value : Interval) (base : Kept) (old mid new : Walk)
+    (visits : Visits)
+    → closed ≡ covers constants (length constants) range → passed ≡ common range (hull constants) → Walks (tested closed site passed) old visits mid visits value
+    → base ≡ mid.state → viewed new.state ≡ Dead → new ≡ record mid { state = new.state }
+    → Walks (index_test site constants range) old visits new visits (viewed base)
+index-done site constants range closed passed value base old mid new visits closed_is passed_is one base_is dead only =
+    let first = tested (covers constants (length constants) range) site (common range (hull constants)) in
+    let rest = here >>= λ base. (with_state Dead >>= λ _. give base) in
+    walks-then first (λ _. rest) old mid new visits visits visits value (viewed base)
+    (subst (λ c. Walks (tested c site (common range (hull constants))) old visits mid visits value) closed_is
+    (subst (λ p. Walks (tested closed site p) old visits mid visits value) passed_is one))
+    (record {
+      context_is = ap context_of only;
+      value_is = ap viewed base_is;
+      state_is = dead;
+      open_is = ap (λ (w : Walk). w.open_ids.items) only ∙ sym (append-nil mid.open_ids.items);
+      visits_are = refl;
+      unbroken = refl;
+    })
+
+-- the checker gave up there
+pub index-stopped : (site : ℕ) (constants : List ℤ) (range : Interval) (closed : Bool) (passed : Interval) (old new : Walk) (visits : Visits)
+    (fault : CheckFault) (result : Result Kept CheckFault)
+    → closed ≡ covers constants (length constants) range → passed ≡ common range (hull constants) → IsErr result × IsErrAnd result (λ e. e ≡ fault)
+    → IsBreachOf (tested closed site passed (context_of old) (viewed old.state)) fault
+    → Goes (index_test site constants range) old visits (said_state result) new visits
+index-stopped site constants range closed passed old new visits fault (Ok base) closed_is passed_is left stopped = absurd left.1
+index-stopped site constants range closed passed old new visits fault (Err other) closed_is passed_is left stopped =
+    let first = tested (covers constants (length constants) range) site (common range (hull constants)) in
+    let rest = here >>= λ base. (with_state Dead >>= λ _. give base) in
+    subst (λ f. Goes {A = State} (index_test site constants range) old visits (Err f) new visits) (sym left.1)
+    (goes-stopped first (λ _. rest) old new visits visits fault
+    (subst (λ c. IsBreachOf (tested c site (common range (hull constants)) (context_of old) (viewed old.state)) fault) closed_is
+    (subst (λ p. IsBreachOf (tested closed site p (context_of old) (viewed old.state)) fault) passed_is stopped)))
+
+-- ---- an arm
+
+module _ (start : Kept) (arm : Walking (Unit {0})) (old begun : Walk) (begins : begun.state ≡ start) (only : begun ≡ record old { state = begun.state }) where
+  abbrev was : Walked (Unit {0})
+  was = arm (context_of old) (viewed start)
+
+  moved : IsMoved (viewed start) old begun
+  moved = record { only_state = only; says = ap viewed begins }
+
+  same : arm (context_of begun) (viewed begun.state) ≡ was
+  same = moved-same arm (viewed start) old begun moved
+
+  pub arm-done : (behind : Kept) (done new : Walk) (before after : Visits) (result : Result (Unit {0}) CheckFault) → behind ≡ old.state
+      → Walks arm begun before done after tt → Meets behind done result new → Goes (arm_walk (viewed start) arm) old before result new after
+  arm-done behind done new before after (Ok value) behind_is one met = record {
+    context_is = ap context_of met.only_state ∙ one.context_is ∙ ap context_of only;
+    value_is = refl;
+    state_is = met.says ∙ ap (λ s. joined_states s (viewed done.state)) (ap viewed behind_is)
+        ∙ ap (joined_states (viewed old.state)) (one.state_is ∙ ap (λ w. w.after) same);
+    open_is = ap (λ (w : Walk). w.open_ids.items) met.only_state ∙ one.open_is
+        ∙ ap (λ (w : Walk). w.open_ids.items ++ (arm (context_of begun) (viewed begun.state)).open_ids) only
+        ∙ ap (λ w. old.open_ids.items ++ w.open_ids) same;
+    visits_are = one.visits_are ∙ ap (λ w. all_counted (numbers_of w.linked) before) same;
+    unbroken = ap (λ w. w.broken) (sym same) ∙ one.unbroken;
+  }
+  arm-done behind done new before after (Err fault) behind_is one is =
+      subst (IsBreachOf (arm_walk (viewed start) arm (context_of old) (viewed old.state))) (sym is) tt
+
+  pub arm-stopped : (new : Walk) (before after : Visits) (fault : CheckFault) → IsBreachOf (arm (context_of begun) (viewed begun.state)) fault
+      → Goes (arm_walk (viewed start) arm) old before (Err fault) new after
+  arm-stopped new before after fault is =
+      breach-same (arm (context_of begun) (viewed begun.state)) (arm_walk (viewed start) arm (context_of old) (viewed old.state)) fault
+      (ap (λ w. w.broken) same) is
+
+-- ---- the arms, from one of them on
+
+get-drop : {X : Type 0} (xs : List X) (i : ℕ) → slice_get (drop i xs) 0 ≡ slice_get xs i
+get-drop [] zero = refl
+get-drop [] (suc i) = refl
+get-drop (x ∷ xs) zero = refl
+get-drop (x ∷ xs) (suc i) = get-drop xs i
+
+drop-more : {X : Type 0} (xs : List X) (i : ℕ) → drop 1 (drop i xs) ≡ drop (suc i) xs
+drop-more [] zero = refl
+drop-more [] (suc i) = refl
+drop-more (x ∷ xs) zero = refl
+drop-more (x ∷ xs) (suc i) = drop-more xs i
+
+-- what is left from an arm on
+abbrev pub arms_from : State → Option ℕ → List (Vec ℤ Global) → List Stmt → ℕ → Walking (Unit {0})
+arms_from base index rows arms i = arms_walk base index (drop i rows) (map statement_walk (drop i arms))
+
+from-cut : (base : State) (index : Option ℕ) (rows : List (Vec ℤ Global)) (arms : List Stmt) (i : ℕ) (arm : Stmt) → i < length arms → arm ≡ get_or arms i arm
+    → arms_from base index rows arms i
+    ≡ (arm_walk (arm_start index (slice_get rows i) base) (statement_walk arm) >>= λ _. arms_from base index rows arms (i + 1))
+from-cut base index rows arms i arm inside is =
+    ap (λ (l : List Stmt). arms_walk base index (drop i rows) (map statement_walk l)) (item-cut arms i arm inside is)
+    ∙ ap (λ row. arm_walk (arm_start index row base) (statement_walk arm) >>= λ _.
+    arms_walk base index (drop 1 (drop i rows)) (map statement_walk (drop (i + 1) arms))) (get-drop rows i)
+    ∙ ap (λ more. arm_walk (arm_start index (slice_get rows i) base) (statement_walk arm) >>= λ _.
+    arms_walk base index more (map statement_walk (drop (i + 1) arms))) (rw add-one (drop-more rows i))
+
+module _ (base : State) (index : Option ℕ) (rows : List (Vec ℤ Global)) (arms : List Stmt) (i : ℕ) (arm : Stmt) (inside : i < length arms)
+    (is : arm ≡ get_or arms i arm) (start : State) (start_is : start ≡ arm_start index (slice_get rows i) base) where
+  abbrev first : Walking (Unit {0})
+  first = arm_walk (arm_start index (slice_get rows i) base) (statement_walk arm)
+
+  pub arms-step : (old mid new : Walk) (before between after : Visits) (value : Unit {0}) (result : Result (Unit {0}) CheckFault)
+      → Walks (arm_walk start (statement_walk arm)) old before mid between value
+      → Goes (arms_from base index rows arms (i + 1)) mid between result new after → Goes (arms_from base index rows arms i) old before result new after
+  arms-step old mid new before between after value result one two =
+      goes-as (arms_from base index rows arms i) (first >>= λ _. arms_from base index rows arms (i + 1)) old new before after result
+      (from-cut base index rows arms i arm inside is)
+      (goes-then first (λ _. arms_from base index rows arms (i + 1)) old mid new before between after value result
+      (subst (λ s. Walks (arm_walk s (statement_walk arm)) old before mid between value) start_is one) two)
+
+  pub arms-stopped : (old new : Walk) (before after : Visits) (fault : CheckFault)
+      → IsBreachOf (arm_walk start (statement_walk arm) (context_of old) (viewed old.state)) fault
+      → Goes (arms_from base index rows arms i) old before (Err fault) new after
+  arms-stopped old new before after fault stopped =
+      goes-as (arms_from base index rows arms i) (first >>= λ _. arms_from base index rows arms (i + 1)) old new before after (Err fault)
+      (from-cut base index rows arms i arm inside is)
+      (goes-stopped first (λ _. arms_from base index rows arms (i + 1)) old new before after fault
+      (subst (λ s. IsBreachOf (arm_walk s (statement_walk arm) (context_of old) (viewed old.state)) fault) start_is stopped))
+
+pub arms-end : (base : State) (index : Option ℕ) (rows : List (Vec ℤ Global)) (arms : List Stmt) (i : ℕ) (old : Walk) (visits : Visits) → length arms ≤ i
+    → Goes (arms_from base index rows arms i) old visits (Ok tt) old visits
+arms-end base index rows arms i old visits past =
+    subst (λ (l : List Stmt). Goes (arms_walk base index (drop i rows) (map statement_walk l)) old visits (Ok tt) old visits) (sym (drop-past arms i past))
+    (walks-give tt old visits)

@@ -1,0 +1,287 @@
+-- What the checker did over a for statement, from what it did over the parts of it.
+use Rattle.std.proofs.Common.{rules, ◌≡◌, refl, sym, subst, ap, ◌∙◌, ℕ, true, false, [], ◌++◌, append-nil, Some, Result, Ok, Err}
+use Rattle.std.specs.declared.boxed.Box.{Box}
+use Rattle.std.specs.declared.alloc.Global.{Global}
+use Rattle.place.specs.declared.Place.{Place as SourcePlace}
+use Rattle.typed_tree.specs.declared.tree.Direction.{Direction}
+use Rattle.typed_tree.specs.declared.tree.Expr.{Expr}
+use Rattle.typed_tree.specs.declared.tree.RangeTest.{RangeTest}
+use Rattle.typed_tree.specs.declared.tree.Stmt.{Stmt}
+use Rattle.typed_tree.specs.declared.tree.Stmt.TheVariants as stmt
+use Rattle.typed_tree.specs.declared.tree.Stmt.TheFolds.{the_lemmas as stmt_lemmas}
+use Rattle.cert_checker.specs.declared.fault.CheckFault.{CheckFault}
+use Rattle.cert_checker.specs.declared.visits.Visits.{Visits}
+use Rattle.cert_checker.specs.declared.walk.Walk.{Walk}
+use Rattle.abstract_state.specs.declared.known.Known.{Known}
+use Rattle.abstract_state.specs.declared.state.State.{State as Kept}
+use Rattle.abstract_state.specs.View.{viewed}
+use Rattle.abstract_state.specs.State.{State, joined_states, limits_of}
+use Rattle.abstract_state.specs.Loops.{with_undefined}
+use Rattle.cert_checker.specs.Promise.{IsBreachOf}
+use Rattle.std.specs.Result.{IsErr, IsErrAnd}
+use Rattle.domain.specs.Interval.{Interval}
+use Rattle.abstract_state.specs.declared.known.Known.TheVariants.{Ordinal}
+use Rattle.structured_states.specs.declared.ways.Way.{Way as KeptWay}
+use Rattle.structured_states.specs.Ways.{End, Way, end_of, met, turn_begun, turn_ended, way_of, way_out, where_counts, with_values}
+use Rattle.cert_checker.specs.Walk.{Walked, Walking, ◌>>=◌, assign, changed_by, control_change, enter, followed, for_round, for_turns, for_walk, give, loop_walk, numbers_of, parted, rounds_of, statement_walk, steady_in, tested_end, tested_way, value_walk, with_state, within}
+use Rattle.cert_checker.specs.View.{Goes, IsMoved, Moves, Parts, Walks, all_counted, context_of, said_tested}
+use Rattle.cert_checker.proofs.Steps.{breach-same, breach-stays, branches-stopped, goes-as, goes-stopped, goes-then, moved-same, walks-give}
+
+pub statement-For : (number loop_number : ℕ) (place : SourcePlace) (control : ℕ) (first : Expr) (first_fits : RangeTest) (direction : Direction) (last : Expr)
+    (last_fits : RangeTest) (body : Box Stmt Global)
+    → statement_walk (stmt.For number loop_number place control first first_fits direction last last_fits body)
+    ≡ (enter number >>= λ _. (value_walk first >>= λ from. (value_walk last >>= λ to.
+    for_walk loop_number place (statement_walk body.value) (way_of control direction first first_fits last last_fits from to))))
+statement-For number loop_number place control first first_fits direction last last_fits body = search (rules, stmt_lemmas)
+
+-- a for from its entry on
+pub for-begun : (statement : Stmt) (number loop_number : ℕ) (place : SourcePlace) (control : ℕ) (first : Expr) (first_fits : RangeTest) (direction : Direction)
+    (last : Expr) (last_fits : RangeTest) (body : Box Stmt Global) (inner : Stmt) (way : Way) (from to : Known) (old entered begun valued new : Walk)
+    (before between middle after end : Visits) (result : Result (Unit {0}) CheckFault)
+    → statement ≡ stmt.For number loop_number place control first first_fits direction last last_fits body → inner ≡ body.value
+    → way ≡ way_of control direction first first_fits last last_fits from to
+    → Walks (enter number) old before entered between tt → Walks (value_walk first) entered between begun middle from
+    → Walks (value_walk last) begun middle valued after to
+    → Goes (for_walk loop_number place (statement_walk inner) way) valued after result new end
+    → Goes (statement_walk statement) old before result new end
+for-begun statement number loop_number place control first first_fits direction last last_fits body inner way from to old entered begun valued new before
+    between middle after end result is inner_is way_is one two three four =
+    let walked = λ (from to : Known). for_walk loop_number place (statement_walk body.value) (way_of control direction first first_fits last last_fits from to) in
+    let rest = λ (from : Known). value_walk last >>= walked from in
+    goes-as (statement_walk statement) (enter number >>= λ _. (value_walk first >>= rest)) old new before end result
+    (ap statement_walk is ∙ statement-For number loop_number place control first first_fits direction last last_fits body)
+    (goes-then (enter number) (λ _. value_walk first >>= rest) old entered new before between end tt result one
+    (goes-then (value_walk first) rest entered begun new between middle end from result two
+    (goes-then (value_walk last) (walked from) begun valued new middle after end to result three
+    (goes-as (walked from to) (for_walk loop_number place (statement_walk inner) way) valued new after end result
+    (ap (λ s. for_walk loop_number place (statement_walk s) (way_of control direction first first_fits last last_fits from to)) (sym inner_is)
+    ∙ ap (for_walk loop_number place (statement_walk inner)) (sym way_is)) four))))
+
+-- the checker gave up in the last bound
+pub for-last_stopped : (statement : Stmt) (number loop_number : ℕ) (place : SourcePlace) (control : ℕ) (first : Expr) (first_fits : RangeTest)
+    (direction : Direction) (last : Expr) (last_fits : RangeTest) (body : Box Stmt Global) (from : Known) (old entered begun new : Walk)
+    (before between middle after : Visits) (fault : CheckFault)
+    → statement ≡ stmt.For number loop_number place control first first_fits direction last last_fits body
+    → Walks (enter number) old before entered between tt → Walks (value_walk first) entered between begun middle from
+    → IsBreachOf (value_walk last (context_of begun) (viewed begun.state)) fault → Goes (statement_walk statement) old before (Err fault) new after
+for-last_stopped statement number loop_number place control first first_fits direction last last_fits body from old entered begun new before between middle
+    after fault is one two stopped =
+    let walked = λ (from to : Known). for_walk loop_number place (statement_walk body.value) (way_of control direction first first_fits last last_fits from to) in
+    let rest = λ (from : Known). value_walk last >>= walked from in
+    goes-as (statement_walk statement) (enter number >>= λ _. (value_walk first >>= rest)) old new before after (Err fault)
+    (ap statement_walk is ∙ statement-For number loop_number place control first first_fits direction last last_fits body)
+    (goes-then (enter number) (λ _. value_walk first >>= rest) old entered new before between after tt (Err fault) one
+    (goes-then (value_walk first) rest entered begun new between middle after from (Err fault) two
+    (goes-stopped (value_walk last) (walked from) begun new middle after fault stopped)))
+
+-- two walks that are the same from here
+pub goes-here : {A : Type 0} (walk form : Walking A) (old new : Walk) (before after : Visits) (result : Result A CheckFault)
+    → walk (context_of old) (viewed old.state) ≡ form (context_of old) (viewed old.state)
+    → Goes form old before result new after → Goes walk old before result new after
+goes-here walk form old new before after (Ok value) is one = record {
+  context_is = one.context_is;
+  value_is = one.value_is ∙ ap (λ w. w.value) (sym is);
+  state_is = one.state_is ∙ ap (λ w. w.after) (sym is);
+  open_is = one.open_is ∙ ap (λ w. old.open_ids.items ++ w.open_ids) (sym is);
+  visits_are = one.visits_are ∙ ap (λ w. all_counted (numbers_of w.linked) before) (sym is);
+  unbroken = ap (λ w. w.broken) is ∙ one.unbroken;
+}
+goes-here walk form old new before after (Err fault) is one =
+    breach-same (form (context_of old) (viewed old.state)) (walk (context_of old) (viewed old.state)) fault (ap (λ w. w.broken) (sym is)) one
+
+-- where there are values and where there are none, and behind both
+pub for-done : (number : ℕ) (place : SourcePlace) (body : Walking (Unit {0})) (way : Way) (never : Kept) (old taken mid new : Walk) (before after : Visits)
+    (result : Result (Unit {0}) CheckFault)
+    → Parts (where_counts true way) (where_counts false way) old (Ok never) taken → Walks (for_turns number place body way) taken before mid after tt
+    → Moves (λ state. with_undefined way.control (joined_states state (viewed never))) mid result new
+    → Goes (for_walk number place body way) old before result new after
+for-done number place body way never old taken mid new before after (Ok value) parts one left =
+    let turns = for_turns number place body way in
+    let first : Walked (Unit {0}) = turns (context_of old) (where_counts true way (viewed old.state)) in
+    let same = moved-same turns (where_counts true way (viewed old.state)) old taken parts.0 in
+    let undefined = with_undefined way.control in
+    record {
+      context_is = ap context_of left.only_state ∙ one.context_is ∙ ap context_of parts.0.only_state;
+      value_is = refl;
+      state_is = left.says ∙ ap (λ s. undefined (joined_states s (viewed never))) (one.state_is ∙ ap (λ w. w.after) same)
+          ∙ ap (λ s. undefined (joined_states first.after s)) parts.1;
+      open_is = ap (λ (w : Walk). w.open_ids.items) left.only_state ∙ one.open_is
+          ∙ ap (λ (w : Walk). w.open_ids.items ++ (turns (context_of taken) (viewed taken.state)).open_ids) parts.0.only_state
+          ∙ ap (λ w. old.open_ids.items ++ w.open_ids) same
+          ∙ ap (λ ids. old.open_ids.items ++ ids) (sym (append-nil first.open_ids) ∙ sym (append-nil (first.open_ids ++ [])));
+      visits_are = one.visits_are ∙ ap (λ w. all_counted (numbers_of w.linked) before) same
+          ∙ ap (λ linked. all_counted (numbers_of linked) before) (sym (append-nil first.linked) ∙ sym (append-nil (first.linked ++ [])));
+      unbroken = append-nil (first.broken ++ []) ∙ append-nil first.broken ∙ ap (λ w. w.broken) (sym same) ∙ one.unbroken;
+    }
+for-done number place body way never old taken mid new before after (Err fault) parts one left =
+    subst (IsBreachOf (for_walk number place body way (context_of old) (viewed old.state))) (sym left) tt
+
+pub for-stopped : (number : ℕ) (place : SourcePlace) (body : Walking (Unit {0})) (way : Way) (never : Kept) (old taken new : Walk) (before after : Visits)
+    (fault : CheckFault)
+    → Parts (where_counts true way) (where_counts false way) old (Ok never) taken
+    → IsBreachOf (for_turns number place body way (context_of taken) (viewed taken.state)) fault
+    → Goes (for_walk number place body way) old before (Err fault) new after
+for-stopped number place body way never old taken new before after fault parts is =
+    let turns = for_turns number place body way in
+    let both = parted (where_counts true way) (where_counts false way) turns (give tt) in
+    goes-stopped both (λ _. changed_by (with_undefined way.control)) old new before after fault
+    (branches-stopped (where_counts true way) (where_counts false way) turns (give tt) old taken new before after never fault parts is)
+
+-- a round of a for
+module _ (way : Way) (body : Walking (Unit {0})) (old begun : Walk) (moved : IsMoved (turn_begun way (viewed old.state)) old begun) where
+  abbrev was : Walked (Unit {0})
+  was = body (context_of old) (turn_begun way (viewed old.state))
+
+  same : body (context_of begun) (viewed begun.state) ≡ was
+  same = moved-same body (turn_begun way (viewed old.state)) old begun moved
+
+  pub for_round-done : (bodied new : Walk) (before after : Visits) (behind : Kept) → Walks body begun before bodied after tt
+      → Parts (turn_ended way) (way_out way) bodied (Ok behind) new
+      → Walks (for_round way body) old before new after (viewed behind)
+  for_round-done bodied new before after behind one parts =
+      let after_is = one.state_is ∙ ap (λ w. w.after) same in
+      record {
+        context_is = ap context_of parts.0.only_state ∙ one.context_is ∙ ap context_of moved.only_state;
+        value_is = parts.1 ∙ ap (way_out way) after_is;
+        state_is = parts.0.says ∙ ap (turn_ended way) after_is;
+        open_is = ap (λ (w : Walk). w.open_ids.items) parts.0.only_state ∙ one.open_is
+            ∙ ap (λ (w : Walk). w.open_ids.items ++ (body (context_of begun) (viewed begun.state)).open_ids) moved.only_state
+            ∙ ap (λ w. old.open_ids.items ++ w.open_ids) same ∙ ap (λ ids. old.open_ids.items ++ ids) (sym (append-nil was.open_ids));
+        visits_are = one.visits_are ∙ ap (λ w. all_counted (numbers_of w.linked) before) same
+            ∙ ap (λ linked. all_counted (numbers_of linked) before) (sym (append-nil was.linked));
+        unbroken = append-nil was.broken ∙ ap (λ w. w.broken) (sym same) ∙ one.unbroken;
+      }
+
+  pub for_round-stopped : (new : Walk) (before after : Visits) (fault : CheckFault) → IsBreachOf (body (context_of begun) (viewed begun.state)) fault
+      → Goes (for_round way body) old before (Err fault) new after
+  for_round-stopped new before after fault is =
+      let ended = with_state (turn_ended way was.after) (context_of old) was.after in
+      let rest : Walked State = followed ended (give (way_out way was.after) (context_of old) ended.after) in
+      breach-stays was rest fault (for_round way body (context_of old) (viewed old.state)) refl
+      (breach-same (body (context_of begun) (viewed begun.state)) was fault (ap (λ w. w.broken) same) is)
+
+-- the tests of both bounds
+module _ (place : SourcePlace) (way : Way) (old : Walk) where
+  abbrev start : State
+  start = viewed old.state
+
+  pub way-given_up : (new : Walk) (visits : Visits) (fault : CheckFault) (result : Result KeptWay CheckFault)
+      → IsErr result × IsErrAnd result (λ e. e ≡ fault) → Goes {A = Way} (tested_way place way) old visits (Err fault) new visits
+      → Goes (tested_way place way) old visits (said_tested result) new visits
+  way-given_up new visits fault (Ok a) is goes = absurd is.1
+  way-given_up new visits fault (Err other) is goes =
+      subst (λ f. Goes {A = Way} (tested_way place way) old visits (Err f) new visits) (sym is.1) goes
+
+  -- what comes behind the test of the first bound, and behind that of the last
+  abbrev from_last : Interval → Interval → Walking Way
+  from_last first last =
+      control_change place way.control way.first.fits.range way.last.fits.range >>= λ _. give (with_values first last way)
+
+  abbrev from_first : Interval → Walking Way
+  from_first first = tested_end start way.last >>= from_last first
+
+  abbrev first_test : Interval → Walking Interval
+  first_test range = within (limits_of way.first.fits.range) way.first.fits.site range
+
+  abbrev last_test : Interval → Walking Interval
+  last_test range = within (limits_of way.last.fits.range) way.last.fits.site range
+
+  tests-go : (new : Walk) (visits : Visits) (result : Result Way CheckFault)
+      → Goes (tested_end start way.first >>= from_first) old visits result new visits → Goes (tested_way place way) old visits result new visits
+  tests-go new visits result one =
+      goes-here (tested_way place way) (tested_end start way.first >>= from_first) old new visits visits result refl one
+
+  pub tests-first : (new : Walk) (visits : Visits) (fault : CheckFault) (range : Interval) → range ≡ met way.first.form start way.first.values
+      → IsBreachOf (first_test range (context_of old) start) fault → Goes {A = Way} (tested_way place way) old visits (Err fault) new visits
+  tests-first new visits fault range is stopped =
+      tests-go new visits (Err fault)
+      (goes-stopped (tested_end start way.first) from_first old new visits visits fault
+      (subst (λ r. IsBreachOf (first_test r (context_of old) start) fault) is stopped))
+
+  module _ (one : Walk) (visits : Visits) (first_range last_range first : Interval) (first_is : first_range ≡ met way.first.form start way.first.values)
+      (last_is : last_range ≡ met way.last.form start way.last.values) (passed : Walks (first_test first_range) old visits one visits first) where
+    first-goes : (new : Walk) (result : Result Way CheckFault) → Goes (from_first first) one visits result new visits
+        → Goes (tested_way place way) old visits result new visits
+    first-goes new result then =
+        tests-go new visits result
+        (goes-then (tested_end start way.first) from_first old one new visits visits visits first result
+        (subst (λ r. Walks (first_test r) old visits one visits first) first_is passed) then)
+
+    pub last-stopped : (new : Walk) (fault : CheckFault) → IsBreachOf (last_test last_range (context_of one) (viewed one.state)) fault
+        → Goes {A = Way} (tested_way place way) old visits (Err fault) new visits
+    last-stopped new fault stopped =
+        first-goes new (Err fault)
+        (goes-stopped (tested_end start way.last) (from_last first) one new visits visits fault
+        (subst (λ r. IsBreachOf (last_test r (context_of one) (viewed one.state)) fault) last_is stopped))
+
+    module _ (two : Walk) (last : Interval) (passed_too : Walks (last_test last_range) one visits two visits last) where
+      last-goes : (new : Walk) (result : Result Way CheckFault) → Goes (from_last first last) two visits result new visits
+          → Goes (tested_way place way) old visits result new visits
+      last-goes new result then =
+          first-goes new result
+          (goes-then (tested_end start way.last) (from_last first) one two new visits visits visits last result
+          (subst (λ r. Walks (last_test r) one visits two visits last) last_is passed_too) then)
+
+      pub control-stopped : (new : Walk) (fault : CheckFault)
+          → IsBreachOf (control_change place way.control way.first.fits.range way.last.fits.range (context_of two) (viewed two.state)) fault
+          → Goes {A = Way} (tested_way place way) old visits (Err fault) new visits
+      control-stopped new fault stopped =
+          last-goes new (Err fault)
+          (goes-stopped (control_change place way.control way.first.fits.range way.last.fits.range) (λ _. give (with_values first last way)) two new visits
+          visits fault stopped)
+
+      pub tests-done : (new : Walk) (tested : Way) → tested ≡ with_values first last way
+          → Walks (control_change place way.control way.first.fits.range way.last.fits.range) two visits new visits tt
+          → Walks (tested_way place way) old visits new visits tested
+      tests-done new tested is done =
+          last-goes new (Ok tested)
+          (goes-then (control_change place way.control way.first.fits.range way.last.fits.range) (λ _. give (with_values first last way)) two new new visits
+          visits visits tt (Ok tested) done
+          (subst (λ t. Walks (give (with_values first last way)) new visits new visits t) (sym is) (walks-give (with_values first last way) new visits)))
+
+-- from the tests on
+module _ (number : ℕ) (place : SourcePlace) (body : Walking (Unit {0})) (way : Way) (old : Walk) where
+  abbrev from_tests : Way → Walking (Unit {0})
+  from_tests tested = assign tested.control tested.first.form (Ordinal tested.first.values) >>= λ _. rounds_of number place body tested
+
+  pub turns-not_tested : (new : Walk) (before after : Visits) (fault : CheckFault) → IsBreachOf (tested_way place way (context_of old) (viewed old.state)) fault
+      → Goes (for_turns number place body way) old before (Err fault) new after
+  turns-not_tested new before after fault stopped = goes-stopped (tested_way place way) from_tests old new before after fault stopped
+
+  module _ (one : Walk) (before : Visits) (tested : Way) (done : Walks (tested_way place way) old before one before tested) where
+    pub turns-not_begun : (new : Walk) (after : Visits) (fault : CheckFault)
+        → IsBreachOf (assign tested.control tested.first.form (Ordinal tested.first.values) (context_of one) (viewed one.state)) fault
+        → Goes (for_turns number place body way) old before (Err fault) new after
+    turns-not_begun new after fault stopped =
+        goes-then (tested_way place way) from_tests old one new before before after tested (Err fault) done
+        (goes-stopped (assign tested.control tested.first.form (Ordinal tested.first.values)) (λ _. rounds_of number place body tested) one new before after
+        fault stopped)
+
+    pub turns-done : (two new : Walk) (after : Visits) (result : Result (Unit {0}) CheckFault)
+        → Walks (assign tested.control tested.first.form (Ordinal tested.first.values)) one before two before tt
+        → Goes (rounds_of number place body tested) two before result new after → Goes (for_turns number place body way) old before result new after
+    turns-done two new after result begun rounds =
+        goes-then (tested_way place way) from_tests old one new before before after tested result done
+        (goes-then (assign tested.control tested.first.form (Ordinal tested.first.values)) (λ _. rounds_of number place body tested) one two new before before
+        after tt result begun rounds)
+
+-- the rounds of a for are its loop
+pub rounds-go : (number : ℕ) (place : SourcePlace) (body : Walking (Unit {0})) (way steady : Way) (old new : Walk) (before after : Visits)
+    (result : Result (Unit {0}) CheckFault)
+    → steady ≡ steady_in (context_of old) number way → Goes (loop_walk number place (Some way.control) (for_round steady body)) old before result new after
+    → Goes (rounds_of number place body way) old before result new after
+rounds-go number place body way steady old new before after result is goes =
+    goes-here (rounds_of number place body way) (loop_walk number place (Some way.control) (for_round (steady_in (context_of old) number way) body)) old new before
+    after result refl
+    (subst (λ s. Goes (loop_walk number place (Some way.control) (for_round s body)) old before result new after) is goes)
+
+abbrev made : ℕ → Direction → (first last : End) → Way
+made control direction first last = record { control = control; direction = direction; first = first; last = last }
+
+-- the way of two bounds
+pub way-same : (control : ℕ) (direction : Direction) (first last : Expr) (first_fits last_fits : RangeTest) (from to : Known) (one other : End)
+    → one ≡ end_of first first_fits from → other ≡ end_of last last_fits to
+    → ◌≡◌ {A = Way} (record { control = control; direction = direction; first = one; last = other })
+    (way_of control direction first first_fits last last_fits from to)
+way-same control direction first last first_fits last_fits from to one other first_is last_is =
+    ap (λ (e : End). made control direction e other) first_is ∙ ap (made control direction (end_of first first_fits from)) last_is

@@ -1,0 +1,4 @@
+pub mod Cases
+pub mod Loops
+pub mod View
+pub mod Ways

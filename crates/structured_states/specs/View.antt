@@ -1,0 +1,47 @@
+-- The loops and ways of the program as the definitions see them. It does not say what is known of them.
+use Rattle.std.specs.Prelude.{ℕ, Bool, false, Option, Some, None, nat_eq}
+use denote.Ref.{Bor}
+use Rattle.certificate.specs.declared.LoopClaims.{LoopClaims as KeptClaims}
+use Rattle.certificate.specs.Contents.{LoopClaims, loop_of}
+use Rattle.abstract_state.specs.View.{said_form}
+use Rattle.structured_states.specs.declared.rounds.Round.{Round as KeptRound}
+use Rattle.structured_states.specs.declared.ways.End.{End as KeptEnd}
+use Rattle.structured_states.specs.declared.ways.Way.{Way as KeptWay}
+use Rattle.structured_states.specs.Loops.{Claims, Round, claims_of, with_own, without_own}
+use Rattle.structured_states.specs.Ways.{End, Way}
+
+-- claims that the checker has found, as the definitions see them
+abbrev pub found_as : Option (Bor KeptClaims) → Option LoopClaims
+found_as None = None
+found_as (Some claims) = Some (loop_of claims.now)
+
+-- what they claim of a loop
+abbrev pub said_claims : Option (Bor KeptClaims) → Claims
+said_claims claims = claims_of (found_as claims)
+
+-- a loop of the checker: the loop itself, at its head, and round its body
+abbrev pub loop_of_round : KeptRound → Round
+loop_of_round round = record { changes = (said_claims round.claims).changes; controls = round.controls.now }
+
+abbrev pub head_round : KeptRound → Round
+head_round round = with_own round.own (loop_of_round round)
+
+abbrev pub kept_round : KeptRound → Round
+kept_round round = without_own round.own (loop_of_round round)
+
+-- a variable is a loop's own control variable
+abbrev pub is_own : ℕ → Option ℕ → Bool
+is_own root None = false
+is_own root (Some control) = nat_eq control root
+
+-- the way of a control variable, as the definitions see it
+abbrev pub said_end : KeptEnd → End
+said_end end = record { form = said_form end.form; fits = end.fits; values = end.values }
+
+abbrev pub said_way : KeptWay → Way
+said_way way = record {
+  control = way.control;
+  direction = way.direction;
+  first = said_end way.first;
+  last = said_end way.last;
+}

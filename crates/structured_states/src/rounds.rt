@@ -1,0 +1,219 @@
+ghost use Rattle.std.specs.Prelude.{◌≡◌, ◌++◌, IfOk, map};
+ghost use Rattle.std.specs.List.{list_all};
+ghost use Rattle.domain.specs.Facts.{said};
+ghost use Rattle.abstract_state.specs.Loops.{gives_all, head, is_among};
+ghost use Rattle.abstract_state.specs.View.{viewed};
+ghost use Rattle.certificate.specs.Contents.{loop_of, section_of};
+ghost use Rattle.structured_states.specs.Loops.{all_limits, claims_on, controls_inside, found_among, found_in, limits_at, touched, type_limits};
+ghost use Rattle.structured_states.specs.View.{found_as, head_round, is_own, kept_round, said_claims};
+
+use abstract_state::{State, limits};
+use certificate::{Certificate, LoopClaims, Section};
+use domain::facts::Fact;
+use domain::interval::Interval;
+use std::alloc::{AllocError, Global};
+use typed_tree::tree::{Tree, Variable};
+use types::TypeTable;
+
+/// A loop round the walk.
+#[derive(Clone, Copy)]
+pub struct Round<'a> {
+    /// What the certificate claims of it.
+    pub claims: Option<&'a LoopClaims>,
+    /// The control variables of the for statements inside it.
+    pub controls: &'a [u32],
+    /// Its own control variable, if it is a for statement.
+    pub own: Option<u32>,
+}
+
+impl<'a> Round<'a> {
+    /// Whether its body changes a variable.
+    #[tactic(auto, using(crate::proofs::Touched::kept_changes))]
+    fn lists(&self, root: u32) -> bool
+        ensures { result ≡ is_among root (kept_round self.now).changes }
+    {
+        !self.is_own(root) && is_among(self.changes(), root)
+    }
+
+    /// Whether a variable controls a for statement in its body.
+    #[tactic(auto, using(crate::proofs::Touched::kept_controls))]
+    fn controls(&self, root: u32) -> bool
+        ensures { result ≡ is_among root (kept_round self.now).controls }
+    {
+        !self.is_own(root) && is_among(self.controls, root)
+    }
+
+    /// Whether a turn gives a variable another value.
+    #[tactic(auto, using(crate::proofs::Touched::touched_parts))]
+    pub fn touches(&self, root: u32) -> bool
+        ensures { result ≡ is_among root (touched (head_round self.now)) }
+    {
+        self.is_own(root) || is_among(self.controls, root) || is_among(self.changes(), root)
+    }
+
+    /// Whether a variable is its own control variable.
+    fn is_own(&self, root: u32) -> bool
+        ensures { result ≡ is_own root self.now.own }
+    {
+        match self.own {
+            None => false,
+            Some(control) => control == root,
+        }
+    }
+
+    /// The variables that its claims list.
+    fn changes(&self) -> &'a [u32]
+        ensures { result.now ≡ (said_claims self.now.claims).changes }
+    {
+        match self.claims {
+            None => &[],
+            Some(claims) => &claims.changes,
+        }
+    }
+
+    /// The facts of its claims.
+    fn facts(&self) -> &'a [Fact]
+        ensures { map said result.now ≡ (said_claims self.now.claims).facts }
+    {
+        match self.claims {
+            None => &[],
+            Some(claims) => &claims.facts,
+        }
+    }
+
+    /// Whether a state gives its facts.
+    pub fn is_given(&self, state: &State) -> bool
+        ensures { result ≡ gives_all (viewed state.now) (said_claims self.now.claims).facts }
+    {
+        state.gives_all(self.facts())
+    }
+
+    /// Brings a state to its head.
+    pub fn head(
+        &self,
+        alloc: Global,
+        state: &mut State,
+        limits: &[Interval],
+    ) -> Result<(), AllocError>
+        ensures { IfOk result (λ _. viewed state.new ≡ head (limits_at limits.now) (touched (head_round self.now))
+            (head_round self.now).controls (said_claims self.now.claims).facts (viewed state.old)) }
+    {
+        let controls = self.all_controls(alloc)?;
+        let touched = self.all_touched(alloc, &controls)?;
+        state.head(limits, &touched, &controls, self.facts())
+    }
+
+    /// Its control variables, and the variables that its claims list.
+    fn all_touched(&self, alloc: Global, controls: &[u32]) -> Result<Vec<u32>, AllocError>
+        ensures { IfOk result (λ touched. touched.items ≡ controls.now ++ (said_claims self.now.claims).changes) }
+    {
+        let mut touched = Vec::from_slice(alloc, controls)?;
+        touched.extend_from_slice(self.changes())?;
+        Ok(touched)
+    }
+
+    /// The control variables of the for statements in it, and its own.
+    fn all_controls(&self, alloc: Global) -> Result<Vec<u32>, AllocError>
+        ensures { IfOk result (λ controls. controls.items ≡ (head_round self.now).controls) }
+    {
+        let mut controls = Vec::new(alloc);
+        if let Some(control) = self.own {
+            controls.push(control)?;
+        }
+        controls.extend_from_slice(self.controls)?;
+        Ok(controls)
+    }
+}
+
+/// Whether a variable is among some.
+fn is_among(roots: &[u32], root: u32) -> bool
+    ensures { result ≡ is_among root roots.now }
+{
+    roots.contains(&root)
+}
+
+/// Whether each of these loops lists a variable.
+pub fn all_list(rounds: &[Round], root: u32) -> bool
+    ensures { result ≡ list_all (λ round. is_among root (kept_round round).changes) rounds.now }
+{
+    rounds.iter().all(|round| round.lists(root))
+}
+
+/// Whether in each of these loops is a for statement that a variable controls.
+pub fn all_control(rounds: &[Round], root: u32) -> bool
+    ensures { result ≡ list_all (λ round. is_among root (kept_round round).controls) rounds.now }
+{
+    rounds.iter().all(|round| round.controls(root))
+}
+
+/// The control variables of the for statements inside the loop of a number.
+pub fn controls_inside(tree: &Tree, number: u32) -> &[u32]
+    ensures { result.now ≡ controls_inside tree.now number }
+{
+    match tree.loops.get(number as usize) {
+        None => &[],
+        Some(row) => &row.controls,
+    }
+}
+
+/// What a certificate claims of the loop of a number.
+pub fn claims_on(certificate: &Certificate, number: u32) -> Option<&LoopClaims>
+    ensures { said_claims result ≡ claims_on certificate.now number }
+{
+    found_in(&certificate.sections, number)
+}
+
+/// The claims on the loop of a number in several sections.
+fn found_in(sections: &[Section], number: u32) -> Option<&LoopClaims>
+    ensures { found_as result ≡ found_in number (map section_of sections.now) }
+{
+    for section in sections {
+        if let Some(claims) = found_among(&section.loops, number) {
+            return Some(claims);
+        }
+    }
+    None
+}
+
+/// The claims on it among several.
+fn found_among(loops: &[LoopClaims], number: u32) -> Option<&LoopClaims>
+    ensures { found_as result ≡ found_among number (map loop_of loops.now) }
+{
+    for claims in loops {
+        if claims.number == number {
+            return Some(claims);
+        }
+    }
+    None
+}
+
+/// The values of the type of each variable, by root number.
+pub fn all_limits(alloc: Global, tree: &Tree) -> Result<Vec<Interval>, AllocError>
+    ensures { IfOk result (λ found. found.items ≡ all_limits tree.now) }
+{
+    let mut found = Vec::with_capacity(alloc, tree.variables.len())?;
+    for variable in &tree.variables {
+        found.push(type_limits(&tree.types, *variable))?;
+    }
+    Ok(found)
+}
+
+/// The values of a variable's type; those of integer, where the tree doesn't tell it.
+fn type_limits(types: &TypeTable, variable: Variable) -> Interval
+    ensures { result ≡ type_limits types.now variable }
+{
+    match types.range(variable.type_id) {
+        None => Interval::INTEGER,
+        Some(range) => limits(range),
+    }
+}
+
+/// The values of a variable by those of all.
+pub fn limits_at(limits: &[Interval], root: u32) -> Interval
+    ensures { result ≡ limits_at limits.now root }
+{
+    match limits.get(root as usize) {
+        Some(range) => *range,
+        None => Interval::EMPTY,
+    }
+}

@@ -1,0 +1,245 @@
+ghost use Rattle.std.specs.Prelude.{◌≡◌, ◌+ℤ◌, IfOk};
+ghost use Rattle.domain.specs.Facts.{said_bound};
+ghost use Rattle.domain.specs.Interval.{IsEnd, at_least, at_most};
+ghost use Rattle.abstract_state.specs.State.{bound_range};
+ghost use Rattle.abstract_state.specs.View.{said_form, viewed};
+ghost use Rattle.structured_states.specs.Loops.{touched};
+ghost use Rattle.structured_states.specs.View.{head_round, said_end, said_way};
+ghost use Rattle.structured_states.specs.Ways.{end_of, in_order, met, next, on_way, own, relation_of, steady, turn_begun, turn_ended, unless_touched, values_behind, where_counts, with_values};
+
+use crate::rounds::Round;
+use abstract_state::{Known, State, bound_form};
+use domain::facts::Bound;
+use domain::interval::Interval;
+use std::alloc::AllocError;
+use typed_tree::tree::{Direction, Expr, RangeTest, Relation};
+
+/// A bound of a for statement.
+#[derive(Clone, Copy)]
+pub struct End {
+    pub form: Option<Bound>,
+    pub fits: RangeTest,
+    /// Where its value lies.
+    pub values: Interval,
+}
+
+impl End {
+    /// An expression as a bound.
+    pub fn new(expression: &Expr, fits: RangeTest, known: Known) -> End
+        ensures { said_end result ≡ end_of expression.now fits known }
+    {
+        End {
+            form: bound_form(expression),
+            fits,
+            values: known.range(),
+        }
+    }
+
+    /// Where its value lies, met with what a state knows of its form.
+    pub fn met(&self, state: &State) -> Interval
+        ensures { result ≡ met (said_form self.now.form) (viewed state.now) self.now.values }
+    {
+        match self.form {
+            None => self.values,
+            Some(bound) => near(self.values, state, bound),
+        }
+    }
+}
+
+/// The numbers of a range that a bound may be.
+fn near(range: Interval, state: &State, bound: Bound) -> Interval
+    ensures { result ≡ at_least (bound_range (viewed state.now) (said_bound bound)).first
+        (at_most (bound_range (viewed state.now) (said_bound bound)).last range) }
+{
+    match bound {
+        Bound::Number(number) => {
+            let number = i64::from(number);
+            range.at_most(number).at_least(number)
+        }
+        Bound::Plus { root, number } => {
+            let values = state.range(root);
+            let first = shifted(values.first(), number);
+            let last = shifted(values.last(), number);
+            range.at_most(last).at_least(first)
+        }
+    }
+}
+
+/// An end of a range, moved by a number.
+fn shifted(end: i64, number: i32) -> i64
+    requires { IsEnd end }
+    ensures { result ≡ end +ℤ number }
+{
+    end + i64::from(number)
+}
+
+/// A control variable on its way from a first bound to a last one.
+#[derive(Clone, Copy)]
+pub struct Way {
+    pub control: u32,
+    pub direction: Direction,
+    pub first: End,
+    pub last: End,
+}
+
+impl Way {
+    /// The way of bounds with values of these ranges.
+    pub fn with_values(self, first: Interval, last: Interval) -> Way
+        ensures { said_way result ≡ with_values first last (said_way self) }
+    {
+        Way {
+            first: End {
+                values: first,
+                ..self.first
+            },
+            last: End {
+                values: last,
+                ..self.last
+            },
+            ..self
+        }
+    }
+
+    /// The way with the forms of its bounds that the turns of its loop leave as they are.
+    pub fn steady(self, round: &Round) -> Way
+        ensures { said_way result ≡ steady (touched (head_round round.now)) (said_way self) }
+    {
+        Way {
+            first: End {
+                form: unless_touched(round, self.first.form),
+                ..self.first
+            },
+            last: End {
+                form: unless_touched(round, self.last.form),
+                ..self.last
+            },
+            ..self
+        }
+    }
+
+    /// What is known where it has values, or where it has none.
+    pub fn relate(&self, state: &mut State, counts: bool) -> Result<(), AllocError>
+        ensures { IfOk result (λ _. viewed state.new ≡ where_counts counts (said_way self.now) (viewed state.old)) }
+    {
+        match (self.first.form, self.last.form) {
+            (Some(first), Some(last)) => {
+                state.relate(relation_of(self.direction, counts), first, last)
+            }
+            _ => Ok(()),
+        }
+    }
+
+    /// Where a turn begins.
+    pub fn begin_turn(&self, state: &mut State) -> Result<(), AllocError>
+        ensures { IfOk result (λ _. viewed state.new ≡ turn_begun (said_way self.now) (viewed state.old)) }
+    {
+        let range = self.values(state.range(self.control));
+        state.narrow(self.control, range);
+        state.define(self.control);
+        in_order(state, self.direction, self.first.form, self.own())?;
+        in_order(state, self.direction, self.own(), self.last.form)
+    }
+
+    /// Where a turn ends and another follows.
+    pub fn end_turn(&self, state: &mut State) -> Result<(), AllocError>
+        ensures { IfOk result (λ _. viewed state.new ≡ turn_ended (said_way self.now) (viewed state.old)) }
+    {
+        let range = self.values_behind(state.range(self.control));
+        state.assign(self.control, range, self.next())?;
+        state.unless_empty(range);
+        in_order(state, self.direction, self.own(), self.last.form)
+    }
+
+    /// The control variable as a bound.
+    fn own(&self) -> Option<Bound>
+        ensures { said_form result ≡ own (said_way self.now) }
+    {
+        Some(Bound::Plus {
+            root: self.control,
+            number: 0,
+        })
+    }
+
+    /// The control variable's next value as a bound.
+    fn next(&self) -> Option<Bound>
+        ensures { said_form result ≡ next (said_way self.now) }
+    {
+        let number = match self.direction {
+            Direction::To => 1,
+            Direction::DownTo => -1,
+        };
+        Some(Bound::Plus {
+            root: self.control,
+            number,
+        })
+    }
+
+    /// The numbers of a range that lie on the way.
+    fn values(&self, range: Interval) -> Interval
+        ensures { result ≡ on_way self.now.direction self.now.first.values self.now.last.values range }
+    {
+        let first = self.first.values;
+        let last = self.last.values;
+        match self.direction {
+            Direction::To => range.at_most(last.last()).at_least(first.first()),
+            Direction::DownTo => range.at_most(first.last()).at_least(last.first()),
+        }
+    }
+
+    /// The numbers behind those of a range that aren't the last.
+    fn values_behind(&self, range: Interval) -> Interval
+        ensures { result ≡ values_behind self.now.direction self.now.last.values range }
+    {
+        let one = Interval::between(1, 1);
+        let last = self.last.values;
+        match self.direction {
+            Direction::To => {
+                let end = shifted(last.last(), -1);
+                range.at_most(end).add(&one)
+            }
+            Direction::DownTo => {
+                let end = shifted(last.first(), 1);
+                range.at_least(end).subtract(&one)
+            }
+        }
+    }
+}
+
+/// A form, unless its variable is touched.
+fn unless_touched(round: &Round, form: Option<Bound>) -> Option<Bound>
+    ensures { said_form result ≡ unless_touched (touched (head_round round.now)) (said_form form) }
+{
+    match form {
+        Some(Bound::Plus { root, .. }) if round.touches(root) => None,
+        _ => form,
+    }
+}
+
+/// The relation of the first bound to the last where there are values, and where there are none.
+fn relation_of(direction: Direction, counts: bool) -> Relation
+    ensures { result ≡ relation_of direction counts }
+{
+    match (direction, counts) {
+        (Direction::To, true) => Relation::LessOrEqual,
+        (Direction::To, false) => Relation::Greater,
+        (Direction::DownTo, true) => Relation::GreaterOrEqual,
+        (Direction::DownTo, false) => Relation::Less,
+    }
+}
+
+/// One bound comes before another on a way.
+fn in_order(
+    state: &mut State,
+    direction: Direction,
+    before: Option<Bound>,
+    after: Option<Bound>,
+) -> Result<(), AllocError>
+    ensures { IfOk result (λ _. viewed state.new
+        ≡ in_order direction (said_form before) (said_form after) (viewed state.old)) }
+{
+    match (direction, before, after) {
+        (Direction::To, Some(before), Some(after)) => state.insert_order(before, 0, after),
+        (Direction::DownTo, Some(before), Some(after)) => state.insert_order(after, 0, before),
+        _ => Ok(()),
+    }
+}
