@@ -1,5 +1,6 @@
 -- What is known of two bounds that stand in a relation holds where they do.
-use Rattle.std.proofs.Common.{arith, ◌≡◌, ⊎_elim, ◌⊎◌, inl, inr, ◌∙◌, sym, ap, refl, subst, ℕ, ℤ, pos, ◌+ℤ◌, ◌-ℤ◌, ◌≤ℤ◌, ◌<ℤ◌, int_le, Bool, true, false, not, cond, [], Some}
+use Rattle.std.proofs.Common.{arith, ◌≡◌, ⊎_elim, ◌⊎◌, inl, inr, ◌∙◌, sym, ap, refl, subst, ℕ, ℤ, pos, ◌+ℤ◌, ◌-ℤ◌, ◌≤ℤ◌, ◌<ℤ◌, int_le, Bool, true, false, not}
+use Rattle.std.proofs.Common.{cond, [], Some}
 use Rattle.std.specs.Ordering.{int_eq}
 use Rattle.std.proofs.lemmas.Int.{ints, by_lt_z}
 use Rattle.std.proofs.lemmas.Bool.{cond_both}
@@ -14,7 +15,8 @@ use Rattle.meaning.specs.declared.store.Value.TheVariants.{Number}
 use Rattle.meaning.specs.Meaning.{relates}
 use Rattle.meaning.specs.Store.{Environment, Store}
 use Rattle.abstract_state.specs.State.{State, Dead, Live, bound_range, range_of, with_range}
-use Rattle.abstract_state.specs.Conditions.{bound_at_least, bound_at_most, bound_isnt, narrowed, opposite, related, unlike, with_different, with_le, with_order, without_first, without_last}
+use Rattle.abstract_state.specs.Conditions.{bound_at_least, bound_at_most, bound_isnt, narrowed, opposite, related, unlike, with_different, with_le, with_order}
+use Rattle.abstract_state.specs.Conditions.{without_first, without_last}
 use Rattle.abstract_state.specs.Holds.{HasNumber, IsBound, IsIn}
 use Rattle.abstract_state.proofs.Changed.{ordered-known}
 use Rattle.abstract_state.proofs.Given.{bound-in}

@@ -1,5 +1,6 @@
 -- What is known of a variable's new value, and what is left of the facts, holds after the value was written.
-use Rattle.std.proofs.Common.{arith, ◌≡◌, ◌≢◌, ⊎_elim, ◌∙◌, sym, ap, refl, subst, ℕ, ℤ, ◌+ℤ◌, neg_ℤ, ◌≤ℤ◌, ◌<◌, Bool, true, false, cond, nat_eq, List, [], ◌∷◌, ◌++◌, get_or, set, Option, Some, None}
+use Rattle.std.proofs.Common.{arith, ◌≡◌, ◌≢◌, ⊎_elim, ◌∙◌, sym, ap, refl, subst, ℕ, ℤ, ◌+ℤ◌, neg_ℤ, ◌≤ℤ◌, ◌<◌, Bool, true, false, cond, nat_eq, List, [], ◌∷◌}
+use Rattle.std.proofs.Common.{◌++◌, get_or, set, Option, Some, None}
 use Rattle.std.specs.List.{filter_map}
 use Rattle.std.proofs.lemmas.Int.{ints}
 use Rattle.std.proofs.lemmas.Bool.{cases_eq, eqb-true, eq-eqb, or_parts, cond_both}
@@ -13,7 +14,8 @@ use Rattle.meaning.specs.declared.store.Value.TheVariants.{Number}
 use Rattle.meaning.specs.Integers.{is_integer_number}
 use Rattle.meaning.specs.Store.{Step, Element, Place, Environment, Store, place_eq, stored, written}
 use Rattle.abstract_state.specs.State.{State, Facts, Dead, Live, with_value}
-use Rattle.abstract_state.specs.Changes.{assigned, bound_rests_on, changed, ordered, raised, raised_number, rests_on, unless_resting, with_change, with_equal, with_some}
+use Rattle.abstract_state.specs.Changes.{assigned, bound_rests_on, changed, ordered, raised, raised_number, rests_on, unless_resting, with_change, with_equal}
+use Rattle.abstract_state.specs.Changes.{with_some}
 use Rattle.abstract_state.specs.Holds.{Moment, Holds, HasNumber, HasValue, IsBound, IsIn, part_of, value_at}
 pub use Rattle.abstract_state.specs.Knows.{IsOfForm}
 use Rattle.abstract_state.proofs.Apart.{part, written-stored, other-kept}

@@ -1,5 +1,6 @@
 -- The facts that the program keeps: those that its rows say, and its orders behind them.
-use Rattle.std.proofs.Common.{arith, ◌≡◌, ◌∙◌, sym, ap, ap₂, refl, subst, ℕ, zero, suc, pos, ◌+◌, ◌<◌, ◌≤◌, Bool, true, false, not, ◌&&◌, ◌||◌, cond, ◌⊎◌, ⊎_elim, inl, inr, List, [], ◌∷◌, ◌++◌, length, map, replicate, set, take, nat_lt, nat_eq, get_or, filter, Option, Some, None}
+use Rattle.std.proofs.Common.{arith, ◌≡◌, ◌∙◌, sym, ap, ap₂, refl, subst, ℕ, zero, suc, pos, ◌+◌, ◌<◌, ◌≤◌, Bool, true, false, not, ◌&&◌, ◌||◌, cond, ◌⊎◌}
+use Rattle.std.proofs.Common.{⊎_elim, inl, inr, List, [], ◌∷◌, ◌++◌, length, map, replicate, set, take, nat_lt, nat_eq, get_or, filter, Option, Some, None}
 use Rattle.std.specs.List.{cons_option, filter_map, list_any}
 use Rattle.std.specs.Ordering.{is_eq}
 use Rattle.std.specs.declared.cmp.Ordering.{Ordering}
@@ -18,7 +19,8 @@ use Rattle.abstract_state.specs.State.{State, Facts, Live, gives, joined_facts, 
 use Rattle.abstract_state.specs.Changes.{changed, with_change, with_some}
 use Rattle.abstract_state.specs.Loops.{defines, in_place, replaced, with_forgotten}
 use Rattle.abstract_state.specs.View.{AreJoined, defined_from, no_row, said_order, said_some}
-use Rattle.abstract_state.proofs.Rows.{all-ranges, and-back, bit, filter-defined, has-row, none-defined, past, range-kept, range-set, ranges-both, ranges_of, row-defined, same-defined, tested-bit, tested_bits, with-had}
+use Rattle.abstract_state.proofs.Rows.{all-ranges, and-back, bit, filter-defined, has-row, none-defined, past, range-kept, range-set, ranges-both, ranges_of}
+use Rattle.abstract_state.proofs.Rows.{row-defined, same-defined, tested-bit, tested_bits, with-had}
 
 abbrev pub said_orders : List KeptOrder → List Fact
 said_orders = map said_order

@@ -1,5 +1,6 @@
 -- What is known after turns of a loop, at its head and behind it holds there.
-use Rattle.std.proofs.Common.{arith, ◌≡◌, ◌⊎◌, ⊎_elim, inl, inr, ◌∙◌, sym, ap, refl, subst, ℕ, ℤ, ◌+ℤ◌, neg_ℤ, ◌<◌, ◌≤◌, Bool, true, false, not, cond, ◌||◌, nat_eq, List, [], ◌∷◌, ◌++◌, get_or, length, set, Option, Some, None}
+use Rattle.std.proofs.Common.{arith, ◌≡◌, ◌⊎◌, ⊎_elim, inl, inr, ◌∙◌, sym, ap, refl, subst, ℕ, ℤ, ◌+ℤ◌, neg_ℤ, ◌<◌, ◌≤◌, Bool, true, false, not, cond, ◌||◌}
+use Rattle.std.proofs.Common.{nat_eq, List, [], ◌∷◌, ◌++◌, get_or, length, set, Option, Some, None}
 use Rattle.std.specs.List.{Contains, All, filter, filter_map, list_any}
 use Rattle.std.proofs.lemmas.Int.{ints}
 use Rattle.std.proofs.lemmas.Bool.{and_parts, cases_lt, eq-eqb, cond_both, eqb-true, or_parts}
@@ -13,7 +14,8 @@ use Rattle.meaning.specs.Integers.{is_integer_number}
 use Rattle.meaning.specs.Store.{Step, Element, Environment, Place, Store}
 use Rattle.abstract_state.specs.State.{State, Facts, Dead, Live, gives_fact, is_entire, range_of, with_defined, with_facts, with_range}
 use Rattle.abstract_state.specs.Changes.{bound_rests_on, changed, ordered, raised_number, rests_on}
-use Rattle.abstract_state.specs.Loops.{after_turns, all_forgotten, all_touched, defines, gives_all, head, in_place, is_among, replaced, with_claim, with_claims, with_forgotten, with_touched, with_undefined}
+use Rattle.abstract_state.specs.Loops.{after_turns, all_forgotten, all_touched, defines, gives_all, head, in_place, is_among, replaced, with_claim, with_claims}
+use Rattle.abstract_state.specs.Loops.{with_forgotten, with_touched, with_undefined}
 use Rattle.abstract_state.specs.Holds.{Holds, HasNumber, HasValue, IsBound, IsIn, is_named, part_of, value_at}
 use Rattle.abstract_state.specs.Knows.{InLimits, IsKept, Knows, Shows, moment}
 use Rattle.abstract_state.proofs.Changed.{some-if, unless-if}

@@ -5,7 +5,8 @@ use Rattle.std.proofs.lemmas.Bool.{and_parts, and_from}
 use Rattle.types.specs.declared.form.OrdinalRange.{OrdinalRange}
 use Rattle.domain.specs.Interval as domain
 use Rattle.domain.specs.Interval.{Interval, HasMember, has_number, is_vacant, common, truth_values}
-use Rattle.domain.specs.contracts.interval.IntervalDomain.TheImpl.Laws.{leq_includes-law, meet_has_common-law, meet_has_left-law, meet_has_right-law, has_present-law}
+use Rattle.domain.specs.contracts.interval.IntervalDomain.TheImpl.Laws.{leq_includes-law, meet_has_common-law, meet_has_left-law, meet_has_right-law}
+use Rattle.domain.specs.contracts.interval.IntervalDomain.TheImpl.Laws.{has_present-law}
 use Rattle.meaning.specs.declared.store.Value.{Value}
 use Rattle.meaning.specs.declared.store.Value.TheVariants.{Number}
 use Rattle.meaning.specs.Effect.{is_in}

@@ -1,6 +1,7 @@
 -- Where a condition had a truth value, what is known of its branch holds: an induction over expressions, which change
 -- no variable.
-use Rattle.std.proofs.Common.{arith, ◌≡◌, ◌∙◌, sym, ap, ap₂, refl, subst, ℕ, ℤ, pos, ◌+ℤ◌, ◌-ℤ◌, ◌*ℤ◌, neg_ℤ, int_div, int_le, Bool, true, false, not, ◌&&◌, ◌||◌, cond, List, [], ◌∷◌, ◌++◌, map, Option, Some, None}
+use Rattle.std.proofs.Common.{arith, ◌≡◌, ◌∙◌, sym, ap, ap₂, refl, subst, ℕ, ℤ, pos, ◌+ℤ◌, ◌-ℤ◌, ◌*ℤ◌, neg_ℤ, int_div, int_le, Bool, true, false, not, ◌&&◌}
+use Rattle.std.proofs.Common.{◌||◌, cond, List, [], ◌∷◌, ◌++◌, map, Option, Some, None}
 use Rattle.std.specs.List.{list_all}
 use Rattle.std.specs.Int.{int_rem_euclid}
 use Rattle.std.specs.Ordering.{int_eq}
@@ -28,8 +29,11 @@ use Rattle.meaning.specs.Effect.{Reply, Gives, Stops, and_then}
 use Rattle.meaning.specs.Meaning as meaning
 use Rattle.meaning.specs.Meaning.{Evaluation, is_so, link_of, relates, value_of}
 use Rattle.abstract_state.specs.State.{State, Dead}
-use Rattle.abstract_state.specs.Forms.{Form, Literal, Signed, Entire, Moved, Other, bound_of, chain_form, constant_of, moved_form, negative, offset_form, sign_form, signed}
-use Rattle.abstract_state.specs.Conditions.{Condition, Conjunct, all_refined, bound_form, branched, chain_refined, condition_of, condition_step, conjunct_of, link_condition, monadic_refined, operand_of, operation_refined, refined, related_forms, single_refined, takes_both, told, unless_excluded}
+use Rattle.abstract_state.specs.Forms.{Form, Literal, Signed, Entire, Moved, Other, bound_of, chain_form, constant_of, moved_form, negative, offset_form}
+use Rattle.abstract_state.specs.Forms.{sign_form, signed}
+use Rattle.abstract_state.specs.Conditions.{Condition, Conjunct, all_refined, bound_form, branched, chain_refined, condition_of, condition_step, conjunct_of}
+use Rattle.abstract_state.specs.Conditions.{link_condition, monadic_refined, operand_of, operation_refined, refined, related_forms, single_refined, takes_both}
+use Rattle.abstract_state.specs.Conditions.{told, unless_excluded}
 use Rattle.abstract_state.specs.Holds.{Moment, HasNumber, IsIn, part_of, value_at}
 use Rattle.abstract_state.proofs.Apart.{entire-stored}
 use Rattle.abstract_state.proofs.Bounded.{opposite-relates, related-known}

@@ -1,5 +1,6 @@
 -- Conditions, form by form, and the operators of a chain.
-use Rattle.std.proofs.Common.{rules, arith, ◌≡◌, ◌∙◌, sym, ap, ap₂, refl, ℕ, suc, ◌+◌, ◌<◌, ◌≤◌, ℤ, Bool, true, false, ◌&&◌, cond, List, [], ◌∷◌, map, length, get_or, drop, drop-cons}
+use Rattle.std.proofs.Common.{rules, arith, ◌≡◌, ◌∙◌, sym, ap, ap₂, refl, ℕ, suc, ◌+◌, ◌<◌, ◌≤◌, ℤ, Bool, true, false, ◌&&◌, cond, List, [], ◌∷◌, map, length}
+use Rattle.std.proofs.Common.{get_or, drop, drop-cons}
 use Rattle.std.specs.List.{list_all}
 use Rattle.std.proofs.lemmas.List.{drop_all}
 use Rattle.std.specs.declared.boxed.Box.{Box}
@@ -13,7 +14,8 @@ use Rattle.typed_tree.specs.declared.tree.Expr.TheVariants as expr
 use Rattle.typed_tree.specs.declared.tree.Expr.TheFolds.{the_lemmas}
 use Rattle.abstract_state.specs.State.{State}
 use Rattle.abstract_state.specs.Forms.{Form, Literal, Entire, bound_of, chain_form, sign_form}
-use Rattle.abstract_state.specs.Conditions.{Condition, Conjunct, all_refined, bound_form, chain_refined, condition_of, conjunct_of, monadic_refined, operand_of, operation_refined, refined, single_refined, takes_both}
+use Rattle.abstract_state.specs.Conditions.{Condition, Conjunct, all_refined, bound_form, chain_refined, condition_of, conjunct_of, monadic_refined, operand_of}
+use Rattle.abstract_state.specs.Conditions.{operation_refined, refined, single_refined, takes_both}
 
 pub condition-Constant : (number : ℕ) (value : ℤ)
     → condition_of (expr.Constant number value) ≡ record { form = Literal value; refined = λ (truth : Bool) (state : State). state }

@@ -1,6 +1,7 @@
 -- What is known where a condition had a truth value (ISO 7185:1990, 6.7.2.3, 6.7.2.5, 6.8.3.4). It does not say which
 -- truth value a condition has.
-use Rattle.std.specs.Prelude.{ℕ, ℤ, pos, ◌+ℤ◌, ◌-ℤ◌, int_le, Bool, true, false, not, List, [], ◌∷◌, Option, Some, if◌then◌else◌, map}
+use Rattle.std.specs.Prelude.{ℕ, ℤ, pos, ◌+ℤ◌, ◌-ℤ◌, int_le, Bool, true, false, not, List, [], ◌∷◌, Option, Some}
+use Rattle.std.specs.Prelude.{if◌then◌else◌, map}
 use Rattle.std.specs.List.{list_all}
 use Rattle.std.specs.Ordering.{int_eq}
 use Rattle.typed_tree.specs.declared.tree.Monadic.{Monadic}

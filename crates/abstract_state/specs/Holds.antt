@@ -1,6 +1,7 @@
 -- What facts and states say of a moment of a run, and when variables share no place (ISO 7185:1990, 6.5.1).
 -- It does not say that a run keeps them.
-use Rattle.std.specs.Prelude.{◌≡◌, ◌≢◌, ℕ, ℤ, ◌+ℤ◌, ◌≤ℤ◌, Bool, true, false, ◌&&◌, ◌⊎◌, List, [], ◌∷◌, ◌++◌, Option, Some, None, slice_index_or, nat_eq, Contains}
+use Rattle.std.specs.Prelude.{◌≡◌, ◌≢◌, ℕ, ℤ, ◌+ℤ◌, ◌≤ℤ◌, Bool, true, false, ◌&&◌, ◌⊎◌, List, [], ◌∷◌, ◌++◌, Option}
+use Rattle.std.specs.Prelude.{Some, None, slice_index_or, nat_eq, Contains}
 use Rattle.std.specs.Cmp.Lexicographic.{pointwise}
 use Rattle.domain.specs.Interval.{Interval, HasMember, vacant}
 use Rattle.domain.specs.Facts as fact

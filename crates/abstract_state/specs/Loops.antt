@@ -1,10 +1,12 @@
 -- What is known at the head of a loop and behind it (ISO 7185:1990, 6.8.3.7 to 6.8.3.9), from what is known where it is
 -- entered and what its turns may change. It does not say which variables a loop changes, nor that its claims hold.
-use Rattle.std.specs.Prelude.{ℕ, neg_ℤ, Bool, false, not, ◌||◌, List, [], ◌∷◌, Option, Some, None, if◌then◌else◌, filter, nat_eq}
+use Rattle.std.specs.Prelude.{ℕ, neg_ℤ, Bool, false, not, ◌||◌, List, [], ◌∷◌, Option, Some, None, if◌then◌else◌}
+use Rattle.std.specs.Prelude.{filter, nat_eq}
 use Rattle.std.specs.List.{filter_map, list_all, list_any}
 use Rattle.domain.specs.Interval.{Interval, common, vacant}
 use Rattle.domain.specs.Facts.{Bound, Plus, Fact, Range, Defined, Stretch, Order}
-use Rattle.abstract_state.specs.State.{State, Dead, Live, gives_fact, is_entire, range_of, with_defined, with_facts, with_range}
+use Rattle.abstract_state.specs.State.{State, Dead, Live, gives_fact, is_entire, range_of, with_defined, with_facts}
+use Rattle.abstract_state.specs.State.{with_range}
 use Rattle.abstract_state.specs.Changes.{ordered, raised_number, with_change, with_some}
 
 -- ---- what a loop leaves

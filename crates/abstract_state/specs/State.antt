@@ -1,11 +1,13 @@
 -- What a checker knows at a point of a program: of each variable the range of its values, and facts
 -- (ISO 7185:1990, 6.5.1: a variable is undefined or has a value); which facts that gives; and what it knows behind two
 -- ways that meet. It does not say how such a state comes about, nor what it means for a run.
-use Rattle.std.specs.Prelude.{ℕ, ℤ, pos, ◌+ℤ◌, neg_ℤ, int_le, Bool, true, false, not, ◌&&◌, ◌||◌, List, [], ◌∷◌, filter, if◌then◌else◌, length, nat_eq, nat_lt, replicate, slice_index_or, slice_set}
+use Rattle.std.specs.Prelude.{ℕ, ℤ, pos, ◌+ℤ◌, neg_ℤ, int_le, Bool, true, false, not, ◌&&◌, ◌||◌, List, [], ◌∷◌, filter}
+use Rattle.std.specs.Prelude.{if◌then◌else◌, length, nat_eq, nat_lt, replicate, slice_index_or, slice_set}
 use Rattle.std.specs.List.{list_any}
 use Rattle.types.specs.declared.form.OrdinalRange.{OrdinalRange}
 use Rattle.domain.specs.Interval.{Interval, common, is_included, is_vacant, joined, vacant}
-use Rattle.domain.specs.Facts.{Step, Bound, Number, Plus, Fact, Range, Defined, Stretch, Order, entire, has_fact, with_fact}
+use Rattle.domain.specs.Facts.{Step, Bound, Number, Plus, Fact, Range, Defined, Stretch, Order, entire, has_fact}
+use Rattle.domain.specs.Facts.{with_fact}
 use Rattle.meaning.specs.Integers.{maxint}
 
 -- a row for each variable by its root number, with the range of its values, and the facts in their order, each once

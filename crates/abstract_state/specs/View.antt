@@ -1,5 +1,6 @@
 -- The states of the program as the definitions see them. It does not say what a state means.
-use Rattle.std.specs.Prelude.{◌≡◌, ℕ, suc, ℤ, pos, neg_ℤ, ◌≤ℤ◌, ◌&&◌, false, List, [], ◌∷◌, ◌++◌, Option, Some, None, if◌then◌else◌, map, max, length, slice_index_or, slice_set, ◌≤◌}
+use Rattle.std.specs.Prelude.{◌≡◌, ℕ, suc, ℤ, pos, neg_ℤ, ◌≤ℤ◌, ◌&&◌, false, List, [], ◌∷◌, ◌++◌, Option, Some, None}
+use Rattle.std.specs.Prelude.{if◌then◌else◌, map, max, length, slice_index_or, slice_set, ◌≤◌}
 use Rattle.std.specs.List.{insert}
 use Rattle.domain.specs.declared.facts.Bound.{Bound as KeptBound}
 use Rattle.domain.specs.Interval.{Interval, vacant, joined}

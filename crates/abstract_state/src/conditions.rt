@@ -2,7 +2,11 @@ ghost use Rattle.std.specs.Prelude.{◌≡◌, IfOk, if◌then◌else◌, map};
 ghost use Rattle.std.specs.List.{list_all};
 ghost use Rattle.domain.specs.Facts.{said_bound};
 ghost use Rattle.domain.specs.Interval.{always_true, never_true};
-ghost use Rattle.abstract_state.specs.Conditions.{bound_at_least, bound_at_most, bound_isnt, branched, condition_of, conjunct_of, narrowed, operation_refined, opposite, refined, related, related_forms, single_refined, takes_both, told, unless_excluded, unlike, with_different, with_le, with_order, without_first, without_last};
+ghost use Rattle.abstract_state.specs.Conditions.{bound_at_least, bound_at_most, bound_isnt, branched, condition_of};
+ghost use Rattle.abstract_state.specs.Conditions.{conjunct_of, narrowed, operation_refined, opposite, refined, related};
+ghost use Rattle.abstract_state.specs.Conditions.{related_forms, single_refined, takes_both, told, unless_excluded};
+ghost use Rattle.abstract_state.specs.Conditions.{unlike, with_different, with_le, with_order, without_first};
+ghost use Rattle.abstract_state.specs.Conditions.{without_last};
 ghost use Rattle.abstract_state.specs.View.{AreEnds, IsFar, IsNear, said_form, viewed};
 ghost use Rattle.abstract_state.specs.State.{Dead};
 

@@ -1,6 +1,7 @@
 ghost use Rattle.std.specs.Prelude.{◌≡◌, map};
 ghost use Rattle.abstract_state.specs.Conditions.{bound_form, condition_of, conjunct_of, operand_of};
-ghost use Rattle.abstract_state.specs.Forms.{bound_of, chain_form, constant_of, literal_of, moved_form, negative, offset_form, root_of, signed, signed_if};
+ghost use Rattle.abstract_state.specs.Forms.{bound_of, chain_form, constant_of, literal_of, moved_form, negative};
+ghost use Rattle.abstract_state.specs.Forms.{offset_form, root_of, signed, signed_if};
 ghost use Rattle.abstract_state.specs.View.{said_form};
 
 use domain::facts::Bound;

@@ -1,5 +1,6 @@
 //! What holds of states at the moments of a run. Each law is the contract of a function that does nothing.
-ghost use Rattle.abstract_state.specs.Laws.{AssignmentsHold, ConditionsTell, FormsTell, GivenHolds, HeadsHold, JoinHolds, LeavingHolds};
+ghost use Rattle.abstract_state.specs.Laws.{AssignmentsHold, ConditionsTell, FormsTell, GivenHolds, HeadsHold};
+ghost use Rattle.abstract_state.specs.Laws.{JoinHolds, LeavingHolds};
 
 /// Where two ways meet, what is known behind them holds, whichever was taken.
 pub fn join_holds()

@@ -2,7 +2,8 @@ ghost use Rattle.std.specs.Prelude.{◌≡◌, IfOk, map, slice_index_or};
 ghost use Rattle.domain.specs.Facts.{said};
 ghost use Rattle.domain.specs.Interval.{vacant};
 ghost use Rattle.abstract_state.specs.State.{gives_fact};
-ghost use Rattle.abstract_state.specs.Loops.{after_turns, all_forgotten, all_touched, gives_all, head, replaced, with_claim, with_claims, with_forgotten, with_touched, with_undefined};
+ghost use Rattle.abstract_state.specs.Loops.{after_turns, all_forgotten, all_touched, gives_all, head, replaced};
+ghost use Rattle.abstract_state.specs.Loops.{with_claim, with_claims, with_forgotten, with_touched, with_undefined};
 ghost use Rattle.abstract_state.specs.View.{said_form, viewed};
 
 use crate::orders::Order;

@@ -1,10 +1,13 @@
 ghost use Rattle.std.specs.Prelude.{◌≡◌, ◌-◌, ◌++◌, IfOk, Some, filter, length, map, replicate};
 ghost use Rattle.std.specs.List.{list_any};
 ghost use Rattle.domain.specs.Facts.{said, said_bound};
-ghost use Rattle.abstract_state.specs.State.{Live, bound_range, gives, is_dead, is_defined, joined_facts, joined_states, le, limits_of, range_of, says_at_most, start, unless_empty, with_defined, with_range};
+ghost use Rattle.abstract_state.specs.State.{Live, bound_range, gives, is_dead, is_defined, joined_facts};
+ghost use Rattle.abstract_state.specs.State.{joined_states, le, limits_of, range_of, says_at_most, start, unless_empty};
+ghost use Rattle.abstract_state.specs.State.{with_defined, with_range};
 ghost use Rattle.abstract_state.specs.Changes.{assigned, with_change, with_equal, with_some};
 ghost use Rattle.abstract_state.specs.Loops.{replaced, with_forgotten};
-ghost use Rattle.abstract_state.specs.View.{AreEnds, AreJoined, joined_row, no_row, said_form, said_order, said_some, viewed, viewed_facts};
+ghost use Rattle.abstract_state.specs.View.{AreEnds, AreJoined, joined_row, no_row, said_form, said_order, said_some};
+ghost use Rattle.abstract_state.specs.View.{viewed, viewed_facts};
 
 use crate::bounds::{Ends, is_at_most};
 use crate::orders;

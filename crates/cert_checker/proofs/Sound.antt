@@ -1,5 +1,6 @@
 -- The walk is sound: what a piece of a program does from a state that holds, the walk over that piece foretells.
-use Rattle.std.proofs.Common.{arith, ◌≡◌, ⊎_elim, ◌⊎◌, inl, inr, ◌∙◌, sym, refl, subst, ℕ, ◌<◌, Bool, true, false, ◌||◌, List, [], ◌∷◌, ◌++◌, Option, Some, None}
+use Rattle.std.proofs.Common.{arith, ◌≡◌, ⊎_elim, ◌⊎◌, inl, inr, ◌∙◌, sym, refl, subst, ℕ, ◌<◌, Bool, true, false, ◌||◌, List, [], ◌∷◌, ◌++◌, Option, Some}
+use Rattle.std.proofs.Common.{None}
 use Rattle.std.specs.List.{Contains}
 use Rattle.std.proofs.lemmas.List.Elements.{Contains-append_left, Contains-append_right, Contains-push_cases}
 use Rattle.domain.specs.Interval.{Interval}
@@ -284,7 +285,8 @@ sound-tested world env closed site passed v true below holds lets context state 
       kept = keeps-itself env context.rounds s.store;
     })
 sound-tested world env closed site passed v false below holds lets context state s unbroken part stands =
-    let unclosed : (is_dead state || closed) ≡ true → ⊥ = λ is. false-true (closed-passes world.variables env state s.store closed false stands.known holds is) in
+    let unclosed : (is_dead state || closed) ≡ true
+    → ⊥ = λ is. false-true (closed-passes world.variables env state s.store closed false stands.known holds is) in
     record {
       errs = errs-here world site (part.ids site (open-here site (is_dead state || closed) unclosed)) below;
       new = nothing-new world s.visited;

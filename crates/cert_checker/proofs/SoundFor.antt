@@ -1,5 +1,6 @@
 -- For statements are sound: in each turn the control variable lies on its way, and the body leaves it as it is.
-use Rattle.std.proofs.Common.{arith, ◌≡◌, ⊎_elim, ◌∙◌, sym, ap, refl, subst, ℕ, ◌<◌, ℤ, Bool, true, false, cond, ◌&&◌, ◌||◌, List, [], ◌∷◌, ◌++◌, Option, Some, None}
+use Rattle.std.proofs.Common.{arith, ◌≡◌, ⊎_elim, ◌∙◌, sym, ap, refl, subst, ℕ, ◌<◌, ℤ, Bool, true, false, cond, ◌&&◌, ◌||◌, List, [], ◌∷◌, ◌++◌, Option, Some}
+use Rattle.std.proofs.Common.{None}
 use Rattle.std.specs.Ordering.{int_eq}
 use Rattle.std.proofs.lemmas.Int.{ints}
 use Rattle.std.proofs.lemmas.Bool.{and_parts, and_from, eq-eqb}
@@ -31,9 +32,12 @@ use Rattle.cert_checker.specs.Walk as walk
 use Rattle.cert_checker.specs.Walk.{Context, Walked, Walking, followed, steady_in}
 use Rattle.cert_checker.specs.declared.fault.Rule.TheVariants.{Changes}
 use Rattle.cert_checker.proofs.Keeping.{Keeps, control-kept, gone-keeps, gone-kept, gone-none, gone-typed, keeps-itself, keeps-then, own-value, written-typed}
-use Rattle.structured_states.proofs.OnWay.{Between, MayBe, begun-known, counts-known, counts-ordered, ended-known, kept-may, met-in, next-between, ordered-itself, untouched-form}
-use Rattle.cert_checker.proofs.Sound.{World, IsPartOf, Stands, Good, IsForetold, Passes, Sound, Any_value, unbroken-left, unbroken-right, part-left, part-right, nothing-new, good-give, good-weaker, good-then, stands-as}
-use Rattle.cert_checker.proofs.SoundLoops.{Foretold, RoundEnds, inner, kept-rule, loop-good, loop_begun, rounds-outer, rounds-own, turn-then, ways-good, with_head}
+use Rattle.structured_states.proofs.OnWay.{Between, MayBe, begun-known, counts-known, counts-ordered, ended-known, kept-may, met-in, next-between}
+use Rattle.structured_states.proofs.OnWay.{ordered-itself, untouched-form}
+use Rattle.cert_checker.proofs.Sound.{World, IsPartOf, Stands, Good, IsForetold, Passes, Sound, Any_value, unbroken-left, unbroken-right, part-left, part-right}
+use Rattle.cert_checker.proofs.Sound.{nothing-new, good-give, good-weaker, good-then, stands-as}
+use Rattle.cert_checker.proofs.SoundLoops.{Foretold, RoundEnds, inner, kept-rule, loop-good, loop_begun, rounds-outer, rounds-own, turn-then, ways-good}
+use Rattle.cert_checker.proofs.SoundLoops.{with_head}
 use Rattle.cert_checker.proofs.SoundOperations.{within-sound}
 use Rattle.structured_states.proofs.Touched.{inside-uncontrolled, inside-untouched, own-controls, own-untouched}
 
@@ -178,7 +182,8 @@ module _ (world : World) (env : Environment) (shows : Shows world.variables env)
         let begun = turn_begun steady state in
         let first : Walked (Unit {0}) = body within begun in
         let ended = first.after in
-        let rest : Walked State = followed (walk.with_state (turn_ended steady ended) within ended) (walk.give (way_out steady ended) within (turn_ended steady ended)) in
+        let rest : Walked State = followed (walk.with_state (turn_ended steady ended) within ended)
+        (walk.give (way_out steady ended) within (turn_ended steady ended)) in
         let P = RoundEnds world env within rounds at Fits (turn_ended steady ended) (way_out steady ended) start in
         let more = value_behind way.direction y n in
         let next = λ (used : Unit {0}). effect.◌>>=◌ (execution env) (λ done. effect.give more) in
@@ -266,7 +271,8 @@ module _ (world : World) (env : Environment) (shows : Shows world.variables env)
     module _ (unbroken : turns.broken ≡ []) (part : IsPartOf world turns)
         (may : walk.may_control context way.control way.first.fits.range way.last.fits.range ≡ true) (v : effect.State)
         (stands : Stands world env context last.after v.store) (forms : Forms v.store) (in_first : IsIn first.value (Number x))
-        (in_last : IsIn last.value (Number y)) (x_fits : is_in way.first.fits.range (Number x) ≡ true) (y_fits : is_in way.last.fits.range (Number y) ≡ true) where
+        (in_last : IsIn last.value (Number y)) (x_fits : is_in way.first.fits.range (Number x) ≡ true)
+        (y_fits : is_in way.last.fits.range (Number y) ≡ true) where
       abbrev limits : Interval
       limits = limits_at context.limits way.control
 
@@ -378,7 +384,8 @@ module _ (world : World) (env : Environment) (shows : Shows world.variables env)
       turns-good t stands forms in_first in_last =
           good-then world (IsForetold world env (Passes first_test (Number x)) context first t.store) (Foretold world env context whole t.store) t.visited
           (effect.require first_test way.first.fits.site t) (λ done. effect.◌>>=◌ (effect.require last_test way.last.fits.site) (λ done. rounds_action))
-          (within-sound world env (limits_of way.first.fits.range) way.first.fits.site (met way.first.form state way.first.values) (Number x) first_test first_site
+          (within-sound world env (limits_of way.first.fits.range) way.first.fits.site (met way.first.form state way.first.values)
+          (Number x) first_test first_site
           (is_in-limits way.first.fits.range (Number x)) (limits-is_in way.first.fits.range (Number x))
           (met-in world.variables env t.store way.first.form state way.first.values x forms.0 stands.known in_first) context state t
           (unbroken-left first.broken from_last.broken tests_unbroken) (part-left world first from_last from-first) stands)
@@ -449,7 +456,8 @@ module _ (world : World) (env : Environment) (shows : Shows world.variables env)
         (cond counts turns (effect.give tt) t) (λ done. effect.undefine (env way.control))
         (ways-good world env turns (effect.give tt) taken never counts context t
         (λ is unbroken part.
-        turns-good place context (where_counts true way state) way x y is_variable first_site last_site is unbroken part t (stand true is) (one, other) in_first in_last)
+        turns-good place context (where_counts true way state) way x y is_variable first_site last_site is unbroken part t (stand true is)
+        (one, other) in_first in_last)
         (λ is unbroken part.
         good-give world (Foretold world env context never t.store) tt t
         (record { tie = tt; stands = stand false is; kept = keeps-itself env context.rounds t.store }))

@@ -1,5 +1,6 @@
 -- The walk over expressions, statements and programs is sound, form by form.
-use Rattle.std.proofs.Common.{◌≡◌, ◌∙◌, refl, sym, subst, ℕ, ◌<◌, Bool, true, false, cond, ◌&&◌, ◌||◌, ℤ, length, nat_lt, List, [], ◌∷◌, map, Option, Some, None}
+use Rattle.std.proofs.Common.{◌≡◌, ◌∙◌, refl, sym, subst, ℕ, ◌<◌, Bool, true, false, cond, ◌&&◌, ◌||◌, ℤ, length, nat_lt, List, [], ◌∷◌, map, Option, Some}
+use Rattle.std.proofs.Common.{None}
 use Rattle.std.proofs.lemmas.Bool.{and_parts, ltb-true}
 use Rattle.typed_tree.specs.declared.tree.Access.{Access}
 use Rattle.typed_tree.specs.declared.tree.RangeTest.{RangeTest}
@@ -17,7 +18,9 @@ use Rattle.typed_tree.specs.declared.tree.Stmt.TheOpen.{Stmt-F}
 use Rattle.typed_tree.specs.declared.tree.Stmt.TheOpen.Stmt-F.{Empty, Assign, Write, Compound, If, While, Repeat, For, Case}
 use Rattle.typed_tree.specs.declared.tree.Stmt.TheViews.{roll-Stmt}
 use Rattle.typed_tree.specs.declared.tree.Stmt.TheFolds.{map-Stmt, fold-roll-Stmt, ind-Stmt}
-use Rattle.typed_tree.specs.WellFormed.{all_hold, is_well_formed_test, dyadic_is_well_formed, expr_is_well_formed, is_well_formed_expr, is_well_formed_link, is_well_formed_parameter, is_well_formed_stmt, is_well_formed_width, are_whole, is_whole, link_is_well_formed, monadic_is_well_formed, stmt_is_well_formed}
+use Rattle.typed_tree.specs.WellFormed.{all_hold, is_well_formed_test, dyadic_is_well_formed, expr_is_well_formed, is_well_formed_expr, is_well_formed_link}
+use Rattle.typed_tree.specs.WellFormed.{is_well_formed_parameter, is_well_formed_stmt, is_well_formed_width, are_whole, is_whole, link_is_well_formed}
+use Rattle.typed_tree.specs.WellFormed.{monadic_is_well_formed, stmt_is_well_formed}
 use Rattle.meaning.specs.declared.store.Value.{Value}
 use Rattle.meaning.specs.declared.store.Value.TheVariants.{Number}
 use Rattle.meaning.specs.Store.{Environment, Place as StorePlace, Store}
@@ -31,7 +34,9 @@ use Rattle.cert_checker.specs.Walk as walk
 use Rattle.cert_checker.specs.Walk.{Context, Walked, Walking, followed, value_walk, link_walk, parameter_walk, width_walk, statement_walk}
 use Rattle.abstract_state.proofs.Ranged.{IsKnown, common-in, constant-in, included-in, is_in-limits}
 use Rattle.abstract_state.proofs.Knows.{Shows, at-place, moment}
-use Rattle.cert_checker.proofs.Sound.{World, Sound, Any_value, Passes, sound-then, sound-given, sound-written, sound-give, sound-enter, sound-use, IsPartOf, IsForetold, Stands, Good, good-then, good-weaker, nothing-new, unbroken-left, unbroken-right, part-left, part-right, closed-passes, errs-here, open-here, stands-as}
+use Rattle.cert_checker.proofs.Sound.{World, Sound, Any_value, Passes, sound-then, sound-given, sound-written, sound-give, sound-enter, sound-use, IsPartOf}
+use Rattle.cert_checker.proofs.Sound.{IsForetold, Stands, Good, good-then, good-weaker, nothing-new, unbroken-left, unbroken-right, part-left, part-right}
+use Rattle.cert_checker.proofs.Sound.{closed-passes, errs-here, open-here, stands-as}
 use Rattle.cert_checker.proofs.SoundLoops.{Foretold, sound-choice, sound-loop, sound-while, sound-repeat, kept-rule}
 use Rattle.cert_checker.proofs.Keeping.{written-kept, written-typed, keeps-then}
 use Rattle.abstract_state.proofs.Changed.{IsOfForm, assigned-known}
@@ -65,7 +70,8 @@ abbrev pub SoundAction : World → Environment → effect.Action (Unit {0}) → 
 SoundAction world env action walking = Sound {A = Unit {0}} {B = Unit {0}} world env Any_value action walking
 
 -- one of two actions, by a truth value
-by-arm : (world : World) (env : Environment) (context : Context) (whole : Walked (Unit {0})) (t : effect.State) (one other : effect.Action (Unit {0})) (b : Bool)
+by-arm : (world : World) (env : Environment) (context : Context) (whole : Walked (Unit {0})) (t : effect.State) (one other : effect.Action (Unit {0}))
+    (b : Bool)
     → (b ≡ true → Good world (Foretold world env context whole t.store) t.visited (one t))
     → (b ≡ false → Good world (Foretold world env context whole t.store) t.visited (other t))
     → Good world (Foretold world env context whole t.store) t.visited (cond b one other t)
@@ -418,7 +424,8 @@ module _ (world : World) (env : Environment) (shows : Shows world.variables env)
       (effect.◌>>=◌ (meaning.for_between control first_fits direction last_fits execution env a b) (λ done. effect.undefine (env control)) t)
   bounds-good number place control first first_fits direction last last_fits execution walking one within first_site last_site (Ordinal from) (Ordinal to)
       (Number x) (Number y) context state t unbroken part stands first_form last_form in_first in_last =
-      for-good world env shows number execution walking one place context state (way_of control direction first first_fits last last_fits (Ordinal from) (Ordinal to))
+      for-good world env shows number execution walking one place context state
+      (way_of control direction first first_fits last last_fits (Ordinal from) (Ordinal to))
       x y within first_site last_site t unbroken part stands (of-form_may env t.store (bound_form first) x first_form)
       (of-form_may env t.store (bound_form last) y last_form) in_first in_last
 
@@ -437,14 +444,16 @@ module _ (world : World) (env : Environment) (shows : Shows world.variables env)
       let rest = walk.for_walk number place walking (way_of control direction first first_fits last last_fits from.value to.value) context to.after in
       let more = followed to rest in
       let Q = Foretold world env context (followed from more) s.store in
-      let finish = λ (a b : Value). effect.◌>>=◌ (meaning.for_between control first_fits direction last_fits execution env a b) (λ done. effect.undefine (env control)) in
+      let finish = λ (a b : Value). effect.◌>>=◌ (meaning.for_between control first_fits direction last_fits execution env a b)
+      (λ done. effect.undefine (env control)) in
       let more_unbroken = unbroken-right from.broken more.broken unbroken in
       let more_part = part-right world from more part in
       good-then world (IsForetold world env IsKnown context from s.store) Q s.visited (value_of first env s) (λ a. effect.◌>>=◌ (value_of last env) (finish a))
       (value-sound first first_well context state s (unbroken-left from.broken more.broken unbroken) (part-left world from more part) stands)
       (λ a t first_is first_told.
       good-then world (IsForetold world env IsKnown context to t.store) Q t.visited (value_of last env t) (finish a)
-      (value-sound last last_well context from.after t (unbroken-left to.broken rest.broken more_unbroken) (part-left world to rest more_part) first_told.stands)
+      (value-sound last last_well context from.after t (unbroken-left to.broken rest.broken more_unbroken)
+      (part-left world to rest more_part) first_told.stands)
       (λ b u last_is last_told.
       let form = subst (λ (store : Store). IsOfForm (moment env store) (bound_form first) a) (sym (expression-kept last env t u b last_is))
       (form-known first env s t a first_is) in
@@ -620,13 +629,15 @@ module _ (world : World) (env : Environment) (shows : Shows world.variables env)
       (λ a. sound-repeat world env condition body bodies (all-sound statements.items parts.0) (value-sound condition parts.1)))
   statement-layer (For number loop_number place control first first_fits direction last last_fits body) well =
       let is_test = is_well_formed_test world.variables world.sites in
-      let one = and_parts (nat_lt control world.variables) (well_expr first && (is_test first_fits && (well_expr last && (is_test last_fits && well_stmt body.value.0)))) well in
+      let one = and_parts (nat_lt control world.variables)
+      (well_expr first && (is_test first_fits && (well_expr last && (is_test last_fits && well_stmt body.value.0)))) well in
       let two = and_parts (well_expr first) (is_test first_fits && (well_expr last && (is_test last_fits && well_stmt body.value.0))) one.1 in
       let three = and_parts (is_test first_fits) (well_expr last && (is_test last_fits && well_stmt body.value.0)) two.1 in
       let four = and_parts (well_expr last) (is_test last_fits && well_stmt body.value.0) three.1 in
       let five = and_parts (is_test last_fits) (well_stmt body.value.0) four.1 in
       let execution = effect_of body.value.0 in
-      let finish = λ (a b : Value). effect.◌>>=◌ (meaning.for_between control first_fits direction last_fits execution env a b) (λ done. effect.undefine (env control)) in
+      let finish = λ (a b : Value). effect.◌>>=◌ (meaning.for_between control first_fits direction last_fits execution env a b)
+      (λ done. effect.undefine (env control)) in
       entered-sound {A = Unit {0}} {B = Unit {0}} Any_value number
       (effect.◌>>=◌ (value_of first env) (λ a. effect.◌>>=◌ (value_of last env) (finish a)))
       (walk.◌>>=◌ (value_walk first) (λ from. walk.◌>>=◌ (value_walk last) (λ to.

@@ -30,7 +30,8 @@ use Rattle.abstract_state.proofs.Looped.{given-all_known, head-known}
 use Rattle.cert_checker.specs.Walk as walk
 use Rattle.cert_checker.specs.Walk.{Context, Walked, Walking, followed, value_walk, where_so}
 use Rattle.cert_checker.proofs.Keeping.{Keeps, InTypes, keeps-itself, keeps-then}
-use Rattle.cert_checker.proofs.Sound.{World, IsPartOf, Stands, Good, IsForetold, Sound, Any_value, unbroken-left, unbroken-right, part-left, part-right, nothing-new, good-give, good-weaker, good-then, stands-as}
+use Rattle.cert_checker.proofs.Sound.{World, IsPartOf, Stands, Good, IsForetold, Sound, Any_value, unbroken-left, unbroken-right, part-left, part-right}
+use Rattle.cert_checker.proofs.Sound.{nothing-new, good-give, good-weaker, good-then, stands-as}
 
 -- ---- branches
 
@@ -81,7 +82,8 @@ ways-good world env one_action other_action one other false context t taken skip
     (skipped refl (unbroken-right one.broken other.broken unbroken) (part-right world one other (record { ids = part.ids; linked = part.linked })))
 
 -- the choice of a branch by a truth value
-chosen-good : (world : World) (env : Environment) (one_action other_action : Action (Unit {0})) (condition : Expr) (consequence alternative : Walking (Unit {0}))
+chosen-good : (world : World) (env : Environment) (one_action other_action : Action (Unit {0})) (condition : Expr)
+    (consequence alternative : Walking (Unit {0}))
     (known : Known) (b : Bool) (context : Context) (state : State) (t : effect.State)
     → Sound {A = Unit {0}} {B = Unit {0}} world env Any_value one_action consequence
     → Sound {A = Unit {0}} {B = Unit {0}} world env Any_value other_action alternative
@@ -141,7 +143,8 @@ module _ {A : Type 0} (world : World) (P : A → Store → Type 0) (Q : Store �
   another-good next later (Some b) t so = later b t so
 
   -- the rounds of a loop: where it ends, Q holds
-  looping-good : (bound : ℕ) (a : A) (s : effect.State) → P a s.store → Good world (λ (done : Unit {0}) store. Q store) s.visited (effect.looping bound round a s)
+  looping-good : (bound : ℕ) (a : A) (s : effect.State) → P a s.store
+      → Good world (λ (done : Unit {0}) store. Q store) s.visited (effect.looping bound round a s)
   looping-good zero a s so =
       good-then world (Turns P Q) (λ (done : Unit {0}) store. Q store) s.visited (round a s) (λ more. effect.another more (λ b. effect.stop More))
       (each a s so) (λ more t is then. ended-good more t then)
@@ -209,7 +212,8 @@ loop_begun context number control state =
     let own = at_head context number control in
     head (limits_at context.limits) (touched own) own.controls (claims_on context.certificate number).facts state
 
-module _ {A : Type 0} (world : World) (env : Environment) (shows : Shows world.variables env) (context : Context) (number : ℕ) (control : Option ℕ) (state : State)
+module _ {A : Type 0} (world : World) (env : Environment) (shows : Shows world.variables env) (context : Context) (number : ℕ) (control : Option ℕ)
+    (state : State)
     (start : Store) (at : A → Store → Store) (Fits : A → Store → Type 0) (again out : State) (stands : Stands world env context state start) where
   abbrev facts : List Fact
   facts = (claims_on context.certificate number).facts
@@ -287,12 +291,16 @@ loop-good {A} world env shows number place control round walking at Fits context
     (kept-rule (gives_all state facts) LoopEntry place (unbroken-left entry.broken (turn.broken ++ (turned.broken ++ [])) unbroken)) in
     let given_again = kept-rule (gives_all turn.after facts) LoopTurn place
     (unbroken-left turned.broken [] (unbroken-right turn.broken (turned.broken ++ []) from_entry)) in
-    let turn_part : IsPartOf world turn = part-left world turn after_turn (part-right world entering from_head (part-right world entry (followed entering from_head) part)) in
+    let turn_part : IsPartOf world turn = part-left world turn after_turn
+    (part-right world entering from_head (part-right world entry (followed entering from_head) part)) in
     let P = AtHead world env shows context number control state start at Fits turn.after turn.value stands in
     let Q : Store → Type 0 = AtOut world env shows context number control state start at Fits turn.after turn.value stands in
     let begin_kept = keeps-itself env rounds start in
-    let first : P a s.store =
-    (head-stands world env shows context number control state start at Fits turn.after turn.value stands start stands.typed begin_kept given, begin_kept, fits) in
+    let first : P a s.store = (
+      head-stands world env shows context number control state start at Fits turn.after turn.value stands start stands.typed begin_kept given,
+      begin_kept,
+      fits,
+    ) in
     let turns : (b : A) (t : effect.State) → P b t.store → Good world (Turns P Q) t.visited (round b t) =
     λ b t holds.
     good-weaker world (RoundEnds world env within rounds at Fits turn.after turn.value (at b t.store)) (Turns P Q) t.visited (round b t)
@@ -311,7 +319,8 @@ plain-ends world env context again out start None store told = told
 plain-ends world env context again out start (Some a) store (stood, kept) = (stood, kept, tt)
 
 -- a loop that is no for statement
-pub sound-loop : {A : Type 0} (world : World) (env : Environment) → Shows world.variables env → (number : ℕ) (place : SourcePlace) (round : effect.Round A) (a : A)
+pub sound-loop : {A : Type 0} (world : World) (env : Environment) → Shows world.variables env
+    → (number : ℕ) (place : SourcePlace) (round : effect.Round A) (a : A)
     (walking : Walking State)
     → ((b : A) → SoundRound world env (round b) walking)
     → Sound {A = Unit {0}} {B = Unit {0}} world env Any_value (effect.looped round a) (walk.loop_walk number place None walking)
@@ -339,7 +348,8 @@ turn-then world Q next t then (suc left) = then (record t { turns = left }) refl
 -- a round of a while
 module _ (world : World) (env : Environment) (condition : Expr) (execution : meaning.Execution) (body : Walking (Unit {0}))
     (valued : Sound world env IsKnown (value_of condition env) (value_walk condition))
-    (one : Sound {A = Unit {0}} {B = Unit {0}} world env Any_value (execution env) body) (context : Context) (start : Store) (known : Known) (tested : State) where
+    (one : Sound {A = Unit {0}} {B = Unit {0}} world env Any_value (execution env) body) (context : Context) (start : Store) (known : Known)
+    (tested : State) where
   abbrev inside_state : State
   inside_state = where_so true condition known tested
 

@@ -8,8 +8,10 @@ use Rattle.typed_tree.specs.declared.tree.Monadic.TheVariants as monadic
 use Rattle.typed_tree.specs.declared.tree.Dyadic.{Dyadic}
 use Rattle.typed_tree.specs.declared.tree.Dyadic.TheVariants as dyadic
 use Rattle.typed_tree.specs.WellFormed.{monadic_is_well_formed, dyadic_is_well_formed}
-use Rattle.domain.specs.Interval.{Interval, HasMember, has_number, is_included, common, without_zero_end, at_least, sum, difference, negated, product, squared, absolute, quotient, remainder, both, either, complement, truth_values}
-use Rattle.domain.specs.Ranges.{sum-has, difference-has, negated-has, product-has, squared-has, absolute-has, quotient-has, remainder-has, without_zero_end-has, at_least-has, both-has, either-has, complement-has}
+use Rattle.domain.specs.Interval.{Interval, HasMember, has_number, is_included, common, without_zero_end, at_least, sum, difference, negated, product, squared}
+use Rattle.domain.specs.Interval.{absolute, quotient, remainder, both, either, complement, truth_values}
+use Rattle.domain.specs.Ranges.{sum-has, difference-has, negated-has, product-has, squared-has, absolute-has, quotient-has, remainder-has, without_zero_end-has}
+use Rattle.domain.specs.Ranges.{at_least-has, both-has, either-has, complement-has}
 use Rattle.meaning.specs.declared.store.Value.{Value}
 use Rattle.meaning.specs.declared.store.Value.TheVariants.{Number}
 use Rattle.meaning.specs.Integers.{is_integer_number, truth, is_true, is_odd, magnitude}
@@ -22,7 +24,8 @@ use Rattle.abstract_state.specs.declared.known.Known.TheVariants.{Ordinal}
 use Rattle.abstract_state.specs.State.{integer, limits_of}
 use Rattle.cert_checker.specs.Walk as walk
 use Rattle.abstract_state.specs.Holds.{IsIn}
-use Rattle.abstract_state.proofs.Ranged.{IsKnown, truth-in, truth_values-has, is_within-has, has-is_within, is_in-limits, limits-is_in, included-in, common-in, first-positive, is-positive, without-zero}
+use Rattle.abstract_state.proofs.Ranged.{IsKnown, truth-in, truth_values-has, is_within-has, has-is_within, is_in-limits, limits-is_in, included-in, common-in}
+use Rattle.abstract_state.proofs.Ranged.{first-positive, is-positive, without-zero}
 use Rattle.cert_checker.proofs.Sound.{World, Sound, Passes, sound-then, sound-named, sound-give, sound-tested}
 
 -- a value is known, behind a test

@@ -1,5 +1,6 @@
 -- The walk over a program is sound for each of its runs: closed sites never err, and states hold.
-use Rattle.std.proofs.Common.{arith, ◌≡◌, ◌≢◌, ⊎_elim, inl, ◌∙◌, sym, ap, refl, subst, ℕ, zero, suc, ◌<◌, get_or, ◌==◌, Bool, true, false, ◌&&◌, cond, nat_eq, zero-add, List, [], ◌∷◌, map, filter, Option, Some, None, length}
+use Rattle.std.proofs.Common.{arith, ◌≡◌, ◌≢◌, ⊎_elim, inl, ◌∙◌, sym, ap, refl, subst, ℕ, zero, suc, ◌<◌, get_or, ◌==◌, Bool, true, false, ◌&&◌, cond, nat_eq}
+use Rattle.std.proofs.Common.{zero-add, List, [], ◌∷◌, map, filter, Option, Some, None, length}
 use Rattle.std.specs.Prelude.{slice_get}
 use Rattle.std.specs.List.{Contains, list_any, list_all, range_with_len}
 use Rattle.std.proofs.lemmas.Bool.{and_parts, eqb-true, eq-eqb}
@@ -95,7 +96,8 @@ none-at None v is = cc
 none-at (Some p) v is = cc
 
 blocks-foretold : (world : World) (env : Environment) → Shows world.variables env → (blocks : List Block) (context : Context) (input : List ℕ) (turns : ℕ)
-    → context.limits ≡ world.limits → length context.tree.variables.items ≡ world.variables → list_all (is_well_formed_block world.variables world.sites) blocks ≡ true
+    → context.limits ≡ world.limits → length context.tree.variables.items ≡ world.variables
+    → list_all (is_well_formed_block world.variables world.sites) blocks ≡ true
     → (all_of (map block_walk blocks) context Dead).broken ≡ [] → IsPartOf world (all_of (map block_walk blocks) context Dead)
     → Foretold world (run_of (slice_get blocks 0) env (first_state input turns))
 blocks-foretold world env shows [] context input turns same variables well unbroken part = record { errs = tt; new = λ visit inside. inl inside }
@@ -108,7 +110,8 @@ blocks-foretold world env shows (block ∷ blocks) context input turns same vari
     let parts = and_parts (is_well block) (list_all is_well blocks) well in
     let known = known-start env (length context.tree.variables.items) in
     let good = statement-sound world env shows block.body parts.0 context begun (first_state input turns) (unbroken-left first.broken rest.broken unbroken)
-    (part-right world (begin block context Dead) body (part-left world first rest part)) (record { limits_are = same; known = subst (λ n. Knows n env begun []) variables known; typed = λ root v is. absurd (none-at (env root) v is) }) in
+    (part-right world (begin block context Dead) body (part-left world first rest part))
+    (record { limits_are = same; known = subst (λ n. Knows n env begun []) variables known; typed = λ root v is. absurd (none-at (env root) v is) }) in
     record { errs = good.errs; new = good.new }
 
 pub program-foretold : (tree : Tree) (certificate : Certificate) (input : List ℕ) (turns : ℕ) → (program_walk tree certificate).broken ≡ [] → IsWellFormed tree

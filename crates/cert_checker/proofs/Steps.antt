@@ -1,5 +1,6 @@
 -- What the checker did over a piece of a program, from what it did over the parts of the piece.
-use Rattle.std.proofs.Common.{rules, ◌≡◌, ◌≤◌, Bool, true, false, ◌&&◌, Option, Some, None, Result, Ok, Err, ℕ, ℤ, ◌+◌, List, [], ◌∷◌, ◌++◌, length, map, refl, sym, ap, ◌∙◌, subst, append_assoc, append-nil, ◌<◌, get_or, drop}
+use Rattle.std.proofs.Common.{rules, ◌≡◌, ◌≤◌, Bool, true, false, ◌&&◌, Option, Some, None, Result, Ok, Err, ℕ, ℤ, ◌+◌, List, [], ◌∷◌, ◌++◌, length, map, refl}
+use Rattle.std.proofs.Common.{sym, ap, ◌∙◌, subst, append_assoc, append-nil, ◌<◌, get_or, drop}
 use Rattle.std.specs.Result.{IsErr, IsErrAnd}
 use Rattle.std.specs.Prelude.{MatchResult}
 use Rattle.place.specs.declared.Place.{Place as SourcePlace}
@@ -30,9 +31,13 @@ use Rattle.abstract_state.specs.Changes.{assigned}
 use Rattle.abstract_state.specs.Conditions.{bound_form}
 use Rattle.domain.specs.Facts.{Bound}
 use Rattle.abstract_state.specs.State.{State, Dead, Live, is_defined, joined_states, limits_of, range_of, with_defined}
-use Rattle.cert_checker.specs.Walk.{Breach, Context, Linked, Walked, Walking, use_of, tested, positive, within, width_test, assign, change, fitting, ◌>>=◌, give, ordinal, enter, variable_walk, operated, combined, in_turn, value_walk, link_walk, parameter_walk, statement_walk, all_of, assignment, block_walk, branches, breach_unless, facts_given, first_context, program_walk, followed, here, loop_walk, parted, repeat_round, while_round, with_state, where_so, numbers_of}
+use Rattle.cert_checker.specs.Walk.{Breach, Context, Linked, Walked, Walking, use_of, tested, positive, within, width_test, assign, change, fitting, ◌>>=◌}
+use Rattle.cert_checker.specs.Walk.{give, ordinal, enter, variable_walk, operated, combined, in_turn, value_walk, link_walk, parameter_walk, statement_walk}
+use Rattle.cert_checker.specs.Walk.{all_of, assignment, block_walk, branches, breach_unless, facts_given, first_context, program_walk, followed, here}
+use Rattle.cert_checker.specs.Walk.{loop_walk, parted, repeat_round, while_round, with_state, where_so, numbers_of}
 use Rattle.structured_states.specs.View.{kept_round}
-use Rattle.cert_checker.specs.View.{context_of, all_counted, counted, else_walk, AtHead, EntersLoop, IsBegun, IsMoved, LeavesLoop, loop_in, Meets, Parts, Walks, Goes}
+use Rattle.cert_checker.specs.View.{context_of, all_counted, counted, else_walk, AtHead, EntersLoop, IsBegun, IsMoved, LeavesLoop, loop_in, Meets, Parts, Walks}
+use Rattle.cert_checker.specs.View.{Goes}
 use Rattle.structured_states.specs.Loops.{Claims, Round, all_list, claims_on, limits_at, touched, with_own, without_own}
 use Rattle.abstract_state.specs.Loops.{gives_all, head, is_among}
 use Rattle.std.specs.List.{list_all}
@@ -288,7 +293,8 @@ pub assignment-done : (becomes : SourcePlace) (target : Access) (fits : RangeTes
     result new after
     → Goes (assignment becomes target fits value) old before result new after
 assignment-done becomes target fits value old entered valued before entries after known result new one two three =
-    let rest = λ (known : Known). fitting fits known >>= λ passed. (change becomes target.root fits.range >>= λ _. assign target.root (bound_form value) passed) in
+    let rest = λ (known : Known). fitting fits known >>= λ passed.
+    (change becomes target.root fits.range >>= λ _. assign target.root (bound_form value) passed) in
     goes-then (enter target.number) (λ _. value_walk value >>= rest) old entered new before entries after tt result one
     (goes-then (value_walk value) rest entered valued new entries after after known result two three)
 
@@ -366,7 +372,8 @@ moved-same walking state old new moved =
     ap (λ context. walking context (viewed new.state)) (ap context_of moved.only_state) ∙ ap (walking (context_of old)) moved.says
 
 -- the ways of two branches, and where they meet
-pub branches-walk : (one_state other_state : State → State) (one_walk other_walk : Walking (Unit {0})) (old taken mid start done new : Walk) (before between after : Visits)
+pub branches-walk : (one_state other_state : State → State) (one_walk other_walk : Walking (Unit {0})) (old taken mid start done new : Walk)
+    (before between after : Visits)
     → IsMoved (one_state (viewed old.state)) old taken → Walks one_walk taken before mid between tt
     → IsMoved (other_state (viewed old.state)) mid start → Walks other_walk start between done after tt
     → IsMoved (joined_states (viewed mid.state) (viewed done.state)) done new
@@ -398,23 +405,27 @@ branches-walk one_state other_state one_walk other_walk old taken mid start done
     }
 
 -- where the ways meet, or no memory is found there
-pub branches-done : (one_state other_state : State → State) (one_walk other_walk : Walking (Unit {0})) (old taken mid start done new : Walk) (before between after : Visits)
+pub branches-done : (one_state other_state : State → State) (one_walk other_walk : Walking (Unit {0})) (old taken mid start done new : Walk)
+    (before between after : Visits)
     (behind otherwise : Kept) (result : Result (Unit {0}) CheckFault)
     → Parts one_state other_state old (Ok otherwise) taken → Walks one_walk taken before mid between tt
     → behind ≡ mid.state → start.state ≡ otherwise → start ≡ record mid { state = start.state } → Walks other_walk start between done after tt
     → Meets behind done result new
     → Goes (parted one_state other_state one_walk other_walk) old before result new after
-branches-done one_state other_state one_walk other_walk old taken mid start done new before between after behind otherwise (Ok value) parts one behind_is replaced only two
+branches-done one_state other_state one_walk other_walk old taken mid start done new before between after behind otherwise
+    (Ok value) parts one behind_is replaced only two
     met =
     let to_no : IsMoved (other_state (viewed old.state)) mid start = record { only_state = only; says = ap viewed replaced ∙ parts.1 } in
     branches-walk one_state other_state one_walk other_walk old taken mid start done new before between after parts.0 one to_no two
     (subst (λ (s : Kept). IsMoved (joined_states (viewed s) (viewed done.state)) done new) behind_is met)
-branches-done one_state other_state one_walk other_walk old taken mid start done new before between after behind otherwise (Err fault) parts one behind_is replaced only two
+branches-done one_state other_state one_walk other_walk old taken mid start done new before between after behind otherwise
+    (Err fault) parts one behind_is replaced only two
     is =
     subst (IsBreachOf (parted one_state other_state one_walk other_walk (context_of old) (viewed old.state))) (sym is) tt
 
 -- the checker gave up on the first way
-pub branches-stopped : (one_state other_state : State → State) (one_walk other_walk : Walking (Unit {0})) (old taken new : Walk) (before after : Visits) (otherwise : Kept)
+pub branches-stopped : (one_state other_state : State → State) (one_walk other_walk : Walking (Unit {0})) (old taken new : Walk) (before after : Visits)
+    (otherwise : Kept)
     (fault : CheckFault)
     → Parts one_state other_state old (Ok otherwise) taken → IsBreachOf (one_walk (context_of taken) (viewed taken.state)) fault
     → Goes (parted one_state other_state one_walk other_walk) old before (Err fault) new after
@@ -444,7 +455,8 @@ if-begun statement number condition consequence alternative inner old entered va
 -- ---- loops
 
 -- where no facts are given at the entry, a loop stops there
-pub loop-not_entered : (number : ℕ) (place : SourcePlace) (control : Option ℕ) (walking : Walking State) (old new : Walk) (before after : Visits) (fault : CheckFault)
+pub loop-not_entered : (number : ℕ) (place : SourcePlace) (control : Option ℕ) (walking : Walking State) (old new : Walk) (before after : Visits)
+    (fault : CheckFault)
     → EntersLoop number place control old (Err fault) new → Goes (loop_walk number place control walking) old before (Err fault) new after
 loop-not_entered number place control walking old new before after fault is =
     let claims = claims_on old.certificate.now number in
@@ -458,7 +470,8 @@ loop-not_entered number place control walking old new before after fault is =
     (followed (facts_given LoopTurn place claims.facts context turn.after) (with_state turn.value context turn.after)) in
     breach-stays entry rest fault (loop_walk number place control walking context state) refl is
 
-module _ (number : ℕ) (place : SourcePlace) (control : Option ℕ) (walking : Walking State) (old headed : Walk) (at_head : AtHead number control old headed) where
+module _ (number : ℕ) (place : SourcePlace) (control : Option ℕ) (walking : Walking State) (old headed : Walk)
+    (at_head : AtHead number control old headed) where
   abbrev claims : Claims
   claims = claims_on old.certificate.now number
 
@@ -487,7 +500,8 @@ module _ (number : ℕ) (place : SourcePlace) (control : Option ℕ) (walking : 
   pub loop-stopped : (new : Walk) (before after : Visits) (fault : CheckFault) → IsBreachOf (walking (context_of headed) (viewed headed.state)) fault
       → Goes (loop_walk number place control walking) old before (Err fault) new after
   loop-stopped new before after fault is =
-      let rest : Walked (Unit {0}) = followed (facts_given LoopTurn place claims.facts (context_of old) turn.after) (with_state turn.value (context_of old) turn.after) in
+      let rest : Walked (Unit {0}) = followed (facts_given LoopTurn place claims.facts (context_of old) turn.after)
+      (with_state turn.value (context_of old) turn.after) in
       breach-stays turn rest fault whole entered-unbroken
       (breach-same (walking (context_of headed) (viewed headed.state)) turn fault (ap (λ w. w.broken) turn-same) is)
 
@@ -568,7 +582,8 @@ repeat-begun statement number loop_number place statements condition items old e
 -- a round of a while: the condition, and then the body where it is true
 pub while_round-done : (condition : Expr) (body : Walking (Unit {0})) (known : Known) (old valued taken new : Walk) (before between after : Visits)
     (behind : Kept)
-    → Walks (value_walk condition) old before valued between known → Parts (where_so true condition known) (where_so false condition known) valued (Ok behind) taken → Walks body taken between new after tt
+    → Walks (value_walk condition) old before valued between known
+    → Parts (where_so true condition known) (where_so false condition known) valued (Ok behind) taken → Walks body taken between new after tt
     → Walks (while_round condition body) old before new after (viewed behind)
 while_round-done condition body known old valued taken new before between after behind one parts two =
     let was : Walked (Unit {0}) = body (context_of valued) (where_so true condition known (viewed valued.state)) in
@@ -590,10 +605,12 @@ while_round-done condition body known old valued taken new before between after 
 pub repeat_round-done : (body : Walking (Unit {0})) (condition : Expr) (known : Known) (old bodied valued taken new : Walk) (before between after : Visits)
     (again behind : Kept)
     → Walks body old before bodied between tt → Walks (value_walk condition) bodied between valued after known
-    → Parts (where_so true condition known) (where_so false condition known) valued (Ok again) taken → behind ≡ taken.state → new.state ≡ again → new ≡ record taken { state = new.state }
+    → Parts (where_so true condition known) (where_so false condition known) valued (Ok again) taken → behind ≡ taken.state → new.state ≡ again
+    → new ≡ record taken { state = new.state }
     → Walks (repeat_round body condition) old before new after (viewed behind)
 repeat_round-done body condition known old bodied valued taken new before between after again behind one two parts behind_is again_is only =
-    let rest = λ (known : Known). here >>= λ tested. (with_state (where_so false condition known tested) >>= λ _. give (where_so true condition known tested)) in
+    let rest = λ (known : Known). here >>= λ tested.
+    (with_state (where_so false condition known tested) >>= λ _. give (where_so true condition known tested)) in
     walks-then body (λ _. value_walk condition >>= rest) old bodied new before between after tt (viewed behind) one
     (walks-then (value_walk condition) rest bodied valued new between after after known (viewed behind) two (record {
       context_is = ap context_of only ∙ ap context_of parts.0.only_state;

@@ -1,5 +1,6 @@
 -- What the checker did over a case statement, from what it did over the parts of it.
-use Rattle.std.proofs.Common.{rules, ◌≡◌, ◌≤◌, ◌<◌, refl, sym, subst, ap, ◌∙◌, ℕ, zero, suc, ◌+◌, add-one, ℤ, Bool, List, [], ◌∷◌, ◌++◌, append-nil, length, map, drop, get_or, Option, Result, Ok, Err}
+use Rattle.std.proofs.Common.{rules, ◌≡◌, ◌≤◌, ◌<◌, refl, sym, subst, ap, ◌∙◌, ℕ, zero, suc, ◌+◌, add-one, ℤ, Bool, List, [], ◌∷◌, ◌++◌, append-nil, length}
+use Rattle.std.proofs.Common.{map, drop, get_or, Option, Result, Ok, Err}
 use Rattle.std.specs.Prelude.{slice_get}
 use Rattle.std.specs.Result.{IsErr, IsErrAnd}
 use Rattle.std.specs.declared.vec.Vec.{Vec}
@@ -23,7 +24,8 @@ use Rattle.abstract_state.specs.Forms.{root_of}
 use Rattle.structured_states.specs.Cases.{arm_start, constants_before, covers, hull}
 use Rattle.structured_states.proofs.Claims.{item-cut, drop-past}
 use Rattle.cert_checker.specs.Promise.{IsBreachOf}
-use Rattle.cert_checker.specs.Walk.{Walked, Walking, ◌>>=◌, arm_walk, arms_walk, case_walk, enter, give, here, index_test, numbers_of, statement_walk, tested, value_walk, with_state}
+use Rattle.cert_checker.specs.Walk.{Walked, Walking, ◌>>=◌, arm_walk, arms_walk, case_walk, enter, give, here, index_test, numbers_of, statement_walk, tested}
+use Rattle.cert_checker.specs.Walk.{value_walk, with_state}
 use Rattle.cert_checker.specs.View.{Goes, IsMoved, Meets, Walks, all_counted, context_of, said_state}
 use Rattle.cert_checker.proofs.Steps.{breach-same, goes-as, goes-stopped, goes-then, moved-same, walks-give, walks-then}
 
@@ -81,7 +83,8 @@ case-not_tested site index rows arms range count old new before after fault coun
 
 pub index-done : (site : ℕ) (constants : List ℤ) (range : Interval) (closed : Bool) (passed value : Interval) (base : Kept) (old mid new : Walk)
     (visits : Visits)
-    → closed ≡ covers constants (length constants) range → passed ≡ common range (hull constants) → Walks (tested closed site passed) old visits mid visits value
+    → closed ≡ covers constants (length constants) range → passed ≡ common range (hull constants)
+    → Walks (tested closed site passed) old visits mid visits value
     → base ≡ mid.state → viewed new.state ≡ Dead → new ≡ record mid { state = new.state }
     → Walks (index_test site constants range) old visits new visits (viewed base)
 index-done site constants range closed passed value base old mid new visits closed_is passed_is one base_is dead only =

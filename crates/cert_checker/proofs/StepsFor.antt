@@ -23,7 +23,8 @@ use Rattle.domain.specs.Interval.{Interval}
 use Rattle.abstract_state.specs.declared.known.Known.TheVariants.{Ordinal}
 use Rattle.structured_states.specs.declared.ways.Way.{Way as KeptWay}
 use Rattle.structured_states.specs.Ways.{End, Way, end_of, met, turn_begun, turn_ended, way_of, way_out, where_counts, with_values}
-use Rattle.cert_checker.specs.Walk.{Walked, Walking, ◌>>=◌, assign, changed_by, control_change, enter, followed, for_round, for_turns, for_walk, give, loop_walk, numbers_of, parted, rounds_of, statement_walk, steady_in, tested_end, tested_way, value_walk, with_state, within}
+use Rattle.cert_checker.specs.Walk.{Walked, Walking, ◌>>=◌, assign, changed_by, control_change, enter, followed, for_round, for_turns, for_walk, give}
+use Rattle.cert_checker.specs.Walk.{loop_walk, numbers_of, parted, rounds_of, statement_walk, steady_in, tested_end, tested_way, value_walk, with_state, within}
 use Rattle.cert_checker.specs.View.{Goes, IsMoved, Moves, Parts, Walks, all_counted, context_of, said_tested}
 use Rattle.cert_checker.proofs.Steps.{breach-same, breach-stays, branches-stopped, goes-as, goes-stopped, goes-then, moved-same, walks-give}
 
@@ -46,7 +47,8 @@ pub for-begun : (statement : Stmt) (number loop_number : ℕ) (place : SourcePla
     → Goes (statement_walk statement) old before result new end
 for-begun statement number loop_number place control first first_fits direction last last_fits body inner way from to old entered begun valued new before
     between middle after end result is inner_is way_is one two three four =
-    let walked = λ (from to : Known). for_walk loop_number place (statement_walk body.value) (way_of control direction first first_fits last last_fits from to) in
+    let walked = λ (from to : Known). for_walk loop_number place (statement_walk body.value)
+    (way_of control direction first first_fits last last_fits from to) in
     let rest = λ (from : Known). value_walk last >>= walked from in
     goes-as (statement_walk statement) (enter number >>= λ _. (value_walk first >>= rest)) old new before end result
     (ap statement_walk is ∙ statement-For number loop_number place control first first_fits direction last last_fits body)
@@ -66,7 +68,8 @@ pub for-last_stopped : (statement : Stmt) (number loop_number : ℕ) (place : So
     → IsBreachOf (value_walk last (context_of begun) (viewed begun.state)) fault → Goes (statement_walk statement) old before (Err fault) new after
 for-last_stopped statement number loop_number place control first first_fits direction last last_fits body from old entered begun new before between middle
     after fault is one two stopped =
-    let walked = λ (from to : Known). for_walk loop_number place (statement_walk body.value) (way_of control direction first first_fits last last_fits from to) in
+    let walked = λ (from to : Known). for_walk loop_number place (statement_walk body.value)
+    (way_of control direction first first_fits last last_fits from to) in
     let rest = λ (from : Known). value_walk last >>= walked from in
     goes-as (statement_walk statement) (enter number >>= λ _. (value_walk first >>= rest)) old new before after (Err fault)
     (ap statement_walk is ∙ statement-For number loop_number place control first first_fits direction last last_fits body)
@@ -271,7 +274,8 @@ pub rounds-go : (number : ℕ) (place : SourcePlace) (body : Walking (Unit {0}))
     → steady ≡ steady_in (context_of old) number way → Goes (loop_walk number place (Some way.control) (for_round steady body)) old before result new after
     → Goes (rounds_of number place body way) old before result new after
 rounds-go number place body way steady old new before after result is goes =
-    goes-here (rounds_of number place body way) (loop_walk number place (Some way.control) (for_round (steady_in (context_of old) number way) body)) old new before
+    goes-here (rounds_of number place body way)
+    (loop_walk number place (Some way.control) (for_round (steady_in (context_of old) number way) body)) old new before
     after result refl
     (subst (λ s. Goes (loop_walk number place (Some way.control) (for_round s body)) old before result new after) is goes)
 

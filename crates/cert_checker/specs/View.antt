@@ -1,6 +1,7 @@
 -- The checker's own values as the definitions see them, and that the checker has walked over a piece of a program.
 -- It does not say what a walk is.
-use Rattle.std.specs.Prelude.{◌≡◌, ℕ, ◌+◌, ◌&&◌, true, List, [], ◌∷◌, ◌++◌, Option, Some, None, Result, Ok, Err, nat_eq, map}
+use Rattle.std.specs.Prelude.{◌≡◌, ℕ, ◌+◌, ◌&&◌, true, List, [], ◌∷◌, ◌++◌, Option, Some, None, Result, Ok, Err, nat_eq}
+use Rattle.std.specs.Prelude.{map}
 use Rattle.std.specs.declared.alloc.Global.{Global}
 use Rattle.std.specs.declared.boxed.Box.{Box}
 use Rattle.certificate.specs.declared.Certificate.{Certificate}
@@ -15,7 +16,8 @@ use Rattle.cert_checker.specs.declared.visits.Visits.{Visits}
 use Rattle.cert_checker.specs.declared.walk.Walk.{Walk}
 use Rattle.structured_states.specs.declared.rounds.Round.{Round as KeptRound}
 use Rattle.structured_states.specs.declared.ways.Way.{Way as KeptWay}
-use Rattle.structured_states.specs.Loops.{Round, claims_on, controls_inside, limits_at, round_of, touched, with_own, without_own}
+use Rattle.structured_states.specs.Loops.{Round, claims_on, controls_inside, limits_at, round_of, touched, with_own}
+use Rattle.structured_states.specs.Loops.{without_own}
 use Rattle.structured_states.specs.Ways.{Way}
 use Rattle.abstract_state.specs.Loops.{gives_all, head}
 use Rattle.place.specs.declared.Place.{Place}

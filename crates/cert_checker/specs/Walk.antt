@@ -1,7 +1,8 @@
 -- The walk of the checker over a program, one equation a form: the state after it, the sites that it leaves open, the
 -- rules that are broken, and the state at each entry into a statement or expression (ISO 7185:1990, 6.7, 6.8).
 -- It does not say that a program does what the walk says of it.
-use Rattle.std.specs.Prelude.{ℕ, ℤ, pos, drop, slice_get, Bool, true, false, not, ◌&&◌, ◌||◌, int_le, List, [], ◌∷◌, ◌++◌, Option, Some, None, if◌then◌else◌, map, length}
+use Rattle.std.specs.Prelude.{ℕ, ℤ, pos, drop, slice_get, Bool, true, false, not, ◌&&◌, ◌||◌, int_le, List, [], ◌∷◌}
+use Rattle.std.specs.Prelude.{◌++◌, Option, Some, None, if◌then◌else◌, map, length}
 use Rattle.std.specs.declared.alloc.Global.{Global}
 use Rattle.std.specs.declared.boxed.Box.{Box}
 use Rattle.std.specs.declared.vec.Vec.{Vec}
@@ -24,23 +25,29 @@ use Rattle.typed_tree.specs.declared.tree.Expr.TheOpen.Expr-F.{Constant, Variabl
 use Rattle.typed_tree.specs.declared.tree.Expr.TheFolds.{fold-Expr, fold-Link}
 use Rattle.typed_tree.specs.declared.tree.Stmt.{Stmt}
 use Rattle.typed_tree.specs.declared.tree.Stmt.TheOpen.{Stmt-F}
-use Rattle.typed_tree.specs.declared.tree.Stmt.TheOpen.Stmt-F.{Empty, Assign, Write, Compound, If, While, Repeat, For, Case}
+use Rattle.typed_tree.specs.declared.tree.Stmt.TheOpen.Stmt-F.{Empty, Assign, Write, Compound, If, While, Repeat, For}
+use Rattle.typed_tree.specs.declared.tree.Stmt.TheOpen.Stmt-F.{Case}
 use Rattle.typed_tree.specs.declared.tree.Stmt.TheFolds.{fold-Stmt}
-use Rattle.domain.specs.Interval.{Interval, is_included, has_number, common, sum, difference, negated, product, squared, absolute, quotient, remainder, without_zero_end, at_least, both, either, complement, truth_values}
+use Rattle.domain.specs.Interval.{Interval, is_included, has_number, common, sum, difference, negated, product, squared}
+use Rattle.domain.specs.Interval.{absolute, quotient, remainder, without_zero_end, at_least, both, either, complement}
+use Rattle.domain.specs.Interval.{truth_values}
 use Rattle.cert_checker.specs.declared.fault.Rule.{Rule}
 use Rattle.cert_checker.specs.declared.fault.Rule.TheVariants.{LoopEntry, LoopTurn, Changes}
 use Rattle.domain.specs.Facts.{Bound, Fact}
 use Rattle.types.specs.declared.form.OrdinalRange.{OrdinalRange}
 use Rattle.abstract_state.specs.declared.known.Known.{Known}
 use Rattle.abstract_state.specs.declared.known.Known.TheVariants.{Ordinal}
-use Rattle.abstract_state.specs.State.{State, Dead, start, integer, is_dead, is_defined, joined_states, limits_of, range_of, with_defined, unless_empty}
+use Rattle.abstract_state.specs.State.{State, Dead, start, integer, is_dead, is_defined, joined_states, limits_of}
+use Rattle.abstract_state.specs.State.{range_of, with_defined, unless_empty}
 use Rattle.abstract_state.specs.Changes.{assigned}
 use Rattle.abstract_state.specs.Conditions.{bound_form, branched, condition_of}
 use Rattle.abstract_state.specs.Forms.{root_of}
 use Rattle.structured_states.specs.Cases.{arm_start, constants_before, covers, hull}
 use Rattle.abstract_state.specs.Loops.{gives_all, head, with_undefined}
-use Rattle.structured_states.specs.Loops.{Round, all_control, all_limits, all_list, claims_on, limits_at, round_of, touched, with_own, without_own}
-use Rattle.structured_states.specs.Ways.{End, Way, met, steady, turn_begun, turn_ended, way_of, way_out, where_counts, with_values}
+use Rattle.structured_states.specs.Loops.{Round, all_control, all_limits, all_list, claims_on, limits_at, round_of}
+use Rattle.structured_states.specs.Loops.{touched, with_own, without_own}
+use Rattle.structured_states.specs.Ways.{End, Way, met, steady, turn_begun, turn_ended, way_of, way_out, where_counts}
+use Rattle.structured_states.specs.Ways.{with_values}
 
 -- what a walk goes by: the program and its certificate, the values of the variables' types, and the loops round the
 -- point, the outermost first

@@ -5,7 +5,8 @@ ghost use Rattle.std.specs.Prelude.{◌≡◌, IfErr, IfOk, length};
 ghost use Rattle.typed_tree.specs.Entries.{entries_of};
 ghost use Rattle.typed_tree.specs.Ids.{AreInOrder};
 ghost use Rattle.typed_tree.specs.WellFormed.{IsWellFormed};
-ghost use Rattle.cert_checker.specs.Promise.{AreNumbered, ClosedNeverErr, IsRefusedFor, LinksEntries, StatesHold, Valid};
+ghost use Rattle.cert_checker.specs.Promise.{AreNumbered, ClosedNeverErr, IsRefusedFor, LinksEntries, StatesHold};
+ghost use Rattle.cert_checker.specs.Promise.{Valid};
 ghost use Rattle.cert_checker.specs.Walk.{program_walk};
 
 pub mod fault;

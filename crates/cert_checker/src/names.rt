@@ -1,6 +1,7 @@
 ghost use Rattle.std.specs.Prelude.{◌≡◌, slice_get};
 ghost use Rattle.std.specs.List.{list_all};
-ghost use Rattle.cert_checker.specs.Names.{claims_are_known, fact_is_known, is_known, is_variable, section_is_known, stands_in};
+ghost use Rattle.cert_checker.specs.Names.{claims_are_known, fact_is_known, is_known, is_variable, section_is_known};
+ghost use Rattle.cert_checker.specs.Names.{stands_in};
 
 use certificate::{Certificate, LoopClaims, Section};
 use domain::facts::Fact;

@@ -1,8 +1,14 @@
 ghost use Rattle.std.specs.Prelude.{◌≡◌, ◌&&◌, [], true, false, map, IfOk, MatchResult};
-ghost use Rattle.cert_checker.specs.Walk.{enter, variable_walk, tested, within, positive, divisor, whole, operated, combined, value_walk, link_walk, width_test, width_walk, parameter_walk, all_of, fitting, assignment, assign, change, control_change, may_control, where_so, while_round, repeat_round, for_round, rounds_of, for_turns, for_walk, index_test, arm_walk, arms_walk, case_walk, tested_way, steady_in, statement_walk, block_walk, program_walk};
+ghost use Rattle.cert_checker.specs.Walk.{enter, variable_walk, tested, within, positive, divisor, whole, operated};
+ghost use Rattle.cert_checker.specs.Walk.{combined, value_walk, link_walk, width_test, width_walk, parameter_walk};
+ghost use Rattle.cert_checker.specs.Walk.{all_of, fitting, assignment, assign, change, control_change, may_control};
+ghost use Rattle.cert_checker.specs.Walk.{where_so, while_round, repeat_round, for_round, rounds_of, for_turns};
+ghost use Rattle.cert_checker.specs.Walk.{for_walk, index_test, arm_walk, arms_walk, case_walk, tested_way, steady_in};
+ghost use Rattle.cert_checker.specs.Walk.{statement_walk, block_walk, program_walk};
 ghost use Rattle.typed_tree.specs.Entries.{entries_of};
 ghost use Rattle.structured_states.specs.View.{said_way};
-ghost use Rattle.cert_checker.specs.View.{EntersLoop, Goes, IsBegun, IsLoop, LeavesLoop, Meets, Moves, Parts, all_counted, context_of, else_walk, said_state, said_tested};
+ghost use Rattle.cert_checker.specs.View.{EntersLoop, Goes, IsBegun, IsLoop, LeavesLoop, Meets, Moves, Parts};
+ghost use Rattle.cert_checker.specs.View.{all_counted, context_of, else_walk, said_state, said_tested};
 ghost use Rattle.abstract_state.specs.declared.known.Known.TheVariants.{Ordinal};
 ghost use Rattle.abstract_state.specs.View.{said_form, viewed};
 ghost use Rattle.abstract_state.specs.Loops.{with_undefined};

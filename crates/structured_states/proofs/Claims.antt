@@ -1,5 +1,6 @@
 -- The claims of a certificate on a loop, from one of several on; and lists that are made element by element.
-use Rattle.std.proofs.Common.{◌≡◌, ◌∙◌, sym, ap, ℕ, ◌+◌, ◌<◌, ◌≤◌, Bool, cond, nat_eq, List, [], ◌∷◌, ◌++◌, Option, Some, None, length, map, drop, drop-cons, take, get_or, add-one, suc}
+use Rattle.std.proofs.Common.{◌≡◌, ◌∙◌, sym, ap, ℕ, ◌+◌, ◌<◌, ◌≤◌, Bool, cond, nat_eq, List, [], ◌∷◌, ◌++◌, Option, Some, None, length, map, drop, drop-cons}
+use Rattle.std.proofs.Common.{take, get_or, add-one, suc}
 use Rattle.std.proofs.lemmas.List.{drop_all, take_more, map-append}
 use Rattle.certificate.specs.declared.LoopClaims.{LoopClaims as KeptClaims}
 use Rattle.certificate.specs.declared.Section.{Section as KeptSection}

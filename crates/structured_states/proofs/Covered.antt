@@ -1,5 +1,6 @@
 -- Which values the constants of a case cover, and their least range.
-use Rattle.std.proofs.Common.{arith, ◌≡◌, ◌∙◌, sym, ap, refl, subst, ℕ, zero, suc, ◌+◌, ◌<◌, ◌≤◌, ℤ, pos, ◌+ℤ◌, Bool, true, false, cond, ◌&&◌, ◌||◌, List, [], ◌∷◌, ◌++◌, append-nil, length, drop, take, get_or}
+use Rattle.std.proofs.Common.{arith, ◌≡◌, ◌∙◌, sym, ap, refl, subst, ℕ, zero, suc, ◌+◌, ◌<◌, ◌≤◌, ℤ, pos, ◌+ℤ◌, Bool, true, false, cond, ◌&&◌, ◌||◌, List, []}
+use Rattle.std.proofs.Common.{◌∷◌, ◌++◌, append-nil, length, drop, take, get_or}
 use Rattle.std.specs.Prelude.{flat_map, int_lt}
 use Rattle.std.specs.Ordering.{int_eq}
 use Rattle.std.specs.declared.alloc.Global.{Global}
@@ -41,7 +42,8 @@ covers-more constants most left range is present among =
     ∙ ap (λ t. t || (is_among constants range.first && covers constants left (from (range.first +ℤ pos 1) range.last))) present
     ∙ ap (λ t. t && covers constants left (from (range.first +ℤ pos 1) range.last)) among
 
-pub covers-missing : (constants : List ℤ) (most left : ℕ) (range : Interval) → most ≡ suc left → is_vacant range ≡ false → is_among constants range.first ≡ false
+pub covers-missing : (constants : List ℤ) (most left : ℕ) (range : Interval) → most ≡ suc left → is_vacant range ≡ false
+    → is_among constants range.first ≡ false
     → covers constants most range ≡ false
 covers-missing constants most left range is present missing =
     ap (λ n. covers constants n range) is
@@ -88,7 +90,8 @@ single-range n =
     let present : int_lt n n ≡ false = grind (arith, ints) in
     ap (λ t. cond t vacant (from n n)) present
 
-pub hull-more : (range : Interval) (numbers : List ℤ) (i : ℕ) (n : ℤ) (both : Interval) → i < length numbers → n ≡ get_or numbers i n → both ≡ joined range (between n n)
+pub hull-more : (range : Interval) (numbers : List ℤ) (i : ℕ) (n : ℤ) (both : Interval) → i < length numbers → n ≡ get_or numbers i n
+    → both ≡ joined range (between n n)
     → hull_with both (drop (i + 1) numbers) ≡ hull_with range (drop i numbers)
 hull-more range numbers i n both inside is both_is =
     ap (λ r. hull_with r (drop (i + 1) numbers)) (both_is ∙ ap (joined range) (single-range n))

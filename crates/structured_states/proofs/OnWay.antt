@@ -19,7 +19,8 @@ use Rattle.abstract_state.specs.Knows.{IsKept, IsOfForm, Knows, Shows, moment}
 use Rattle.abstract_state.proofs.Bounded.{bound-here, narrowed-known, order-known, related-known, root-here}
 use Rattle.abstract_state.proofs.Changed.{assigned-known}
 use Rattle.abstract_state.proofs.Knows.{defined-known, nonempty-known, place_of}
-use Rattle.structured_states.specs.Ways.{Way, in_order, met, moved_on, next, on_way, own, present, relation_of, single, step, turn_begun, turn_ended, unless_touched, values_behind, where_counts}
+use Rattle.structured_states.specs.Ways.{Way, in_order, met, moved_on, next, on_way, own, present, relation_of, single, step, turn_begun, turn_ended}
+use Rattle.structured_states.specs.Ways.{unless_touched, values_behind, where_counts}
 
 -- a number comes before another on a way
 abbrev pub Ordered : Direction → ℤ → ℤ → Type 0

@@ -1,6 +1,7 @@
 -- What is known in a case statement (ISO 7185:1990, 6.8.3.5): which values its constants cover, and what is known where
 -- an arm is executed. It does not say what an arm does.
-use Rattle.std.specs.Prelude.{ℕ, zero, suc, ℤ, pos, ◌+ℤ◌, Bool, ◌&&◌, ◌||◌, List, [], ◌∷◌, Option, Some, None, flat_map, take}
+use Rattle.std.specs.Prelude.{ℕ, zero, suc, ℤ, pos, ◌+ℤ◌, Bool, ◌&&◌, ◌||◌, List, [], ◌∷◌, Option, Some, None, flat_map}
+use Rattle.std.specs.Prelude.{take}
 use Rattle.std.specs.declared.alloc.Global.{Global}
 use Rattle.std.specs.declared.vec.Vec.{Vec}
 use Rattle.domain.specs.Interval.{Interval, common, is_vacant, joined, vacant}

@@ -4,7 +4,8 @@ ghost use Rattle.domain.specs.Facts.{said};
 ghost use Rattle.abstract_state.specs.Loops.{gives_all, head, is_among};
 ghost use Rattle.abstract_state.specs.View.{viewed};
 ghost use Rattle.certificate.specs.Contents.{loop_of, section_of};
-ghost use Rattle.structured_states.specs.Loops.{all_limits, claims_on, controls_inside, found_among, found_in, limits_at, touched, type_limits};
+ghost use Rattle.structured_states.specs.Loops.{all_limits, claims_on, controls_inside, found_among, found_in};
+ghost use Rattle.structured_states.specs.Loops.{limits_at, touched, type_limits};
 ghost use Rattle.structured_states.specs.View.{found_as, head_round, is_own, kept_round, said_claims};
 
 use abstract_state::{State, limits};

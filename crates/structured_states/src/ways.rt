@@ -5,7 +5,9 @@ ghost use Rattle.abstract_state.specs.State.{bound_range};
 ghost use Rattle.abstract_state.specs.View.{said_form, viewed};
 ghost use Rattle.structured_states.specs.Loops.{touched};
 ghost use Rattle.structured_states.specs.View.{head_round, said_end, said_way};
-ghost use Rattle.structured_states.specs.Ways.{end_of, in_order, met, next, on_way, own, relation_of, steady, turn_begun, turn_ended, unless_touched, values_behind, where_counts, with_values};
+ghost use Rattle.structured_states.specs.Ways.{end_of, in_order, met, next, on_way, own, relation_of, steady};
+ghost use Rattle.structured_states.specs.Ways.{turn_begun, turn_ended, unless_touched, values_behind, where_counts};
+ghost use Rattle.structured_states.specs.Ways.{with_values};
 
 use crate::rounds::Round;
 use abstract_state::{Known, State, bound_form};

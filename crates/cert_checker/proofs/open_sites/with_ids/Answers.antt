@@ -15,9 +15,11 @@ loop-site-preserved c =
     let i = c.loop-site.site-index in
     let before = c.loop-site.found.items in
     elim c.if-is_among.branch [
-      | then-is_among+in_ok-push w ↦ open_in-taken ids sites i _ before c.if-is_among.found.items c.is_among.result c.loop-site-test.true c.loop-site.invariant c.is_among.ensures w.if-is_among.true
+      | then-is_among+in_ok-push w ↦ open_in-taken ids sites i _ before c.if-is_among.found.items c.is_among.result c.loop-site-test.true
+          c.loop-site.invariant c.is_among.ensures w.if-is_among.true
           (ap (λ list. list.items) w.found-is ∙ w.in_ok-push.ensures.items)
-      | else-is_among w ↦ open_in-left ids sites i _ before c.if-is_among.found.items c.is_among.result c.loop-site-test.true c.loop-site.invariant c.is_among.ensures w.if-is_among.false
+      | else-is_among w ↦ open_in-left ids sites i _ before c.if-is_among.found.items c.is_among.result c.loop-site-test.true c.loop-site.invariant
+          c.is_among.ensures w.if-is_among.false
           (ap (λ list. list.items) w.found-is)
     ]
 

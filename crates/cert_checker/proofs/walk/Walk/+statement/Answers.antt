@@ -1,8 +1,10 @@
 use Rattle.std.proofs.Common.{refl, length, map, true, false, Some, None, Ok, Err}
-use Rattle.cert_checker.specs.Walk.{all_of, arms_walk, case_walk, for_round, for_turns, for_walk, repeat_round, rounds_of, statement_walk, where_so, while_round}
+use Rattle.cert_checker.specs.Walk.{all_of, arms_walk, case_walk, for_round, for_turns, for_walk, repeat_round, rounds_of, statement_walk, where_so}
+use Rattle.cert_checker.specs.Walk.{while_round}
 use Rattle.structured_states.specs.View.{said_end, said_way}
 use Rattle.cert_checker.specs.View.{else_walk}
-use Rattle.cert_checker.proofs.Steps.{all-step, all-end, given-up, if-begun, branches-done, branches-stopped, loop-done, loop-stopped, while-begun, repeat-begun, while_round-done, repeat_round-done}
+use Rattle.cert_checker.proofs.Steps.{all-step, all-end, given-up, if-begun, branches-done, branches-stopped, loop-done, loop-stopped, while-begun}
+use Rattle.cert_checker.proofs.Steps.{repeat-begun, while_round-done, repeat_round-done}
 use Rattle.cert_checker.proofs.StepsFor.{for-begun, for-last_stopped, for-stopped, rounds-go, turns-done, turns-not_begun, turns-not_tested, way-same}
 use Rattle.cert_checker.proofs.StepsCase.{arms-end, arms-step, arms-stopped, case-begun, case-not_tested, case-tested}
 use Rattle.abstract_state.specs.View.{viewed}
@@ -37,7 +39,8 @@ statement-returns-in_err-statement-in-If t c =
     (if-begun c.args.statement.now it.number it.condition it.consequence it.alternative c.deref-in-If.result.now c.args.self.now c.enter-in-If.new.self
     valued new c.args.visits.now c.enter-in-If.new.visits between after known (Err fault) it.is c.deref-in-If.ensures c.in_ok-enter-in-If.ensures
     c.in_ok-known-in-If.ensures
-    (branches-stopped (where_so true it.condition known) (where_so false it.condition known) (statement_walk c.deref-in-If.result.now) (else_walk it.alternative) valued c.part.new.self new between after
+    (branches-stopped (where_so true it.condition known) (where_so false it.condition known) (statement_walk c.deref-in-If.result.now)
+    (else_walk it.alternative) valued c.part.new.self new between after
     c.in_ok-otherwise-in-If.otherwise fault c.in_ok-otherwise-in-If.ensures c.in_err-statement-in-If.ensures))
 
 pub statement-returns-in_ok-alternative-in-If : goal.statement-returns-in_ok-alternative-in-If
@@ -48,7 +51,8 @@ statement-returns-in_ok-alternative-in-If t c =
     if-begun c.args.statement.now it.number it.condition it.consequence it.alternative c.deref-in-If.result.now c.args.self.now c.enter-in-If.new.self
     valued c.meet.new.self c.args.visits.now c.enter-in-If.new.visits c.expression.new.visits c.alternative.new.visits known c.meet.result
     it.is c.deref-in-If.ensures c.in_ok-enter-in-If.ensures c.in_ok-known-in-If.ensures
-    (branches-done (where_so true it.condition known) (where_so false it.condition known) (statement_walk c.deref-in-If.result.now) (else_walk it.alternative) valued c.part.new.self c.statement.new.self _
+    (branches-done (where_so true it.condition known) (where_so false it.condition known) (statement_walk c.deref-in-If.result.now)
+    (else_walk it.alternative) valued c.part.new.self c.statement.new.self _
     c.alternative.new.self c.meet.new.self c.expression.new.visits c.statement.new.visits c.alternative.new.visits c.replace-behind.result
     c.in_ok-otherwise-in-If.otherwise c.meet.result c.in_ok-otherwise-in-If.ensures c.in_ok-statement-in-If.ensures c.replace-behind.ensures.value
     c.replace-behind.ensures.after refl c.in_ok-alternative-in-If.ensures c.meet.ensures)
@@ -71,7 +75,8 @@ statement-returns-in_ok-behind-in-While t c =
     let walking = while_round it.condition (statement_walk c.deref-in-While.result.now) in
     let entered = c.enter-in-While.new.self in
     let between = c.enter-in-While.new.visits in
-    while-begun c.args.statement.now it.number it.loop_number it.place it.condition it.body c.deref-in-While.result.now c.args.self.now entered c.leave_loop.new.self
+    while-begun c.args.statement.now it.number it.loop_number it.place it.condition it.body c.deref-in-While.result.now c.args.self.now entered
+    c.leave_loop.new.self
     c.args.visits.now between c.while_round.new.visits c.leave_loop.result it.is c.deref-in-While.ensures c.in_ok-enter-in-While.ensures
     (loop-done it.loop_number it.place None walking entered c.enter_loop.new.self c.in_ok-enter_loop-in-While.ensures c.while_round.new.self between
     c.while_round.new.visits c.in_ok-behind-in-While.behind c.in_ok-behind-in-While.ensures c.leave_loop.result c.leave_loop.new.self c.leave_loop.ensures)
@@ -98,10 +103,12 @@ statement-returns-in_ok-behind-in-Repeat t c =
     let walking = repeat_round (all_of (map statement_walk c.deref-in-Repeat.result.now)) it.condition in
     let entered = c.enter-in-Repeat.new.self in
     let between = c.enter-in-Repeat.new.visits in
-    repeat-begun c.args.statement.now it.number it.loop_number it.place it.statements it.condition c.deref-in-Repeat.result.now c.args.self.now entered c.leave_loop-in-Repeat.new.self
+    repeat-begun c.args.statement.now it.number it.loop_number it.place it.statements it.condition c.deref-in-Repeat.result.now c.args.self.now entered
+    c.leave_loop-in-Repeat.new.self
     c.args.visits.now between c.repeat_round.new.visits c.leave_loop-in-Repeat.result it.is c.deref-in-Repeat.ensures.value c.in_ok-enter-in-Repeat.ensures
     (loop-done it.loop_number it.place None walking entered c.enter_loop-in-Repeat.new.self c.in_ok-enter_loop-in-Repeat.ensures c.repeat_round.new.self between
-    c.repeat_round.new.visits c.in_ok-behind-in-Repeat.behind c.in_ok-behind-in-Repeat.ensures c.leave_loop-in-Repeat.result c.leave_loop-in-Repeat.new.self c.leave_loop-in-Repeat.ensures)
+    c.repeat_round.new.visits c.in_ok-behind-in-Repeat.behind c.in_ok-behind-in-Repeat.ensures c.leave_loop-in-Repeat.result c.leave_loop-in-Repeat.new.self
+    c.leave_loop-in-Repeat.ensures)
 
 pub statement-returns-in_err-behind-in-Repeat : goal.statement-returns-in_err-behind-in-Repeat
 statement-returns-in_err-behind-in-Repeat t c =
@@ -255,7 +262,8 @@ arms-returns-in_err-arm t c =
     let fault = c.in_err-arm.field-0.0 in
     let left = c.from_residual-in_err-arm in
     let base = viewed c.args.base.now in
-    given-up (arms_walk base c.args.index c.args.constants.now (map statement_walk c.args.arms.now)) c.args.self.now new c.args.visits.now after fault left.result
+    given-up (arms_walk base c.args.index c.args.constants.now
+    (map statement_walk c.args.arms.now)) c.args.self.now new c.args.visits.now after fault left.result
     left.ensures
     (here.invariant (Err fault) new after
     (arms-stopped base c.args.index c.args.constants.now c.args.arms.now here.i c.index-arms-i.result c.loop-i-test.true c.index-arms-i.is

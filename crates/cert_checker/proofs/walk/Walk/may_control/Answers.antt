@@ -14,7 +14,8 @@ returns-then-all_control c =
     let root = c.args.way.now.control in
     let all : all_control root (map kept_round c.args.self.now.rounds.items) ≡ true =
     list_all-map (λ (round : Round). is_among root round.controls) kept_round c.args.self.now.rounds.items
-    ∙ sym (c.all_control.ensures ∙ ap (list_all (λ (round : KeptRound). is_among root (kept_round round).controls)) c.deref.ensures.value) ∙ c.if-all_control.true in
+    ∙ sym (c.all_control.ensures ∙ ap (list_all (λ (round : KeptRound). is_among root (kept_round round).controls)) c.deref.ensures.value)
+    ∙ c.if-all_control.true in
     let limits = limits_at c.args.self.now.limits.items root in
     let fits = is_included (limits_of c.args.way.now.first.fits.range) limits && is_included (limits_of c.args.way.now.last.fits.range) limits in
     c.fits.ensures ∙ ap (λ a. a && fits) (sym all)
@@ -24,7 +25,8 @@ returns-else-all_control c =
     let root = c.args.way.now.control in
     let none : all_control root (map kept_round c.args.self.now.rounds.items) ≡ false =
     list_all-map (λ (round : Round). is_among root round.controls) kept_round c.args.self.now.rounds.items
-    ∙ sym (c.all_control.ensures ∙ ap (list_all (λ (round : KeptRound). is_among root (kept_round round).controls)) c.deref.ensures.value) ∙ c.if-all_control.false in
+    ∙ sym (c.all_control.ensures ∙ ap (list_all (λ (round : KeptRound). is_among root (kept_round round).controls)) c.deref.ensures.value)
+    ∙ c.if-all_control.false in
     let limits = limits_at c.args.self.now.limits.items root in
     let fits = is_included (limits_of c.args.way.now.first.fits.range) limits && is_included (limits_of c.args.way.now.last.fits.range) limits in
     c.if-all_control.false ∙ ap (λ a. a && fits) (sym none)
