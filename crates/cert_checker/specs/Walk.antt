@@ -31,6 +31,7 @@ use Rattle.typed_tree.specs.declared.tree.Stmt.TheFolds.{fold-Stmt}
 use Rattle.domain.specs.Interval.{Interval, is_included, has_number, common, sum, difference, negated, product, squared}
 use Rattle.domain.specs.Interval.{absolute, quotient, remainder, without_zero_end, at_least, both, either, complement}
 use Rattle.domain.specs.Interval.{truth_values}
+use Rattle.domain.specs.Numbers.{hull, is_covered}
 use Rattle.cert_checker.specs.declared.fault.Rule.{Rule}
 use Rattle.cert_checker.specs.declared.fault.Rule.TheVariants.{LoopEntry, LoopTurn, Changes}
 use Rattle.domain.specs.Facts.{Bound, Fact}
@@ -42,7 +43,7 @@ use Rattle.abstract_state.specs.State.{range_of, with_defined, unless_empty}
 use Rattle.abstract_state.specs.Changes.{assigned}
 use Rattle.abstract_state.specs.Conditions.{bound_form, branched, condition_of}
 use Rattle.abstract_state.specs.Forms.{root_of}
-use Rattle.structured_states.specs.Cases.{arm_start, constants_before, covers, hull}
+use Rattle.structured_states.specs.Cases.{arm_start, constants_before}
 use Rattle.abstract_state.specs.Loops.{gives_all, head, with_undefined}
 use Rattle.structured_states.specs.Loops.{Round, all_control, all_limits, all_list, claims_on, limits_at, round_of}
 use Rattle.structured_states.specs.Loops.{touched, with_own, without_own}
@@ -435,7 +436,7 @@ for_walk number place body way = do
 -- yet
 abbrev pub index_test : ℕ → List ℤ → Interval → Walking State
 index_test site constants range = do
-  _ ← tested (covers constants (length constants) range) site (common range (hull constants))
+  _ ← tested (is_covered range constants) site (common range (hull constants))
   base ← here
   _ ← with_state Dead
   give base
