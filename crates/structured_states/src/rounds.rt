@@ -157,8 +157,8 @@ pub fn controls_inside(tree: &Tree, number: u32) -> &[u32]
     }
 }
 
-/// What a certificate claims of each loop of a program, by the numbers of the loops: none where it doesn't speak of one.
-/// Claims on a loop that the program doesn't have are passed over.
+/// What a certificate claims of each loop of a program, by the numbers of the loops: none where it doesn't speak of
+/// one. Claims on a loop that the program doesn't have are passed over.
 pub fn all_claims<'a>(
     alloc: Global,
     tree: &Tree,
@@ -186,10 +186,9 @@ fn enter_all<'a>(found: &mut [Option<&'a LoopClaims>], loops: &'a [LoopClaims])
 fn enter<'a>(found: &mut [Option<&'a LoopClaims>], claims: &'a LoopClaims)
     ensures { AreFound found.old found.new (λ number. found_among number (loop_of claims.now ∷ [])) }
 {
-    if let Some(place) = found.get_mut(claims.number as usize) {
-        if place.is_none() {
-            *place = Some(claims);
-        }
+    let number = claims.number as usize;
+    if let Some(None) = found.get(number) {
+        found[number] = Some(claims);
     }
 }
 
