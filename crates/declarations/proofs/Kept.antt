@@ -8,7 +8,7 @@ use Rattle.syntax_tree.specs.declared.TypeDenoter.{TypeDenoter}
 use Rattle.syntax_tree.specs.declared.TypeDenoter.TheVariants as denoter
 use Rattle.syntax_tree.specs.declared.VariableGroup.{VariableGroup}
 use Rattle.types.specs.declared.form.TypeId.{TypeId}
-use Rattle.types.specs.Types.{cells_of}
+use Rattle.types.specs.Types.{cells_of, most_cells}
 use Rattle.scopes.specs.Scopes.{Region, Knows, found, define}
 use Rattle.scopes.specs.declared.denotation.Denotation.{Denotation}
 use Rattle.scopes.specs.declared.denotation.Denotation.TheVariants as denotes
@@ -18,7 +18,7 @@ use Rattle.typed_tree.specs.declared.fault.TypeFault.TheVariants as fault
 use Rattle.typed_tree.specs.Look.{Look}
 use Rattle.typing.specs.Names.{folded}
 use Rattle.typing.specs.Passing.{Passed, Checked, After, Passing, after, and_then, behind_marks, each, ◌>>=◌, ◌>>◌}
-use Rattle.typing.specs.Steps.{most_cells, told, declare, give_output, next_root, reserve}
+use Rattle.typing.specs.Steps.{told, declare, give_output, next_root, reserve}
 use Rattle.typing.specs.Typing.{named_type, denoted_type, parameter_of_program, variable, group}
 use Rattle.declarations.specs.Known.{AreKnown, AreKnownGroups}
 

@@ -9,6 +9,8 @@ mod certificates;
 #[cfg(test)]
 mod checking;
 #[cfg(test)]
+mod declared_types;
+#[cfg(test)]
 mod generation;
 #[cfg(test)]
 mod lexemes;

@@ -48,12 +48,14 @@ fn are_apart(table: &TypeTable) -> bool {
         && !table.assignable(boolean, integer)
 }
 
-/// Whether the required types are made of these two forms, and no other type is there.
+/// Whether the required types are made of these three forms, and no other type is there.
 fn forms_hold(table: &TypeTable) -> bool {
     matches!(table.form(TypeTable::INTEGER), Some(TypeForm::Integer))
         && matches!(table.form(TypeTable::BOOLEAN), Some(TypeForm::Boolean))
-        && table.form(TypeId { index: 2 }).is_none()
-        && has_range(Some(TypeForm::Boolean.range()), 0, 1)
+        && matches!(table.form(TypeTable::CHAR), Some(TypeForm::Char))
+        && table.form(TypeId { index: 3 }).is_none()
+        && has_range(TypeForm::Boolean.range(), 0, 1)
+        && has_range(table.range(TypeTable::CHAR), 0, 127)
 }
 
 #[test]

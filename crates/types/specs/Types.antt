@@ -1,15 +1,23 @@
--- The rules of types (ISO 7185:1990, 6.4.2, 6.4.5, 6.4.6) over a table of types and their numbers there: the same type,
--- compatible and assignment compatible types, the values of an ordinal type, and the cells that a variable takes.
--- They say nothing of which type a denoter denotes.
-use Rattle.std.specs.Prelude.{ℕ, List, [], ◌∷◌, pos, neg_ℤ, Bool, Option, Some, None, nat_eq, slice_get}
+-- The rules of types (ISO 7185:1990, 6.4.2 to 6.4.6) over a table of types and their numbers there: the values of an
+-- ordinal type, host types, strings, compatible and assignment compatible types, the cells that a variable takes, and the
+-- forms that may be added. They say nothing of which type a denoter denotes.
+use Rattle.std.specs.Prelude.{ℕ, ◌+◌, ◌*◌, List, [], ◌∷◌, ◌++◌, length, fold, sum_by, ℤ, pos, negsuc, neg_ℤ, ◌+ℤ◌, ◌-ℤ◌, int_lt}
+use Rattle.std.specs.Prelude.{Bool, true, false, ◌&&◌, ◌||◌, if◌then◌else◌, Option, Some, None, is_some, nat_eq, nat_lt, slice_get}
+use Rattle.std.specs.Prelude.{Result, Ok, Err, bytes_eq, ok_or}
+use Rattle.std.specs.Option.{option_and_then}
+use Rattle.std.specs.Ordering.{int_eq}
+use Rattle.types.specs.declared.form.Field.{Field}
 use Rattle.types.specs.declared.form.TypeForm.{TypeForm}
-use Rattle.types.specs.declared.form.TypeForm.TheVariants.{Integer, Boolean}
+use Rattle.types.specs.declared.form.TypeForm.TheVariants.{Integer, Boolean, Char, Enumeration, Subrange, Array, Record}
 use Rattle.types.specs.declared.form.TypeId.{TypeId}
 use Rattle.types.specs.declared.form.OrdinalRange.{OrdinalRange}
+use Rattle.types.specs.declared.refusal.TypeRefusal.{TypeRefusal}
+use Rattle.types.specs.declared.refusal.TypeRefusal.TheVariants as refusal
+use Rattle.types.specs.declared.table.Entry.{Entry}
 
 -- the required types, in the order of their numbers
 abbrev pub required_forms : List TypeForm
-required_forms = Integer ∷ Boolean ∷ []
+required_forms = Integer ∷ Boolean ∷ Char ∷ []
 
 -- the type integer is the first of each table
 abbrev pub integer : TypeId
@@ -19,6 +27,10 @@ integer = record { index = 0 }
 abbrev pub boolean : TypeId
 boolean = record { index = 1 }
 
+-- the type char is the third
+abbrev pub char : TypeId
+char = record { index = 2 }
+
 -- the form of a type of a table
 abbrev pub form_at : List TypeForm → TypeId → Option TypeForm
 form_at types id = slice_get types id.index
@@ -27,30 +39,154 @@ form_at types id = slice_get types id.index
 abbrev pub is_same : TypeId → TypeId → Bool
 is_same first second = nat_eq first.index second.index
 
--- compatible types: the required types alone are there, and each is compatible with itself alone
-abbrev pub is_compatible : List TypeForm → TypeId → TypeId → Bool
-is_compatible types first second = is_same first second
+-- the values from the first to the last
+abbrev pub range : ℤ → ℤ → Option OrdinalRange
+range first last = Some (record { first = first; last = last })
 
--- a value of the second type may be assigned to the first, if it lies in its range: compatible ordinal types
-abbrev pub is_assignable : List TypeForm → TypeId → TypeId → Bool
-is_assignable types target value = is_compatible types target value
-
--- the first and the last value of an ordinal form
-abbrev pub form_range : Option TypeForm → Option OrdinalRange
-form_range None = None
-form_range (Some Integer) = Some (record { first = neg_ℤ (pos 2147483647); last = pos 2147483647 })
-form_range (Some Boolean) = Some (record { first = pos 0; last = pos 1 })
+-- the first and the last value of an ordinal form (6.4.2)
+abbrev pub form_range : TypeForm → Option OrdinalRange
+form_range Integer = range (neg_ℤ (pos 2147483647)) (pos 2147483647)
+form_range Boolean = range (pos 0) (pos 1)
+form_range Char = range (pos 0) (pos 127)
+form_range (Enumeration last) = range (pos 0) last
+form_range (Subrange host first last) = range first last
+form_range (Array packed index element) = None
+form_range (Record packed fields) = None
 
 -- the first and the last value of an ordinal type
 abbrev pub range_of : List TypeForm → TypeId → Option OrdinalRange
-range_of types id = form_range (form_at types id)
+range_of types id = option_and_then form_range (form_at types id)
 
--- a scalar takes one cell
-abbrev pub form_cells : Option TypeForm → ℕ
-form_cells None = 1
-form_cells (Some Integer) = 1
-form_cells (Some Boolean) = 1
+-- a type is ordinal, if it has a first and a last value
+abbrev pub is_ordinal : List TypeForm → TypeId → Bool
+is_ordinal types id = is_some (range_of types id)
+
+abbrev pub host_in : TypeId → Option TypeForm → TypeId
+host_in id (Some (Subrange host first last)) = host
+host_in id other = id
+
+-- the host type of a subrange; another type itself (6.4.2.4)
+abbrev pub host_of : List TypeForm → TypeId → TypeId
+host_of types id = host_in id (form_at types id)
+
+-- a number that is not negative
+abbrev pub natural : ℤ → ℕ
+natural (pos n) = n
+natural (negsuc n) = 0
+
+-- the last value of a subrange of integer from 1 to more than 1
+abbrev pub string_last : Option TypeForm → Option ℕ
+string_last (Some (Subrange host first last)) =
+    if is_same host integer && (int_eq first (pos 1) && int_lt (pos 1) last) then Some (natural last) else None
+string_last other = None
+
+abbrev pub string_in : List TypeForm → Option TypeForm → Option ℕ
+string_in types (Some (Array true index element)) =
+    if is_same element char then string_last (form_at types index) else None
+string_in types other = None
+
+-- how many components a string has: a packed array of char over a subrange of integer from 1 to more than 1 (6.4.3.2)
+abbrev pub string_length : List TypeForm → TypeId → Option ℕ
+string_length types id = string_in types (form_at types id)
+
+abbrev pub is_string : List TypeForm → TypeId → Bool
+is_string types id = is_some (string_length types id)
+
+abbrev pub have_one_length : Option ℕ → Option ℕ → Bool
+have_one_length (Some first) (Some second) = nat_eq first second
+have_one_length first second = false
+
+-- compatible types: one type, a subrange and its host type, subranges of one host type, or strings of one length (6.4.5)
+abbrev pub is_compatible : List TypeForm → TypeId → TypeId → Bool
+is_compatible types first second =
+    is_same (host_of types first) (host_of types second)
+    || have_one_length (string_length types first) (string_length types second)
+
+-- a value of the second type may be assigned to the first, if it lies in its range: compatible types (6.4.6)
+abbrev pub is_assignable : List TypeForm → TypeId → TypeId → Bool
+is_assignable types target value = is_compatible types target value
+
+-- the field of a name among those from a place on
+abbrev pub field_among : ℕ → List Field → List ℕ → Option (ℕ × TypeId)
+field_among place [] name = None
+field_among place (field ∷ fields) name =
+    if bytes_eq field.name.items name then Some (place, field.type_id) else field_among (place + 1) fields name
+
+abbrev pub field_in : List ℕ → Option TypeForm → Option (ℕ × TypeId)
+field_in name (Some (Record packed fields)) = field_among 0 fields.items name
+field_in name other = None
+
+-- the field of a record that has a name: its place from 0, and its type (6.5.3.3)
+abbrev pub field_of : List TypeForm → TypeId → List ℕ → Option (ℕ × TypeId)
+field_of types id name = field_in name (form_at types id)
+
+-- how many values a range has
+abbrev pub values_in : OrdinalRange → ℕ
+values_in range = natural (range.last -ℤ range.first +ℤ pos 1)
+
+abbrev pub index_values : Option OrdinalRange → ℕ
+index_values None = 0
+index_values (Some range) = values_in range
+
+abbrev pub entry_cells : Option Entry → ℕ
+entry_cells None = 1
+entry_cells (Some entry) = entry.cells
+
+abbrev pub entry_values : Option Entry → ℕ
+entry_values None = 0
+entry_values (Some entry) = index_values (form_range entry.form)
+
+-- the cells of a type among those counted, and how many values it has
+abbrev pub cells_at : List Entry → TypeId → ℕ
+cells_at entries id = entry_cells (slice_get entries id.index)
+
+abbrev pub values_at : List Entry → TypeId → ℕ
+values_at entries id = entry_values (slice_get entries id.index)
+
+-- the cells of a form over types that are counted: one of a scalar, those of its elements or fields of another
+abbrev pub form_cells : List Entry → TypeForm → ℕ
+form_cells before Integer = 1
+form_cells before Boolean = 1
+form_cells before Char = 1
+form_cells before (Enumeration last) = 1
+form_cells before (Subrange host first last) = 1
+form_cells before (Array packed index element) = values_at before index * cells_at before element
+form_cells before (Record packed fields) = sum_by (λ field. cells_at before field.type_id) fields.items
+
+abbrev pub count_next : List Entry → TypeForm → List Entry
+count_next before form = before ++ record { form = form; cells = form_cells before form } ∷ []
+
+-- each type of a table with its cells, which are counted from those of the types before it
+abbrev pub counted : List TypeForm → List Entry
+counted types = fold count_next [] types
 
 -- the cells that a variable of the type takes
 abbrev pub cells_of : List TypeForm → TypeId → ℕ
-cells_of types id = form_cells (form_at types id)
+cells_of types id = cells_at (counted types) id
+
+-- a type takes no more cells
+abbrev pub most_cells : ℕ
+most_cells = 65536
+
+-- a number of cells that a type may take
+abbrev pub few : ℕ → Option ℕ
+few cells = if nat_lt most_cells cells then None else Some cells
+
+-- the first value of a subrange lies above its last
+abbrev pub is_turned : TypeForm → Bool
+is_turned (Subrange host first last) = int_lt last first
+is_turned form = false
+
+-- the cells of a form that may be added to a table, or the rule that it breaks
+abbrev pub admitted_cells : List TypeForm → TypeForm → Result ℕ TypeRefusal
+admitted_cells types form =
+    if is_turned form then Err refusal.FirstAboveLast
+    else ok_or (few (form_cells (counted types) form)) refusal.TooManyCells
+
+abbrev pub numbered : List TypeForm → Result ℕ TypeRefusal → Result TypeId TypeRefusal
+numbered types (Ok cells) = Ok (record { index = length types })
+numbered types (Err rule) = Err rule
+
+-- the number of a form that is added to a table, or the rule that it breaks
+abbrev pub admitted : List TypeForm → TypeForm → Result TypeId TypeRefusal
+admitted types form = numbered types (admitted_cells types form)

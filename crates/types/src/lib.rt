@@ -2,7 +2,9 @@
 #![tactic(auto)]
 
 mod form;
+mod refusal;
 mod table;
 
-pub use form::{MAXINT, OrdinalRange, TypeForm, TypeId};
-pub use table::TypeTable;
+pub use form::{Field, MAXINT, OrdinalRange, TypeForm, TypeId};
+pub use refusal::TypeRefusal;
+pub use table::{MOST_CELLS, TypeTable};

@@ -1,25 +1,43 @@
-ghost use Rattle.std.specs.Prelude.{◌≡◌, List, IfOk};
-ghost use Rattle.types.specs.Types.{form_at, required_forms};
+ghost use Rattle.std.specs.Prelude.{◌≡◌, ◌⊎◌, ◌++◌, ◌*◌, ◌∷◌, [], List, Err, IfOk, IsOk, OnErr, OnOk, map};
+ghost use Rattle.std.specs.Prelude.{sum_by};
+ghost use Rattle.std.specs.Option.{option_copied};
+ghost use Rattle.types.specs.Types.{admitted, admitted_cells, cells_at, counted, few, form_at, form_cells, is_turned};
+ghost use Rattle.types.specs.Types.{required_forms, values_at};
 ghost use Rattle.types.specs.declared.form.TypeForm.{TypeForm};
+ghost use Rattle.types.specs.declared.refusal.TypeRefusal.TheVariants.{Memory};
 
-use crate::form::{OrdinalRange, TypeForm, TypeId};
+use crate::form::{Field, OrdinalRange, TypeForm, TypeId, field_among};
+use crate::refusal::TypeRefusal;
 use std::alloc::{AllocError, Global};
 use std::marker::Model;
+
+/// How many cells a variable of a type takes at most.
+pub const MOST_CELLS: u32 = 65_536;
+
+// A type of the table, with the cells that a variable of it takes.
+#[derive(Drop)]
+struct Entry {
+    form: TypeForm,
+    cells: u32,
+}
 
 /// The types of a program, by number.
 #[derive(Drop)]
 pub struct TypeTable {
-    forms: Vec<TypeForm>,
+    entries: Vec<Entry>,
 }
 
 impl Model for TypeTable {
     ghost Value = { List TypeForm };
 
-    ghost view = { λ table. table.forms.items };
+    ghost view = { λ table. map (λ entry. entry.form) table.entries.items };
+
+    ghost invariant = { λ table. table.entries.items ≡ counted (map (λ entry. entry.form) table.entries.items) };
 }
 
 impl TypeTable {
-    ghost use Rattle.types.specs.Types.{is_compatible, is_assignable, range_of, cells_of};
+    ghost use Rattle.types.specs.Types.{cells_of, field_of, host_of, is_assignable, is_compatible, is_ordinal};
+    ghost use Rattle.types.specs.Types.{is_string, range_of, string_length};
 
     /// The type integer in each table.
     pub const INTEGER: TypeId = TypeId { index: 0 };
@@ -27,28 +45,59 @@ impl TypeTable {
     /// The type Boolean in each table.
     pub const BOOLEAN: TypeId = TypeId { index: 1 };
 
+    /// The type char in each table.
+    pub const CHAR: TypeId = TypeId { index: 2 };
+
     /// The table of the required types.
     pub fn required(alloc: Global) -> Result<TypeTable, AllocError>
         ensures { IfOk result (λ table. table ≡ required_forms) }
     {
-        let mut forms = Vec::new(alloc);
-        forms.push(TypeForm::Integer)?;
-        forms.push(TypeForm::Boolean)?;
-        Ok(TypeTable { forms })
+        let mut entries = Vec::new(alloc);
+        entries.push(scalar(TypeForm::Integer))?;
+        entries.push(scalar(TypeForm::Boolean))?;
+        entries.push(scalar(TypeForm::Char))?;
+        Ok(TypeTable { entries })
+    }
+
+    /// Puts a form over types of this table into it, as a type of its own, and answers its number. Refused by Y1 or
+    /// Y2, or else for want of memory, it leaves the table as it was.
+    pub fn add(&mut self, form: TypeForm) -> Result<TypeId, TypeRefusal>
+        ensures added { OnOk result (self.new ≡ self.old ++ form ∷ []) }
+        ensures unchanged { OnErr result (self.new ≡ self.old) }
+        ensures told { (result ≡ admitted self.old form)
+            ⊎ (IsOk (admitted self.old form) × (result ≡ Err Memory)) }
+    {
+        let cells = self.admit(&form)?;
+        let index = self.entries.len();
+        self.entries.push(Entry { form, cells })?;
+        Ok(TypeId { index })
     }
 
     /// What a type is made of.
-    pub fn form(&self, id: TypeId) -> Option<TypeForm>
-        ensures { result ≡ form_at self.now id }
+    pub fn form(&self, id: TypeId) -> Option<&TypeForm>
+        ensures { option_copied result ≡ form_at self.now id }
     {
-        self.forms.get(id.index).copied()
+        match self.entries.get(id.index) {
+            None => None,
+            Some(entry) => Some(&entry.form),
+        }
+    }
+
+    /// The host type of a subrange; another type itself (6.4.2.4).
+    pub fn host(&self, id: TypeId) -> TypeId
+        ensures { result ≡ host_of self.now id }
+    {
+        match self.form(id) {
+            Some(TypeForm::Subrange { host, .. }) => *host,
+            _ => id,
+        }
     }
 
     /// Whether two types are compatible (6.4.5).
     pub fn compatible(&self, first: TypeId, second: TypeId) -> bool
         ensures { result ≡ is_compatible self.now first second }
     {
-        first.same(second)
+        self.host(first).same(self.host(second)) || self.are_equally_long(first, second)
     }
 
     /// Whether a value of one type may be assigned to another, if it lies in its range (6.4.6).
@@ -58,19 +107,166 @@ impl TypeTable {
         self.compatible(target, value)
     }
 
-    /// The values of an ordinal type (6.4.2).
+    /// The values of an ordinal type (6.4.2); none of another.
     pub fn range(&self, id: TypeId) -> Option<OrdinalRange>
         ensures { result ≡ range_of self.now id }
     {
-        Some(self.form(id)?.range())
+        self.form(id)?.range()
+    }
+
+    /// Whether a type is ordinal (6.4.2).
+    pub fn is_ordinal(&self, id: TypeId) -> bool
+        ensures { result ≡ is_ordinal self.now id }
+    {
+        self.range(id).is_some()
+    }
+
+    /// How many components a string type has; none, where the type is no string (6.4.3.2).
+    pub fn string_length(&self, id: TypeId) -> Option<u32>
+        ensures { result ≡ string_length self.now id }
+    {
+        match self.form(id)? {
+            TypeForm::Array {
+                packed: true,
+                index,
+                element,
+            } if element.same(TypeTable::CHAR) => self.string_last(*index),
+            _ => None,
+        }
+    }
+
+    /// Whether a type is a string type (6.4.3.2).
+    pub fn is_string(&self, id: TypeId) -> bool
+        ensures { result ≡ is_string self.now id }
+    {
+        self.string_length(id).is_some()
     }
 
     /// How many cells a variable of the type takes.
     pub fn cells(&self, id: TypeId) -> u32
         ensures { result ≡ cells_of self.now id }
     {
-        match self.form(id) {
-            None | Some(TypeForm::Integer | TypeForm::Boolean) => 1,
+        match self.entries.get(id.index) {
+            None => 1,
+            Some(entry) => entry.cells,
         }
     }
+
+    /// The field of a record that has this name in small letters: its place from 0, and its type (6.5.3.3).
+    pub fn field(&self, id: TypeId, name: &[u8]) -> Option<(usize, TypeId)>
+        ensures { result ≡ field_of self.now id name.now }
+    {
+        match self.form(id)? {
+            TypeForm::Record { fields, .. } => field_among(fields, name),
+            _ => None,
+        }
+    }
+}
+
+impl TypeTable {
+    ghost use Rattle.types.specs.Types.{have_one_length, string_last, string_length};
+
+    // Whether two types are strings of equal length.
+    fn are_equally_long(&self, first: TypeId, second: TypeId) -> bool
+        ensures { result ≡ have_one_length (string_length self.now first) (string_length self.now second) }
+    {
+        match (self.string_length(first), self.string_length(second)) {
+            (Some(length), Some(other)) => length == other,
+            _ => false,
+        }
+    }
+
+    // The last value of the index type of a string.
+    fn string_last(&self, index: TypeId) -> Option<u32>
+        ensures { result ≡ string_last (form_at self.now index) }
+    {
+        match self.form(index)? {
+            TypeForm::Subrange {
+                host,
+                first: 1,
+                last,
+            } if host.same(TypeTable::INTEGER) && *last > 1 => Some(*last as u32),
+            _ => None,
+        }
+    }
+
+    // The cells of a form that may be a type of the table.
+    fn admit(&self, form: &TypeForm) -> Result<u32, TypeRefusal>
+        ensures { result ≡ admitted_cells self.now form.now }
+    {
+        if is_turned(form) {
+            return Err(TypeRefusal::FirstAboveLast);
+        }
+        self.form_cells(form).ok_or(TypeRefusal::TooManyCells)
+    }
+
+    // The cells of a form, if they are not too many.
+    fn form_cells(&self, form: &TypeForm) -> Option<u32>
+        ensures { result ≡ few (form_cells (counted self.now) form.now) }
+    {
+        match form {
+            TypeForm::Array { index, element, .. } => self.array_cells(*index, *element),
+            TypeForm::Record { fields, .. } => self.record_cells(fields),
+            _ => Some(1),
+        }
+    }
+
+    // Those of an array: for each value of its index type the cells of an element.
+    fn array_cells(&self, index: TypeId, element: TypeId) -> Option<u32>
+        ensures { result ≡ few (values_at (counted self.now) index * cells_at (counted self.now) element) }
+    {
+        few(
+            self.values(index)
+                .saturating_mul(u64::from(self.cells(element))),
+        )
+    }
+
+    // How many values a type has, if it is ordinal.
+    #[tactic(auto, using(crate::proofs::Counts::values_counted))]
+    fn values(&self, id: TypeId) -> u64
+        ensures { result ≡ values_at (counted self.now) id }
+    {
+        match self.range(id) {
+            None => 0,
+            Some(range) => range.count(),
+        }
+    }
+
+    // Those of a record: the cells of all its fields.
+    fn record_cells(&self, fields: &[Field]) -> Option<u32>
+        ensures { result ≡ few (sum_by (λ field. cells_at (counted self.now) field.type_id) fields.now) }
+    {
+        let mut cells = 0;
+        for field in fields {
+            cells = few(u64::from(cells) + u64::from(self.cells(field.type_id)))?;
+        }
+        Some(cells)
+    }
+}
+
+// Whether the first value of a subrange lies above its last.
+fn is_turned(form: &TypeForm) -> bool
+    ensures { result ≡ is_turned form.now }
+{
+    match form {
+        TypeForm::Subrange { first, last, .. } => first > last,
+        _ => false,
+    }
+}
+
+// A number of cells, if a type may take them.
+fn few(cells: u64) -> Option<u32>
+    ensures { result ≡ few cells }
+{
+    if cells > u64::from(MOST_CELLS) {
+        return None;
+    }
+    Some(cells as u32)
+}
+
+// A scalar type with its one cell.
+fn scalar(form: TypeForm) -> Entry
+    ensures { result ≡ record { form = form; cells = 1 } }
+{
+    Entry { form, cells: 1 }
 }

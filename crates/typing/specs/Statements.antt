@@ -29,7 +29,7 @@ use Rattle.types.specs.declared.form.TypeForm.{TypeForm}
 use Rattle.types.specs.declared.form.TypeForm.TheVariants as form
 use Rattle.types.specs.declared.form.TypeId.{TypeId}
 use Rattle.types.specs.declared.form.OrdinalRange.{OrdinalRange}
-use Rattle.types.specs.Types.{integer, boolean, is_same, is_compatible, is_assignable, form_at, range_of}
+use Rattle.types.specs.Types.{integer, boolean, is_same, is_compatible, is_assignable, is_ordinal, form_at, range_of}
 use Rattle.scopes.specs.declared.denotation.Denotation.{Denotation}
 use Rattle.scopes.specs.declared.denotation.Denotation.TheVariants as denotes
 use Rattle.scopes.specs.declared.denotation.RequiredProcedure.{RequiredProcedure}
@@ -124,9 +124,9 @@ has_values place procedure.Writeln [] = Ok tt
 has_values place procedure (value ∷ values) = Ok tt
 
 abbrev pub form_representation : Option TypeForm → Option Representation
-form_representation None = None
 form_representation (Some form.Integer) = Some representation.Integer
 form_representation (Some form.Boolean) = Some representation.Boolean
+form_representation other = None
 
 -- how a value of a type is written (6.9.3)
 abbrev pub representation_of : List TypeForm → TypeId → Option Representation
@@ -254,10 +254,6 @@ for_body control body = do
 abbrev pub for_loop : Place → Name → Written → SyntaxDirection → Written → Passing (Unit {0}) → Passing (Unit {0})
 for_loop place variable first direction last body =
     for_head place variable first direction last >>= (λ control. for_body control body)
-
--- a type is ordinal, if it has a first and a last value
-abbrev pub is_ordinal : List TypeForm → TypeId → Bool
-is_ordinal types id = is_some (range_of types id)
 
 -- a constant of a case is of the index's type, and none of those that stand before it; else it is K6 where it begins
 abbrev pub own_constant : List TypeForm → TypeId → List ℤ → Place → ℤ × TypeId → Checked ℤ

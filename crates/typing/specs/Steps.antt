@@ -6,7 +6,7 @@ use Rattle.std.specs.List.{list_any}
 use Rattle.place.specs.declared.Place.{Place}
 use Rattle.syntax_tree.specs.declared.Name.{Name}
 use Rattle.types.specs.declared.form.TypeId.{TypeId}
-use Rattle.types.specs.Types.{cells_of, required_forms}
+use Rattle.types.specs.Types.{cells_of, most_cells, required_forms}
 use Rattle.scopes.specs.Scopes.{found, opened, define}
 use Rattle.scopes.specs.declared.denotation.Denotation.{Denotation}
 use Rattle.scopes.specs.declared.fault.ScopeFault.{ScopeFault}
@@ -25,10 +25,6 @@ most_sites = 1000000
 -- the most statements and expressions of a program
 abbrev pub most_entries : ℕ
 most_entries = 4000000
-
--- the most cells that the variables of a block take
-abbrev pub most_cells : ℕ
-most_cells = 65536
 
 -- what is known before a program, which begins here
 abbrev pub begins : Place → Passed

@@ -12,4 +12,4 @@ mod variables;
 
 pub use constants::constant_place;
 pub use names::folded;
-pub use typer::{MOST_CELLS, MOST_ENTRIES, MOST_SITES, Typer};
+pub use typer::{MOST_ENTRIES, MOST_SITES, Typer};

@@ -10,7 +10,7 @@ use types::{OrdinalRange, TypeId};
 
 impl Typer {
     ghost use Rattle.std.specs.Prelude.{◌≡◌};
-    ghost use Rattle.types.specs.Types.{is_compatible};
+    ghost use Rattle.types.specs.Types.{is_compatible, is_ordinal};
     ghost use Rattle.typing.specs.Outcomes.{Takes};
     ghost use Rattle.typing.specs.Expressions as spec;
     ghost use Rattle.typing.specs.Statements as statements;
@@ -92,9 +92,9 @@ impl Typer {
 
     /// Whether a type is ordinal (6.4.2).
     pub fn is_ordinal(&self, id: TypeId) -> bool
-        ensures { result ≡ statements.is_ordinal self.now.types id }
+        ensures { result ≡ is_ordinal self.now.types id }
     {
-        self.types.range(id).is_some()
+        self.types.is_ordinal(id)
     }
 
     /// Whether two types are compatible (6.4.5).

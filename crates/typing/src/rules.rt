@@ -146,5 +146,6 @@ pub fn representation(types: &TypeTable, id: TypeId) -> Option<Representation>
     match types.form(id)? {
         TypeForm::Integer => Some(Representation::Integer),
         TypeForm::Boolean => Some(Representation::Boolean),
+        _ => None,
     }
 }

@@ -3,7 +3,8 @@ ghost use Rattle.typed_tree.specs.Ids.{AreInOrder};
 ghost use Rattle.typed_tree.specs.declared.fault.TypeFault.TheVariants.{Memory};
 ghost use Rattle.typing.specs.Passing.{Passed};
 ghost use Rattle.typing.specs.Sound.{stands};
-ghost use Rattle.typing.specs.declared.typer.TheConstants.{MOST_SITES, MOST_ENTRIES, MOST_CELLS};
+ghost use Rattle.typing.specs.declared.typer.TheConstants.{MOST_SITES, MOST_ENTRIES};
+ghost use Rattle.types.specs.Types.{most_cells, required_forms};
 
 use place::Place;
 use scopes::Scopes;
@@ -19,9 +20,6 @@ pub const MOST_SITES: usize = 1_000_000;
 
 /// The most statements and expressions of a program.
 pub const MOST_ENTRIES: u32 = 4_000_000;
-
-/// The most cells that the variables of a block take.
-pub const MOST_CELLS: u32 = 65_536;
 
 /// What is known at a place of a program while it is typed.
 #[derive(Drop)]
@@ -50,8 +48,9 @@ pub struct Typer {
     ghost few_sites: { vec_len sites ≤ MOST_SITES },
     ghost few_entries: { entries ≤ MOST_ENTRIES },
     ghost few_loops: { loops ≤ entries },
+    ghost required: { types ≡ required_forms },
     ghost room: { vec_len variables ≤ cells },
-    ghost few_cells: { cells ≤ MOST_CELLS },
+    ghost few_cells: { cells ≤ most_cells },
 }
 
 impl Model for Typer {

@@ -4,13 +4,13 @@ ghost use Rattle.typing.specs.Names.{folded};
 ghost use Rattle.typing.specs.Typing.{named_type};
 
 use crate::names::{fold_into, is_among};
-use crate::typer::{MOST_CELLS, Typer};
+use crate::typer::Typer;
 use place::Place;
 use scopes::{Denotation, ScopeFault};
 use syntax_tree::{Name, TypeDenoter};
 use typed_tree::fault::TypeFault;
 use typed_tree::tree::Variable;
-use types::TypeId;
+use types::{MOST_CELLS, TypeId};
 
 impl Typer {
     ghost use Rattle.typing.specs.Outcomes.{Takes};
@@ -46,7 +46,7 @@ impl Typer {
     }
 
     // The cells of one variable more.
-    #[tactic(auto, unfolding(crate::specs::Steps::reserve))]
+    #[tactic(auto, using(types::proofs::Counts::one_cell), unfolding(crate::specs::Steps::reserve))]
     fn reserve(&mut self, place: Place, type_id: TypeId) -> Result<(), TypeFault>
         ensures { Takes (step.reserve place type_id self.old) result self.new }
     {

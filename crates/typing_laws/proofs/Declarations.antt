@@ -1,5 +1,5 @@
 -- What declarations do: they add no site and no entry, each name denotes what is sound, and each variable takes a cell.
-use Rattle.std.proofs.Common.{◌≡◌, ℕ, ◌+◌, ◌≤◌, Bool, true, false, nat_eq, nat_lt, if◌then◌else◌, List, [], ◌∷◌, ◌++◌, length, Option, Some, None, Result, Ok}
+use Rattle.std.proofs.Common.{◌≡◌, ℕ, ◌+◌, ◌≤◌, Bool, true, false, nat_eq, nat_lt, if◌then◌else◌, List, [], ◌∷◌, ◌++◌, length, Result, Ok}
 use Rattle.std.proofs.Common.{Err, codes, length-append, refl, sym, ap, subst, ◌∙◌, arith}
 use Rattle.std.proofs.lemmas.Bool.Decides.{nat_tests}
 use Rattle.std.proofs.lemmas.List.Folds.{list_all-append}
@@ -11,10 +11,9 @@ use Rattle.syntax_tree.specs.declared.Name.{Name}
 use Rattle.syntax_tree.specs.declared.TypeDenoter.{TypeDenoter}
 use Rattle.syntax_tree.specs.declared.TypeDenoter.TheVariants as denoter
 use Rattle.syntax_tree.specs.declared.VariableGroup.{VariableGroup}
-use Rattle.types.specs.declared.form.TypeForm.{TypeForm}
-use Rattle.types.specs.declared.form.TypeForm.TheVariants as form
 use Rattle.types.specs.declared.form.TypeId.{TypeId}
-use Rattle.types.specs.Types.{required_forms, cells_of, form_cells, form_at}
+use Rattle.types.proofs.Counts.{one_cell}
+use Rattle.types.specs.Types.{required_forms, cells_of, most_cells}
 use Rattle.scopes.specs.Scopes.{Region, found, opened, define}
 use Rattle.scopes.specs.declared.denotation.Denotation.{Denotation}
 use Rattle.scopes.specs.declared.denotation.Denotation.TheVariants as denotes
@@ -23,7 +22,7 @@ use Rattle.typed_tree.specs.declared.fault.TypeFault.TheVariants as fault
 use Rattle.typed_tree.specs.declared.tree.Variable.{Variable}
 use Rattle.typing.specs.Names.{folded, all_folded, defined_names, required_region}
 use Rattle.typing.specs.Passing.{Passed, Checked, After, Passing, after, behind_marks, pure, fail, each, ◌>>=◌, ◌>>◌}
-use Rattle.typing.specs.Steps.{most_cells, told, open_required, open_block, declare, give_output, next_root, reserve}
+use Rattle.typing.specs.Steps.{told, open_required, open_block, declare, give_output, next_root, reserve}
 use Rattle.typing.specs.Typing.{parameter_of_program, named_type, denoted_type, variable, group, declarations}
 use Rattle.typing_laws.proofs.Grown.{both_true}
 use Rattle.typing_laws.proofs.Sound.{IsSound, AreSound, opened_sound, required_sound, define_sound, regions_more}
@@ -141,12 +140,6 @@ parameter_keeps name = by (pointwise nat_eq (folded name.text.now) (codes "outpu
     by true = given_output
     by false = record { keeps = λ s a is r. absurd cc }
 
--- a variable takes one cell
-one_cell : (f : Option TypeForm) → form_cells f ≡ 1
-one_cell None = refl
-one_cell (Some form.Integer) = refl
-one_cell (Some form.Boolean) = refl
-
 at_most : (a b : ℕ) → nat_lt a b ≡ false → b ≤ a
 at_most a b h = grind (arith, nat_tests)
 
@@ -163,7 +156,7 @@ reserve_keeps place type_id = record {
       let new : Passed = record s { variables = s.variables ++ one ∷ []; cells = taken } in
       let x = split_unless (nat_lt most_cells taken) (fault.TooManyCells place) (after tt [] new) a is in
       let counted : length (s.variables ++ one ∷ []) ≡ length s.variables + 1 = length-append s.variables (one ∷ []) in
-      let cell : cells_of s.types type_id ≡ 1 = one_cell (form_at s.types type_id) in
+      let cell : cells_of s.types type_id ≡ 1 = ap (λ types. cells_of types type_id) r.types ∙ one_cell type_id in
       let ready : Ready (length new.variables) new = record {
         sound = subst (λ n. AreSound n s.regions) (sym counted) r.sound;
         types = r.types;

@@ -8,10 +8,12 @@ use Rattle.typed_tree.specs.Look.{Mark, Look, mark_entries, entries_of_look, mar
 use Rattle.typing.specs.Passing.{Passed}
 use Rattle.typing.specs.Steps.{most_sites, most_entries}
 use Rattle.typing_laws.proofs.Sound.{AreSound}
+use Rattle.typing_laws.proofs.WholeRanges.{HaveWholeRanges}
 
 -- what is known may be passed on
 pub record Fine (variables : ℕ) (s : Passed) : Type 0 where
   pub sound : AreSound variables s.regions
+  pub whole : HaveWholeRanges s.types
   pub few_sites : length s.sites ≤ most_sites
   pub few_entries : s.entries ≤ most_entries
 
@@ -48,6 +50,7 @@ pub fine_later : {variables : ℕ} {Has : List Stands → Type 0} {look : Look} 
     → Fine variables new
 fine_later {variables} g f = record {
   sound = subst (AreSound variables) (sym g.regions) f.sound;
+  whole = subst HaveWholeRanges (sym g.types) f.whole;
   few_sites = g.few_sites;
   few_entries = g.few_entries;
 }

@@ -1,4 +1,5 @@
 pub mod Sound
+pub mod WholeRanges
 pub mod Constants
 mod Covers
 pub mod Grown

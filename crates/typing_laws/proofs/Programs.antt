@@ -13,6 +13,7 @@ use Rattle.typing.specs.Typing.{declarations, statement_part, typing}
 use Rattle.typing_laws.specs.Lawful.{Lawful}
 use Rattle.typing_laws.proofs.Covers.{Covers, covers_more, covers_behind, covers_skip}
 use Rattle.typing_laws.proofs.Ordered.{covers_by_place}
+use Rattle.typing_laws.proofs.WholeRanges.{HaveWholeRanges, required_have}
 use Rattle.typing_laws.proofs.Grown.{Fine, Grown}
 use Rattle.typing_laws.proofs.Steps.{Does, Anything, split, split_behind, last, mark_does}
 use Rattle.typing_laws.proofs.Statements.{compound_does, statements_lawful}
@@ -40,7 +41,12 @@ program_covers program sites has =
 
 -- behind the declarations
 fine_ready : (s : Passed) → IsReady s → Fine (length s.variables) s
-fine_ready s r = record { sound = r.sound; few_sites = omega (arith, ap length r.sites); few_entries = omega (arith, r.entries) }
+fine_ready s r = record {
+  sound = r.sound;
+  whole = subst HaveWholeRanges (sym r.types) required_have;
+  few_sites = omega (arith, ap length r.sites);
+  few_entries = omega (arith, r.entries);
+}
 
 grown_lawful : (program : Program) (s : Passed) (a : After (Unit {0})) → IsReady s
     → Grown (length s.variables) (Covers 0 (flat_map stmt_places program.block.statements.items)) a.look s a.passed → Lawful program a

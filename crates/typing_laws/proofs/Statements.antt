@@ -1,5 +1,5 @@
 -- What statements do, form by form, and the law of every statement, by induction over its form.
-use Rattle.std.proofs.Common.{◌≡◌, ℕ, ℤ, Vec, ◌<◌, Bool, true, false, ◌&&◌, if◌then◌else◌, List, [], ◌∷◌, ◌++◌, map, Option, Some, None, Ok, Err, refl, sym}
+use Rattle.std.proofs.Common.{◌≡◌, ℕ, ℤ, Vec, ◌<◌, Bool, true, false, if◌then◌else◌, List, [], ◌∷◌, ◌++◌, map, Option, Some, None, Ok, refl, sym}
 use Rattle.std.proofs.Common.{subst, append_assoc, arith}
 use Rattle.std.specs.List.{flat_map}
 use Rattle.std.specs.declared.alloc.Global.{Global}
@@ -19,29 +19,28 @@ use Rattle.syntax_tree.specs.declared.Stmt.TheFolds.{map-Stmt, fold-roll-Stmt, i
 use Rattle.syntax_tree.specs.Places.{Places, joined_places, expr_places, actual_places, stmt_places, arms_of, arm_places, constant_places}
 use Rattle.syntax_tree.specs.Places.{statement_step as statement_row}
 use Rattle.types.specs.declared.form.TypeForm.{TypeForm}
-use Rattle.types.specs.declared.form.TypeForm.TheVariants as form
 use Rattle.types.specs.declared.form.TypeId.{TypeId}
 use Rattle.types.specs.declared.form.OrdinalRange.{OrdinalRange}
-use Rattle.types.specs.Types.{integer, is_same, is_assignable, form_at, form_range, range_of}
+use Rattle.types.specs.Types.{integer, is_same, is_assignable, range_of}
 use Rattle.scopes.specs.declared.denotation.Denotation.{Denotation}
 use Rattle.scopes.specs.declared.denotation.Denotation.TheVariants as denotes
 use Rattle.scopes.specs.declared.denotation.RequiredProcedure.{RequiredProcedure}
 use Rattle.typed_tree.specs.declared.site.SiteKind.{SiteKind}
 use Rattle.typed_tree.specs.declared.site.SiteKind.TheVariants as kind
 use Rattle.typed_tree.specs.Ids.{Stands}
-use Rattle.typed_tree.specs.WellFormed.{is_whole}
 use Rattle.typed_tree.specs.Look.{Assign, Target, Fits, Write, Written as WrittenMark, Width, Empty, Compound, If, Then, Else, While, Do, Repeat, Until, For}
 use Rattle.typed_tree.specs.Look.{Case, Arm, Ends}
-use Rattle.typing.specs.Passing.{Checked, Passing, and_then, each}
+use Rattle.typing.specs.Passing.{Passing, and_then, each}
 use Rattle.typing.specs.Expressions.{Typed, Written, WrittenActual, fits, or_mismatch, expression, written_actual}
 use Rattle.typing.specs.Statements.{as_variable, fitting, assignment, as_procedure, ends_line, is_output, names_file, unless_wide, is_file, written_values}
 use Rattle.typing.specs.Statements.{has_values, measured, width, parameter, write, procedure_call, compound, condition, alternative, tested, choice, while_loop}
 use Rattle.typing.specs.Statements.{repeat_loop, way, bound, for_head, for_body, for_loop, case_arms, case_head, case_body, case_statement, statement_step}
 use Rattle.typing.specs.Statements.{statement}
 use Rattle.typing_laws.proofs.Sound.{IsSound}
+use Rattle.typing_laws.proofs.WholeRanges.{HaveWholeRanges, IsWholeRange}
 use Rattle.typing_laws.proofs.Covers.{Covers, covers_both, covers_none, covers_behind, covers_skip, covers_lower, covers_ahead, leads_first}
 use Rattle.typing_laws.proofs.Grown.{both_true}
-use Rattle.typing_laws.proofs.Steps.{Does, Anything, Nothing, joins, quietly, last, checks, sited, pure_does, given_does, find_does, pass_does}
+use Rattle.typing_laws.proofs.Steps.{Does, Anything, Nothing, joins, quietly, last, checks, checks_types, sited, pure_does, given_does, find_does, pass_does}
 use Rattle.typing_laws.proofs.Steps.{wants_output_does}
 use Rattle.typing_laws.proofs.Steps.{mark_does, enter_does, enter_loop_does, may_change_does, begin_control_does, end_control_does, site_does, IsKnown}
 use Rattle.typing_laws.proofs.Expressions.{IsLed, Types, lt_true, LawfulWritten, led_covers}
@@ -59,25 +58,16 @@ variable_is variables place (denotes.Procedure procedure) target is sound = absu
 variable_is variables place (denotes.Function function) target is sound = absurd cc
 variable_is variables place denotes.Output target is sound = absurd cc
 
-abbrev IsWholeRange : OrdinalRange → Type 0
-IsWholeRange range = (is_whole range.first && is_whole range.last) ≡ true
-
--- of what is answered, and nothing of a fault
-abbrev AnswersWhole : Checked OrdinalRange → Type 0
-AnswersWhole (Ok range) = IsWholeRange range
-AnswersWhole (Err why) = Unit {0}
-
-form_whole : (place : Place) (f : Option TypeForm) (range : OrdinalRange) → or_mismatch place (form_range f) ≡ Ok range → IsWholeRange range
-form_whole place None range is = absurd cc
-form_whole place (Some form.Integer) range is = subst AnswersWhole is refl
-form_whole place (Some form.Boolean) range is = subst AnswersWhole is refl
-
-fitting_whole : (place : Place) (types : List TypeForm) (target value : TypeId) (range : OrdinalRange)
+fitting_whole : (place : Place) (types : List TypeForm) → HaveWholeRanges types → (target value : TypeId) (range : OrdinalRange)
     → or_mismatch place (fitting types target value) ≡ Ok range → IsWholeRange range
-fitting_whole place types target value range is = by (is_assignable types target value) is
+fitting_whole place types whole target value range is = by (is_assignable types target value) is
   where
+    among : (values : Option OrdinalRange) → or_mismatch place values ≡ Ok range → values ≡ Some range
+    among None h = absurd cc
+    among (Some found) h = cc
+
     by : (test : Bool) → or_mismatch place (if test then range_of types target else None) ≡ Ok range → IsWholeRange range
-    by true h = form_whole place (form_at types target) range h
+    by true h = whole target range (among (range_of types target) h)
     by false h = absurd cc
 
 measured_is : (place : Place) (t : Typed) (id : ℕ) → measured place t ≡ Ok id → t.site ≡ Some id
@@ -110,8 +100,8 @@ module _ (variables : ℕ) where
         sited (λ sites. covers_skip 0 name.place (becomes ∷ places) sites)
         (led_covers variables 0 becomes places (kind.Subrange ∷ []) (omega arith, tt)
         (joins (leads_first 0 becomes (kind.Subrange ∷ []) places) (site_does kind.Subrange becomes) λ id there _ known.
-        last (checks {L = λ range n. IsWholeRange range} (typed_does there places value None law tt) λ types t range n more whole _.
-        fitting_whole becomes types target.1 t.type_id range whole) λ range n more whole.
+        last (checks_types {L = λ range n. IsWholeRange range} (typed_does there places value None law tt) λ types whole t range n more fits _.
+        fitting_whole becomes types whole target.1 t.type_id range fits) λ range n more whole.
         mark_does (Fits (record { site = id; range = range })) refl refl (λ m h. both_true _ _ (lt_true id m (omega (arith, known, more, h))) whole)));
   }
 
@@ -287,8 +277,8 @@ module _ (variables : ℕ) where
   unfolding bound
   bound_does least type_id places w law =
       joins ahead (site_does kind.Subrange w.first) λ id there _ known.
-      last (checks {L = λ range n. IsWholeRange range} (law.types there None tt) λ types t range n more whole _.
-      fitting_whole w.first types type_id t.type_id range whole) λ range n more whole.
+      last (checks_types {L = λ range n. IsWholeRange range} (law.types there None tt) λ types whole t range n more fits _.
+      fitting_whole w.first types whole type_id t.type_id range fits) λ range n more whole.
       mark_does (Fits (record { site = id; range = range })) refl refl (λ m h. both_true _ _ (lt_true id m (omega (arith, known, more, h))) whole)
     where
       ahead : (a b : List Stands) → a ≡ (kind.Subrange, w.first) ∷ [] → Covers 2 places b → Covers 0 places (a ++ b)

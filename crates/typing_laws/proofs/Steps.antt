@@ -22,6 +22,7 @@ use Rattle.typing.specs.Expressions.{behind}
 use Rattle.typing.specs.Names.{folded}
 use Rattle.typing_laws.proofs.Sound.{IsSound, found_sound}
 use Rattle.typing_laws.proofs.Covers.{at_place}
+use Rattle.typing_laws.proofs.WholeRanges.{HaveWholeRanges}
 use Rattle.typing_laws.proofs.Grown.{Fine, Grown, fine_later, more_sites, grown_then, both_true}
 
 -- a form has grown what is known, and its answer has this
@@ -90,20 +91,29 @@ pub last : {variables least : ℕ} {A B : Type 0} {Has : List Stands → Type 0}
     → ((x : A) (now : ℕ) → least ≤ now → K x now → Does variables now Nothing (f x) L) → Does variables least Has (p >>= f) L
 last {Has = Has} first rest = joins (λ a b has none. subst Has (sym (append-nil a) ∙ ap (λ l. a ++ l) (sym none)) has) first rest
 
--- a form, and then a test of what it is
-pub checks : {variables least : ℕ} {A B : Type 0} {Has : List Stands → Type 0} {p : Passing A} {test : List TypeForm → A → Checked B}
+-- a form, and then a test of what it is, by a table of types
+pub checks_types : {variables least : ℕ} {A B : Type 0} {Has : List Stands → Type 0} {p : Passing A} {test : List TypeForm → A → Checked B}
     {K : A → ℕ → Type 0} {L : B → ℕ → Type 0}
     → Does variables least Has p K
-    → ((types : List TypeForm) (x : A) (b : B) (now : ℕ) → least ≤ now → test types x ≡ Ok b → K x now → L b now) → Does variables least Has (p >>? test) L
-checks {variables} {least} {A} {B} {Has} {p} {test} {K} {L} first fits = record {
+    → ((types : List TypeForm) → HaveWholeRanges types → (x : A) (b : B) (now : ℕ) → least ≤ now → test types x ≡ Ok b → K x now → L b now)
+    → Does variables least Has (p >>? test) L
+checks_types {variables} {least} {A} {B} {Has} {p} {test} {K} {L} first fits = record {
   does = λ s b is fine h.
       let x = split (p s) (λ a. and_then (test a.passed.types a.answer) (λ b. Ok (after b a.look a.passed))) b is in
       let y = split (test x.0.passed.types x.0.answer) (λ b. Ok (after b x.0.look x.0.passed)) b x.2 in
       let one = first.does s x.0 x.1 fine h in
       let same : after y.0 x.0.look x.0.passed ≡ b = cc in
       subst (Leaves variables Has s L) same
-      (one.0, fits x.0.passed.types x.0.answer y.0 (length x.0.passed.sites) (omega (arith, more_sites one.0, h)) y.1 one.1);
+      let whole = (fine_later one.0 fine).whole in
+      (one.0, fits x.0.passed.types whole x.0.answer y.0 (length x.0.passed.sites) (omega (arith, more_sites one.0, h)) y.1 one.1);
 }
+
+-- whatever they are
+pub checks : {variables least : ℕ} {A B : Type 0} {Has : List Stands → Type 0} {p : Passing A} {test : List TypeForm → A → Checked B}
+    {K : A → ℕ → Type 0} {L : B → ℕ → Type 0}
+    → Does variables least Has p K
+    → ((types : List TypeForm) (x : A) (b : B) (now : ℕ) → least ≤ now → test types x ≡ Ok b → K x now → L b now) → Does variables least Has (p >>? test) L
+checks first fits = checks_types first (λ types whole. fits types)
 
 -- the same, with something else that holds of its sites
 pub sited : {variables least : ℕ} {A : Type 0} {Has Had : List Stands → Type 0} {p : Passing A} {K : A → ℕ → Type 0} → ((a : List Stands) → Has a → Had a)

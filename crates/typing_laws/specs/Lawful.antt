@@ -5,11 +5,11 @@ use Rattle.std.specs.List.{range_with_len, list_all}
 use Rattle.place.specs.Place.{ArePlacesInOrder}
 use Rattle.syntax_tree.specs.declared.Program.{Program}
 use Rattle.syntax_tree.specs.Places.{program_places}
-use Rattle.types.specs.Types.{required_forms}
+use Rattle.types.specs.Types.{most_cells, required_forms}
 use Rattle.typed_tree.specs.Ids.{AreByPlace}
 use Rattle.typed_tree.specs.Look.{entries_of_look, loops_of_look, is_formed_mark}
 use Rattle.typing.specs.Passing.{After}
-use Rattle.typing.specs.Steps.{most_sites, most_entries, most_cells}
+use Rattle.typing.specs.Steps.{most_sites, most_entries}
 use Rattle.typing.specs.Typing.{typing}
 
 -- what a typed program has, by how its tree looks and what is known behind it

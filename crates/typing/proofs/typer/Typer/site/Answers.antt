@@ -10,5 +10,14 @@ invariant_of-self-inside-2 c =
     let next : c.len-id.result ≡ length before = omega (arith, c.self.inside.sites.ok.0) in (
       subst AreInOrder (sym c.push.ensures.items)
           (in_order_kept (is_ok c.push.result) before (record { id = c.len-id.result; kind = c.args.kind; place = c.args.place }) c.self.inside.in_order next),
-      (omega arith, (c.self.inside.few_entries, (c.self.inside.few_loops, (c.self.inside.room, (c.self.inside.few_cells, tt))))),
+      (
+        omega arith,
+        (
+          c.self.inside.few_entries,
+          (
+            c.self.inside.few_loops,
+            (c.self.inside.required, (c.self.inside.room, (c.self.inside.few_cells, tt))),
+          ),
+        ),
+      ),
     )

@@ -1,0 +1,140 @@
+-- Worked rows of the definitions of types.
+use Rattle.std.proofs.Common.{◌≡◌, ◌∷◌, ◌++◌, [], ℕ, List, Some, None, Ok, Err, Vec, Global, refl, true, false, codes, pos}
+use Rattle.types.specs.declared.form.Field.{Field}
+use Rattle.types.specs.declared.form.TypeForm.{TypeForm}
+use Rattle.types.specs.declared.form.TypeForm.TheVariants.{Enumeration, Subrange, Array, Record}
+use Rattle.types.specs.declared.form.TypeId.{TypeId}
+use Rattle.types.specs.declared.refusal.TypeRefusal.TheVariants as refusal
+use Rattle.types.specs.Types.{admitted, boolean, cells_of, char, field_of, host_of, integer, is_assignable, is_compatible, is_ordinal, is_string, range_of, required_forms, string_length}
+
+-- a type by its number
+abbrev number : ℕ → TypeId
+number n = record { index = n }
+
+-- (red, green, blue) is 3, 1..10 is 4, 5..7 is 5, red..green is 6; the array types with index type 1..10 are 7 of integer,
+-- 8 of integer again, 9 of char, 10 packed of char and 11 packed of char again; 12 is packed over 5..7
+abbrev table : List TypeForm
+table = required_forms
+    ++ Enumeration (pos 2)
+    ∷ Subrange integer (pos 1) (pos 10)
+    ∷ Subrange integer (pos 5) (pos 7)
+    ∷ Subrange (number 3) (pos 0) (pos 1)
+    ∷ Array false (number 4) integer
+    ∷ Array false (number 4) integer
+    ∷ Array false (number 4) char
+    ∷ Array true (number 4) char
+    ∷ Array true (number 4) char
+    ∷ Array true (number 5) char
+    ∷ []
+
+-- a subrange and its host type, and subranges of one host type, are compatible
+subrange_with_host : is_compatible table (number 4) integer ≡ true
+subrange_with_host = refl
+
+subranges_of_one_host : is_compatible table (number 4) (number 5) ≡ true
+subranges_of_one_host = refl
+
+subrange_of_enumeration : is_assignable table (number 6) (number 3) ≡ true
+subrange_of_enumeration = refl
+
+-- types with different hosts are not
+other_hosts : is_compatible table (number 4) (number 6) ≡ false
+other_hosts = refl
+
+enumeration_with_integer : is_compatible table (number 3) integer ≡ false
+enumeration_with_integer = refl
+
+-- nor are two arrays, although they are made alike, unless they are strings
+same_array : is_compatible table (number 7) (number 7) ≡ true
+same_array = refl
+
+equal_arrays : is_compatible table (number 7) (number 8) ≡ false
+equal_arrays = refl
+
+equal_strings : is_compatible table (number 10) (number 11) ≡ true
+equal_strings = refl
+
+-- a string is packed, and its index type begins at 1
+string_of_ten : string_length table (number 10) ≡ Some 10
+string_of_ten = refl
+
+not_packed : is_string table (number 9) ≡ false
+not_packed = refl
+
+not_from_one : is_string table (number 12) ≡ false
+not_from_one = refl
+
+-- the host types and the values of ordinal types
+host_of_subrange : host_of table (number 6) ≡ number 3
+host_of_subrange = refl
+
+host_of_array : host_of table (number 7) ≡ number 7
+host_of_array = refl
+
+values_of_enumeration : range_of table (number 3) ≡ Some (record { first = pos 0; last = pos 2 })
+values_of_enumeration = refl
+
+array_is_not_ordinal : is_ordinal table (number 7) ≡ false
+array_is_not_ordinal = refl
+
+-- a type that the table doesn't have
+no_such_type : range_of table (number 13) ≡ None
+no_such_type = refl
+
+-- an array takes a cell for each scalar in it
+cells_of_array : cells_of table (number 7) ≡ 10
+cells_of_array = refl
+
+-- types are numbered in order
+next_number : admitted table (Array false boolean (number 7)) ≡ Ok (number 13)
+next_number = refl
+
+-- Y1 begins where the first value lies above the last
+one_value : admitted table (Subrange integer (pos 3) (pos 3)) ≡ Ok (number 13)
+one_value = refl
+
+no_value : admitted table (Subrange integer (pos 3) (pos 2)) ≡ Err refusal.FirstAboveLast
+no_value = refl
+
+-- Y2 begins with 65537 cells
+abbrev of_index : TypeForm → List TypeForm
+of_index index = required_forms ++ index ∷ []
+
+most_of_array : admitted (of_index (Subrange integer (pos 1) (pos 65536))) (Array false (number 3) integer) ≡ Ok (number 4)
+most_of_array = refl
+
+more_than_most : admitted (of_index (Subrange integer (pos 0) (pos 65536))) (Array false (number 3) integer) ≡ Err refusal.TooManyCells
+more_than_most = refl
+
+array_over_integer : admitted required_forms (Array false integer boolean) ≡ Err refusal.TooManyCells
+array_over_integer = refl
+
+-- a record with the fields number : integer, row : array [1..10] of integer
+module _ (fields none : Vec Field Global) (name other : Vec ℕ Global) (is_name : name.items ≡ codes "number") (is_other : other.items ≡ codes "row")
+    (are : fields.items ≡ record { name = name; type_id = integer } ∷ record { name = other; type_id = number 7 } ∷ []) (are_none : none.items ≡ []) where
+  abbrev with_record : List TypeForm
+  with_record = table ++ Record false fields ∷ Array false boolean (number 13) ∷ Record true none ∷ Array false integer (number 15) ∷ []
+
+  -- it takes the cells of both
+  cells_of_record : cells_of with_record (number 13) ≡ 11
+  cells_of_record = rw are refl
+
+  array_of_records : cells_of with_record (number 14) ≡ 22
+  array_of_records = rw are refl
+
+  -- a record without fields takes none, and so does each array of such
+  empty_record : cells_of with_record (number 15) ≡ 0
+  empty_record = rw are_none refl
+
+  array_of_empty_records : cells_of with_record (number 16) ≡ 0
+  array_of_empty_records = rw are_none refl
+
+  -- a field is found by its name
+  second_field : field_of with_record (number 13) (codes "row") ≡ Some (1, number 7)
+  second_field = rw (are, is_name, is_other) refl
+
+  no_field : field_of with_record (number 13) (codes "column") ≡ None
+  no_field = rw (are, is_name, is_other) refl
+
+  no_record : field_of with_record (number 14) (codes "row") ≡ None
+  no_record = refl

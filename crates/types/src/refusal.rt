@@ -1,0 +1,30 @@
+ghost use Rattle.std.specs.Prelude.{◌≡◌};
+ghost use Rattle.types.specs.declared.refusal.TypeRefusal.TheVariants.{Memory};
+
+use std::alloc::{AllocError, AllocFailed};
+
+/// Why a form can't be a type of a table.
+#[derive(Clone, Copy)]
+pub enum TypeRefusal {
+    Memory,
+    /// Y1: the first value of a subrange lies above its last (6.4.2.4).
+    FirstAboveLast,
+    /// Y2: a variable of the type takes over 65,536 cells.
+    TooManyCells,
+}
+
+impl From<AllocError> for TypeRefusal {
+    ghost from_gives = { λ _ e. e ≡ Memory };
+
+    fn from(_error: AllocError) -> TypeRefusal {
+        TypeRefusal::Memory
+    }
+}
+
+impl<T: Drop> From<AllocFailed<T>> for TypeRefusal {
+    ghost from_gives = { λ _ e. e ≡ Memory };
+
+    fn from(_error: AllocFailed<T>) -> TypeRefusal {
+        TypeRefusal::Memory
+    }
+}
