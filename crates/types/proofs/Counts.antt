@@ -7,7 +7,8 @@ use Rattle.std.specs.Option.{option_map, option_and_then}
 use Rattle.types.specs.declared.form.TypeForm.{TypeForm}
 use Rattle.types.specs.declared.form.TypeId.{TypeId}
 use Rattle.types.specs.declared.table.Entry.{Entry}
-use Rattle.types.specs.Types.{cells_of, count_next, counted, entry_cells, entry_values, form_cells, form_range, index_values, range_of, required_forms, values_at}
+use Rattle.types.specs.Types.{cells_of, count_next, counted, entry_cells, entry_values, form_cells, form_range, index_values, range_of}
+use Rattle.types.specs.Types.{required_forms, values_at}
 
 abbrev pub form_of : Entry → TypeForm
 form_of entry = entry.form

@@ -5,7 +5,8 @@ use Rattle.types.specs.declared.form.TypeForm.{TypeForm}
 use Rattle.types.specs.declared.form.TypeForm.TheVariants.{Enumeration, Subrange, Array, Record}
 use Rattle.types.specs.declared.form.TypeId.{TypeId}
 use Rattle.types.specs.declared.refusal.TypeRefusal.TheVariants as refusal
-use Rattle.types.specs.Types.{admitted, boolean, cells_of, char, field_of, host_of, integer, is_assignable, is_compatible, is_ordinal, is_string, range_of, required_forms, string_length}
+use Rattle.types.specs.Types.{admitted, boolean, cells_of, char, field_of, host_of, integer, is_assignable, is_compatible, is_ordinal}
+use Rattle.types.specs.Types.{is_string, range_of, required_forms, string_length}
 
 -- a type by its number
 abbrev number : ℕ → TypeId

@@ -1,9 +1,10 @@
 -- The rules of types (ISO 7185:1990, 6.4.2 to 6.4.6) over a table of types and their numbers there: the values of an
--- ordinal type, host types, strings, compatible and assignment compatible types, the cells that a variable takes, and the
--- forms that may be added. They say nothing of which type a denoter denotes.
-use Rattle.std.specs.Prelude.{ℕ, ◌+◌, ◌*◌, List, [], ◌∷◌, ◌++◌, length, fold, sum_by, ℤ, pos, negsuc, neg_ℤ, ◌+ℤ◌, ◌-ℤ◌, int_lt}
-use Rattle.std.specs.Prelude.{Bool, true, false, ◌&&◌, ◌||◌, if◌then◌else◌, Option, Some, None, is_some, nat_eq, nat_lt, slice_get}
-use Rattle.std.specs.Prelude.{Result, Ok, Err, bytes_eq, ok_or}
+-- ordinal type, host types, strings, compatible and assignment compatible types, the fields of a record, the cells that
+-- a variable takes, and the forms that may be added. They say nothing of which type a denoter denotes.
+use Rattle.std.specs.Prelude.{ℕ, ◌+◌, ◌*◌, nat_eq, nat_lt, ℤ, pos, negsuc, neg_ℤ, ◌+ℤ◌, ◌-ℤ◌, int_lt}
+use Rattle.std.specs.Prelude.{List, [], ◌∷◌, ◌++◌, length, fold, sum_by, slice_get, bytes_eq}
+use Rattle.std.specs.Prelude.{Bool, true, false, ◌&&◌, ◌||◌, if◌then◌else◌, Option, Some, None, is_some, ok_or}
+use Rattle.std.specs.Prelude.{Result, Ok, Err}
 use Rattle.std.specs.Option.{option_and_then}
 use Rattle.std.specs.Ordering.{int_eq}
 use Rattle.types.specs.declared.form.Field.{Field}
@@ -96,7 +97,7 @@ abbrev pub have_one_length : Option ℕ → Option ℕ → Bool
 have_one_length (Some first) (Some second) = nat_eq first second
 have_one_length first second = false
 
--- compatible types: one type, a subrange and its host type, subranges of one host type, or strings of one length (6.4.5)
+-- compatible types: one type, a subrange and its host type, subranges of one host type, strings of one length (6.4.5)
 abbrev pub is_compatible : List TypeForm → TypeId → TypeId → Bool
 is_compatible types first second =
     is_same (host_of types first) (host_of types second)

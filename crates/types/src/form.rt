@@ -69,7 +69,7 @@ pub struct Field {
 }
 
 /// The field of a name among those of a record: its place from 0, and its type.
-pub fn field_among(fields: &[Field], name: &[u8]) -> Option<(usize, TypeId)>
+pub(crate) fn field_among(fields: &[Field], name: &[u8]) -> Option<(usize, TypeId)>
     ensures { result ≡ field_among 0 fields.now name.now }
 {
     for (position, field) in fields.iter().enumerate() {

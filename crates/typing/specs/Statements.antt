@@ -2,7 +2,7 @@
 -- looks, and its sites. It says nothing of what a program does.
 use Rattle.std.specs.List.{list_any}
 use Rattle.std.specs.Ordering.{int_eq}
-use Rattle.std.specs.Prelude.{ℕ, ℤ, Bool, true, false, not, ◌&&◌, ◌++◌, is_some, List, [], ◌∷◌, Option, Some, None, Ok}
+use Rattle.std.specs.Prelude.{ℕ, ℤ, Bool, true, false, not, ◌&&◌, ◌++◌, List, [], ◌∷◌, Option, Some, None, Ok}
 use Rattle.std.specs.Prelude.{Err, if◌then◌else◌, map}
 use Rattle.std.specs.Prelude.{option_map}
 use Rattle.place.specs.declared.Place.{Place}
