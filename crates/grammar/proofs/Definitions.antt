@@ -33,7 +33,8 @@ pub record ConstantThenClosed (a c : List Token) (value : Constant) : Type 0 whe
 pub definition_behind_equal : (p : Place) (a b c : List Token) (value : Constant) → Reads a (of_kind_at (kind.Symbol symbol.Equal) p ∷ []) b
     → Reads a (mark symbol.Equal ∷ constant_spelling value ++ mark symbol.Semicolon ∷ []) c → ConstantThenClosed b c value
 definition_behind_equal p a b c value taken h =
-    let behind = (same_first (of_kind_at (kind.Symbol symbol.Equal) p) (mark symbol.Equal) (constant_spelling value ++ mark symbol.Semicolon ∷ []) a b c taken h).1 in
+    let others = constant_spelling value ++ mark symbol.Semicolon ∷ [] in
+    let behind = (same_first (of_kind_at (kind.Symbol symbol.Equal) p) (mark symbol.Equal) others a b c taken h).1 in
     let r = parted (constant_spelling value) (mark symbol.Semicolon ∷ []) b c behind in
     record { middle = r.0; begun = r.1; closed = r.2 }
 

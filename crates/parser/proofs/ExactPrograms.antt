@@ -15,13 +15,15 @@ use Rattle.token_cursor.specs.declared.fault.ParseFault.{ParseFault}
 use Rattle.token_cursor.specs.declared.fault.ParseFault.TheVariants.{Memory, NoProgram, TooDeep, LeftOut}
 use Rattle.grammar.specs.Spelling.{Reads, mark, identifier}
 use Rattle.grammar.specs.Nesting.{nesting}
-use Rattle.grammar.specs.Begins.{BeginsNames, BeginsParameters, BeginsGroup, BeginsConstantPart, BeginsVariables, BeginsCompound, BeginsBlock, BeginsProgram}
+use Rattle.grammar.specs.Begins.{BeginsNames, BeginsParameters, BeginsGroup, BeginsConstantPart, BeginsVariables, BeginsCompound, BeginsBlock}
+use Rattle.grammar.specs.Begins.{BeginsProgram}
 use Rattle.grammar.specs.Following.{Anything, NoNext, EndsConstants, BeginsStatementPart}
 use Rattle.expression_parser.specs.Reading.{Stops, ReadsEach, ReadsDeep}
 use Rattle.parser.specs.Syntax.{most, IsRefused}
 use Rattle.grammar.proofs.Rows.{begins}
 use Rattle.grammar.proofs.Programs.{group_begins, group_names_end, GroupBehindNames, GroupsLeft, EachGroupsLeft, GroupNext, NamesThenClosed}
-use Rattle.grammar.proofs.Programs.{parameters_names_end, BlockParts, BlockBehindConstants, BlockBehindVariables, ProgramBehindSemicolon, ProgramBehindParameters, ProgramBehindName}
+use Rattle.grammar.proofs.Programs.{parameters_names_end, BlockParts, BlockBehindConstants, BlockBehindVariables, ProgramBehindSemicolon}
+use Rattle.grammar.proofs.Programs.{ProgramBehindParameters, ProgramBehindName}
 use Rattle.grammar.proofs.Programs.{program_parameters_end}
 
 -- behind the names read

@@ -25,7 +25,8 @@ returns-in_err-value-clause-exact c = λ d others h _.
     let b = definition_behind_name c.in_ok-name.name c.args.cursor.now.rest.now c.expect_name.new.self.rest.now others d c.in_ok-name.ensures.spelled h in
     let e = definition_behind_equal c.in_ok-expect_symbol.field-0 c.expect_name.new.self.rest.now c.expect_symbol.new.self.rest.now others d.value
     c.in_ok-expect_symbol.ensures.spelled b in
-    handed_on _ _ c.from_residual-in_err-value.result c.in_err-value.field-0.0 c.from_residual-in_err-value.ensures (c.in_err-value.ensures.exact d.value e.middle e.begun tt)
+    handed_on _ _ c.from_residual-in_err-value.result c.in_err-value.field-0.0 c.from_residual-in_err-value.ensures
+    (c.in_err-value.ensures.exact d.value e.middle e.begun tt)
 
 pub returns-in_err-expect_symbol-2-clause-exact : goal.returns-in_err-expect_symbol-2-clause-exact
 returns-in_err-expect_symbol-2-clause-exact c = λ d others h _.
