@@ -1,14 +1,20 @@
 -- A name that is known stays known while declarations are passed.
 use Rattle.std.proofs.Common.{◌≡◌, ℕ, ◌+◌, Bool, true, false, if◌then◌else◌, List, [], ◌∷◌, ◌++◌, slice_index_or, Result, Ok, Err, IfOk, codes, nat_eq, nat_lt}
+use Rattle.std.proofs.Common.{nat_le, pos}
 use Rattle.std.specs.Cmp.Lexicographic.{pointwise}
 use Rattle.std.proofs.lemmas.Result.{IfOk-at_ok}
 use Rattle.place.specs.declared.Place.{Place}
 use Rattle.syntax_tree.specs.declared.Name.{Name}
+use Rattle.syntax_tree.specs.declared.Constant.{Constant}
+use Rattle.syntax_tree.specs.declared.ConstantDefinition.{ConstantDefinition}
+use Rattle.syntax_tree.specs.declared.ConstantValue.{ConstantValue}
+use Rattle.syntax_tree.specs.declared.ConstantValue.TheVariants as written
 use Rattle.syntax_tree.specs.declared.TypeDenoter.{TypeDenoter}
 use Rattle.syntax_tree.specs.declared.TypeDenoter.TheVariants as denoter
 use Rattle.syntax_tree.specs.declared.VariableGroup.{VariableGroup}
+use Rattle.types.specs.declared.form.TypeForm.{TypeForm}
 use Rattle.types.specs.declared.form.TypeId.{TypeId}
-use Rattle.types.specs.Types.{cells_of, most_cells}
+use Rattle.types.specs.Types.{integer, cells_of, most_cells}
 use Rattle.scopes.specs.Scopes.{Region, Knows, found, define}
 use Rattle.scopes.specs.declared.denotation.Denotation.{Denotation}
 use Rattle.scopes.specs.declared.denotation.Denotation.TheVariants as denotes
@@ -17,10 +23,12 @@ use Rattle.scopes.proofs.Known.{define_keeps}
 use Rattle.typed_tree.specs.declared.fault.TypeFault.TheVariants as fault
 use Rattle.typed_tree.specs.Look.{Look}
 use Rattle.typing.specs.Names.{folded}
-use Rattle.typing.specs.Passing.{Passed, Checked, After, Passing, after, and_then, behind_marks, each, ◌>>=◌, ◌>>◌}
-use Rattle.typing.specs.Steps.{told, declare, give_output, next_root, reserve}
-use Rattle.typing.specs.Typing.{named_type, denoted_type, parameter_of_program, variable, group}
-use Rattle.declarations.specs.Known.{AreKnown, AreKnownGroups}
+use Rattle.typing.specs.Passing.{Passed, Checked, After, Passing, after, and_then, behind_marks, each, ◌>>=◌, ◌>>◌, ◌>>?◌}
+use Rattle.typing.specs.Steps.{told, pass, find, declare, give_output, next_root, reserve}
+use Rattle.typing.specs.Constants.{as_constant, unsigned_constant, behind_sign, constant}
+use Rattle.typing.specs.Expressions.{fits}
+use Rattle.typing.specs.Typing.{definition, named_type, denoted_type, parameter_of_program, variable, group}
+use Rattle.declarations.specs.Known.{AreKnown, AreKnownDefinitions, AreKnownGroups}
 
 -- what an outcome leaves knows a name
 abbrev pub Leaves : {A : Type 0} → List ℕ → Checked (After A) → Type 0
@@ -56,6 +64,42 @@ declare_keeps name denotation old other known =
         → Leaves {A = Unit {0}} other (and_then (told name.place outcome) (λ regions. Ok (after tt [] (record old { regions = regions }))))
     by (Ok regions) known = known
     by (Err why) known = tt
+
+checks_keep : {A B : Type 0} (form : Passing A) (test : List TypeForm → A → Checked B) → Keeps form → Keeps (form >>? test)
+checks_keep {A} {B} form test keeps old name known = by (form old) (keeps old name known)
+  where
+    tested : (a : After A) (outcome : Checked B) → Knows a.passed.regions name → Leaves name (and_then outcome (λ b. Ok (after b a.look a.passed)))
+    tested a (Ok b) known = known
+    tested a (Err why) known = tt
+
+    by : (outcome : Checked (After A)) → Leaves name outcome
+        → Leaves name (and_then outcome (λ a. and_then (test a.passed.types a.answer) (λ b. Ok (after b a.look a.passed))))
+    by (Ok a) known = tested a (test a.passed.types a.answer) known
+    by (Err why) known = tt
+
+find_keeps : (name : Name) → Keeps (find name)
+unfolding find
+find_keeps name old other known = by (told name.place (found old.regions (folded name.text.now)))
+  where
+    by : (outcome : Checked Denotation) → Leaves other (and_then outcome (λ denotation. Ok (after denotation [] (record old { latest = name.place }))))
+    by (Ok denotation) = known
+    by (Err why) = tt
+
+unsigned_keeps : (value : ConstantValue) → Keeps (unsigned_constant value)
+unfolding unsigned_constant pass
+unsigned_keeps (written.Number value place) =
+    checks_keep (pass place) (λ _ _. fits (nat_le value 2147483647) place (pos value, integer)) (λ old name known. known)
+unsigned_keeps (written.Name name) = checks_keep (find name) (λ _ d. as_constant name.place d) (find_keeps name)
+
+pub constant_keeps : (c : Constant) → Keeps (constant c)
+unfolding constant
+constant_keeps c = checks_keep (unsigned_constant c.value) (λ _ unsigned. behind_sign c.sign unsigned) (unsigned_keeps c.value)
+
+pub definition_keeps : (d : ConstantDefinition) → Keeps (definition d)
+unfolding definition
+definition_keeps d =
+    then_keeps (constant d.value) (λ c. declare d.name (denotes.Constant c.0 c.1)) (constant_keeps d.value)
+    (λ c. declare_keeps d.name (denotes.Constant c.0 c.1))
 
 reserve_keeps : (place : Place) (type_id : TypeId) → Keeps (reserve place type_id)
 unfolding reserve
@@ -106,6 +150,10 @@ module _ {A : Type 0} (step : Passing A) (keeps : Keeps step) (answer : A) (look
   -- names stay known
   pub names_stay : (names : List Name) → AreKnown names old.regions → AreKnown names new.regions
   names_stay names known k d within = still_known (folded (slice_index_or names k d).text.now) (known k d within)
+
+  -- names of constants stay known
+  pub definitions_stay : (definitions : List ConstantDefinition) → AreKnownDefinitions definitions old.regions → AreKnownDefinitions definitions new.regions
+  definitions_stay definitions known k d within = still_known (folded (slice_index_or definitions k d).name.text.now) (known k d within)
 
   -- names of groups stay known
   pub groups_stay : (groups : List VariableGroup) → AreKnownGroups groups old.regions → AreKnownGroups groups new.regions

@@ -1,18 +1,19 @@
 -- The region of a block knows from its beginning the names that the block defines.
-use Rattle.std.proofs.Common.{◌≡◌, ◌∙◌, ℕ, List, [], ◌∷◌, ◌++◌, Ok, Err, Vec, flat_map, sym, ap, subst, append_assoc}
+use Rattle.std.proofs.Common.{◌≡◌, ◌∙◌, ℕ, List, [], ◌∷◌, ◌++◌, Ok, Err, All, Vec, map, flat_map, refl, sym, ap, subst, append_assoc}
 use Rattle.std.specs.declared.alloc.Global.{Global}
 use Rattle.std.proofs.lemmas.List.{map-append}
 use Rattle.std.proofs.lemmas.List.Elements.{All-cons, All-nil}
+use Rattle.syntax_tree.specs.declared.ConstantDefinition.{ConstantDefinition}
 use Rattle.syntax_tree.specs.declared.Name.{Name}
 use Rattle.syntax_tree.specs.declared.Program.{Program}
 use Rattle.syntax_tree.specs.declared.VariableGroup.{VariableGroup}
 use Rattle.scopes.specs.Scopes.{Region, opened, Knows}
 use Rattle.scopes.proofs.Known.{opened_knows}
-use Rattle.typing.specs.Names.{folded, all_folded, defined_names}
+use Rattle.typing.specs.Names.{folded, all_folded, block_names, defined_names}
 use Rattle.typing.specs.Passing.{Passed, Checked, After, after}
 use Rattle.typing.specs.Steps.{open_block}
 use Rattle.declarations.specs.Declared.{texts}
-use Rattle.declarations.specs.Known.{AreKnown, AreKnownGroups}
+use Rattle.declarations.specs.Known.{AreKnown, AreKnownDefinitions, AreKnownGroups}
 
 -- the regions that an outcome leaves
 regions_of : Checked (After (Unit {0})) → List Region
@@ -20,15 +21,32 @@ regions_of (Ok a) = a.passed.regions
 regions_of (Err why) = []
 
 module _ (outer : List Region) where
+  -- what has names, which stand between others
+  module _ {A : Type 0} (key : A → List ℕ) where
+    each_between : (before : List (List ℕ)) (forms : List A) (behind : List (List ℕ))
+        → All (λ form. Knows (opened (before ++ (map key forms ++ behind)) ∷ outer) (key form)) forms
+    each_between before [] behind = All-nil (λ form. Knows (opened (before ++ behind) ∷ outer) (key form))
+    each_between before (form ∷ forms) behind =
+        All-cons (λ f. Knows (opened (before ++ (key form ∷ (map key forms ++ behind))) ∷ outer) (key f)) form forms
+        (opened_knows before (key form) (map key forms ++ behind) [])
+        (subst (λ l. All (λ f. Knows (opened l ∷ outer) (key f)) forms) (append_assoc before (key form ∷ []) (map key forms ++ behind))
+        (each_between (before ++ key form ∷ []) forms behind))
+
   -- names between others
   names_between : (before : List (List ℕ)) (names : List Name) (behind : List (List ℕ))
       → AreKnown names (opened (before ++ (all_folded names ++ behind)) ∷ outer)
-  names_between before [] behind = All-nil (λ name. Knows (opened (before ++ behind) ∷ outer) (folded name.text.now))
-  names_between before (name ∷ names) behind =
-      All-cons (λ n. Knows (opened (before ++ (folded name.text.now ∷ (all_folded names ++ behind))) ∷ outer) (folded n.text.now)) name names
-      (opened_knows before (folded name.text.now) (all_folded names ++ behind) [])
-      (subst (λ l. AreKnown names (opened l ∷ outer)) (append_assoc before (folded name.text.now ∷ []) (all_folded names ++ behind))
-      (names_between (before ++ folded name.text.now ∷ []) names behind))
+  names_between = each_between (λ name. folded name.text.now)
+
+  -- those of constants
+  constants_between : (before : List (List ℕ)) (definitions : List ConstantDefinition) (behind : List (List ℕ))
+      → AreKnownDefinitions definitions (opened (before ++ (all_folded (map (λ d. d.name) definitions) ++ behind)) ∷ outer)
+  constants_between before definitions behind =
+      subst (λ l. AreKnownDefinitions definitions (opened (before ++ (l ++ behind)) ∷ outer)) (keys_are definitions)
+      (each_between (λ d. folded d.name.text.now) before definitions behind)
+    where
+      keys_are : (ds : List ConstantDefinition) → map (λ (d : ConstantDefinition). folded d.name.text.now) ds ≡ all_folded (map (λ d. d.name) ds)
+      keys_are [] = refl
+      keys_are (d ∷ ds) = ap (λ l. folded d.name.text.now ∷ l) (keys_are ds)
 
   abbrev names_of : List VariableGroup → List Name
   names_of groups = flat_map (λ group. group.names.items) groups
@@ -46,19 +64,40 @@ module _ (outer : List Region) where
       (subst (λ l. AreKnownGroups groups (opened l ∷ outer)) (append_assoc before (all_folded names) behind)
       (groups_behind (before ++ all_folded names) groups)))
 
-  -- the parameters
-  parameters_known : (program : Program) → AreKnown program.parameters.items (opened (all_folded (defined_names program)) ∷ outer)
-  parameters_known program =
-      subst (λ l. AreKnown program.parameters.items (opened l ∷ outer))
-      (sym (map-append (λ name. folded name.text.now) program.parameters.items (names_of program.block.variables.items)))
-      (names_between [] program.parameters.items (all_folded (names_of program.block.variables.items)))
+  module _ (program : Program) where
+    parameters : List (List ℕ)
+    parameters = all_folded program.parameters.items
 
-  -- the variables
-  variables_known : (program : Program) → AreKnownGroups program.block.variables.items (opened (all_folded (defined_names program)) ∷ outer)
-  variables_known program =
-      subst (λ l. AreKnownGroups program.block.variables.items (opened l ∷ outer))
-      (sym (map-append (λ name. folded name.text.now) program.parameters.items (names_of program.block.variables.items)))
-      (groups_behind (all_folded program.parameters.items) program.block.variables.items)
+    constants : List (List ℕ)
+    constants = all_folded (map (λ d. d.name) program.block.constants.items)
+
+    variables : List (List ℕ)
+    variables = all_folded (names_of program.block.variables.items)
+
+    in_parts : parameters ++ (constants ++ variables) ≡ all_folded (defined_names program)
+    unfolding parameters constants variables
+    in_parts = sym (
+        map-append (λ name. folded name.text.now) program.parameters.items (block_names program.block)
+        ∙ ap (λ l. all_folded program.parameters.items ++ l)
+        (map-append (λ name. folded name.text.now) (map (λ d. d.name) program.block.constants.items) (names_of program.block.variables.items)))
+
+    parameters_known : AreKnown program.parameters.items (opened (all_folded (defined_names program)) ∷ outer)
+    unfolding parameters
+    parameters_known =
+        subst (λ l. AreKnown program.parameters.items (opened l ∷ outer)) in_parts
+        (names_between [] program.parameters.items (constants ++ variables))
+
+    constants_known : AreKnownDefinitions program.block.constants.items (opened (all_folded (defined_names program)) ∷ outer)
+    unfolding constants
+    constants_known =
+        subst (λ l. AreKnownDefinitions program.block.constants.items (opened l ∷ outer)) in_parts
+        (constants_between parameters program.block.constants.items variables)
+
+    variables_known : AreKnownGroups program.block.variables.items (opened (all_folded (defined_names program)) ∷ outer)
+    unfolding variables
+    variables_known =
+        subst (λ l. AreKnownGroups program.block.variables.items (opened l ∷ outer)) (append_assoc parameters constants variables ∙ in_parts)
+        (groups_behind (parameters ++ constants) program.block.variables.items)
 
 -- once the region of a block is open
 module _ (program : Program) (keys : List (Vec ℕ Global)) (old new : Passed)
@@ -70,6 +109,10 @@ module _ (program : Program) (keys : List (Vec ℕ Global)) (old new : Passed)
   -- its parameters are known
   pub parameters_are_known : AreKnown program.parameters.items new.regions
   parameters_are_known = subst (AreKnown program.parameters.items) regions_behind (parameters_known old.regions program)
+
+  -- its constants are known
+  pub constants_are_known : AreKnownDefinitions program.block.constants.items new.regions
+  constants_are_known = subst (AreKnownDefinitions program.block.constants.items) regions_behind (constants_known old.regions program)
 
   -- its variables are known
   pub variables_are_known : AreKnownGroups program.block.variables.items new.regions

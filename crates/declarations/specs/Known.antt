@@ -1,6 +1,7 @@
 -- The names whose definitions are to come (ISO 7185:1990, 6.2.2): the region of their block lists them from the start.
 -- It says nothing of what they denote.
 use Rattle.std.specs.Prelude.{List, All}
+use Rattle.syntax_tree.specs.declared.ConstantDefinition.{ConstantDefinition}
 use Rattle.syntax_tree.specs.declared.Name.{Name}
 use Rattle.syntax_tree.specs.declared.VariableGroup.{VariableGroup}
 use Rattle.scopes.specs.Scopes.{Region, Knows}
@@ -9,6 +10,10 @@ use Rattle.typing.specs.Names.{folded}
 -- the innermost region lists each of these names
 abbrev pub AreKnown : List Name → List Region → Type 0
 AreKnown names regions = All (λ name. Knows regions (folded name.text.now)) names
+
+-- the innermost region lists the name of each of these constants
+abbrev pub AreKnownDefinitions : List ConstantDefinition → List Region → Type 0
+AreKnownDefinitions definitions regions = All (λ d. Knows regions (folded d.name.text.now)) definitions
 
 -- the innermost region lists each name of these groups
 abbrev pub AreKnownGroups : List VariableGroup → List Region → Type 0

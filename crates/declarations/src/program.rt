@@ -4,6 +4,7 @@ ghost use Rattle.typing.specs.Passing.{after};
 ghost use Rattle.typing.specs.Typing.{declarations};
 ghost use Rattle.declarations.specs.Declared.{declared};
 
+use crate::constants::declare_constants;
 use crate::names::defined_names;
 use crate::parameters::declare_parameters;
 use crate::variables::declare_groups;
@@ -32,5 +33,6 @@ fn declare(typer: &mut Typer, program: &Program) -> Result<(), TypeFault>
     let names = defined_names(typer.alloc, program)?;
     typer.open_block(&names)?;
     declare_parameters(typer, &program.parameters)?;
+    declare_constants(typer, &program.block.constants)?;
     declare_groups(typer, &program.block.variables)
 }

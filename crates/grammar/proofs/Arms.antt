@@ -1,25 +1,24 @@
 -- The rules of the arms of cases read each spelling of their form.
-use Rattle.std.proofs.Common.{◌≡◌, ℕ, ◌<◌, ◌≤◌, Bool, true, false, ◌&&◌, max, fold, List, [], ◌∷◌, ◌++◌, map, length, Option, Some, None, IfNone, refl, subst}
+use Rattle.std.proofs.Common.{◌≡◌, ℕ, ◌≤◌, Bool, true, false, max, List, [], ◌∷◌, ◌++◌, map, Option, Some, None, IfNone, refl, subst}
 use Rattle.std.proofs.Common.{sym, ap, ◌∙◌, append_assoc, arith}
 use Rattle.std.specs.List.{list_all}
 use Rattle.place.specs.declared.Place.{Place}
-use Rattle.lexer.specs.declared.token.Kind.{Kind}
 use Rattle.lexer.specs.declared.token.Kind.TheVariants as kind
 use Rattle.lexer.specs.declared.token.Symbol.TheVariants as symbol
 use Rattle.lexer.specs.declared.token.Token.{Token}
 use Rattle.lexer.specs.declared.token.Word.TheVariants as word
-use Rattle.syntax_tree.specs.declared.CaseConstant.{CaseConstant}
+use Rattle.syntax_tree.specs.declared.Constant.{Constant}
 use Rattle.syntax_tree.specs.declared.ConstantValue.{ConstantValue}
 use Rattle.syntax_tree.specs.declared.ConstantValue.TheVariants as constant
 use Rattle.syntax_tree.specs.declared.Sign.{Sign}
 use Rattle.syntax_tree.specs.declared.Sign.TheVariants.{Plus, Minus}
 use Rattle.syntax_tree.specs.declared.SignAt.{SignAt}
 use Rattle.syntax_tree.specs.declared.Stmt.{Stmt}
-use Rattle.grammar.specs.Spelling.{Lexeme, Spelling, Reads, of_kind_at, mark, word_symbol, sign, sign_spelling, value_lexeme, constant_spelling, stmt_spelling}
+use Rattle.grammar.specs.Spelling.{Reads, of_kind_at, mark, word_symbol, sign, sign_spelling, value_lexeme, constant_spelling, stmt_spelling}
 use Rattle.grammar.specs.Spelling.{case_end, separated}
 use Rattle.grammar.specs.WellFormed.{is_statement, has_items}
 use Rattle.grammar.specs.Nesting.{stmt_levels, deepest}
-use Rattle.grammar.specs.Following.{next_kind, NoNext, NoSign, EndsStmt, semicolon, end}
+use Rattle.grammar.specs.Following.{NoNext, NoSign, EndsStmt, semicolon, end}
 use Rattle.grammar.specs.Begins.{BeginsStmt, BeginsConstants, BeginsRow, Arm, arm_spelled, arm_well, BeginsArms}
 use Rattle.grammar.proofs.Lists.{and_left, and_right, length_map}
 use Rattle.grammar.proofs.Rows.{parted, begins, same_first, start_below, other_start}
@@ -47,43 +46,43 @@ behind_sign (Some g) None v a b c k none h =
 behind_sign (Some g) (Some s) v a b c k none h = (same_first (sign g.sign g.place) (sign s.sign s.place) (value_lexeme v ∷ []) a b c k h).1
 
 -- the parts of a row of constants
-abbrev pub constant_list_parts : Parts CaseConstant
+abbrev pub constant_list_parts : Parts Constant
 constant_list_parts = record { symbol = symbol.Comma; spelling = constant_spelling; well = λ _. true; levels = λ _. 0 }
 
-all_well : (cs : List CaseConstant) → list_all (λ _. true) cs ≡ true
+all_well : (cs : List Constant) → list_all (λ _. true) cs ≡ true
 all_well [] = refl
 all_well (c ∷ cs) = all_well cs
 
-none_deep : (cs : List CaseConstant) → deepest (map (λ _. 0) cs) ≤ 0
+none_deep : (cs : List Constant) → deepest (map (λ _. 0) cs) ≤ 0
 none_deep [] = omega arith
 none_deep (c ∷ cs) = none_deep cs
 
 -- what is left of each row of constants that may stand there, and a constant that comes next
 abbrev pub ConstantsLeft : List Token → List Token → Type 0
-ConstantsLeft start now = (constants : List CaseConstant) (others : List Token) → BeginsConstants start others constants
-    → NoNext (kind.Symbol symbol.Comma) others → PartsLeft CaseConstant constant_list_parts 0 now others
+ConstantsLeft start now = (constants : List Constant) (others : List Token) → BeginsConstants start others constants
+    → NoNext (kind.Symbol symbol.Comma) others → PartsLeft Constant constant_list_parts 0 now others
 
 abbrev pub ConstantNext : List Token → List Token → Type 0
-ConstantNext start now = (constants : List CaseConstant) (others : List Token) → BeginsConstants start others constants
-    → NoNext (kind.Symbol symbol.Comma) others → PartThenOthers CaseConstant constant_list_parts 0 now others
+ConstantNext start now = (constants : List Constant) (others : List Token) → BeginsConstants start others constants
+    → NoNext (kind.Symbol symbol.Comma) others → PartThenOthers Constant constant_list_parts 0 now others
 
 pub constant_list_begins : (start : List Token) → ConstantNext start start
 constant_list_begins start constants others h ends =
-    parts_begin CaseConstant constant_list_parts 0 start others constants h.some h.spelled (all_well constants) (none_deep constants)
+    parts_begin Constant constant_list_parts 0 start others constants h.some h.spelled (all_well constants) (none_deep constants)
 
 pub constant_list_goes_on : (p : Place) (start a b : List Token) → Reads a (of_kind_at (kind.Symbol symbol.Comma) p ∷ []) b → ConstantsLeft start a
     → ConstantNext start b
 constant_list_goes_on p start a b k left constants others h ends =
-    parts_go_on CaseConstant constant_list_parts 0 p a b others k ends (left constants others h ends)
+    parts_go_on Constant constant_list_parts 0 p a b others k ends (left constants others h ends)
 
 pub constant_list_ends : (start a : List Token) → NoNext (kind.Symbol symbol.Comma) a → ConstantsLeft start a
-    → (constants : List CaseConstant) (others : List Token)
+    → (constants : List Constant) (others : List Token)
     → BeginsConstants start others constants → NoNext (kind.Symbol symbol.Comma) others → a ≡ others
 constant_list_ends start a missed left constants others h ends =
-    parts_end CaseConstant constant_list_parts 0 a others missed (left constants others h ends)
+    parts_end Constant constant_list_parts 0 a others missed (left constants others h ends)
 
 -- at the colon a row of constants ends
-pub row_no_comma : (a c : List Token) (constants : List CaseConstant) (h : BeginsRow a c constants) → NoNext (kind.Symbol symbol.Comma) h.middle
+pub row_no_comma : (a c : List Token) (constants : List Constant) (h : BeginsRow a c constants) → NoNext (kind.Symbol symbol.Comma) h.middle
 row_no_comma a c constants h e =
     let no : Some (kind.Symbol symbol.Colon) ≡ Some (kind.Symbol symbol.Comma) = sym (begins (mark symbol.Colon) [] h.middle c h.closed) ∙ e in cc
 
@@ -99,7 +98,7 @@ pub record ArmsLeft (levels : ℕ) (a c : List Token) : Type 0 where
 
 -- an arm, and what is left behind it
 pub record ArmThenOthers (levels : ℕ) (a c : List Token) : Type 0 where
-  pub constants : List CaseConstant
+  pub constants : List Constant
   pub middle : List Token
   pub headed : BeginsRow a middle constants
   pub statement : Stmt

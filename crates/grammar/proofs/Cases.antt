@@ -1,8 +1,8 @@
 -- The parts of case statements.
-use Rattle.std.proofs.Common.{◌≡◌, ℕ, ◌+◌, ◌<◌, ◌≤◌, Bool, true, false, ◌&&◌, max, nat_eq, List, [], ◌∷◌, ◌++◌, map, length, Option, Some, None, refl, subst}
+use Rattle.std.proofs.Common.{◌≡◌, ℕ, ◌<◌, ◌≤◌, Bool, true, false, ◌&&◌, max, nat_eq, List, [], ◌∷◌, ◌++◌, map, length, Option, Some, None, refl, subst}
 use Rattle.std.proofs.Common.{sym, ap, ◌∙◌, arith}
 use Rattle.std.proofs.lemmas.List.{append-nil}
-use Rattle.std.proofs.lemmas.Bool.{eqb-true, lt-ltb}
+use Rattle.std.proofs.lemmas.Bool.{eqb-true}
 use Rattle.std.specs.List.{list_all}
 use Rattle.std.specs.declared.alloc.Global.{Global}
 use Rattle.std.specs.declared.vec.Vec.{Vec}
@@ -12,7 +12,7 @@ use Rattle.lexer.specs.declared.token.Kind.TheVariants as kind
 use Rattle.lexer.specs.declared.token.Symbol.TheVariants as symbol
 use Rattle.lexer.specs.declared.token.Token.{Token}
 use Rattle.lexer.specs.declared.token.Word.TheVariants as word
-use Rattle.syntax_tree.specs.declared.CaseConstant.{CaseConstant}
+use Rattle.syntax_tree.specs.declared.Constant.{Constant}
 use Rattle.syntax_tree.specs.declared.ConstantValue.{ConstantValue}
 use Rattle.syntax_tree.specs.declared.ConstantValue.TheVariants as constant
 use Rattle.syntax_tree.specs.declared.Sign.{Sign}
@@ -28,7 +28,7 @@ use Rattle.grammar.specs.Spelling.{word_symbol, arm_spelling, case_end, separate
 use Rattle.grammar.specs.WellFormed.{StmtForm, stmt_form, is_expression, is_statement, has_items, are_rows}
 use Rattle.grammar.specs.Nesting.{expr_levels, stmt_levels, deepest}
 use Rattle.grammar.specs.Following.{next_kind, EndsStmt}
-use Rattle.grammar.specs.Begins.{BeginsGuard, BeginsStmt, Arm, arm_spelled, arm_well, BeginsArms}
+use Rattle.grammar.specs.Begins.{BeginsGuard, BeginsStmt, Arm, arm_well, BeginsArms}
 use Rattle.grammar.proofs.Lists.{and_left, and_right, and_true, all_computed, length_map}
 use Rattle.grammar.proofs.Rows.{begins, same_first}
 use Rattle.grammar.proofs.Led.{list_begins}
@@ -39,25 +39,25 @@ use Rattle.grammar.proofs.Conditionals.{guard_parted}
 -- ---- arms
 
 -- what is computed of the arms behind their constants
-pub arms_computed : {A B C : Type 0} (g : List CaseConstant × B → C) (f : A → B) (rows : List (Vec CaseConstant Global)) (xs : List A)
+pub arms_computed : {A B C : Type 0} (g : List Constant × B → C) (f : A → B) (rows : List (Vec Constant Global)) (xs : List A)
     → map g (arms_of rows (map f xs)) ≡ map (λ arm. g (arm.0, f arm.1)) (arms_of rows xs)
 arms_computed g f [] xs = refl
 arms_computed g f (r ∷ rows) [] = refl
 arms_computed g f (r ∷ rows) (x ∷ xs) = ap (λ l. g (r.items, f x) ∷ l) (arms_computed g f rows xs)
 
-rows_left : (r : Vec CaseConstant Global) (rows : List (Vec CaseConstant Global)) (s : Stmt) (arms : List Stmt) → length (r ∷ rows) ≡ length (s ∷ arms)
+rows_left : (r : Vec Constant Global) (rows : List (Vec Constant Global)) (s : Stmt) (arms : List Stmt) → length (r ∷ rows) ≡ length (s ∷ arms)
     → length rows ≡ length arms
 rows_left r rows s arms e = omega arith
 
 -- where each arm has its row
-pub arms_levels : (rows : List (Vec CaseConstant Global)) (arms : List Stmt) → length rows ≡ length arms
+pub arms_levels : (rows : List (Vec Constant Global)) (arms : List Stmt) → length rows ≡ length arms
     → map (λ (arm : Arm). stmt_levels arm.1) (arms_of rows arms) ≡ map stmt_levels arms
 arms_levels [] [] e = refl
 arms_levels [] (s ∷ arms) e = absurd (omega arith)
 arms_levels (r ∷ rows) [] e = absurd (omega arith)
 arms_levels (r ∷ rows) (s ∷ arms) e = ap (λ l. stmt_levels s ∷ l) (arms_levels rows arms (rows_left r rows s arms e))
 
-pub arms_length : (rows : List (Vec CaseConstant Global)) (arms : List Stmt) → length rows ≡ length arms → length (arms_of rows arms) ≡ length arms
+pub arms_length : (rows : List (Vec Constant Global)) (arms : List Stmt) → length rows ≡ length arms → length (arms_of rows arms) ≡ length arms
 arms_length [] [] e = refl
 arms_length [] (s ∷ arms) e = absurd (omega arith)
 arms_length (r ∷ rows) [] e = absurd (omega arith)
@@ -70,14 +70,14 @@ four true false false d = refl
 four false b c d = refl
 
 -- each arm is well formed where its row and its statement are
-pub arms_formed : (rows : List (Vec CaseConstant Global)) (arms : List Stmt) → length rows ≡ length arms
-    → list_all arm_well (arms_of rows arms) ≡ list_all (λ (r : Vec CaseConstant Global). has_items r.items) rows && list_all is_statement arms
+pub arms_formed : (rows : List (Vec Constant Global)) (arms : List Stmt) → length rows ≡ length arms
+    → list_all arm_well (arms_of rows arms) ≡ list_all (λ (r : Vec Constant Global). has_items r.items) rows && list_all is_statement arms
 arms_formed [] [] e = refl
 arms_formed [] (s ∷ arms) e = absurd (omega arith)
 arms_formed (r ∷ rows) [] e = absurd (omega arith)
 arms_formed (r ∷ rows) (s ∷ arms) e =
     ap (λ b. (has_items r.items && is_statement s) && b) (arms_formed rows arms (rows_left r rows s arms e))
-    ∙ four (has_items r.items) (is_statement s) (list_all (λ (r : Vec CaseConstant Global). has_items r.items) rows) (list_all is_statement arms)
+    ∙ four (has_items r.items) (is_statement s) (list_all (λ (r : Vec Constant Global). has_items r.items) rows) (list_all is_statement arms)
 
 -- an arm begins with a constant
 abbrev pub constant_kind : Kind → Bool
@@ -98,7 +98,7 @@ constant_first None (constant.Number m p) s a c h = (kind.Number m, begins (of_k
 constant_first None (constant.Name n) s a c h = (kind.Identifier, begins (identifier n) s a c h, refl)
 constant_first (Some g) v s a c h = sign_first g.sign g.place (value_lexeme v ∷ s) a c h
 
-pub row_first : (cs : List CaseConstant) (a c : List Token) → 0 < length cs → Reads a (separated symbol.Comma (map constant_spelling cs)) c
+pub row_first : (cs : List Constant) (a c : List Token) → 0 < length cs → Reads a (separated symbol.Comma (map constant_spelling cs)) c
     → (k : Kind) × (next_kind a ≡ Some k) × (constant_kind k ≡ true)
 row_first [] a c some h = absurd (omega arith)
 row_first (x ∷ xs) a c some h =
@@ -116,12 +116,12 @@ pub record CaseParts (levels : ℕ) (a c : List Token) (index : Expr) (found : L
   pub arms : BeginsArms below middle c found
 
 -- what a case statement spells behind its word symbol
-abbrev pub behind_case : Expr → List (Vec CaseConstant Global) → List Stmt → Bool → Spelling
+abbrev pub behind_case : Expr → List (Vec Constant Global) → List Stmt → Bool → Spelling
 behind_case e rows arms b =
     expr_spelling e ++ (word_symbol word.Of ∷ separated symbol.Semicolon (map arm_spelling (arms_of rows (map stmt_spelling arms))) ++ case_end b)
 
 -- the parts of one layer that is a case statement
-pub case_parts : (levels : ℕ) (a b c : List Token) (p : Place) (e : Expr) (rows : Vec (Vec CaseConstant Global) Global) (v : Vec Stmt Global) (semicolon : Bool)
+pub case_parts : (levels : ℕ) (a b c : List Token) (p : Place) (e : Expr) (rows : Vec (Vec Constant Global) Global) (v : Vec Stmt Global) (semicolon : Bool)
     → Layer levels a c (stmt.Case p e rows v semicolon) → Reads b (behind_case e rows.items v.items semicolon) c
     → CaseParts levels b c e (arms_of rows.items v.items, semicolon)
 case_parts levels a b c p e rows v semicolon h k =
@@ -133,7 +133,7 @@ case_parts levels a b c p e rows v semicolon h k =
     let others = and_right (is_expression e) (in_rows && (some && all)) h.formed in
     let paired = and_left in_rows (some && all) others in
     let formed = and_right in_rows (some && all) others in
-    let filled = list_all (λ (r : Vec CaseConstant Global). has_items r.items) rows.items in
+    let filled = list_all (λ (r : Vec Constant Global). has_items r.items) rows.items in
     let size = nat_eq (length rows.items) (length (map stmt_form v.items)) in
     let same : length rows.items ≡ length v.items =
     eqb-true (length rows.items) (length (map stmt_form v.items)) (and_left size filled paired) ∙ length_map stmt_form v.items in

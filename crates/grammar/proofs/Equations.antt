@@ -9,7 +9,7 @@ use Rattle.lexer.specs.declared.token.Kind.TheVariants as kind
 use Rattle.lexer.specs.declared.token.Symbol.TheVariants as symbol
 use Rattle.lexer.specs.declared.token.Word.TheVariants as word
 use Rattle.syntax_tree.specs.declared.Name.{Name}
-use Rattle.syntax_tree.specs.declared.CaseConstant.{CaseConstant}
+use Rattle.syntax_tree.specs.declared.Constant.{Constant}
 use Rattle.syntax_tree.specs.Places.{arms_of}
 use Rattle.syntax_tree.specs.declared.Sign.{Sign}
 use Rattle.syntax_tree.specs.declared.Direction.{Direction}
@@ -315,7 +315,7 @@ pub levels-For : (p : Place) (n : Name) (e : Expr) (d : Direction) (f : Expr) (b
 levels-For p n e d f b = ap nest.stmt_levels (sym (statement.rolls-For p n e d f b)) ∙ fold-roll-Stmt ℕ nest.stmt_step (stmt.For p n e d f b)
 
 -- a case statement
-pub spelling-Case : (p : Place) (e : Expr) (rows : Vec (Vec CaseConstant Global) Global) (v : Vec Stmt Global) (b : Bool)
+pub spelling-Case : (p : Place) (e : Expr) (rows : Vec (Vec Constant Global) Global) (v : Vec Stmt Global) (b : Bool)
     → spell.stmt_spelling (statement.Case p e rows v b)
     ≡ spell.of_kind_at (kind.Word word.Case) p ∷ spell.expr_spelling e
     ++ (spell.word_symbol word.Of ∷ spell.separated symbol.Semicolon (map spell.arm_spelling (arms_of rows.items (map spell.stmt_spelling v.items)))
@@ -323,7 +323,7 @@ pub spelling-Case : (p : Place) (e : Expr) (rows : Vec (Vec CaseConstant Global)
 spelling-Case p e rows v b = ap spell.stmt_spelling (sym (statement.rolls-Case p e rows v b))
     ∙ fold-roll-Stmt spell.Spelling spell.stmt_step (stmt.Case p e rows v b)
 
-pub form-Case : (p : Place) (e : Expr) (rows : Vec (Vec CaseConstant Global) Global) (v : Vec Stmt Global) (b : Bool)
+pub form-Case : (p : Place) (e : Expr) (rows : Vec (Vec Constant Global) Global) (v : Vec Stmt Global) (b : Bool)
     → form.is_statement (statement.Case p e rows v b)
     ≡ form.is_expression e && (form.are_rows rows.items (length (map form.stmt_form v.items))
     && (form.has_items (map form.stmt_form v.items) && list_all form.is_statement v.items))
@@ -333,10 +333,10 @@ form-Case p e rows v b =
     && (form.has_items (map form.stmt_form v.items) && all)))
     (all_computed (λ (f : form.StmtForm). f.well) form.stmt_form v.items)
 
-pub closed-Case : (p : Place) (e : Expr) (rows : Vec (Vec CaseConstant Global) Global) (v : Vec Stmt Global) (b : Bool)
+pub closed-Case : (p : Place) (e : Expr) (rows : Vec (Vec Constant Global) Global) (v : Vec Stmt Global) (b : Bool)
     → form.ends_open (statement.Case p e rows v b) ≡ false
 closed-Case p e rows v b = ap form.ends_open (sym (statement.rolls-Case p e rows v b)) ∙ stmt_open_of (stmt.Case p e rows v b)
 
-pub levels-Case : (p : Place) (e : Expr) (rows : Vec (Vec CaseConstant Global) Global) (v : Vec Stmt Global) (b : Bool)
+pub levels-Case : (p : Place) (e : Expr) (rows : Vec (Vec Constant Global) Global) (v : Vec Stmt Global) (b : Bool)
     → nest.stmt_levels (statement.Case p e rows v b) ≡ 1 + max (nest.expr_levels e) (nest.deepest (map nest.stmt_levels v.items))
 levels-Case p e rows v b = ap nest.stmt_levels (sym (statement.rolls-Case p e rows v b)) ∙ fold-roll-Stmt ℕ nest.stmt_step (stmt.Case p e rows v b)

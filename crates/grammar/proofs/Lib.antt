@@ -3,6 +3,7 @@ pub mod Arms
 pub mod Cases
 pub mod Chains
 pub mod Conditionals
+pub mod Definitions
 pub mod Equations
 pub mod Expressions
 pub mod Forms
@@ -11,6 +12,7 @@ pub mod Lists
 pub mod Loops
 pub mod OneTree
 pub mod OneTreeConstants
+pub mod OneTreeDefinitions
 pub mod OneTreeExpressions
 pub mod OneTreeLists
 pub mod OneTreePrograms

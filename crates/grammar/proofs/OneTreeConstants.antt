@@ -1,29 +1,27 @@
--- Two rows of constants of cases from the same tokens are written alike.
-use Rattle.std.proofs.Common.{◌≡◌, ℕ, ◌<◌, Bool, true, List, [], ◌∷◌, ◌++◌, map, Option, Some, None, refl, subst, sym, ap, ◌∙◌}
+-- Two constants, and two rows of constants of cases, from the same tokens are written alike.
+use Rattle.std.proofs.Common.{◌≡◌, ℕ, Bool, true, List, [], ◌∷◌, ◌++◌, map, Option, Some, None, refl, sym, ap, ◌∙◌}
 use Rattle.std.specs.List.{list_all}
 use Rattle.place.specs.declared.Place.{Place}
-use Rattle.lexer.specs.declared.token.Kind.{Kind}
 use Rattle.lexer.specs.declared.token.Kind.TheVariants as kind
 use Rattle.lexer.specs.declared.token.Symbol.TheVariants as symbol
 use Rattle.lexer.specs.declared.token.Token.{Token}
-use Rattle.syntax_tree.specs.declared.CaseConstant.{CaseConstant}
+use Rattle.syntax_tree.specs.declared.Constant.{Constant}
 use Rattle.syntax_tree.specs.declared.ConstantValue.{ConstantValue}
 use Rattle.syntax_tree.specs.declared.ConstantValue.TheVariants as constant
-use Rattle.syntax_tree.specs.declared.Name.{Name}
 use Rattle.syntax_tree.specs.declared.Sign.{Sign}
 use Rattle.syntax_tree.specs.declared.Sign.TheVariants.{Plus, Minus}
 use Rattle.syntax_tree.specs.declared.SignAt.{SignAt}
-use Rattle.grammar.specs.Spelling.{Lexeme, Spelling, IsSpelledBy, Reads, of_kind_at, identifier, sign, sign_spelling, value_lexeme, constant_spelling}
-use Rattle.grammar.specs.Notation.{Notation, token, constant_notation}
-use Rattle.grammar.proofs.OneTree.{Alike, FirstIsOne, first_is_one, at_is_one, name_is_one}
-use Rattle.grammar.proofs.OneTreeLists.{Parts, EndsPart, Part, OnePart}
+use Rattle.grammar.specs.Spelling.{Lexeme, Spelling, IsSpelledBy, Reads, sign, sign_spelling, value_lexeme, constant_spelling}
+use Rattle.grammar.specs.Notation.{token, constant_notation}
+use Rattle.grammar.proofs.OneTree.{Alike, first_is_one, at_is_one, name_is_one}
+use Rattle.grammar.proofs.OneTreeLists.{Parts, OnePart}
 use Rattle.grammar.proofs.OneTreeExpressions.{sign_is_one}
 
-unfoldable pub any_constant : CaseConstant → Bool
+unfoldable pub any_constant : Constant → Bool
 any_constant c = true
 
 -- the parts of a row of constants
-unfoldable pub constant_parts : Parts CaseConstant
+unfoldable pub constant_parts : Parts Constant
 constant_parts = record {
   symbol = symbol.Comma;
   closer = kind.Symbol symbol.Colon;
@@ -69,14 +67,19 @@ spelled_alike a c d (Some s) (Some t) v w h k =
     record { written = (λ i. signs i ∷ values i ∷ []); left = r.left }
 
 -- two constants
-pub one_constant : (n : ℕ) → OnePart CaseConstant constant_parts n
+pub constant_alike : (a c d : List Token) (x y : Constant) → Reads a (constant_spelling x) c → Reads a (constant_spelling y) d
+    → Alike Spelling (constant_spelling x) (constant_spelling y) c d
+constant_alike a c d x y h k = spelled_alike a c d x.sign y.sign x.value y.value h k
+
+-- two parts of rows
+pub one_constant : (n : ℕ) → OnePart Constant constant_parts n
 unfolding constant_parts any_constant
 one_constant n a c d x y few h k ends_one ends_two =
-    let r = spelled_alike a c d x.sign y.sign x.value y.value h.spelled k.spelled in
+    let r = constant_alike a c d x y h.spelled k.spelled in
     record { written = ap (map token) r.written; left = r.left }
 
 -- each constant is well formed
-pub all_constants : (cs : List CaseConstant) → list_all constant_parts.well cs ≡ true
+pub all_constants : (cs : List Constant) → list_all constant_parts.well cs ≡ true
 unfolding constant_parts any_constant
 all_constants [] = refl
 all_constants (c ∷ cs) = all_constants cs

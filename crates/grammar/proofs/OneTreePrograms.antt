@@ -15,10 +15,12 @@ use Rattle.syntax_tree.specs.declared.Stmt.{Stmt}
 use Rattle.syntax_tree.specs.declared.Block.{Block}
 use Rattle.syntax_tree.specs.declared.Program.{Program}
 use Rattle.grammar.specs.Spelling.{Lexeme, Spelling, Reads, Spells, of_kind_at, mark, word_symbol, identifier, identifiers, separated, joined, in_parentheses}
-use Rattle.grammar.specs.Spelling.{denoter_spelling, group_spelling, variables_spelling, stmt_spelling, block_spelling, program_spelling}
+use Rattle.grammar.specs.Spelling.{denoter_spelling, group_spelling, constants_spelling, variables_spelling, stmt_spelling, block_spelling}
+use Rattle.grammar.specs.Spelling.{program_spelling}
 use Rattle.grammar.specs.WellFormed.{is_group, is_statement, is_block, is_program, has_items}
-use Rattle.grammar.specs.Following.{next_kind, NoNext, Next}
-use Rattle.grammar.specs.Notation.{Notation, bracketed, token, row, names_notation, denoter_notation, group_notation, block_notation, notation}
+use Rattle.grammar.specs.Following.{next_kind, NoNext, Next, EndsConstants, variable_part, statement_part}
+use Rattle.grammar.specs.Notation.{Notation, bracketed, token, row, names_notation, denoter_notation, group_notation, stmt_notation, block_notation}
+use Rattle.grammar.specs.Notation.{notation}
 use Rattle.grammar.specs.Notation as note
 use Rattle.grammar.specs.Laws.{HasOneTree}
 use Rattle.grammar.proofs.Lists.{and_left, and_right}
@@ -27,6 +29,7 @@ use Rattle.grammar.proofs.Led.{list_begins}
 use Rattle.grammar.proofs.Programs.{some_items, other_kind}
 use Rattle.grammar.proofs.OneTree.{Alike, first_is_one, last_is_one, at_is_one, name_is_one}
 use Rattle.grammar.proofs.OneTreeLists.{Parts, OnePart, Listed, list_alike, InParentheses, parenthesized_alike}
+use Rattle.grammar.proofs.OneTreeDefinitions.{Constants, constants_alike}
 use Rattle.grammar.proofs.OneTreeStatements.{statement_parts, end_closes, one_statement}
 
 -- ---- names
@@ -192,8 +195,8 @@ variables_alike a c d (g ∷ gs) (h ∷ hs) i j =
 
 -- ---- blocks
 
--- a block that begins these tokens: its variables, its statements, and its `end`
-record BlockAs (a c : List Token) (b : Block) : Type 0 where
+-- what stands behind the constants of a block: its variables, its statements, and its `end`
+record BodyAs (a c : List Token) (b : Block) : Type 0 where
   pub middle : List Token
   pub variables : Variables a middle b.variables.items
   pub behind : Reads middle
@@ -201,8 +204,13 @@ record BlockAs (a c : List Token) (b : Block) : Type 0 where
   pub some : has_items b.statements.items ≡ true
   pub formed : list_all is_statement b.statements.items ≡ true
 
-block_as : (a c : List Token) (b : Block) → Reads a (block_spelling b) c → is_block b ≡ true → BlockAs a c b
-block_as a c b h f =
+abbrev body_spelling : Block → Spelling
+body_spelling b =
+    variables_spelling b.variables.items
+    ++ word_symbol word.Begin ∷ separated symbol.Semicolon (map stmt_spelling b.statements.items) ++ of_kind_at (kind.Word word.End) b.end ∷ []
+
+body_as : (a c : List Token) (b : Block) → Reads a (body_spelling b) c → is_block b ≡ true → BodyAs a c b
+body_as a c b h f =
     let compound : Spelling = word_symbol word.Begin ∷ separated symbol.Semicolon (map stmt_spelling b.statements.items) in
     let last : Spelling = of_kind_at (kind.Word word.End) b.end ∷ [] in
     let r = parted (variables_spelling b.variables.items) (compound ++ last) a c
@@ -219,6 +227,26 @@ block_as a c b h f =
       behind = r.2;
       some = and_left (has_items b.statements.items) (list_all is_statement b.statements.items) g;
       formed = and_right (has_items b.statements.items) (list_all is_statement b.statements.items) g;
+    }
+
+-- a block that begins these tokens: its constants, and what stands behind them
+record BlockAs (a c : List Token) (b : Block) : Type 0 where
+  pub middle : List Token
+  pub constants : Constants a middle b.constants.items
+  pub behind : BodyAs middle c b
+
+body_follows : (a c : List Token) (gs : List VariableGroup) → Variables a c gs → EndsConstants a
+body_follows a c [] h = statement_part (ap next_kind h.spelled ∙ h.closed)
+body_follows a c (g ∷ gs) h = variable_part (begins (word_symbol word.Var) (joined (map group_spelling (g ∷ gs))) a c h.spelled)
+
+block_as : (a c : List Token) (b : Block) → Reads a (block_spelling b) c → is_block b ≡ true → BlockAs a c b
+block_as a c b h f =
+    let r = parted (constants_spelling b.constants.items) (body_spelling b) a c h in
+    let behind = body_as r.0 c b r.2 f in
+    record {
+      middle = r.0;
+      constants = record { spelled = r.1; closed = body_follows r.0 behind.middle b.variables.items behind.variables };
+      behind = behind;
     }
 
 -- statements, and the `end` behind them
@@ -238,13 +266,16 @@ body a c statements end h some f =
       closed = r.2;
     }
 
-block_written : (u v w x : Notation) (l m : Lexeme) → u ≡ v → w ≡ x → l ≡ m
-    → bracketed note.block (u ++ w ++ token l ∷ []) ≡ bracketed note.block (v ++ x ++ token m ∷ [])
-block_written u v w x l m h i j = cc
+abbrev body_notation : Block → Notation
+body_notation b =
+    row (map group_notation b.variables.items) ++ row (map stmt_notation b.statements.items) ++ token (of_kind_at (kind.Word word.End) b.end) ∷ []
 
--- two blocks
-block_alike : (a c d : List Token) (b e : Block) → BlockAs a c b → BlockAs a d e → Alike Notation (block_notation b) (block_notation e) c d
-block_alike a c d b e x y =
+body_written : (u v w x : Notation) (l m : Lexeme) → u ≡ v → w ≡ x → l ≡ m → u ++ w ++ token l ∷ [] ≡ v ++ x ++ token m ∷ []
+body_written u v w x l m h i j = cc
+
+-- two blocks behind their constants
+body_alike : (a c d : List Token) (b e : Block) → BodyAs a c b → BodyAs a d e → Alike Notation (body_notation b) (body_notation e) c d
+body_alike a c d b e x y =
     let variables = variables_alike a x.middle y.middle b.variables.items e.variables.items x.variables y.variables in
     let s = separated symbol.Semicolon (map stmt_spelling b.statements.items) ++ of_kind_at (kind.Word word.End) b.end ∷ [] in
     let t = separated symbol.Semicolon (map stmt_spelling e.statements.items) ++ of_kind_at (kind.Word word.End) e.end ∷ [] in
@@ -260,9 +291,19 @@ block_alike a c d b e x y =
     let end = first_is_one (of_kind_at (kind.Word word.End) b.end) (of_kind_at (kind.Word word.End) e.end) [] [] p.middle c d p.closed closed in
     let last = at_is_one (kind.Word word.End) (kind.Word word.End) b.end e.end end.first end.one end.two in
     record {
-      written = block_written _ _ _ _ _ _ (ap row variables.written) (ap row statements.written) last;
+      written = body_written _ _ _ _ _ _ (ap row variables.written) (ap row statements.written) last;
       left = last_is_one (of_kind_at (kind.Word word.End) b.end) (of_kind_at (kind.Word word.End) e.end) p.middle c d p.closed closed;
     }
+
+block_written : (u v w x : Notation) → u ≡ v → w ≡ x → bracketed note.block (u ++ w) ≡ bracketed note.block (v ++ x)
+block_written u v w x h i = cc
+
+-- two blocks
+block_alike : (a c d : List Token) (b e : Block) → BlockAs a c b → BlockAs a d e → Alike Notation (block_notation b) (block_notation e) c d
+block_alike a c d b e x y =
+    let constants = constants_alike a x.middle y.middle b.constants.items e.constants.items x.constants y.constants in
+    let behind = body_alike x.middle c d b e x.behind (subst (λ u. BodyAs u d e) (sym constants.left) y.behind) in
+    record { written = block_written _ _ _ _ (ap row constants.written) behind.written; left = behind.left }
 
 -- ---- programs
 

@@ -14,12 +14,7 @@ use Rattle.lexer.specs.declared.token.Word.{Word}
 use Rattle.lexer.specs.declared.token.Word.TheVariants as word
 use Rattle.lexer.specs.declared.token.Token.{Token}
 use Rattle.syntax_tree.specs.declared.Actual.{Actual}
-use Rattle.syntax_tree.specs.declared.CaseConstant.{CaseConstant}
-use Rattle.syntax_tree.specs.declared.ConstantValue.{ConstantValue}
-use Rattle.syntax_tree.specs.declared.ConstantValue.TheVariants as constant
-use Rattle.syntax_tree.specs.declared.Sign.{Sign}
-use Rattle.syntax_tree.specs.declared.Sign.TheVariants.{Plus, Minus}
-use Rattle.syntax_tree.specs.declared.SignAt.{SignAt}
+use Rattle.syntax_tree.specs.declared.Constant.{Constant}
 use Rattle.syntax_tree.specs.Places.{arms_of}
 use Rattle.syntax_tree.specs.declared.Direction.{Direction}
 use Rattle.syntax_tree.specs.declared.Name.{Name}
@@ -29,7 +24,7 @@ use Rattle.syntax_tree.specs.declared.Stmt.TheOpen as stmt
 use Rattle.syntax_tree.specs.declared.Stmt.TheViews.{out-Stmt, roll-out-Stmt}
 use Rattle.syntax_tree.specs.declared.Stmt.TheFolds.{map-Stmt, fold-roll-Stmt}
 use Rattle.grammar.specs.Spelling.{Spelling, Reads, expr_spelling, actual_spelling, stmt_spelling, of_kind_at, word_symbol, identifier, separated}
-use Rattle.grammar.specs.Spelling.{in_parentheses, Lexeme, IsSpelledBy, of_kind, mark, direction_word, sign, sign_spelling, value_lexeme, constant_spelling}
+use Rattle.grammar.specs.Spelling.{in_parentheses, Lexeme, IsSpelledBy, of_kind, mark, direction_word, constant_spelling}
 use Rattle.grammar.specs.Spelling.{case_end}
 use Rattle.grammar.specs.WellFormed.{StmtForm, stmt_form, is_statement, has_items}
 use Rattle.grammar.specs.Nesting.{stmt_levels}
@@ -39,7 +34,6 @@ use Rattle.grammar.specs.Notation.{Notation, bracketed, token, row, expr_notatio
 use Rattle.grammar.specs.Notation as note
 use Rattle.grammar.proofs.Lists.{and_left, and_right, all_computed, length_map, map_push, all_push}
 use Rattle.grammar.proofs.Reading.{reads_no_more, reads_fewer, separated_more}
-use Rattle.grammar.proofs.Led.{list_begins}
 use Rattle.grammar.proofs.Cases.{arms_computed, constant_kind, row_first, behind_case, case_parts}
 use Rattle.grammar.proofs.OneTreeConstants.{constant_parts, one_constant, all_constants}
 use Rattle.grammar.proofs.Rows.{parted, begins}
@@ -359,7 +353,7 @@ case_parts_of = record {
 -- the parts of an arm
 record ArmParts (a c : List Token) (arm : Arm) : Type 0 where
   pub middle : List Token
-  pub list : Listed CaseConstant constant_parts a middle arm.0
+  pub list : Listed Constant constant_parts a middle arm.0
   pub behind : List Token
   pub closed : Reads middle (mark symbol.Colon ∷ []) behind
   pub begun : BeginsStmt (stmt_levels arm.1) behind c arm.1
@@ -392,7 +386,7 @@ arms_alike : (n : ℕ) (a c d : List Token) (x y : Arm) → OneStatement n → l
     → EndsPart symbol.Semicolon (kind.Word word.End) c → EndsPart symbol.Semicolon (kind.Word word.End) d → Alike Notation (arm_written x) (arm_written y) c d
 unfolding arm_written constant_parts
 arms_alike n a c d x y one few h k ends_one ends_two =
-    let lists = list_alike CaseConstant constant_parts n a h.middle k.middle x.0 y.0 (λ e. cc) (one_constant n) few h.list k.list in
+    let lists = list_alike Constant constant_parts n a h.middle k.middle x.0 y.0 (λ e. cc) (one_constant n) few h.list k.list in
     let colon = last_is_one (mark symbol.Colon) (mark symbol.Colon) h.middle h.behind k.behind h.closed
     (subst (λ u. Reads u (mark symbol.Colon ∷ []) k.behind) (sym lists.left) k.closed) in
     let no_more = reads_no_more (separated symbol.Comma (map constant_spelling x.0)) a h.middle h.list.spelled in
@@ -521,7 +515,7 @@ case_is_written : (p r : Lexeme) (e f s t : Notation) → p ≡ r → e ≡ f �
 case_is_written p r e f s t i j k = cc
 
 -- a case statement of one layer
-cases_alike : (n l m : ℕ) (a c d : List Token) (p r : Place) (e f : Expr) (x y : Vec (Vec CaseConstant Global) Global) (v w : Vec Stmt Global) (b g : Bool)
+cases_alike : (n l m : ℕ) (a c d : List Token) (p r : Place) (e f : Expr) (x y : Vec (Vec Constant Global) Global) (v w : Vec Stmt Global) (b g : Bool)
     → OneStatement n → length a ≤ n → Layer l a c (stmt.Case p e x v b) → Layer m a d (stmt.Case r f y w g)
     → Alike Notation (written_of (stmt.Case p e x v b)) (written_of (stmt.Case r f y w g)) c d
 unfolding arm_written

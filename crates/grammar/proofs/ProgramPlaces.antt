@@ -17,10 +17,11 @@ use Rattle.syntax_tree.specs.declared.Sign.TheVariants.{Plus, Minus}
 use Rattle.syntax_tree.specs.declared.SignAt.{SignAt}
 use Rattle.syntax_tree.specs.declared.ConstantValue.{ConstantValue}
 use Rattle.syntax_tree.specs.declared.ConstantValue.TheVariants as constant
-use Rattle.syntax_tree.specs.declared.CaseConstant.{CaseConstant}
+use Rattle.syntax_tree.specs.declared.Constant.{Constant}
 use Rattle.syntax_tree.specs.Places.{arms_of}
 use Rattle.syntax_tree.specs.declared.Name.{Name}
 use Rattle.syntax_tree.specs.declared.Actual.{Actual}
+use Rattle.syntax_tree.specs.declared.ConstantDefinition.{ConstantDefinition}
 use Rattle.syntax_tree.specs.declared.TypeDenoter.{TypeDenoter}
 use Rattle.syntax_tree.specs.declared.TypeDenoter.TheVariants as denoter
 use Rattle.syntax_tree.specs.declared.VariableGroup.{VariableGroup}
@@ -35,6 +36,7 @@ use Rattle.syntax_tree.specs.Places as place
 use Rattle.grammar.specs.Spelling.{Lexeme, Spelling, IsSpelledBy, Reads, Spells, joined, separated, in_parentheses, mark, word_symbol, of_kind_at, identifier}
 use Rattle.grammar.specs.Spelling.{identifiers, direction_word, sign, sign_spelling, value_lexeme, constant_spelling, arm_spelling, case_end, expr_spelling}
 use Rattle.grammar.specs.Spelling.{actual_spelling, stmt_spelling, denoter_spelling, group_spelling, variables_spelling, block_spelling, program_spelling}
+use Rattle.grammar.specs.Spelling.{definition_spelling, constants_spelling}
 use Rattle.grammar.specs.Spelling as spell
 use Rattle.grammar.proofs.TreePlaces.{kept, kept_places, kept_both, AllKept, each_kept, all_kept, joined_kept, separated_kept, parenthesized_kept, expr_kept}
 use Rattle.grammar.proofs.TreePlaces.{actual_kept}
@@ -62,45 +64,45 @@ value_kept : (v : ConstantValue) → place.value_place v ∷ [] ≡ kept_places 
 value_kept (constant.Number n p) = refl
 value_kept (constant.Name n) = refl
 
-constant_kept : (c : CaseConstant) → place.constant_places c ≡ kept_places (constant_spelling c)
+constant_kept : (c : Constant) → place.constant_places c ≡ kept_places (constant_spelling c)
 constant_kept c =
     let first = sign_kept c.sign in
     let others = value_kept c.value in
     (λ i. first i ++ others i) ∙ sym (kept_both (sign_spelling c.sign) (value_lexeme c.value ∷ []))
 
 -- an arm behind its constants
-arm_kept : (row : List CaseConstant) (s : KeptStmt) → place.arm_places (row, stmt_places s.0) ≡ kept_places (arm_spelling (row, stmt_spelling s.0))
+arm_kept : (row : List Constant) (s : KeptStmt) → place.arm_places (row, stmt_places s.0) ≡ kept_places (arm_spelling (row, stmt_spelling s.0))
 arm_kept cs s =
-    let constants = separated_kept CaseConstant symbol.Comma constant_spelling place.constant_places cs
-    (each_kept CaseConstant constant_spelling place.constant_places cs constant_kept) in
+    let constants = separated_kept Constant symbol.Comma constant_spelling place.constant_places cs
+    (each_kept Constant constant_spelling place.constant_places cs constant_kept) in
     let arm = s.1 in
     (λ i. constants i ++ arm i) ∙ sym (kept_both (separated symbol.Comma (map constant_spelling cs)) (mark symbol.Colon ∷ stmt_spelling s.0))
 
 -- arms behind their constants
-arms_all_kept : (rows : List (Vec CaseConstant Global)) (v : List KeptStmt)
-    → AllKept (List CaseConstant × KeptStmt) (λ a. arm_spelling (a.0, stmt_spelling a.1.0)) (λ a. place.arm_places (a.0, stmt_places a.1.0)) (arms_of rows v)
+arms_all_kept : (rows : List (Vec Constant Global)) (v : List KeptStmt)
+    → AllKept (List Constant × KeptStmt) (λ a. arm_spelling (a.0, stmt_spelling a.1.0)) (λ a. place.arm_places (a.0, stmt_places a.1.0)) (arms_of rows v)
 arms_all_kept [] v = tt
 arms_all_kept (r ∷ rows) [] = tt
 arms_all_kept (r ∷ rows) (s ∷ v) = (arm_kept r.items s, arms_all_kept rows v)
 
-arms_spelled : (rows : List (Vec CaseConstant Global)) (v : List KeptStmt)
+arms_spelled : (rows : List (Vec Constant Global)) (v : List KeptStmt)
     → map arm_spelling (arms_of rows (map stmt_spelling (map (λ s. s.0) v))) ≡ map (λ a. arm_spelling (a.0, stmt_spelling a.1.0)) (arms_of rows v)
 arms_spelled [] v = refl
 arms_spelled (r ∷ rows) [] = refl
 arms_spelled (r ∷ rows) (s ∷ v) = ap (λ x. arm_spelling (r.items, stmt_spelling s.0) ∷ x) (arms_spelled rows v)
 
-arms_placed : (rows : List (Vec CaseConstant Global)) (v : List KeptStmt)
+arms_placed : (rows : List (Vec Constant Global)) (v : List KeptStmt)
     → flat_map place.arm_places (arms_of rows (map stmt_places (map (λ s. s.0) v))) ≡ flat_map (λ a. place.arm_places (a.0, stmt_places a.1.0)) (arms_of rows v)
 arms_placed [] v = refl
 arms_placed (r ∷ rows) [] = refl
 arms_placed (r ∷ rows) (s ∷ v) = ap (λ x. place.arm_places (r.items, stmt_places s.0) ++ x) (arms_placed rows v)
 
-arms_kept : (rows : List (Vec CaseConstant Global)) (v : List KeptStmt)
+arms_kept : (rows : List (Vec Constant Global)) (v : List KeptStmt)
     → flat_map place.arm_places (arms_of rows (map stmt_places (map (λ s. s.0) v)))
     ≡ kept_places (separated symbol.Semicolon (map arm_spelling (arms_of rows (map stmt_spelling (map (λ s. s.0) v)))))
 arms_kept rows v =
     arms_placed rows v
-    ∙ separated_kept (List CaseConstant × KeptStmt) symbol.Semicolon (λ a. arm_spelling (a.0, stmt_spelling a.1.0))
+    ∙ separated_kept (List Constant × KeptStmt) symbol.Semicolon (λ a. arm_spelling (a.0, stmt_spelling a.1.0))
     (λ a. place.arm_places (a.0, stmt_places a.1.0)) (arms_of rows v) (arms_all_kept rows v)
     ∙ ap (λ x. kept_places (separated symbol.Semicolon x)) (sym (arms_spelled rows v))
 
@@ -186,6 +188,17 @@ one_name name = identifier name ∷ []
 names_kept : (names : List Name) → AllKept Name one_name one_place names
 names_kept names = each_kept Name one_name one_place names (λ _. refl)
 
+definition_kept : (d : ConstantDefinition) → place.definition_places d ≡ kept_places (definition_spelling d)
+definition_kept d =
+    ap (λ ps. d.name.place ∷ ps)
+    (constant_kept d.value ∙ sym (append-nil _) ∙ sym (kept_both (constant_spelling d.value) (mark symbol.Semicolon ∷ [])))
+
+constants_kept : (definitions : List ConstantDefinition) → flat_map place.definition_places definitions ≡ kept_places (constants_spelling definitions)
+constants_kept [] = refl
+constants_kept (d ∷ ds) =
+    joined_kept ConstantDefinition definition_spelling place.definition_places (d ∷ ds)
+    (each_kept ConstantDefinition definition_spelling place.definition_places (d ∷ ds) definition_kept)
+
 denoter_kept : (d : TypeDenoter) → denoter_places d ≡ kept_places (denoter_spelling d)
 denoter_kept (denoter.Name n) = refl
 
@@ -202,8 +215,11 @@ variables_kept [] = refl
 variables_kept (g ∷ gs) =
     joined_kept VariableGroup group_spelling group_places (g ∷ gs) (each_kept VariableGroup group_spelling group_places (g ∷ gs) group_kept)
 
-block_kept : (b : Block) → block_places b ≡ kept_places (block_spelling b)
-block_kept b =
+-- what stands behind the constants of a block
+body_kept : (b : Block) → flat_map group_places b.variables.items ++ (flat_map stmt_places b.statements.items ++ (b.end ∷ []))
+    ≡ kept_places (variables_spelling b.variables.items
+    ++ word_symbol word.Begin ∷ separated symbol.Semicolon (map stmt_spelling b.statements.items) ++ of_kind_at (kind.Word word.End) b.end ∷ [])
+body_kept b =
     let statements = separated symbol.Semicolon (map stmt_spelling b.statements.items) in
     let end : Spelling = of_kind_at (kind.Word word.End) b.end ∷ [] in
     let first = variables_kept b.variables.items in
@@ -213,6 +229,13 @@ block_kept b =
     ∙ sym (append_assoc (kept_places (variables_spelling b.variables.items)) (kept_places statements) (b.end ∷ []))
     ∙ ap (λ ps. ps ++ b.end ∷ []) (sym (kept_both (variables_spelling b.variables.items) (word_symbol word.Begin ∷ statements)))
     ∙ sym (kept_both (variables_spelling b.variables.items ++ word_symbol word.Begin ∷ statements) end)
+
+block_kept : (b : Block) → block_places b ≡ kept_places (block_spelling b)
+block_kept b =
+    let first = constants_kept b.constants.items in
+    let behind = body_kept b in
+    (λ i. first i ++ behind i) ∙ sym (kept_both (constants_spelling b.constants.items) (variables_spelling b.variables.items
+    ++ word_symbol word.Begin ∷ separated symbol.Semicolon (map stmt_spelling b.statements.items) ++ of_kind_at (kind.Word word.End) b.end ∷ []))
 
 pub program_kept : (p : Program) → program_places p ≡ kept_places (program_spelling p)
 program_kept p =

@@ -1,5 +1,5 @@
 -- The rules of declarations, blocks and programs read each spelling of their form.
-use Rattle.std.proofs.Common.{◌≡◌, ℕ, ◌<◌, true, false, ◌&&◌, List, [], ◌∷◌, ◌++◌, length, map, Some, refl, subst, sym, ap, ◌∙◌, append_assoc, arith}
+use Rattle.std.proofs.Common.{◌≡◌, ℕ, ◌+◌, ◌<◌, ◌≤◌, true, false, ◌&&◌, List, [], ◌∷◌, ◌++◌, length, map, Some, refl, subst, sym, ap, ◌∙◌, append_assoc, arith}
 use Rattle.std.specs.List.{list_all}
 use Rattle.place.specs.declared.Place.{Place}
 use Rattle.lexer.specs.declared.token.Kind.{Kind}
@@ -8,6 +8,7 @@ use Rattle.lexer.specs.declared.token.Symbol.TheVariants as symbol
 use Rattle.lexer.specs.declared.token.Word.TheVariants as word
 use Rattle.lexer.specs.declared.token.Token.{Token}
 use Rattle.syntax_tree.specs.declared.Name.{Name}
+use Rattle.syntax_tree.specs.declared.ConstantDefinition.{ConstantDefinition}
 use Rattle.syntax_tree.specs.declared.TypeDenoter.{TypeDenoter}
 use Rattle.syntax_tree.specs.declared.TypeDenoter.TheVariants as denoter
 use Rattle.syntax_tree.specs.declared.VariableGroup.{VariableGroup}
@@ -15,11 +16,12 @@ use Rattle.syntax_tree.specs.declared.Stmt.{Stmt}
 use Rattle.syntax_tree.specs.declared.Block.{Block}
 use Rattle.syntax_tree.specs.declared.Program.{Program}
 use Rattle.grammar.specs.Spelling.{Spelling, Reads, of_kind_at, mark, word_symbol, identifier, identifiers, separated, joined, in_parentheses, group_spelling}
-use Rattle.grammar.specs.Spelling.{denoter_spelling, variables_spelling, stmt_spelling, block_spelling}
-use Rattle.grammar.specs.WellFormed.{is_group, is_statement, has_items}
+use Rattle.grammar.specs.Spelling.{denoter_spelling, constants_spelling, variables_spelling, stmt_spelling, block_spelling}
+use Rattle.grammar.specs.WellFormed.{is_group, is_statement, is_block, has_items}
 use Rattle.grammar.specs.Nesting.{stmt_levels, deepest}
-use Rattle.grammar.specs.Begins.{BeginsNames, BeginsParameters, BeginsGroup, BeginsGroups, BeginsVariables, BeginsCompound, BeginsBlock, BeginsProgram}
-use Rattle.grammar.specs.Following.{next_kind, NoNext, Next, BeginsStatementPart}
+use Rattle.grammar.specs.Begins.{BeginsNames, BeginsParameters, BeginsGroup, BeginsGroups, BeginsConstantPart, BeginsVariables, BeginsCompound, BeginsBlock}
+use Rattle.grammar.specs.Begins.{BeginsProgram}
+use Rattle.grammar.specs.Following.{next_kind, NoNext, Next, EndsConstants, variable_part, statement_part, BeginsStatementPart}
 use Rattle.grammar.proofs.Rows.{parted, begins, same_first}
 use Rattle.grammar.proofs.Lists.{and_left, and_right, length_map}
 use Rattle.grammar.proofs.Reading.{both, reads_no_more, reads_fewer}
@@ -247,8 +249,13 @@ variables_opened p a b c (g ∷ gs) k h ends = record {
 pub statement_part_ends : (a : List Token) → BeginsStatementPart a → NoNext kind.Identifier a
 statement_part_ends a h = other_kind (kind.Word word.Begin) kind.Identifier a h (λ e. cc)
 
--- the parts of a block
-pub record BlockParts (levels : ℕ) (tokens others : List Token) : Type 0 where
+-- what comes next where variables may be declared
+variables_next : (a c : List Token) (groups : List VariableGroup) → BeginsVariables a c groups → BeginsStatementPart c → EndsConstants a
+variables_next a c [] h begins = statement_part (ap next_kind h.spelled ∙ begins)
+variables_next a c (g ∷ gs) h _ = variable_part (begins (word_symbol word.Var) (joined (map group_spelling (g ∷ gs))) a c h.spelled)
+
+-- what stands behind the constants of a block
+pub record BlockBehindConstants (levels : ℕ) (tokens others : List Token) : Type 0 where
   pub groups : List VariableGroup
   pub middle : List Token
   pub declared : BeginsVariables tokens middle groups
@@ -259,22 +266,31 @@ pub record BlockParts (levels : ℕ) (tokens others : List Token) : Type 0 where
   pub less : below < levels
   pub begun : BeginsCompound below middle others (statements, end)
 
--- each block has them
-pub block_parts : (levels : ℕ) (a c : List Token) (b : Block) → BeginsBlock levels a c b → BlockParts levels a c
-block_parts levels a c b h =
+-- the parts of a block
+pub record BlockParts (levels : ℕ) (tokens others : List Token) : Type 0 where
+  pub definitions : List ConstantDefinition
+  pub middle : List Token
+  pub defined : BeginsConstantPart tokens middle definitions
+  pub ends : EndsConstants middle
+  pub behind : BlockBehindConstants levels middle others
+
+block_behind_constants : (levels : ℕ) (a c : List Token) (b : Block)
+    → Reads a (variables_spelling b.variables.items
+    ++ word_symbol word.Begin ∷ separated symbol.Semicolon (map stmt_spelling b.statements.items) ++ of_kind_at (kind.Word word.End) b.end ∷ []) c
+    → is_block b ≡ true → 1 + deepest (map stmt_levels b.statements.items) ≤ levels → BlockBehindConstants levels a c
+block_behind_constants levels a c b h formed n =
     let compound : Spelling = word_symbol word.Begin ∷ separated symbol.Semicolon (map stmt_spelling b.statements.items) in
     let last : Spelling = of_kind_at (kind.Word word.End) b.end ∷ [] in
     let r = parted (variables_spelling b.variables.items) (compound ++ last) a c (subst (λ s. Reads a s c)
-    (append_assoc (variables_spelling b.variables.items) compound last) h.spelled) in
-    let behind = and_right (list_all is_group b.variables.items) (has_items b.statements.items && list_all is_statement b.statements.items) h.formed in
-    let n = h.nests in
+    (append_assoc (variables_spelling b.variables.items) compound last) h) in
+    let behind = and_right (list_all is_group b.variables.items) (has_items b.statements.items && list_all is_statement b.statements.items) formed in
     record {
       groups = b.variables.items;
       middle = r.0;
       declared = record {
         spelled = r.1;
         formed = and_left (list_all is_group b.variables.items)
-            (has_items b.statements.items && list_all is_statement b.statements.items) h.formed;
+            (has_items b.statements.items && list_all is_statement b.statements.items) formed;
       };
       begins = begins (word_symbol word.Begin) (separated symbol.Semicolon (map stmt_spelling b.statements.items) ++ last) r.0 c r.2;
       statements = b.statements.items;
@@ -287,6 +303,21 @@ block_parts levels a c b h =
         formed = and_right (has_items b.statements.items) (list_all is_statement b.statements.items) behind;
         nests = omega arith;
       };
+    }
+
+-- each block has them
+pub block_parts : (levels : ℕ) (a c : List Token) (b : Block) → BeginsBlock levels a c b → BlockParts levels a c
+block_parts levels a c b h =
+    let body : Spelling = variables_spelling b.variables.items
+    ++ word_symbol word.Begin ∷ separated symbol.Semicolon (map stmt_spelling b.statements.items) ++ of_kind_at (kind.Word word.End) b.end ∷ [] in
+    let r = parted (constants_spelling b.constants.items) body a c h.spelled in
+    let behind = block_behind_constants levels r.0 c b r.2 h.formed h.nests in
+    record {
+      definitions = b.constants.items;
+      middle = r.0;
+      defined = r.1;
+      ends = variables_next r.0 behind.middle behind.groups behind.declared behind.begins;
+      behind = behind;
     }
 
 -- what stands behind the variables of a block

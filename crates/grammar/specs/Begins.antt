@@ -13,7 +13,8 @@ use Rattle.lexer.specs.declared.token.Symbol.TheVariants as symbol
 use Rattle.lexer.specs.declared.token.Token.{Token}
 use Rattle.lexer.specs.declared.token.Word.{Word}
 use Rattle.lexer.specs.declared.token.Word.TheVariants as word
-use Rattle.syntax_tree.specs.declared.CaseConstant.{CaseConstant}
+use Rattle.syntax_tree.specs.declared.ConstantDefinition.{ConstantDefinition}
+use Rattle.syntax_tree.specs.declared.Constant.{Constant}
 use Rattle.syntax_tree.specs.declared.Direction.{Direction}
 use Rattle.syntax_tree.specs.declared.Expr.{Expr}
 use Rattle.syntax_tree.specs.declared.Link.{Link}
@@ -26,7 +27,8 @@ use Rattle.syntax_tree.specs.declared.Program.{Program}
 use Rattle.grammar.specs.Spelling.{Spelling, Reads, expr_spelling, link_spelling, actual_spelling, stmt_spelling}
 use Rattle.grammar.specs.Spelling.{joined, identifiers, group_spelling, variables_spelling, block_spelling}
 use Rattle.grammar.specs.Spelling.{program_spelling, separated, in_parentheses, word_symbol, identifier, direction_word}
-use Rattle.grammar.specs.Spelling.{constant_spelling, arm_spelling, case_end, of_kind_at, mark}
+use Rattle.grammar.specs.Spelling.{constant_spelling, arm_spelling, case_end, of_kind_at, mark, definition_spelling}
+use Rattle.grammar.specs.Spelling.{constants_spelling}
 use Rattle.grammar.specs.WellFormed.{expr_form, link_form, fits, relation_level, is_link, has_items, is_actual}
 use Rattle.grammar.specs.WellFormed.{is_statement, is_group, is_block, is_program}
 use Rattle.grammar.specs.Following.{NoNext, LeavesNoElse}
@@ -96,23 +98,23 @@ BeginsControl tokens others found =
 abbrev pub BeginsInitial : ℕ → List Token → List Token → Expr × Direction → Type 0
 BeginsInitial levels tokens others found = BeginsGuard (direction_word found.1) levels tokens others found.0
 
--- a constant of a case
-abbrev pub BeginsConstant : List Token → List Token → CaseConstant → Type 0
+-- a constant
+abbrev pub BeginsConstant : List Token → List Token → Constant → Type 0
 BeginsConstant tokens others c = Reads tokens (constant_spelling c) others
 
 -- one or more constants with a comma between each two
-abbrev pub BeginsConstants : List Token → List Token → List CaseConstant → Type 0
+abbrev pub BeginsConstants : List Token → List Token → List Constant → Type 0
 BeginsConstants tokens others constants = BeginsList symbol.Comma tokens others (map constant_spelling constants)
 
 -- constants with the colon behind them
-pub record BeginsRow (tokens others : List Token) (constants : List CaseConstant) : Type 0 where
+pub record BeginsRow (tokens others : List Token) (constants : List Constant) : Type 0 where
   pub middle : List Token
   pub list : BeginsConstants tokens middle constants
   pub closed : Reads middle (mark symbol.Colon ∷ []) others
 
 -- an arm of a case: its constants, and the statement behind them
 abbrev pub Arm : Type 0
-Arm = List CaseConstant × Stmt
+Arm = List Constant × Stmt
 
 abbrev pub arm_spelled : Arm → Spelling
 arm_spelled arm = arm_spelling (arm.0, stmt_spelling arm.1)
@@ -149,6 +151,19 @@ BeginsNames tokens others names = BeginsList symbol.Comma tokens others (identif
 -- names in parentheses, or none
 abbrev pub BeginsParameters : List Token → List Token → List Name → Type 0
 BeginsParameters tokens others names = Reads tokens (in_parentheses (identifiers names)) others
+
+-- a constant definition
+abbrev pub BeginsDefinition : List Token → List Token → ConstantDefinition → Type 0
+BeginsDefinition tokens others d = Reads tokens (definition_spelling d) others
+
+-- one or more of these
+pub record BeginsDefinitions (tokens others : List Token) (definitions : List ConstantDefinition) : Type 0 where
+  pub some : 0 < length definitions
+  pub spelled : Reads tokens (joined (map definition_spelling definitions)) others
+
+-- a constant definition part, or none
+abbrev pub BeginsConstantPart : List Token → List Token → List ConstantDefinition → Type 0
+BeginsConstantPart tokens others definitions = Reads tokens (constants_spelling definitions) others
 
 -- variables declared together
 pub record BeginsGroup (tokens others : List Token) (g : VariableGroup) : Type 0 where

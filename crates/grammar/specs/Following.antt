@@ -62,6 +62,11 @@ pub data EndsStatements (others : List Token) : Type 0 where
 abbrev pub BeginsStatementPart : List Token → Type 0
 BeginsStatementPart = Next (kind.Word word.Begin)
 
+-- what comes next behind the constants of a block: its variables, or its compound statement
+pub data EndsConstants (others : List Token) : Type 0 where
+  variable_part : Next (kind.Word word.Var) others → EndsConstants others
+  statement_part : BeginsStatementPart others → EndsConstants others
+
 -- where this word symbol comes each expression ends
 abbrev pub EndsEach : Word → Type 0
 EndsEach w = (others : List Token) → Next (kind.Word w) others → Ends relation_level others

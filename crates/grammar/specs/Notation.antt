@@ -7,7 +7,8 @@ use Rattle.std.specs.declared.boxed.Box.{Box}
 use Rattle.lexer.specs.declared.token.Kind.TheVariants as kind
 use Rattle.lexer.specs.declared.token.Symbol.TheVariants as symbol
 use Rattle.lexer.specs.declared.token.Word.TheVariants as word
-use Rattle.syntax_tree.specs.declared.CaseConstant.{CaseConstant}
+use Rattle.syntax_tree.specs.declared.ConstantDefinition.{ConstantDefinition}
+use Rattle.syntax_tree.specs.declared.Constant.{Constant}
 use Rattle.syntax_tree.specs.Places.{arms_of}
 use Rattle.syntax_tree.specs.declared.Name.{Name}
 use Rattle.syntax_tree.specs.declared.TypeDenoter.{TypeDenoter}
@@ -48,6 +49,7 @@ pub data Shape : Type 0 where
   for_loop : Shape
   case : Shape
   arm : Shape
+  definition : Shape
   group : Shape
   parameters : Shape
   block : Shape
@@ -116,11 +118,11 @@ abbrev pub alternative_notation : Option (Box Notation Global) → Notation
 alternative_notation None = []
 alternative_notation (Some alternative) = alternative.value
 
--- a constant of a case, and an arm behind its constants
-abbrev pub constant_notation : CaseConstant → Notation
+-- a constant, and an arm of a case behind its constants
+abbrev pub constant_notation : Constant → Notation
 constant_notation c = map token (constant_spelling c)
 
-abbrev pub arm_notation : List CaseConstant × Notation → Notation
+abbrev pub arm_notation : List Constant × Notation → Notation
 arm_notation a = bracketed arm (row (map constant_notation a.0) ++ a.1)
 
 -- one layer of a statement, its parts written out
@@ -154,6 +156,10 @@ stmt_step (stmt.Case place index constants arms semicolon) =
 abbrev pub stmt_notation : Stmt → Notation
 stmt_notation = fold-Stmt Notation stmt_step
 
+-- a constant definition
+abbrev pub definition_notation : ConstantDefinition → Notation
+definition_notation d = bracketed definition (token (identifier d.name) ∷ constant_notation d.value)
+
 -- a type denoter
 abbrev pub denoter_notation : TypeDenoter → Notation
 denoter_notation (denoter.Name n) = token (identifier n) ∷ []
@@ -165,8 +171,9 @@ group_notation g = bracketed group (names_notation g.names.items ++ denoter_nota
 -- a block, its last `end` last
 abbrev pub block_notation : Block → Notation
 block_notation b =
-    bracketed block (row (map group_notation b.variables.items) ++ row (map stmt_notation b.statements.items)
-    ++ token (of_kind_at (kind.Word word.End) b.end) ∷ [])
+    bracketed block (row (map definition_notation b.constants.items)
+    ++ (row (map group_notation b.variables.items) ++ row (map stmt_notation b.statements.items)
+    ++ token (of_kind_at (kind.Word word.End) b.end) ∷ []))
 
 -- a program
 abbrev pub notation : Program → Notation

@@ -1,5 +1,5 @@
--- The tokens that spell a syntax tree: ISO 7185:1990, 6.7.1 (expressions), 6.8 (statements), 6.2.1 (blocks), 6.5.1
--- (variables), 6.10 (programs). A tree keeps its parentheses, so each tree has one spelling.
+-- The tokens that spell a syntax tree: ISO 7185:1990, 6.7.1 (expressions), 6.8 (statements), 6.2.1 (blocks), 6.3
+-- (constants), 6.5.1 (variables), 6.10 (programs). A tree keeps its parentheses, so each tree has one spelling.
 -- This doesn't say which trees there may be: see WellFormed and Nesting.
 use Rattle.std.specs.Prelude.{◌≡◌, ℕ, List, [], ◌∷◌, ◌++◌, map, Option, Some, None, IfSome, Bool, true, false}
 use Rattle.std.specs.declared.alloc.Global.{Global}
@@ -19,7 +19,8 @@ use Rattle.syntax_tree.specs.declared.Direction.{Direction}
 use Rattle.syntax_tree.specs.declared.Direction.TheVariants.{To, DownTo}
 use Rattle.syntax_tree.specs.declared.Operator.{Operator}
 use Rattle.syntax_tree.specs.declared.Operator.TheVariants as op
-use Rattle.syntax_tree.specs.declared.CaseConstant.{CaseConstant}
+use Rattle.syntax_tree.specs.declared.ConstantDefinition.{ConstantDefinition}
+use Rattle.syntax_tree.specs.declared.Constant.{Constant}
 use Rattle.syntax_tree.specs.declared.ConstantValue.{ConstantValue}
 use Rattle.syntax_tree.specs.declared.ConstantValue.TheVariants as constant
 use Rattle.syntax_tree.specs.declared.SignAt.{SignAt}
@@ -183,12 +184,12 @@ abbrev pub value_lexeme : ConstantValue → Lexeme
 value_lexeme (constant.Number value place) = of_kind_at (kind.Number value) place
 value_lexeme (constant.Name name) = identifier name
 
--- a constant of a case (6.3)
-abbrev pub constant_spelling : CaseConstant → Spelling
+-- a constant (6.3)
+abbrev pub constant_spelling : Constant → Spelling
 constant_spelling c = sign_spelling c.sign ++ value_lexeme c.value ∷ []
 
 -- an arm of a case behind its constants (6.8.3.5)
-abbrev pub arm_spelling : List CaseConstant × Spelling → Spelling
+abbrev pub arm_spelling : List Constant × Spelling → Spelling
 arm_spelling arm = separated symbol.Comma (map constant_spelling arm.0) ++ mark symbol.Colon ∷ arm.1
 
 -- the `end` of a case, with a semicolon before it or none
@@ -224,6 +225,16 @@ stmt_step (stmt.Case place index constants arms semicolon) =
 abbrev pub stmt_spelling : Stmt → Spelling
 stmt_spelling = fold-Stmt Spelling stmt_step
 
+-- a constant definition, with its semicolon (6.3)
+abbrev pub definition_spelling : ConstantDefinition → Spelling
+definition_spelling d =
+    identifier d.name ∷ mark symbol.Equal ∷ constant_spelling d.value ++ mark symbol.Semicolon ∷ []
+
+-- a constant definition part, which is left out where no constant is defined (6.2.1)
+abbrev pub constants_spelling : List ConstantDefinition → Spelling
+constants_spelling [] = []
+constants_spelling (one ∷ others) = word_symbol word.Const ∷ joined (map definition_spelling (one ∷ others))
+
 -- a type denoter (6.4.1)
 abbrev pub denoter_spelling : TypeDenoter → Spelling
 denoter_spelling (denoter.Name name) = identifier name ∷ []
@@ -242,9 +253,10 @@ variables_spelling (one ∷ others) = word_symbol word.Var ∷ joined (map group
 -- a block (6.2.1)
 abbrev pub block_spelling : Block → Spelling
 block_spelling b =
-    variables_spelling b.variables.items
+    constants_spelling b.constants.items
+    ++ (variables_spelling b.variables.items
     ++ word_symbol word.Begin ∷ separated symbol.Semicolon (map stmt_spelling b.statements.items)
-    ++ of_kind_at (kind.Word word.End) b.end ∷ []
+    ++ of_kind_at (kind.Word word.End) b.end ∷ [])
 
 -- a program (6.10)
 abbrev pub program_spelling : Program → Spelling

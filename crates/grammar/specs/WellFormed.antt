@@ -8,7 +8,7 @@ use Rattle.std.specs.List.{list_all}
 use Rattle.std.specs.declared.alloc.Global.{Global}
 use Rattle.std.specs.declared.boxed.Box.{Box}
 use Rattle.std.specs.declared.vec.Vec.{Vec}
-use Rattle.syntax_tree.specs.declared.CaseConstant.{CaseConstant}
+use Rattle.syntax_tree.specs.declared.Constant.{Constant}
 use Rattle.syntax_tree.specs.declared.VariableGroup.{VariableGroup}
 use Rattle.syntax_tree.specs.declared.Block.{Block}
 use Rattle.syntax_tree.specs.declared.Program.{Program}
@@ -151,7 +151,7 @@ if_form condition consequence (Some alternative) = record {
 }
 
 -- a row of one or more constants stands before each arm of a case
-abbrev pub are_rows : List (Vec CaseConstant Global) → ℕ → Bool
+abbrev pub are_rows : List (Vec Constant Global) → ℕ → Bool
 are_rows rows arms = nat_eq (length rows) arms && list_all (λ row. has_items row.items) rows
 
 -- one layer of a statement

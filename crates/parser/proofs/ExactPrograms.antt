@@ -6,6 +6,7 @@ use Rattle.lexer.specs.declared.token.Kind.TheVariants as kind
 use Rattle.lexer.specs.declared.token.Symbol.TheVariants as symbol
 use Rattle.lexer.specs.declared.token.Token.{Token}
 use Rattle.token_cursor.specs.declared.cursor.Cursor.{Cursor}
+use Rattle.syntax_tree.specs.declared.ConstantDefinition.{ConstantDefinition}
 use Rattle.syntax_tree.specs.declared.Name.{Name}
 use Rattle.syntax_tree.specs.declared.VariableGroup.{VariableGroup}
 use Rattle.syntax_tree.specs.declared.Block.{Block}
@@ -14,13 +15,15 @@ use Rattle.token_cursor.specs.declared.fault.ParseFault.{ParseFault}
 use Rattle.token_cursor.specs.declared.fault.ParseFault.TheVariants.{Memory, NoProgram, TooDeep, LeftOut}
 use Rattle.grammar.specs.Spelling.{Reads, mark, identifier}
 use Rattle.grammar.specs.Nesting.{nesting}
-use Rattle.grammar.specs.Begins.{BeginsNames, BeginsParameters, BeginsGroup, BeginsVariables, BeginsCompound, BeginsBlock, BeginsProgram}
-use Rattle.grammar.specs.Following.{Anything, NoNext, BeginsStatementPart}
+use Rattle.grammar.specs.Begins.{BeginsNames, BeginsParameters, BeginsGroup, BeginsConstantPart, BeginsVariables, BeginsCompound, BeginsBlock}
+use Rattle.grammar.specs.Begins.{BeginsProgram}
+use Rattle.grammar.specs.Following.{Anything, NoNext, EndsConstants, BeginsStatementPart}
 use Rattle.expression_parser.specs.Reading.{Stops, ReadsEach, ReadsDeep}
 use Rattle.parser.specs.Syntax.{most, IsRefused}
 use Rattle.grammar.proofs.Rows.{begins}
 use Rattle.grammar.proofs.Programs.{group_begins, group_names_end, GroupBehindNames, GroupsLeft, EachGroupsLeft, GroupNext, NamesThenClosed}
-use Rattle.grammar.proofs.Programs.{parameters_names_end, BlockParts, BlockBehindVariables, ProgramBehindSemicolon, ProgramBehindParameters, ProgramBehindName}
+use Rattle.grammar.proofs.Programs.{parameters_names_end, BlockParts, BlockBehindConstants, BlockBehindVariables, ProgramBehindSemicolon}
+use Rattle.grammar.proofs.Programs.{ProgramBehindParameters, ProgramBehindName}
 use Rattle.grammar.proofs.Programs.{program_parameters_end}
 
 -- behind the names read
@@ -53,10 +56,17 @@ parameters_behind_names a b others names reads o =
     let same : b.rest.now ≡ o.middle = reads o.names o.middle o.begun (parameters_names_end a.rest.now others o) in
     subst (λ x. Reads x (mark symbol.CloseParenthesis ∷ []) others) (sym same) o.closed
 
+-- behind the constants read
+pub block_behind_constants : (levels : ℕ) (a b : Cursor) (others : List Token) (constants : Vec ConstantDefinition Global)
+    → ReadsEach BeginsConstantPart EndsConstants a b (Ok constants) → BlockParts levels a.rest.now others → BlockBehindConstants levels b.rest.now others
+block_behind_constants levels a b others constants reads p =
+    let same : b.rest.now ≡ p.middle = reads p.definitions p.middle p.defined p.ends in
+    subst (λ x. BlockBehindConstants levels x others) (sym same) p.behind
+
 -- behind the variables read
 pub block_behind_variables : (levels : ℕ) (a b : Cursor) (others : List Token) (variables : Vec VariableGroup Global)
     → ReadsEach BeginsVariables BeginsStatementPart a b (Ok variables)
-    → BlockParts levels a.rest.now others → BlockBehindVariables levels b.rest.now others
+    → BlockBehindConstants levels a.rest.now others → BlockBehindVariables levels b.rest.now others
 block_behind_variables levels a b others variables reads p =
     let same : b.rest.now ≡ p.middle = reads p.groups p.middle p.declared p.begins in
     record {

@@ -1,3 +1,4 @@
+pub mod Definitions
 pub mod ExactPrograms
 pub mod Order
 pub mod Programs

@@ -9,6 +9,7 @@ use Rattle.lexer.specs.declared.token.Kind.TheVariants as kind
 use Rattle.lexer.specs.declared.token.Symbol.TheVariants as symbol
 use Rattle.lexer.specs.declared.token.Word.TheVariants as word
 use Rattle.token_cursor.specs.declared.cursor.Cursor.{Cursor}
+use Rattle.syntax_tree.specs.declared.ConstantDefinition.{ConstantDefinition}
 use Rattle.syntax_tree.specs.declared.Name.{Name}
 use Rattle.syntax_tree.specs.declared.Stmt.{Stmt}
 use Rattle.syntax_tree.specs.declared.TypeDenoter.TheVariants as denoter
@@ -16,10 +17,10 @@ use Rattle.syntax_tree.specs.declared.VariableGroup.{VariableGroup}
 use Rattle.syntax_tree.specs.declared.Block.{Block}
 use Rattle.token_cursor.specs.Cursor.{Took}
 use Rattle.grammar.specs.Spelling.{of_kind_at, mark, word_symbol, identifier, identifiers, stmt_spelling, separated, joined, in_parentheses, group_spelling}
-use Rattle.grammar.specs.Spelling.{variables_spelling, block_spelling}
+use Rattle.grammar.specs.Spelling.{Spelling, constants_spelling, variables_spelling, block_spelling}
 use Rattle.grammar.specs.WellFormed.{is_group, is_statement, has_items}
 use Rattle.expression_parser.specs.Rules.{Read}
-use Rattle.grammar.specs.Begins.{BeginsList, BeginsGroup, BeginsGroups, BeginsVariables, BeginsCompound, BeginsBlock, Stop}
+use Rattle.grammar.specs.Begins.{BeginsList, BeginsGroup, BeginsGroups, BeginsConstantPart, BeginsVariables, BeginsCompound, BeginsBlock, Stop}
 use Rattle.parser.specs.Syntax.{most, IsTreeOf}
 use Rattle.grammar.proofs.Lists.{map_push, all_push, and_true, length_map}
 use Rattle.grammar.proofs.Reading.{both, without_place, joined_push}
@@ -91,15 +92,27 @@ groups_grow_first a b g given = record {
 pub groups_grow : (a b : Cursor) (groups : List VariableGroup) → Read BeginsGroups a b groups → GroupsGrow a b groups
 groups_grow a b groups list c g given = groups_go_on a b c groups (groups ++ g ∷ []) g list given refl
 
+-- what stands behind the constants of a block
+block_body : (inner : ℕ) (a b c : Cursor) (variables : List VariableGroup) (statements : List Stmt) (end : Place)
+    → Read BeginsVariables a b variables → Read (BeginsCompound inner) b c (statements, end)
+    → Took a c (variables_spelling variables
+    ++ word_symbol word.Begin ∷ separated symbol.Semicolon (map stmt_spelling statements) ++ of_kind_at (kind.Word word.End) end ∷ [])
+block_body inner a b c variables statements end declared given =
+    let compound : Spelling = word_symbol word.Begin ∷ separated symbol.Semicolon (map stmt_spelling statements) in
+    let last : Spelling = of_kind_at (kind.Word word.End) end ∷ [] in
+    subst (λ x. Took a c x) (sym (append_assoc (variables_spelling variables) compound last))
+    (both (variables_spelling variables) (compound ++ last) a.rest.now b.rest.now c.rest.now declared.spelled given.spelled)
+
 -- a block
-pub block_stands : (levels inner : ℕ) (a b c : Cursor) (variables : Vec VariableGroup Global) (statements : Vec Stmt Global) (end : Place)
-    → inner + 1 ≡ levels → Read BeginsVariables a b variables.items → Read (BeginsCompound inner) b c (statements.items, end)
-    → Read (BeginsBlock levels) a c (record { variables = variables; statements = statements; end = end })
-block_stands levels inner a b c variables statements end less declared given = record {
-  spelled = subst (λ x. Took a c x) (sym (append_assoc (variables_spelling variables.items)
-      (word_symbol word.Begin ∷ separated symbol.Semicolon (map stmt_spelling statements.items)) (of_kind_at (kind.Word word.End) end ∷ [])))
-      (both (variables_spelling variables.items) (word_symbol word.Begin ∷ separated symbol.Semicolon (map stmt_spelling statements.items) ++ of_kind_at
-      (kind.Word word.End) end ∷ []) a.rest.now b.rest.now c.rest.now declared.spelled given.spelled);
+pub block_stands : (levels inner : ℕ) (o a b c : Cursor) (constants : Vec ConstantDefinition Global) (variables : Vec VariableGroup Global)
+    (statements : Vec Stmt Global) (end : Place)
+    → inner + 1 ≡ levels → Read BeginsConstantPart o a constants.items → Read BeginsVariables a b variables.items
+    → Read (BeginsCompound inner) b c (statements.items, end)
+    → Read (BeginsBlock levels) o c (record { constants = constants; variables = variables; statements = statements; end = end })
+block_stands levels inner o a b c constants variables statements end less defined declared given = record {
+  spelled = both (constants_spelling constants.items) (variables_spelling variables.items
+      ++ word_symbol word.Begin ∷ separated symbol.Semicolon (map stmt_spelling statements.items) ++ of_kind_at (kind.Word word.End) end ∷ [])
+      o.rest.now a.rest.now c.rest.now defined (block_body inner a b c variables.items statements.items end declared given);
   formed = and_true (list_all is_group variables.items) (has_items statements.items && list_all is_statement statements.items) declared.formed
       (and_true (has_items statements.items) (list_all is_statement statements.items) (has statements.items given.some) given.formed);
   nests = let n = given.nests in omega arith;

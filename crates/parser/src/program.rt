@@ -13,6 +13,7 @@ ghost use Rattle.expression_parser.specs.Deep.{IsDeep};
 ghost use Rattle.expression_parser.specs.Refusing.{IsPlain, Refused};
 ghost use Rattle.parser.specs.Syntax.{most, IsTreeOf, IsRefused, Answers};
 
+use crate::constants::constants;
 use expression_parser::memory::put;
 use lexer::token::{Kind, Symbol, Token, Word};
 use statement_parser::statement::compound;
@@ -92,7 +93,7 @@ fn names<'a>(alloc: Global, cursor: &mut Cursor<'_, 'a>) -> Result<Vec<Name<'a>>
     }
 }
 
-// block = variables compound
+// block = constants variables compound
 /// A block (6.2.1) in something below which `levels` levels are left.
 fn block<'a>(
     alloc: Global,
@@ -102,10 +103,12 @@ fn block<'a>(
     ensures given { MatchResult result (Read (BeginsBlock levels) cursor.old cursor.new) (Refused levels cursor.old) }
     ensures exact { ReadsDeep levels BeginsBlock Anything cursor.old cursor.new result }
 {
+    let constants = constants(alloc, cursor)?;
     let variables = variables(alloc, cursor)?;
     let levels = inside(levels, cursor.place())?;
     let (statements, end) = compound(alloc, cursor, levels)?;
     Ok(Block {
+        constants,
         variables,
         statements,
         end,

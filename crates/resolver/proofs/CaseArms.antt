@@ -4,7 +4,7 @@ use Rattle.std.proofs.Common.{refl, sym, ap, ap₂, subst, ◌∙◌, append-nil
 use Rattle.std.proofs.Math.Seq.{drop-nil}
 use Rattle.std.proofs.lemmas.List.{map-append, length-map, drop_more, at_drop_all}
 use Rattle.std.specs.declared.alloc.Global.{Global}
-use Rattle.syntax_tree.specs.declared.CaseConstant.{CaseConstant}
+use Rattle.syntax_tree.specs.declared.Constant.{Constant}
 use Rattle.syntax_tree.specs.declared.Stmt.{Stmt as SyntaxStmt}
 use Rattle.syntax_tree.specs.Places.{arms_of}
 use Rattle.types.specs.declared.form.TypeId.{TypeId}
@@ -27,12 +27,12 @@ look_of_case number site index constants arms = look_case number site index cons
 
 -- ---- the constants before an arm
 
-module _ (type_id : TypeId) (before : List ℤ) (written : List CaseConstant) (old : Passed) where
+module _ (type_id : TypeId) (before : List ℤ) (written : List Constant) (old : Passed) where
   -- what is left, once some are met
   abbrev pub IsRowFrom : ℕ → List ℤ → Passed → Type 0
   IsRowFrom i row now = constant_row type_id before [] written old ≡ constant_row type_id before row (drop i written) now
 
-  module _ (i : ℕ) (row : List ℤ) (now : Passed) (within : i < length written) (other : CaseConstant) (left : IsRowFrom i row now) where
+  module _ (i : ℕ) (row : List ℤ) (now : Passed) (within : i < length written) (other : Constant) (left : IsRowFrom i row now) where
     row_goes : constant_row type_id before [] written old
         ≡ and_then (case_constant type_id (before ++ row) (get_or written i other) now)
         (λ a. behind_marks a.look (constant_row type_id before (row ++ a.answer ∷ []) (drop (i + 1) written) a.passed))
@@ -71,7 +71,7 @@ stands_at (y ∷ ys) zero other x within is = ap Some (sym is)
 stands_at (y ∷ ys) (suc i) other x within is = stands_at ys i other x (omega (arith, within)) is
 
 -- the next arm with its constants
-next_arm : {A : Type 0} (rows : List (Vec CaseConstant Global)) (arms : List A) (i : ℕ) (row : Vec CaseConstant Global) (arm : A)
+next_arm : {A : Type 0} (rows : List (Vec Constant Global)) (arms : List A) (i : ℕ) (row : Vec Constant Global) (arm : A)
     → slice_get rows i ≡ Some row → slice_get arms i ≡ Some arm → drop i (arms_of rows arms) ≡ (row.items, arm) ∷ drop (i + 1) (arms_of rows arms)
 next_arm [] arms i row arm one two = absurd cc
 next_arm (r ∷ rows) [] i row arm one two = absurd cc
@@ -82,13 +82,13 @@ next_arm (r ∷ rows) (a ∷ arms) zero row arm one two =
 next_arm (r ∷ rows) (a ∷ arms) (suc i) row arm one two =
     next_arm rows arms i row arm one two ∙ ap (λ l. (row.items, arm) ∷ l) (sym (drop_later (r.items, a) (arms_of rows arms) i))
 
-no_row : {A : Type 0} (rows : List (Vec CaseConstant Global)) (arms : List A) (i : ℕ) → length rows ≤ i → drop i (arms_of rows arms) ≡ []
+no_row : {A : Type 0} (rows : List (Vec Constant Global)) (arms : List A) (i : ℕ) → length rows ≤ i → drop i (arms_of rows arms) ≡ []
 no_row [] arms i all = drop-nil i
 no_row (r ∷ rows) [] i all = drop-nil i
 no_row (r ∷ rows) (a ∷ arms) zero all = absurd (omega (arith, all))
 no_row (r ∷ rows) (a ∷ arms) (suc i) all = no_row rows arms i (omega (arith, all))
 
-no_arm : {A : Type 0} (rows : List (Vec CaseConstant Global)) (arms : List A) (i : ℕ) → length arms ≤ i → drop i (arms_of rows arms) ≡ []
+no_arm : {A : Type 0} (rows : List (Vec Constant Global)) (arms : List A) (i : ℕ) → length arms ≤ i → drop i (arms_of rows arms) ≡ []
 no_arm [] arms i all = drop-nil i
 no_arm (r ∷ rows) [] i all = drop-nil i
 no_arm (r ∷ rows) (a ∷ arms) zero all = absurd (omega (arith, all))
@@ -107,8 +107,8 @@ arm_more (r ∷ rows) (l ∷ looks) row look even =
 -- ---- the arms of a case
 
 -- an arm, and then others
-module _ (type_id : TypeId) (seen : List ℤ) (constants : List CaseConstant) (arm : Passing (Unit {0}))
-    (more : List (List CaseConstant × Passing (Unit {0}))) (now : Passed) where
+module _ (type_id : TypeId) (seen : List ℤ) (constants : List Constant) (arm : Passing (Unit {0}))
+    (more : List (List Constant × Passing (Unit {0}))) (now : Passed) where
   abbrev this_arm : Checked (After (Unit {0}))
   this_arm = case_arms type_id seen ((constants, arm) ∷ more) now
 
@@ -143,8 +143,8 @@ arm_at [] i arm within is = absurd (omega (arith, within))
 arm_at (w ∷ ws) zero arm within is = ap (λ s. Some (statement s)) (sym is)
 arm_at (w ∷ ws) (suc i) arm within is = arm_at ws i arm (omega (arith, within)) is
 
-module _ (type_id : TypeId) (constants : List (Vec CaseConstant Global)) (written : List SyntaxStmt) (old : Passed) where
-  abbrev written_arms : List (List CaseConstant × Passing (Unit {0}))
+module _ (type_id : TypeId) (constants : List (Vec Constant Global)) (written : List SyntaxStmt) (old : Passed) where
+  abbrev written_arms : List (List Constant × Passing (Unit {0}))
   written_arms = arms_of constants (map statement written)
 
   -- what is left, once some are made
@@ -189,7 +189,7 @@ module _ (type_id : TypeId) (constants : List (Vec CaseConstant Global)) (writte
         ∙ ap (λ look. Ok (after tt look now)) (append-nil done)
 
     -- the next one
-    module _ (constants_row : Vec CaseConstant Global) (arm : SyntaxStmt) (row_is : slice_get constants i ≡ Some constants_row) (within : i < length written)
+    module _ (constants_row : Vec Constant Global) (arm : SyntaxStmt) (row_is : slice_get constants i ≡ Some constants_row) (within : i < length written)
         (arm_is : arm ≡ get_or written i arm) where
       goes : case_arms type_id [] written_arms old
           ≡ behind_marks done (case_arms type_id seen ((constants_row.items, statement arm) ∷ drop (i + 1) written_arms) now)
@@ -241,12 +241,12 @@ module _ (type_id : TypeId) (constants : List (Vec CaseConstant Global)) (writte
             as_many = length-append rows (row ∷ []) ∙ ap (λ n. n + 1) left.even ∙ sym (length-append arms (made ∷ []))
 
 -- the whole case behind its `of`
-pub body_ends : (type_id : TypeId) (arms : List (List CaseConstant × Passing (Unit {0}))) (old now : Passed) (look : Look)
+pub body_ends : (type_id : TypeId) (arms : List (List Constant × Passing (Unit {0}))) (old now : Passed) (look : Look)
     → case_arms type_id [] arms old ≡ Ok (after tt look now) → case_body arms type_id old ≡ Ok (after tt (look ++ (Ends ∷ [])) now)
 unfolding case_body
 body_ends type_id arms old now look ends = ap (λ r. and_then r (λ a. behind_marks a.look (mark Ends a.passed))) ends
 
-pub body_stops : (type_id : TypeId) (arms : List (List CaseConstant × Passing (Unit {0}))) (old : Passed) (why : TypeFault)
+pub body_stops : (type_id : TypeId) (arms : List (List Constant × Passing (Unit {0}))) (old : Passed) (why : TypeFault)
     → IsFault (case_arms type_id [] arms old) why → IsFault (case_body arms type_id old) why
 unfolding case_body
 body_stops type_id arms old why (inl memory) = inl memory

@@ -9,7 +9,7 @@ use expression_resolver::{expression, first_place};
 use indexmap::IndexSet;
 use place::Place;
 use syntax_tree as syntax;
-use syntax_tree::CaseConstant;
+use syntax_tree::Constant;
 use typed_tree::fault::TypeFault;
 use typed_tree::site::SiteKind;
 use types::TypeId;
@@ -42,7 +42,7 @@ pub(crate) fn case_head(
 pub(crate) fn case_row(
     typer: &mut Typer,
     type_id: TypeId,
-    written: &[CaseConstant],
+    written: &[Constant],
     rows: &mut Rows,
 ) -> Result<(), TypeFault>
     ensures { MakesRow rows.old rows.new (spec.constant_row type_id rows.old.seen.keys [] written.now typer.old) result
@@ -57,7 +57,7 @@ pub(crate) fn case_row(
 fn constant_row(
     typer: &mut Typer,
     type_id: TypeId,
-    written: &[CaseConstant],
+    written: &[Constant],
     seen: &mut IndexSet<i32>,
 ) -> Result<Vec<i32>, TypeFault>
     ensures { MakesConstants seen.old.keys seen.new.keys
@@ -75,7 +75,7 @@ fn constant_row(
 fn case_constant(
     typer: &mut Typer,
     type_id: TypeId,
-    written: &CaseConstant,
+    written: &Constant,
     seen: &mut IndexSet<i32>,
 ) -> Result<i32, TypeFault>
     ensures typed { Takes (spec.case_constant type_id seen.old.keys written.now typer.old) result typer.new }

@@ -202,7 +202,7 @@ fn for_body(typer: &mut Typer, body: &syntax::Stmt, head: ForHead) -> Result<Stm
 fn case_body(
     typer: &mut Typer,
     written: &[syntax::Stmt],
-    constants: &[Vec<syntax::CaseConstant>],
+    constants: &[Vec<syntax::Constant>],
     head: CaseHead,
 ) -> Result<Stmt, TypeFault>
     ensures { MakesStmt (behind_marks (case_head_look head)

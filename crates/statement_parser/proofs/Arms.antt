@@ -9,7 +9,7 @@ use Rattle.lexer.specs.declared.token.Symbol.TheVariants as symbol
 use Rattle.lexer.specs.declared.token.Token.{Token}
 use Rattle.lexer.specs.declared.token.Word.TheVariants as word
 use Rattle.syntax_tree.specs.declared.Stmt.TheVariants as statement
-use Rattle.syntax_tree.specs.declared.CaseConstant.{CaseConstant}
+use Rattle.syntax_tree.specs.declared.Constant.{Constant}
 use Rattle.token_cursor.specs.declared.cursor.Cursor.{Cursor}
 use Rattle.token_cursor.specs.Cursor.{Took}
 use Rattle.grammar.specs.Spelling.{of_kind_at, mark, constant_spelling, Spelling, Reads, word_symbol, separated, expr_spelling, stmt_spelling, arm_spelling}
@@ -38,34 +38,34 @@ use Rattle.grammar.proofs.Equations.{spelling-Case, form-Case, closed-Case, leve
 use Rattle.grammar.proofs.Cases.{arms_computed, arms_levels, arms_length, arms_formed, IsCase}
 
 -- with one more constant there is a row
-abbrev pub ConstantsGrow : Cursor → Cursor → List CaseConstant → Type 0
-ConstantsGrow old now constants = (new : Cursor) (c : CaseConstant) → Read BeginsConstant now new c → Read BeginsConstants old new (constants ++ c ∷ [])
+abbrev pub ConstantsGrow : Cursor → Cursor → List Constant → Type 0
+ConstantsGrow old now constants = (new : Cursor) (c : Constant) → Read BeginsConstant now new c → Read BeginsConstants old new (constants ++ c ∷ [])
 
 pub constants_grow_first : (a : Cursor) → ConstantsGrow a a []
 constants_grow_first a b c given = record { some = omega arith; spelled = given }
 
-pub constants_grow : (a b c : Cursor) (constants : List CaseConstant) (p : Place) → Read BeginsConstants a b constants
+pub constants_grow : (a b c : Cursor) (constants : List Constant) (p : Place) → Read BeginsConstants a b constants
     → Took b c (of_kind_at (kind.Symbol symbol.Comma) p ∷ []) → ConstantsGrow a c constants
 constants_grow a b c constants p list comma d x given =
     list_goes_on symbol.Comma a b c d (map constant_spelling constants) (map constant_spelling (constants ++ x ∷ [])) p (constant_spelling x) list comma given
     (map_push constant_spelling constants x)
 
 -- behind a constant
-pub constants_left : (start : List Token) (a b : Cursor) (c : CaseConstant) → ReadsEach BeginsConstant Anything a b (Ok c) → ConstantNext start a.rest.now
+pub constants_left : (start : List Token) (a b : Cursor) (c : Constant) → ReadsEach BeginsConstant Anything a b (Ok c) → ConstantNext start a.rest.now
     → ConstantsLeft start b.rest.now
 constants_left start a b c reads next constants others h ends =
     let p = next constants others h ends in
     let same : b.rest.now ≡ p.middle = reads p.first p.middle p.spelled tt in
-    subst (λ x. PartsLeft CaseConstant constant_list_parts 0 x others) (sym same) p.left
+    subst (λ x. PartsLeft Constant constant_list_parts 0 x others) (sym same) p.left
 
 -- a row with its colon
-pub row_closed : (a b c : Cursor) (p : Place) (constants : List CaseConstant) → Read BeginsConstants a b constants
+pub row_closed : (a b c : Cursor) (p : Place) (constants : List Constant) → Read BeginsConstants a b constants
     → Took b c (of_kind_at (kind.Symbol symbol.Colon) p ∷ []) → Read BeginsRow a c constants
 row_closed a b c p constants list colon =
     record { middle = b.rest.now; list = list; closed = without_place (kind.Symbol symbol.Colon) p [] b.rest.now c.rest.now colon }
 
 -- a row with its colon is spelled so
-pub row_spelled : (a b : Cursor) (constants : List CaseConstant) → Read BeginsRow a b constants
+pub row_spelled : (a b : Cursor) (constants : List Constant) → Read BeginsRow a b constants
     → Took a b (separated symbol.Comma (map constant_spelling constants) ++ mark symbol.Colon ∷ [])
 row_spelled a b constants h =
     both (separated symbol.Comma (map constant_spelling constants)) (mark symbol.Colon ∷ []) a.rest.now h.middle b.rest.now h.list.spelled h.closed
@@ -73,14 +73,14 @@ row_spelled a b constants h =
 -- ---- arms
 
 -- arms read with a semicolon between each two
-pub record ArmList (levels : ℕ) (a b : Cursor) (rows : List (Vec CaseConstant Global)) (arms : List Stmt) : Type 0 where
+pub record ArmList (levels : ℕ) (a b : Cursor) (rows : List (Vec Constant Global)) (arms : List Stmt) : Type 0 where
   pub each : length rows ≡ length arms
   pub some : 0 < length (arms_of rows arms)
   pub spelled : Took a b (separated symbol.Semicolon (map arm_spelled (arms_of rows arms)))
   pub formed : list_all arm_well (arms_of rows arms) ≡ true
   pub nests : deepest (map (λ (arm : Arm). stmt_levels arm.1) (arms_of rows arms)) ≤ levels
 
-arms_of_push : (rows : List (Vec CaseConstant Global)) (arms : List Stmt) (row : Vec CaseConstant Global) (s : Stmt) → length rows ≡ length arms
+arms_of_push : (rows : List (Vec Constant Global)) (arms : List Stmt) (row : Vec Constant Global) (s : Stmt) → length rows ≡ length arms
     → arms_of (rows ++ row ∷ []) (arms ++ s ∷ []) ≡ arms_of rows arms ++ (row.items, s) ∷ []
 arms_of_push [] [] row s e = refl
 arms_of_push [] (x ∷ xs) row s e = absurd (omega arith)
@@ -93,13 +93,13 @@ pushed_each [] (b ∷ ys) x y e = absurd (omega arith)
 pushed_each (a ∷ xs) [] x y e = absurd (omega arith)
 pushed_each (a ∷ xs) (b ∷ ys) x y e = let n = pushed_each xs ys x y (omega arith) in omega arith
 
-arm_read : (levels : ℕ) (a b c : Cursor) (constants : List CaseConstant) (s : Stmt) → Read BeginsRow a b constants → Read (BeginsStmt levels) b c s
+arm_read : (levels : ℕ) (a b c : Cursor) (constants : List Constant) (s : Stmt) → Read BeginsRow a b constants → Read (BeginsStmt levels) b c s
     → Took a c (arm_spelled (constants, s))
 arm_read levels a b c constants s headed given =
     both (separated symbol.Comma (map constant_spelling constants)) (mark symbol.Colon ∷ stmt_spelling s) a.rest.now headed.middle c.rest.now
     headed.list.spelled (both (mark symbol.Colon ∷ []) (stmt_spelling s) headed.middle b.rest.now c.rest.now headed.closed given.spelled)
 
-arm_formed : (levels : ℕ) (a b c : Cursor) (constants : List CaseConstant) (s : Stmt) → Read BeginsRow a b constants → Read (BeginsStmt levels) b c s
+arm_formed : (levels : ℕ) (a b c : Cursor) (constants : List Constant) (s : Stmt) → Read BeginsRow a b constants → Read (BeginsStmt levels) b c s
     → arm_well (constants, s) ≡ true
 arm_formed levels a b c constants s headed given =
     let n = length_map constant_spelling constants in
@@ -107,9 +107,9 @@ arm_formed levels a b c constants s headed given =
     and_true (has_items constants) (is_statement s) (lt-ltb 0 (length constants) (omega arith)) given.formed
 
 -- with one more arm there is a list
-abbrev pub ArmsGrow : ℕ → Cursor → Cursor → List (Vec CaseConstant Global) → List Stmt → Type 0
+abbrev pub ArmsGrow : ℕ → Cursor → Cursor → List (Vec Constant Global) → List Stmt → Type 0
 ArmsGrow levels old now rows arms =
-    (length rows ≡ length arms) × ((middle new : Cursor) (row : Vec CaseConstant Global) (s : Stmt) → Read BeginsRow now middle row.items
+    (length rows ≡ length arms) × ((middle new : Cursor) (row : Vec Constant Global) (s : Stmt) → Read BeginsRow now middle row.items
     → Read (BeginsStmt levels) middle new s → ArmList levels old new (rows ++ row ∷ []) (arms ++ s ∷ []))
 
 -- the first arm
@@ -126,7 +126,7 @@ arms_grow_first levels a = (
 )
 
 -- behind a semicolon
-pub arms_grow : (levels : ℕ) (a b c : Cursor) (rows : List (Vec CaseConstant Global)) (arms : List Stmt) → ArmList levels a b rows arms
+pub arms_grow : (levels : ℕ) (a b c : Cursor) (rows : List (Vec Constant Global)) (arms : List Stmt) → ArmList levels a b rows arms
     → Took b c (mark symbol.Semicolon ∷ []) → ArmsGrow levels a c rows arms
 arms_grow levels a b c rows arms list taken = (
   list.each,
@@ -153,7 +153,7 @@ arms_grow levels a b c rows arms list taken = (
 )
 
 -- up to the `end`
-pub arms_close : (levels : ℕ) (a b c : Cursor) (rows : List (Vec CaseConstant Global)) (arms : List Stmt) (last : Bool) → ArmList levels a b rows arms
+pub arms_close : (levels : ℕ) (a b c : Cursor) (rows : List (Vec Constant Global)) (arms : List Stmt) (last : Bool) → ArmList levels a b rows arms
     → Took b c (case_end last) → ReadArms levels a c rows arms last
 arms_close levels a b c rows arms last list taken = record {
   each = list.each;
@@ -166,12 +166,12 @@ arms_close levels a b c rows arms last list taken = record {
 }
 
 -- a case statement
-pub gives-Case : (levels : ℕ) (a b c d : Cursor) (p : Place) (index : Expr) (rows : Vec (Vec CaseConstant Global) Global) (v : Vec Stmt Global) (last : Bool)
+pub gives-Case : (levels : ℕ) (a b c d : Cursor) (p : Place) (index : Expr) (rows : Vec (Vec Constant Global) Global) (v : Vec Stmt Global) (last : Bool)
     → Took a b (of_kind_at (kind.Word word.Case) p ∷ []) → Read (BeginsGuard word.Of levels) b c index → ReadArms levels c d rows.items v.items last
     → Read (BeginsStmt (levels + 1)) a d (statement.Case p index rows v last)
 gives-Case levels a b c d p index rows v last taken guarded given =
     let arms = separated symbol.Semicolon (map arm_spelling (arms_of rows.items (map stmt_spelling v.items))) in
-    let filled = list_all (λ (r : Vec CaseConstant Global). has_items r.items) rows.items in
+    let filled = list_all (λ (r : Vec Constant Global). has_items r.items) rows.items in
     let statements = list_all is_statement v.items in
     let well = sym (arms_formed rows.items v.items given.each) ∙ given.begun.formed in
     let size = length_map stmt_form v.items in
@@ -230,7 +230,7 @@ abbrev pub ArmStmtNext : List Token → List Token → Type 0
 ArmStmtNext start now = (depth : ℕ) (found : List Arm × Bool) (others : List Token) → BeginsArms depth start others found → ArmStmt depth now others
 
 -- behind a row read
-pub arm_stmt_next : (start : List Token) (a b : Cursor) (row : Vec CaseConstant Global) → ReadsEach BeginsRow Anything a b (Ok row) → ArmNext start a.rest.now
+pub arm_stmt_next : (start : List Token) (a b : Cursor) (row : Vec Constant Global) → ReadsEach BeginsRow Anything a b (Ok row) → ArmNext start a.rest.now
     → ArmStmtNext start b.rest.now
 arm_stmt_next start a b row reads next depth found others h =
     let p = next depth found others h in

@@ -6,7 +6,7 @@ use Rattle.std.specs.declared.vec.Vec.{Vec}
 use Rattle.lexer.specs.declared.token.Kind.TheVariants as kind
 use Rattle.lexer.specs.declared.token.Symbol.TheVariants as symbol
 use Rattle.lexer.specs.declared.token.Word.TheVariants as word
-use Rattle.syntax_tree.specs.declared.CaseConstant.{CaseConstant}
+use Rattle.syntax_tree.specs.declared.Constant.{Constant}
 use Rattle.syntax_tree.specs.declared.Stmt.{Stmt}
 use Rattle.syntax_tree.specs.Places.{arms_of}
 use Rattle.token_cursor.specs.declared.cursor.Cursor.{Cursor}
@@ -22,7 +22,7 @@ ReadBehindArm old new None = Took old new (mark symbol.Semicolon ∷ []) × NoNe
 ReadBehindArm old new (Some semicolon) = Took old new (case_end semicolon)
 
 -- the arms of a case were read up to its `end`, each with a row of constants
-pub record ReadArms (levels : ℕ) (old new : Cursor) (rows : List (Vec CaseConstant Global)) (arms : List Stmt)
+pub record ReadArms (levels : ℕ) (old new : Cursor) (rows : List (Vec Constant Global)) (arms : List Stmt)
     (last : Bool) : Type 0 where
   pub each : length rows ≡ length arms
   pub begun : Read (BeginsArms levels) old new (arms_of rows arms, last)

@@ -1,27 +1,22 @@
-ghost use Rattle.std.specs.Prelude.{◌≡◌, [], ◌∷◌, IfErr, IfNone, MatchResult, Some};
-ghost use Rattle.syntax_tree.specs.declared.ConstantValue.{ConstantValue};
-ghost use Rattle.grammar.specs.Spelling.{sign_spelling, value_lexeme};
-ghost use Rattle.grammar.specs.Following.{next_kind, NoNext, NoSign, Anything};
-ghost use Rattle.grammar.specs.Begins.{BeginsConstant, BeginsConstants, BeginsRow};
-ghost use Rattle.token_cursor.specs.Cursor.{Took};
+ghost use Rattle.std.specs.Prelude.{IfErr, MatchResult};
+ghost use Rattle.grammar.specs.Following.{NoNext, Anything};
+ghost use Rattle.grammar.specs.Begins.{BeginsConstants, BeginsRow};
 ghost use Rattle.expression_parser.specs.Reading.{ReadsEach};
 ghost use Rattle.expression_parser.specs.Refusing.{IsPlain};
 ghost use Rattle.expression_parser.specs.Rules.{Read};
 ghost use Rattle.statement_parser.specs.Arms.{ReadBehindArm};
 
+use crate::constant::constant;
 use expression_parser::memory::put;
 use lexer::token::{Kind, Symbol, Word};
 use std::alloc::Global;
-use syntax_tree::{CaseConstant, ConstantValue, SignAt};
+use syntax_tree::Constant;
 use token_cursor::cursor::Cursor;
 use token_cursor::fault::ParseFault;
 
 // row = constants ":"
 /// The constants before an arm of a case (6.8.3.5), and their colon.
-pub fn row<'a>(
-    alloc: Global,
-    cursor: &mut Cursor<'_, 'a>,
-) -> Result<Vec<CaseConstant<'a>>, ParseFault>
+pub fn row<'a>(alloc: Global, cursor: &mut Cursor<'_, 'a>) -> Result<Vec<Constant<'a>>, ParseFault>
     ensures given { MatchResult result (λ found. Read BeginsRow cursor.old cursor.new found.items) IsPlain }
     ensures exact { ReadsEach BeginsRow Anything cursor.old cursor.new result }
 {
@@ -34,7 +29,7 @@ pub fn row<'a>(
 fn constants<'a>(
     alloc: Global,
     cursor: &mut Cursor<'_, 'a>,
-) -> Result<Vec<CaseConstant<'a>>, ParseFault>
+) -> Result<Vec<Constant<'a>>, ParseFault>
     ensures given { MatchResult result (λ found. Read BeginsConstants cursor.old cursor.new found.items) IsPlain }
     ensures exact { ReadsEach BeginsConstants (NoNext (Kind.Symbol Symbol.Comma)) cursor.old cursor.new result }
 {
@@ -46,38 +41,6 @@ fn constants<'a>(
             return Ok(constants);
         };
     }
-}
-
-// constant = [sign] value
-fn constant<'a>(cursor: &mut Cursor<'_, 'a>) -> Result<CaseConstant<'a>, ParseFault>
-    ensures given { MatchResult result (Read BeginsConstant cursor.old cursor.new) IsPlain }
-    ensures exact { ReadsEach BeginsConstant Anything cursor.old cursor.new result }
-{
-    let sign = sign(cursor);
-    let value = value(cursor)?;
-    Ok(CaseConstant { sign, value })
-}
-
-/// The sign that comes next, if one does.
-fn sign(cursor: &mut Cursor<'_, '_>) -> Option<SignAt>
-    ensures given { Took cursor.old cursor.new (sign_spelling result) }
-    ensures missed { IfNone result (NoSign cursor.old.rest.now) }
-{
-    let (sign, place) = cursor.take_sign()?;
-    Some(SignAt { sign, place })
-}
-
-// value = number | name
-fn value<'a>(cursor: &mut Cursor<'_, 'a>) -> Result<ConstantValue<'a>, ParseFault>
-    ensures given { MatchResult result (λ found. Took cursor.old cursor.new (value_lexeme found ∷ [])) IsPlain }
-    ensures missed { IfErr result
-        (λ _. (v : ConstantValue) → ¬ (next_kind cursor.old.rest.now ≡ Some (value_lexeme v).kind)) }
-{
-    if let Some((value, place)) = cursor.take_number() {
-        return Ok(ConstantValue::Number { value, place });
-    }
-    let name = cursor.expect_name()?;
-    Ok(ConstantValue::Name(name))
 }
 
 // behind_arm = ";" | [";"] "end"

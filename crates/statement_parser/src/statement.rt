@@ -13,7 +13,7 @@ use expression_parser::memory::{boxed, put};
 use lexer::token::{Kind, Symbol, Word};
 use place::Place;
 use std::alloc::Global;
-use syntax_tree::{CaseConstant, Direction, Expr, Name, Stmt};
+use syntax_tree::{Constant, Direction, Expr, Name, Stmt};
 use token_cursor::cursor::Cursor;
 use token_cursor::fault::ParseFault;
 use token_cursor::nesting::inside;
@@ -291,7 +291,7 @@ fn arms<'a>(
     alloc: Global,
     cursor: &mut Cursor<'_, 'a>,
     levels: u32,
-) -> Result<(Vec<Vec<CaseConstant<'a>>>, Vec<Stmt<'a>>, bool), ParseFault>
+) -> Result<(Vec<Vec<Constant<'a>>>, Vec<Stmt<'a>>, bool), ParseFault>
     ensures given { MatchResult result
         (λ found. ReadArms levels cursor.old cursor.new found.0.items found.1.items found.2)
         (Refused levels cursor.old) }

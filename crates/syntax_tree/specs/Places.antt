@@ -10,7 +10,8 @@ use Rattle.syntax_tree.specs.declared.Name.{Name}
 use Rattle.syntax_tree.specs.declared.TypeDenoter.{TypeDenoter}
 use Rattle.syntax_tree.specs.declared.TypeDenoter.TheVariants as denoter
 use Rattle.syntax_tree.specs.declared.VariableGroup.{VariableGroup}
-use Rattle.syntax_tree.specs.declared.CaseConstant.{CaseConstant}
+use Rattle.syntax_tree.specs.declared.ConstantDefinition.{ConstantDefinition}
+use Rattle.syntax_tree.specs.declared.Constant.{Constant}
 use Rattle.syntax_tree.specs.declared.ConstantValue.{ConstantValue}
 use Rattle.syntax_tree.specs.declared.ConstantValue.TheVariants as constant
 use Rattle.syntax_tree.specs.declared.SignAt.{SignAt}
@@ -78,17 +79,17 @@ abbrev pub value_place : ConstantValue → Place
 value_place (constant.Number value place) = place
 value_place (constant.Name name) = name.place
 
--- the places of a constant of a case
-abbrev pub constant_places : CaseConstant → Places
+-- the places of a constant
+abbrev pub constant_places : Constant → Places
 constant_places c = sign_places c.sign ++ (value_place c.value ∷ [])
 
 -- the rows of constants of a case, each with the arm behind it
-abbrev pub arms_of : {A : Type 0} → List (Vec CaseConstant Global) → List A → List (List CaseConstant × A)
+abbrev pub arms_of : {A : Type 0} → List (Vec Constant Global) → List A → List (List Constant × A)
 arms_of [] arms = []
 arms_of (row ∷ rows) [] = []
 arms_of (row ∷ rows) (arm ∷ arms) = (row.items, arm) ∷ arms_of rows arms
 
-abbrev pub arm_places : List CaseConstant × Places → Places
+abbrev pub arm_places : List Constant × Places → Places
 arm_places arm = flat_map constant_places arm.0 ++ arm.1
 
 abbrev pub statement_step : Stmt-F Places → Places
@@ -115,6 +116,10 @@ name_places names = map (λ name. name.place) names
 abbrev pub denoter_places : TypeDenoter → Places
 denoter_places (denoter.Name name) = name.place ∷ []
 
+-- the places of a constant definition
+abbrev pub definition_places : ConstantDefinition → Places
+definition_places d = d.name.place ∷ constant_places d.value
+
 -- the places of variables that are declared together
 abbrev pub group_places : VariableGroup → Places
 group_places group = name_places group.names.items ++ denoter_places group.denoter
@@ -122,7 +127,9 @@ group_places group = name_places group.names.items ++ denoter_places group.denot
 -- the places of a block
 abbrev pub block_places : Block → Places
 block_places block =
-    flat_map group_places block.variables.items ++ (flat_map stmt_places block.statements.items ++ (block.end ∷ []))
+    flat_map definition_places block.constants.items
+    ++ (flat_map group_places block.variables.items
+    ++ (flat_map stmt_places block.statements.items ++ (block.end ∷ [])))
 
 -- the places of a program
 abbrev pub program_places : Program → Places

@@ -22,11 +22,42 @@ pub struct Program<'a> {
 /// A block (6.2.1).
 #[derive(Drop)]
 pub struct Block<'a> {
+    /// The constant definitions, in order; none where no part of them stands.
+    pub constants: Vec<ConstantDefinition<'a>>,
     pub variables: Vec<VariableGroup<'a>>,
     /// The statements of its compound statement: one or more.
     pub statements: Vec<Stmt<'a>>,
     /// Its last `end`.
     pub end: Place,
+}
+
+/// The definition of a constant (6.3): `name = value`.
+#[derive(Clone, Copy)]
+pub struct ConstantDefinition<'a> {
+    pub name: Name<'a>,
+    pub value: Constant<'a>,
+}
+
+/// A constant (6.3), with a sign or none.
+#[derive(Clone, Copy)]
+pub struct Constant<'a> {
+    pub sign: Option<SignAt>,
+    pub value: ConstantValue<'a>,
+}
+
+/// A sign where it stands.
+#[derive(Clone, Copy)]
+pub struct SignAt {
+    pub sign: Sign,
+    pub place: Place,
+}
+
+/// A constant without its sign.
+#[derive(Clone, Copy)]
+pub enum ConstantValue<'a> {
+    /// A number up to 2147483647.
+    Number { value: u32, place: Place },
+    Name(Name<'a>),
 }
 
 /// Variables that are declared together (6.5.1): one or more names.
@@ -94,32 +125,10 @@ pub enum Stmt<'a> {
     Case {
         place: Place,
         index: Expr<'a>,
-        constants: Vec<Vec<CaseConstant<'a>>>,
+        constants: Vec<Vec<Constant<'a>>>,
         arms: Vec<Stmt<'a>>,
         semicolon: bool,
     },
-}
-
-/// A constant before an arm of a case (6.3), with a sign or none.
-#[derive(Clone, Copy)]
-pub struct CaseConstant<'a> {
-    pub sign: Option<SignAt>,
-    pub value: ConstantValue<'a>,
-}
-
-/// A sign where it stands.
-#[derive(Clone, Copy)]
-pub struct SignAt {
-    pub sign: Sign,
-    pub place: Place,
-}
-
-/// A constant without its sign.
-#[derive(Clone, Copy)]
-pub enum ConstantValue<'a> {
-    /// A number up to 2147483647.
-    Number { value: u32, place: Place },
-    Name(Name<'a>),
 }
 
 /// The way of a control variable (6.8.3.9).

@@ -3,7 +3,7 @@ use Rattle.std.proofs.Common.{◌≡◌, ℕ, Bool, map, Option, None, Some, opt
 use Rattle.std.specs.declared.alloc.Global.{Global}
 use Rattle.place.specs.declared.Place.{Place}
 use Rattle.syntax_tree.specs.declared.Name.{Name}
-use Rattle.syntax_tree.specs.declared.CaseConstant.{CaseConstant}
+use Rattle.syntax_tree.specs.declared.Constant.{Constant}
 use Rattle.syntax_tree.specs.declared.Sign.{Sign}
 use Rattle.syntax_tree.specs.declared.Direction.{Direction}
 use Rattle.syntax_tree.specs.declared.Expr.{Expr}
@@ -127,7 +127,7 @@ typing_for place variable first direction last body =
     ap statement (sym (stmt.rolls-For place variable first direction last body))
     ∙ fold-roll-Stmt (Passing (Unit {0})) statement_step (stmt_layer.For place variable first direction last body)
 
-pub typing_case : (place : Place) (index : Expr) (constants : Vec (Vec CaseConstant Global) Global) (arms : Vec Stmt Global) (semicolon : Bool)
+pub typing_case : (place : Place) (index : Expr) (constants : Vec (Vec Constant Global) Global) (arms : Vec Stmt Global) (semicolon : Bool)
     → statement (stmt.Case place index constants arms semicolon)
     ≡ case_statement place (expression index) (arms_of constants.items (map statement arms.items))
 typing_case place index constants arms semicolon =

@@ -5,7 +5,7 @@ use Rattle.place.specs.declared.Place.{Place}
 use Rattle.syntax_tree.specs.declared.Sign.{Sign}
 use Rattle.syntax_tree.specs.declared.Sign.TheVariants as sign
 use Rattle.syntax_tree.specs.declared.SignAt.{SignAt}
-use Rattle.syntax_tree.specs.declared.CaseConstant.{CaseConstant}
+use Rattle.syntax_tree.specs.declared.Constant.{Constant}
 use Rattle.syntax_tree.specs.declared.ConstantValue.{ConstantValue}
 use Rattle.syntax_tree.specs.declared.ConstantValue.TheVariants as written
 use Rattle.syntax_tree.specs.Places.{value_place}
@@ -46,7 +46,7 @@ behind_sign (Some at) constant =
     fits (is_same constant.1 integer && is_whole constant.0) at.place (signed_value at.sign constant.0, integer)
 
 -- a constant
-unfoldable pub constant : CaseConstant → Passing (ℤ × TypeId)
+unfoldable pub constant : Constant → Passing (ℤ × TypeId)
 constant c = unsigned_constant c.value >>? (λ types unsigned. behind_sign c.sign unsigned)
 
 abbrev pub first_place : Option SignAt → Place → Place
@@ -54,5 +54,5 @@ first_place None place = place
 first_place (Some at) place = at.place
 
 -- where a constant begins
-abbrev pub constant_place : CaseConstant → Place
+abbrev pub constant_place : Constant → Place
 constant_place c = first_place c.sign (value_place c.value)

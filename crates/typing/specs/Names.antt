@@ -1,10 +1,12 @@
 -- The names of a program (ISO 7185:1990, 6.1.3, 6.2.2, 6.10): small and capital letters are alike; the required
--- identifiers stand in a region round the program, and its block defines its parameters and its variables.
+-- identifiers stand in a region round the program, and its block defines its parameters, its constants and its
+-- variables.
 -- It says nothing of the order in which definitions are passed.
 use Rattle.std.specs.Prelude.{ℕ, pos, ◌+◌, ◌&&◌, ◌++◌, Bool, List, [], ◌∷◌, Some, if◌then◌else◌, nat_le, nat_eq, map}
 use Rattle.std.specs.Prelude.{codes, flat_map}
 use Rattle.std.specs.List.{list_any}
 use Rattle.std.specs.Cmp.Lexicographic.{pointwise}
+use Rattle.syntax_tree.specs.declared.Block.{Block}
 use Rattle.syntax_tree.specs.declared.Program.{Program}
 use Rattle.syntax_tree.specs.declared.Name.{Name}
 use Rattle.types.specs.Types.{integer, boolean}
@@ -43,6 +45,11 @@ required =
 unfoldable pub required_region : Region
 required_region = map (λ d. (d.0, Some d.1)) required
 
+-- the names of a block's constants and variables, in the order of the text
+abbrev pub block_names : Block → List Name
+block_names block =
+    map (λ d. d.name) block.constants.items ++ flat_map (λ group. group.names.items) block.variables.items
+
 -- the names that the program's block defines, in the order of the text
 abbrev pub defined_names : Program → List Name
-defined_names program = program.parameters.items ++ flat_map (λ group. group.names.items) program.block.variables.items
+defined_names program = program.parameters.items ++ block_names program.block

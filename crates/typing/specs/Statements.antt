@@ -15,7 +15,7 @@ use Rattle.syntax_tree.specs.declared.Expr.TheOpen.Expr-F.{Parenthesized as Pare
 use Rattle.syntax_tree.specs.declared.Expr.TheOpen.Expr-F.{Signed as SignedOf, Chain as ChainOf}
 use Rattle.syntax_tree.specs.declared.Expr.TheViews.{out-Expr, out-Actual}
 use Rattle.syntax_tree.specs.declared.Link.{Link}
-use Rattle.syntax_tree.specs.declared.CaseConstant.{CaseConstant}
+use Rattle.syntax_tree.specs.declared.Constant.{Constant}
 use Rattle.syntax_tree.specs.Places.{arms_of}
 use Rattle.syntax_tree.specs.declared.Direction.{Direction as SyntaxDirection}
 use Rattle.syntax_tree.specs.declared.Direction.TheVariants as written
@@ -261,17 +261,17 @@ own_constant types type_id before place c =
     if is_compatible types type_id c.1 && not (list_any (int_eq c.0) before) then Ok c.0
     else Err (fault.CaseConstant place)
 
-unfoldable pub case_constant : TypeId → List ℤ → CaseConstant → Passing ℤ
+unfoldable pub case_constant : TypeId → List ℤ → Constant → Passing ℤ
 case_constant type_id before c = constant c >>? (λ types one. own_constant types type_id before (constant_place c) one)
 
 -- the constants before an arm: behind those of the arms before it, and these of its row
-abbrev pub constant_row : TypeId → List ℤ → List ℤ → List CaseConstant → Passing (List ℤ)
+abbrev pub constant_row : TypeId → List ℤ → List ℤ → List Constant → Passing (List ℤ)
 constant_row type_id before row [] = pure row
 constant_row type_id before row (c ∷ cs) =
     case_constant type_id (before ++ row) c >>= (λ value. constant_row type_id before (row ++ value ∷ []) cs)
 
 -- the arms of a case, behind arms with these constants
-abbrev pub case_arms : TypeId → List ℤ → List (List CaseConstant × Passing (Unit {0})) → Passing (Unit {0})
+abbrev pub case_arms : TypeId → List ℤ → List (List Constant × Passing (Unit {0})) → Passing (Unit {0})
 case_arms type_id before [] = pure tt
 case_arms type_id before (arm ∷ arms) = do
   row ← constant_row type_id before [] arm.0
@@ -286,11 +286,11 @@ case_head place index = do
   enter_as (λ n. Case n id)
   index.typing None >>? (λ types t. fits (is_ordinal types t.type_id) index.first t.type_id)
 
-unfoldable pub case_body : List (List CaseConstant × Passing (Unit {0})) → TypeId → Passing (Unit {0})
+unfoldable pub case_body : List (List Constant × Passing (Unit {0})) → TypeId → Passing (Unit {0})
 case_body arms type_id = case_arms type_id [] arms >> mark Ends
 
 -- a case (6.8.3.5)
-abbrev pub case_statement : Place → Written → List (List CaseConstant × Passing (Unit {0})) → Passing (Unit {0})
+abbrev pub case_statement : Place → Written → List (List Constant × Passing (Unit {0})) → Passing (Unit {0})
 case_statement place index arms = case_head place index >>= case_body arms
 
 abbrev pub statement_step : Stmt-F (Passing (Unit {0})) → Passing (Unit {0})

@@ -1,6 +1,6 @@
--- The typing of a program (ISO 7185:1990, 6.2, 6.4.1, 6.5.1, 6.10): its declarations in the order of the text, and then
--- its statements. It answers the first broken rule, with its place, or how the program's typed tree looks and what the
--- program has: its variables and its sites. It says nothing of what a program does.
+-- The typing of a program (ISO 7185:1990, 6.2, 6.3, 6.4.1, 6.5.1, 6.10): its declarations in the order of the text, and
+-- then its statements. It answers the first broken rule, with its place, or how the program's typed tree looks and what
+-- the program has: its variables and its sites. It says nothing of what a program does.
 use Rattle.std.specs.Prelude.{List, [], Result, Ok, Err, if◌then◌else◌, map, nat_eq, codes}
 use Rattle.std.specs.Cmp.Lexicographic.{pointwise}
 use Rattle.syntax_tree.specs.declared.Program.{Program}
@@ -8,6 +8,7 @@ use Rattle.syntax_tree.specs.declared.Block.{Block}
 use Rattle.syntax_tree.specs.declared.Name.{Name}
 use Rattle.syntax_tree.specs.declared.TypeDenoter.{TypeDenoter}
 use Rattle.syntax_tree.specs.declared.TypeDenoter.TheVariants as denoter
+use Rattle.syntax_tree.specs.declared.ConstantDefinition.{ConstantDefinition}
 use Rattle.syntax_tree.specs.declared.VariableGroup.{VariableGroup}
 use Rattle.types.specs.declared.form.TypeId.{TypeId}
 use Rattle.scopes.specs.Scopes.{found}
@@ -20,6 +21,7 @@ use Rattle.typed_tree.specs.Look.{BlockEnds}
 use Rattle.typing.specs.Names.{folded, all_folded, is_among, defined_names}
 use Rattle.typing.specs.Passing.{Checked, After, Passing, and_then, after, fail, mark, each, ◌>>=◌, ◌>>◌}
 use Rattle.typing.specs.Steps.{begins, open_required, open_block, declare, give_output, next_root, reserve}
+use Rattle.typing.specs.Constants.{constant}
 use Rattle.typing.specs.Statements.{statement, compound}
 
 -- a program parameter: no other than output may be one
@@ -27,6 +29,10 @@ unfoldable pub parameter_of_program : Name → Passing (Unit {0})
 parameter_of_program name =
     if pointwise nat_eq (folded name.text.now) (codes "output") then declare name denotes.Output >> give_output
     else fail (fault.NotProgramParameter name.place)
+
+-- a constant definition: its value, and then its name
+unfoldable pub definition : ConstantDefinition → Passing (Unit {0})
+definition d = constant d.value >>= (λ c. declare d.name (denotes.Constant c.0 c.1))
 
 -- the type that a name denotes, where variables of these names get it; one of them is no type, wherever it stands
 abbrev pub named_type : List Name → Name → Result Denotation ScopeFault → Checked TypeId
@@ -65,6 +71,7 @@ declarations program = do
   open_required
   open_block (all_folded (defined_names program))
   each parameter_of_program program.parameters.items
+  each definition program.block.constants.items
   each group program.block.variables.items
 
 -- the statements of a block, and its last `end`

@@ -4,7 +4,7 @@ ghost use Rattle.typing.specs.Constants.{as_constant, behind_sign, constant_plac
 use crate::typer::Typer;
 use place::Place;
 use scopes::Denotation;
-use syntax_tree::{CaseConstant, ConstantValue, Sign, SignAt};
+use syntax_tree::{Constant, ConstantValue, Sign, SignAt};
 use typed_tree::fault::TypeFault;
 use types::{MAXINT, TypeId, TypeTable};
 
@@ -14,7 +14,7 @@ impl Typer {
 
     /// The value and the type of a constant (6.3).
     #[tactic(auto, unfolding(crate::specs::Constants::constant))]
-    pub fn constant(&mut self, written: &CaseConstant) -> Result<(i32, TypeId), TypeFault>
+    pub fn constant(&mut self, written: &Constant) -> Result<(i32, TypeId), TypeFault>
         ensures { Takes (spec.constant written.now self.old) result self.new }
     {
         let (value, type_id) = self.unsigned_constant(&written.value)?;
@@ -73,7 +73,7 @@ fn behind_sign(
 }
 
 /// Where a constant begins.
-pub fn constant_place(written: &CaseConstant) -> Place
+pub fn constant_place(written: &Constant) -> Place
     ensures { result ≡ constant_place written.now }
 {
     match (written.sign, written.value) {

@@ -9,7 +9,7 @@ use Rattle.place.specs.declared.Place.{Place}
 use Rattle.syntax_tree.specs.declared.Sign.{Sign}
 use Rattle.syntax_tree.specs.declared.Sign.TheVariants as sign
 use Rattle.syntax_tree.specs.declared.SignAt.{SignAt}
-use Rattle.syntax_tree.specs.declared.CaseConstant.{CaseConstant}
+use Rattle.syntax_tree.specs.declared.Constant.{Constant}
 use Rattle.syntax_tree.specs.declared.ConstantValue.{ConstantValue}
 use Rattle.syntax_tree.specs.declared.ConstantValue.TheVariants as value
 use Rattle.types.specs.declared.form.TypeForm.{TypeForm}
@@ -26,15 +26,15 @@ use Rattle.typing_laws.proofs.Grown.{both_true}
 use Rattle.typing_laws.proofs.Steps.{Does, Nothing, quietly, checks, pass_does, pure_does, find_does}
 use Rattle.typing_laws.proofs.Expressions.{fits_is}
 
-abbrev IsWhole : ℤ → Type 0
+abbrev pub IsWhole : ℤ → Type 0
 IsWhole value = is_whole value ≡ true
 
 -- ---- values
 
-number_whole : (value : ℕ) → nat_le value 2147483647 ≡ true → IsWhole (pos value)
+pub number_whole : (value : ℕ) → nat_le value 2147483647 ≡ true → IsWhole (pos value)
 number_whole value few = few
 
-named_whole : (variables : ℕ) (place : Place) (d : Denotation) (c : ℤ × TypeId) → as_constant place d ≡ Ok c → IsSound variables d → IsWhole c.0
+pub named_whole : (variables : ℕ) (place : Place) (d : Denotation) (c : ℤ × TypeId) → as_constant place d ≡ Ok c → IsSound variables d → IsWhole c.0
 named_whole variables place (denotes.Constant value type_id) c is sound = let same : value ≡ c.0 = cc in subst IsWhole same sound
 named_whole variables place (denotes.Variable root type_id) c is sound = absurd cc
 named_whole variables place (denotes.TypeName type_id) c is sound = absurd cc
@@ -60,7 +60,7 @@ own_is types type_id before place c value is = by (is_compatible types type_id c
 -- ---- constants
 
 module _ (variables : ℕ) where
-  behind_whole : (s : Option SignAt) (c made : ℤ × TypeId) → behind_sign s c ≡ Ok made → IsWhole c.0 → IsWhole made.0
+  pub behind_whole : (s : Option SignAt) (c made : ℤ × TypeId) → behind_sign s c ≡ Ok made → IsWhole c.0 → IsWhole made.0
   behind_whole None c made is whole = let same : c ≡ made = cc in subst (λ z. IsWhole z.0) same whole
   behind_whole (Some at) c made is whole =
       let made_is = fits_is variables (is_same c.1 integer && is_whole c.0) at.place (signed_value at.sign c.0, integer) made is in
@@ -75,11 +75,11 @@ module _ (variables : ℕ) where
   unsigned_does (value.Name name) =
       checks (find_does name) λ types d c now _ is sound. named_whole variables name.place d c is sound
 
-  constant_does : {least : ℕ} (c : CaseConstant) → Does variables least Nothing (constant c) (λ made now. IsWhole made.0)
+  constant_does : {least : ℕ} (c : Constant) → Does variables least Nothing (constant c) (λ made now. IsWhole made.0)
   unfolding constant
   constant_does c = checks (unsigned_does c.value) λ types unsigned made now _ is whole. behind_whole c.sign unsigned made is whole
 
-  case_constant_does : {least : ℕ} (type_id : TypeId) (before : List ℤ) (c : CaseConstant)
+  case_constant_does : {least : ℕ} (type_id : TypeId) (before : List ℤ) (c : Constant)
       → Does variables least Nothing (case_constant type_id before c) (λ value now. IsWhole value)
   unfolding case_constant
   case_constant_does type_id before c =
@@ -87,7 +87,7 @@ module _ (variables : ℕ) where
       subst IsWhole (own_is types type_id before (constant_place c) one value is) whole
 
   -- those before an arm
-  pub row_does : {least : ℕ} (type_id : TypeId) (before row : List ℤ) (cs : List CaseConstant) → list_all is_whole row ≡ true
+  pub row_does : {least : ℕ} (type_id : TypeId) (before row : List ℤ) (cs : List Constant) → list_all is_whole row ≡ true
       → Does variables least Nothing (constant_row type_id before row cs) (λ made now. list_all is_whole made ≡ true)
   row_does type_id before row [] whole = pure_does row (λ n h. whole)
   row_does type_id before row (c ∷ cs) whole =

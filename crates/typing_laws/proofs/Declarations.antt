@@ -1,6 +1,6 @@
 -- What declarations do: they add no site and no entry, each name denotes what is sound, and each variable takes a cell.
-use Rattle.std.proofs.Common.{◌≡◌, ℕ, ◌+◌, ◌≤◌, Bool, true, false, nat_eq, nat_lt, if◌then◌else◌, List, [], ◌∷◌, ◌++◌, length, Result, Ok}
-use Rattle.std.proofs.Common.{Err, codes, length-append, refl, sym, ap, subst, ◌∙◌, arith}
+use Rattle.std.proofs.Common.{◌≡◌, ℕ, ◌+◌, ◌≤◌, Bool, true, false, nat_eq, nat_lt, if◌then◌else◌, List, [], ◌∷◌, ◌++◌, length, Option, Some, None, Result, Ok}
+use Rattle.std.proofs.Common.{Err, ℤ, pos, nat_le, codes, length-append, refl, sym, ap, subst, ◌∙◌, arith}
 use Rattle.std.proofs.lemmas.Bool.Decides.{nat_tests}
 use Rattle.std.proofs.lemmas.List.Folds.{list_all-append}
 use Rattle.std.specs.List.{list_all}
@@ -8,12 +8,16 @@ use Rattle.std.specs.Cmp.Lexicographic.{pointwise}
 use Rattle.place.specs.declared.Place.{Place}
 use Rattle.syntax_tree.specs.declared.Program.{Program}
 use Rattle.syntax_tree.specs.declared.Name.{Name}
+use Rattle.syntax_tree.specs.declared.Constant.{Constant}
+use Rattle.syntax_tree.specs.declared.ConstantDefinition.{ConstantDefinition}
+use Rattle.syntax_tree.specs.declared.ConstantValue.{ConstantValue}
+use Rattle.syntax_tree.specs.declared.ConstantValue.TheVariants as value
 use Rattle.syntax_tree.specs.declared.TypeDenoter.{TypeDenoter}
 use Rattle.syntax_tree.specs.declared.TypeDenoter.TheVariants as denoter
 use Rattle.syntax_tree.specs.declared.VariableGroup.{VariableGroup}
 use Rattle.types.specs.declared.form.TypeId.{TypeId}
 use Rattle.types.proofs.Counts.{one_cell}
-use Rattle.types.specs.Types.{required_forms, cells_of, most_cells}
+use Rattle.types.specs.Types.{required_forms, integer, cells_of, most_cells}
 use Rattle.scopes.specs.Scopes.{Region, found, opened, define}
 use Rattle.scopes.specs.declared.denotation.Denotation.{Denotation}
 use Rattle.scopes.specs.declared.denotation.Denotation.TheVariants as denotes
@@ -21,11 +25,14 @@ use Rattle.scopes.specs.declared.fault.ScopeFault.{ScopeFault}
 use Rattle.typed_tree.specs.declared.fault.TypeFault.TheVariants as fault
 use Rattle.typed_tree.specs.declared.tree.Variable.{Variable}
 use Rattle.typing.specs.Names.{folded, all_folded, defined_names, required_region}
-use Rattle.typing.specs.Passing.{Passed, Checked, After, Passing, after, behind_marks, pure, fail, each, ◌>>=◌, ◌>>◌}
-use Rattle.typing.specs.Steps.{told, open_required, open_block, declare, give_output, next_root, reserve}
-use Rattle.typing.specs.Typing.{parameter_of_program, named_type, denoted_type, variable, group, declarations}
+use Rattle.typing.specs.Passing.{Passed, Checked, After, Passing, after, and_then, behind_marks, pure, fail, each, ◌>>=◌, ◌>>◌, ◌>>?◌}
+use Rattle.typing.specs.Steps.{told, pass, find, open_required, open_block, declare, give_output, next_root, reserve}
+use Rattle.typing.specs.Constants.{unsigned_constant, constant}
+use Rattle.typing.specs.Typing.{parameter_of_program, definition, named_type, denoted_type, variable, group, declarations}
+use Rattle.typing_laws.proofs.Constants.{IsWhole, number_whole, named_whole, behind_whole}
+use Rattle.typing_laws.proofs.Expressions.{fits_is}
 use Rattle.typing_laws.proofs.Grown.{both_true}
-use Rattle.typing_laws.proofs.Sound.{IsSound, AreSound, opened_sound, required_sound, define_sound, regions_more}
+use Rattle.typing_laws.proofs.Sound.{IsSound, AreSound, found_sound, opened_sound, required_sound, define_sound, regions_more}
 use Rattle.typing_laws.proofs.Steps.{split, split_behind, split_unless}
 
 -- what is known among declarations, where names denote variables below a bound
@@ -120,6 +127,60 @@ declare_keeps name denotation bound same_bound = record {
       (refl, subst (λ n. Ready n (record s { regions = x.0 })) (sym (same_bound s x.0)) (ready_as sound r refl refl refl refl refl refl));
 }
 
+-- ---- constants
+
+-- a form, and then a test of what it is
+keeps_checks : {A B : Type 0} {From : Passed → Type 0} {p : Passing A} {test : List TypeForm → A → Checked B} {Between : A → Passed → Type 0}
+    {To : B → Passed → Type 0}
+    → Keeps From p Between → ((types : List TypeForm) (x : A) (b : B) (s : Passed) → test types x ≡ Ok b → Between x s → To b s) → Keeps From (p >>? test) To
+keeps_checks {A} {B} {From} {p} {test} {Between} {To} first fits = record {
+  keeps = λ s b is from.
+      let x = split (p s) (λ a. and_then (test a.passed.types a.answer) (λ b. Ok (after b a.look a.passed))) b is in
+      let y = split (test x.0.passed.types x.0.answer) (λ b. Ok (after b x.0.look x.0.passed)) b x.2 in
+      let one = first.keeps s x.0 x.1 from in
+      let same : after y.0 x.0.look x.0.passed ≡ b = cc in
+      subst (λ (z : After B). (z.look ≡ []) × To z.answer z.passed) same
+      (one.0, fits x.0.passed.types x.0.answer y.0 x.0.passed y.1 one.1);
+}
+
+pass_keeps : (place : Place) → Keeps IsReady (pass place) Readied
+unfolding pass
+pass_keeps place = always (pass place) tt (λ s. record s { latest = place }) (λ s. refl) λ s r. ready_as r.sound r refl refl refl refl refl refl
+
+-- a name denotes what is sound
+find_keeps : (name : Name) → Keeps IsReady (find name) (λ d s. IsReady s × IsSound (length s.variables) d)
+unfolding find
+find_keeps name = record {
+  keeps = λ s a is r.
+      let text = folded name.text.now in
+      let x = split (told name.place (found s.regions text)) (λ d. Ok (after d [] (record s { latest = name.place }))) a is in
+      let same : after x.0 [] (record s { latest = name.place }) ≡ a = cc in
+      let sound = found_sound (length s.variables) s.regions text x.0 r.sound (told_is name.place (found s.regions text) x.0 x.1) in
+      let ready : IsReady (record s { latest = name.place }) = ready_as r.sound r refl refl refl refl refl refl in
+      subst (λ (z : After Denotation). (z.look ≡ []) × (IsReady z.passed × IsSound (length z.passed.variables) z.answer)) same (refl, (ready, sound));
+}
+
+-- a whole number
+abbrev Whole : ℤ × TypeId → Passed → Type 0
+Whole c s = IsReady s × IsWhole c.0
+
+unsigned_keeps : (v : ConstantValue) → Keeps IsReady (unsigned_constant v) Whole
+unfolding unsigned_constant
+unsigned_keeps (value.Number number place) =
+    keeps_checks (pass_keeps place) λ types _ c s is r.
+    let fit = fits_is (length s.variables) (nat_le number 2147483647) place (pos number, integer) c is in
+    (r, subst (λ z. IsWhole z.0) fit.1 (number_whole number fit.0))
+unsigned_keeps (value.Name name) = keeps_checks (find_keeps name) λ types d c s is k. (k.0, named_whole (length s.variables) name.place d c is k.1)
+
+constant_keeps : (c : Constant) → Keeps IsReady (constant c) Whole
+unfolding constant
+constant_keeps c = keeps_checks (unsigned_keeps c.value) λ types unsigned made s is k.
+    (k.0, behind_whole (length s.variables) c.sign unsigned made is k.1)
+
+definition_keeps : (d : ConstantDefinition) → Keeps IsReady (definition d) Readied
+unfolding definition
+definition_keeps d = keeps_then (constant_keeps d.value) λ c. declare_keeps d.name (denotes.Constant c.0 c.1) (λ s. length s.variables) (λ s regions. refl)
+
 -- ---- the parameter and the variables
 
 give_output_keeps : Keeps IsReady give_output Readied
@@ -213,4 +274,5 @@ declarations_keep program =
     keeps_then open_required_keeps λ _.
     keeps_then (open_block_keeps (all_folded (defined_names program))) λ _.
     keeps_then (each_keeps parameter_keeps program.parameters.items) λ _.
+    keeps_then (each_keeps definition_keeps program.block.constants.items) λ _.
     each_keeps group_keeps program.block.variables.items

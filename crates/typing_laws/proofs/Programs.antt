@@ -3,7 +3,7 @@ use Rattle.std.proofs.Common.{◌≡◌, ℕ, List, [], ◌∷◌, ◌++◌, len
 use Rattle.std.specs.List.{range_with_len, list_all, flat_map}
 use Rattle.syntax_tree.specs.declared.Program.{Program}
 use Rattle.syntax_tree.specs.declared.Block.{Block}
-use Rattle.syntax_tree.specs.Places.{name_places, group_places, stmt_places, program_places}
+use Rattle.syntax_tree.specs.Places.{name_places, definition_places, group_places, stmt_places, program_places}
 use Rattle.typed_tree.specs.Ids.{Stands, AreByPlace}
 use Rattle.typed_tree.specs.Look.{BlockEnds, entries_of_look, loops_of_look, is_formed_mark}
 use Rattle.typing.specs.Passing.{Passed, After, after, behind_marks}
@@ -33,11 +33,13 @@ program_covers : (program : Program) (sites : List Stands) → Covers 0 (flat_ma
     → Covers 0 (program_places program) sites
 program_covers program sites has =
     let statements = flat_map stmt_places program.block.statements.items in
+    let definitions = flat_map definition_places program.block.constants.items in
     let groups = flat_map group_places program.block.variables.items in
     let ends = program.block.end ∷ [] in
-    covers_skip 0 program.name.place (name_places program.parameters.items ++ (groups ++ (statements ++ ends))) sites
-    (covers_behind 0 (name_places program.parameters.items) (groups ++ (statements ++ ends)) sites
-    (covers_behind 0 groups (statements ++ ends) sites (covers_more 0 statements ends sites has)))
+    covers_skip 0 program.name.place (name_places program.parameters.items ++ (definitions ++ (groups ++ (statements ++ ends)))) sites
+    (covers_behind 0 (name_places program.parameters.items) (definitions ++ (groups ++ (statements ++ ends))) sites
+    (covers_behind 0 definitions (groups ++ (statements ++ ends)) sites
+    (covers_behind 0 groups (statements ++ ends) sites (covers_more 0 statements ends sites has))))
 
 -- behind the declarations
 fine_ready : (s : Passed) → IsReady s → Fine (length s.variables) s

@@ -8,7 +8,7 @@ use Rattle.syntax_tree.specs.declared.Name.{Name}
 use Rattle.syntax_tree.specs.declared.Expr.{Expr}
 use Rattle.syntax_tree.specs.declared.Actual.{Actual}
 use Rattle.syntax_tree.specs.declared.Link.{Link}
-use Rattle.syntax_tree.specs.declared.CaseConstant.{CaseConstant}
+use Rattle.syntax_tree.specs.declared.Constant.{Constant}
 use Rattle.syntax_tree.specs.declared.Direction.{Direction as SyntaxDirection}
 use Rattle.syntax_tree.specs.declared.Expr.TheOpen as expr_layer
 use Rattle.syntax_tree.specs.declared.Expr.TheViews.{out-Expr, out-Actual}
@@ -332,7 +332,7 @@ module _ (variables : ℕ) where
       quietly (enter_does (λ n. Case n id) (λ n. refl) (λ n. refl) (λ n m h. lt_true id m (omega (arith, known, h)))) λ _ now _ _.
       checks {L = Anything} (typed_does now places w None law tt) λ types t b n more is _. tt)
 
-  case_does : (place : Place) (tests inside : List Place) (w : Written) (arms : List (List CaseConstant × Passing (Unit {0})))
+  case_does : (place : Place) (tests inside : List Place) (w : Written) (arms : List (List Constant × Passing (Unit {0})))
       → LawfulWritten variables tests w
       → ((least : ℕ) (type_id : TypeId) → Does variables least (Covers 0 inside) (case_arms type_id [] arms) Anything)
       → LawfulStatement (place ∷ (tests ++ inside)) (case_statement place w arms)
@@ -372,10 +372,10 @@ module _ (variables : ℕ) where
       joins (covers_both 0 (stmt_places y.0) (joined_places (map stmt_places (bare_row ys)))) (y.1.passes least) λ _ now _ _.
       row_lawful ys now
 
-  abbrev arms_row : List (Vec CaseConstant Global) → List WithStmt → List Place
+  abbrev arms_row : List (Vec Constant Global) → List WithStmt → List Place
   arms_row rows ys = flat_map arm_places (arms_of rows (map stmt_places (bare_row ys)))
 
-  arms_lawful : (rows : List (Vec CaseConstant Global)) (ys : List WithStmt) (type_id : TypeId) (before : List ℤ) (least : ℕ)
+  arms_lawful : (rows : List (Vec Constant Global)) (ys : List WithStmt) (type_id : TypeId) (before : List ℤ) (least : ℕ)
       → Does variables least (Covers 0 (arms_row rows ys)) (case_arms type_id before (arms_of rows (map statement (bare_row ys)))) Anything
   arms_lawful [] ys type_id before least = pure_does tt (λ n h. tt)
   arms_lawful (row ∷ rows) [] type_id before least = pure_does tt (λ n h. tt)

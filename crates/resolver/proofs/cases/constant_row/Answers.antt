@@ -1,6 +1,6 @@
 use Rattle.std.proofs.Common.{rules, ◌≡◌, ◌+◌, [], ◌∷◌, ◌++◌, None, get_or, w32, to_z, of_z, sym, ap, subst, ◌∙◌, append_assoc}
 use Rattle.std.proofs.lemmas.Int.{to_z-of_z}
-use Rattle.syntax_tree.specs.declared.CaseConstant.{CaseConstant}
+use Rattle.syntax_tree.specs.declared.Constant.{Constant}
 use Rattle.syntax_tree.specs.declared.ConstantValue.TheVariants.{Number}
 use Rattle.typing.specs.Outcomes.{IsFault}
 use Rattle.typing.specs.Statements.{case_constant, constant_row}
@@ -8,7 +8,7 @@ use Rattle.resolver.proofs.CaseArms.{IsRowFrom, row_next, row_stops}
 use Rattle.resolver.proofs.cases.constant_row.Goals as goal
 
 -- the one that stands outside of rows
-abbrev other : CaseConstant
+abbrev other : Constant
 other = record { sign = None; value = Number 0 (record { line = 0; column = 0 }) }
 
 -- the next constant is met

@@ -3,7 +3,7 @@ use Rattle.grammar.specs.Spelling.{sign_spelling, value_lexeme}
 use Rattle.grammar.proofs.Rows.{begins, same_first}
 use Rattle.grammar.proofs.Reading.{both}
 use Rattle.grammar.proofs.Arms.{behind_sign}
-use Rattle.statement_parser.proofs.arm.constant.Goals as goal
+use Rattle.statement_parser.proofs.constant.constant.Goals as goal
 
 pub returns-clause-given : goal.returns-clause-given
 returns-clause-given c =

@@ -1,0 +1,35 @@
+ghost use Rattle.scopes.specs.Scopes.{Knows};
+ghost use Rattle.typing.specs.Names.{folded};
+ghost use Rattle.typing.specs.Outcomes.{Takes};
+ghost use Rattle.typing.specs.Passing.{each};
+ghost use Rattle.typing.specs.Typing as spec;
+ghost use Rattle.declarations.specs.Known.{AreKnownDefinitions};
+
+use scopes::Denotation;
+use syntax_tree::ConstantDefinition;
+use typed_tree::fault::TypeFault;
+use typing::Typer;
+
+/// Passes the constant definitions, in the order of the text.
+pub(crate) fn declare_constants(
+    typer: &mut Typer,
+    definitions: &[ConstantDefinition],
+) -> Result<(), TypeFault>
+    requires known { AreKnownDefinitions definitions.now typer.old.regions }
+    ensures { Takes (each spec.definition definitions.now typer.old) result typer.new }
+{
+    for definition in definitions {
+        declare_constant(typer, definition)?;
+    }
+    Ok(())
+}
+
+// A constant: its value (S2 where that names the constant), and then its name (S1 where it comes twice).
+#[tactic(auto, unfolding(typing::specs::Typing::definition))]
+fn declare_constant(typer: &mut Typer, definition: &ConstantDefinition) -> Result<(), TypeFault>
+    requires known { Knows typer.old.regions (folded definition.now.name.text.now) }
+    ensures { Takes (spec.definition definition.now typer.old) result typer.new }
+{
+    let (value, type_id) = typer.constant(&definition.value)?;
+    typer.declare(&definition.name, Denotation::Constant { value, type_id })
+}

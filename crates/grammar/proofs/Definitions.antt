@@ -1,0 +1,128 @@
+-- The rules of constant definitions read each spelling of their form.
+use Rattle.std.proofs.Common.{◌≡◌, ◌<◌, List, [], ◌∷◌, ◌++◌, length, map, Some, sym, ap, ◌∙◌, arith}
+use Rattle.place.specs.declared.Place.{Place}
+use Rattle.lexer.specs.declared.token.Kind.{Kind}
+use Rattle.lexer.specs.declared.token.Kind.TheVariants as kind
+use Rattle.lexer.specs.declared.token.Symbol.TheVariants as symbol
+use Rattle.lexer.specs.declared.token.Word.TheVariants as word
+use Rattle.lexer.specs.declared.token.Token.{Token}
+use Rattle.syntax_tree.specs.declared.Name.{Name}
+use Rattle.syntax_tree.specs.declared.Constant.{Constant}
+use Rattle.syntax_tree.specs.declared.ConstantDefinition.{ConstantDefinition}
+use Rattle.grammar.specs.Spelling.{Reads, of_kind_at, mark, word_symbol, identifier, joined, constant_spelling, definition_spelling}
+use Rattle.grammar.specs.Begins.{BeginsConstant, BeginsDefinition, BeginsDefinitions, BeginsConstantPart}
+use Rattle.grammar.specs.Following.{next_kind, NoNext, Next, EndsConstants, variable_part, statement_part}
+use Rattle.grammar.proofs.Rows.{parted, begins, same_first}
+use Rattle.grammar.proofs.Reading.{reads_fewer}
+
+-- ---- one definition
+
+-- behind its name
+pub definition_behind_name : (n : Name) (a b c : List Token) (d : ConstantDefinition) → Reads a (identifier n ∷ []) b → BeginsDefinition a c d
+    → Reads b (mark symbol.Equal ∷ constant_spelling d.value ++ mark symbol.Semicolon ∷ []) c
+definition_behind_name n a b c d named h =
+    (same_first (identifier n) (identifier d.name) (mark symbol.Equal ∷ constant_spelling d.value ++ mark symbol.Semicolon ∷ []) a b c named h).1
+
+-- a constant, and the semicolon behind it
+pub record ConstantThenClosed (a c : List Token) (value : Constant) : Type 0 where
+  pub middle : List Token
+  pub begun : BeginsConstant a middle value
+  pub closed : Reads middle (mark symbol.Semicolon ∷ []) c
+
+-- behind its `=`
+pub definition_behind_equal : (p : Place) (a b c : List Token) (value : Constant) → Reads a (of_kind_at (kind.Symbol symbol.Equal) p ∷ []) b
+    → Reads a (mark symbol.Equal ∷ constant_spelling value ++ mark symbol.Semicolon ∷ []) c → ConstantThenClosed b c value
+definition_behind_equal p a b c value taken h =
+    let others = constant_spelling value ++ mark symbol.Semicolon ∷ [] in
+    let behind = (same_first (of_kind_at (kind.Symbol symbol.Equal) p) (mark symbol.Equal) others a b c taken h).1 in
+    let r = parted (constant_spelling value) (mark symbol.Semicolon ∷ []) b c behind in
+    record { middle = r.0; begun = r.1; closed = r.2 }
+
+-- it begins with a name
+pub definition_first : (a c : List Token) (d : ConstantDefinition) → BeginsDefinition a c d → Next kind.Identifier a
+definition_first a c d h = begins (identifier d.name) (mark symbol.Equal ∷ constant_spelling d.value ++ mark symbol.Semicolon ∷ []) a c h
+
+-- behind it fewer tokens are left
+pub definition_fewer : (a c : List Token) (d : ConstantDefinition) → BeginsDefinition a c d → length c < length a
+definition_fewer a c d h = reads_fewer (identifier d.name) (mark symbol.Equal ∷ constant_spelling d.value ++ mark symbol.Semicolon ∷ []) a c h
+
+-- ---- definitions one behind another
+
+-- what is left of them, or none
+pub record DefinitionsLeft (tokens others : List Token) : Type 0 where
+  pub definitions : List ConstantDefinition
+  pub spelled : Reads tokens (joined (map definition_spelling definitions)) others
+
+-- what is left of each row of definitions that may stand there
+abbrev pub EachDefinitionsLeft : List Token → List Token → Type 0
+EachDefinitionsLeft start now = (definitions : List ConstantDefinition) (others : List Token) → BeginsDefinitions start others definitions
+    → NoNext kind.Identifier others → DefinitionsLeft now others
+
+-- a definition, and the others behind it
+pub record DefinitionThenOthers (tokens others : List Token) : Type 0 where
+  pub definition : ConstantDefinition
+  pub middle : List Token
+  pub begun : BeginsDefinition tokens middle definition
+  pub left : DefinitionsLeft middle others
+
+definitions_part : (a c : List Token) (d : ConstantDefinition) (ds : List ConstantDefinition) → Reads a (joined (map definition_spelling (d ∷ ds))) c
+    → DefinitionThenOthers a c
+definitions_part a c d ds h =
+    let r = parted (definition_spelling d) (joined (map definition_spelling ds)) a c h in
+    record { definition = d; middle = r.0; begun = r.1; left = record { definitions = ds; spelled = r.2 } }
+
+definitions_part_of : (a c : List Token) (ds : List ConstantDefinition) → Reads a (joined (map definition_spelling ds)) c → Next kind.Identifier a
+    → NoNext kind.Identifier c → DefinitionThenOthers a c
+definitions_part_of a c [] h next ends = absurd (ends (ap next_kind (sym h) ∙ next))
+definitions_part_of a c (d ∷ ds) h next ends = definitions_part a c d ds h
+
+-- the first definition
+pub definitions_begin_with : (a c : List Token) (ds : List ConstantDefinition) → BeginsDefinitions a c ds → DefinitionThenOthers a c
+definitions_begin_with a c [] h = let some = h.some in absurd (omega arith)
+definitions_begin_with a c (d ∷ ds) h = definitions_part a c d ds h.spelled
+
+-- a definition comes next, in each row of definitions that may stand there
+abbrev pub DefinitionNext : List Token → List Token → Type 0
+DefinitionNext start now = (definitions : List ConstantDefinition) (others : List Token) → BeginsDefinitions start others definitions
+    → NoNext kind.Identifier others → DefinitionThenOthers now others
+
+-- where a name comes a definition stands
+pub definitions_go_on_with : (start a : List Token) → EachDefinitionsLeft start a → Next kind.Identifier a → DefinitionNext start a
+definitions_go_on_with start a left next definitions others h ends =
+    let r = left definitions others h ends in definitions_part_of a others r.definitions r.spelled next ends
+
+definitions_stop : (a c : List Token) (ds : List ConstantDefinition) → Reads a (joined (map definition_spelling ds)) c → NoNext kind.Identifier a → a ≡ c
+definitions_stop a c [] h none = h
+definitions_stop a c (d ∷ ds) h none =
+    let p = definitions_part a c d ds h in absurd (none (definition_first a p.middle p.definition p.begun))
+
+-- where no name comes the definitions end
+pub definitions_end : (start a : List Token) → EachDefinitionsLeft start a → NoNext kind.Identifier a
+    → (definitions : List ConstantDefinition) (others : List Token) → BeginsDefinitions start others definitions → NoNext kind.Identifier others → a ≡ others
+definitions_end start a left none definitions others h ends =
+    let r = left definitions others h ends in definitions_stop a others r.definitions r.spelled none
+
+-- ---- the part of a block
+
+-- what doesn't come next behind the constants
+ends_with : (a : List Token) (k : Kind) → ¬ (Some (kind.Word word.Var) ≡ Some k) → ¬ (Some (kind.Word word.Begin) ≡ Some k) → EndsConstants a → NoNext k a
+ends_with a k var begin (variable_part h) e = var (sym h ∙ e)
+ends_with a k var begin (statement_part h) e = begin (sym h ∙ e)
+
+-- there the definitions end
+pub constants_end : (a : List Token) → EndsConstants a → NoNext kind.Identifier a
+constants_end a h = ends_with a kind.Identifier (λ e. cc) (λ e. cc) h
+
+-- and no second part begins
+pub constants_no_const : (a : List Token) → EndsConstants a → NoNext (kind.Word word.Const) a
+constants_no_const a h = ends_with a (kind.Word word.Const) (λ e. cc) (λ e. cc) h
+
+-- behind `const`
+pub constants_opened : (p : Place) (a b c : List Token) (ds : List ConstantDefinition) → Reads a (of_kind_at (kind.Word word.Const) p ∷ []) b
+    → BeginsConstantPart a c ds → EndsConstants c → BeginsDefinitions b c ds
+constants_opened p a b c [] k h ends =
+    absurd (constants_no_const c ends (ap next_kind (sym h) ∙ begins (of_kind_at (kind.Word word.Const) p) [] a b k))
+constants_opened p a b c (d ∷ ds) k h ends = record {
+  some = omega arith;
+  spelled = (same_first (of_kind_at (kind.Word word.Const) p) (word_symbol word.Const) (joined (map definition_spelling (d ∷ ds))) a b c k h).1;
+}

@@ -1,0 +1,46 @@
+ghost use Rattle.std.specs.Prelude.{◌≡◌, [], ◌∷◌, IfErr, IfNone, MatchResult, Some};
+ghost use Rattle.syntax_tree.specs.declared.ConstantValue.{ConstantValue};
+ghost use Rattle.grammar.specs.Spelling.{sign_spelling, value_lexeme};
+ghost use Rattle.grammar.specs.Following.{next_kind, NoSign, Anything};
+ghost use Rattle.grammar.specs.Begins.{BeginsConstant};
+ghost use Rattle.token_cursor.specs.Cursor.{Took};
+ghost use Rattle.expression_parser.specs.Reading.{ReadsEach};
+ghost use Rattle.expression_parser.specs.Refusing.{IsPlain};
+ghost use Rattle.expression_parser.specs.Rules.{Read};
+
+use syntax_tree::{Constant, ConstantValue, SignAt};
+use token_cursor::cursor::Cursor;
+use token_cursor::fault::ParseFault;
+
+// constant = [sign] value
+/// A constant (6.3): a number or a name, with a sign or none.
+pub fn constant<'a>(cursor: &mut Cursor<'_, 'a>) -> Result<Constant<'a>, ParseFault>
+    ensures given { MatchResult result (Read BeginsConstant cursor.old cursor.new) IsPlain }
+    ensures exact { ReadsEach BeginsConstant Anything cursor.old cursor.new result }
+{
+    let sign = sign(cursor);
+    let value = value(cursor)?;
+    Ok(Constant { sign, value })
+}
+
+/// The sign that comes next, if one does.
+fn sign(cursor: &mut Cursor<'_, '_>) -> Option<SignAt>
+    ensures given { Took cursor.old cursor.new (sign_spelling result) }
+    ensures missed { IfNone result (NoSign cursor.old.rest.now) }
+{
+    let (sign, place) = cursor.take_sign()?;
+    Some(SignAt { sign, place })
+}
+
+// value = number | name
+fn value<'a>(cursor: &mut Cursor<'_, 'a>) -> Result<ConstantValue<'a>, ParseFault>
+    ensures given { MatchResult result (λ found. Took cursor.old cursor.new (value_lexeme found ∷ [])) IsPlain }
+    ensures missed { IfErr result
+        (λ _. (v : ConstantValue) → ¬ (next_kind cursor.old.rest.now ≡ Some (value_lexeme v).kind)) }
+{
+    if let Some((value, place)) = cursor.take_number() {
+        return Ok(ConstantValue::Number { value, place });
+    }
+    let name = cursor.expect_name()?;
+    Ok(ConstantValue::Name(name))
+}
