@@ -1,8 +1,8 @@
 -- What a certificate claims of a loop, and what the checker goes by where a turn of it begins (ISO 7185:1990, 6.8.3.6).
 -- It does not say that a loop keeps to that.
 use Rattle.std.specs.Prelude.{ℕ, List, [], ◌∷◌, ◌++◌, Option, Some, None, Bool, not, if◌then◌else◌, filter, map, nat_eq}
-use Rattle.std.specs.Prelude.{slice_get, slice_index_or}
-use Rattle.std.specs.List.{list_all}
+use Rattle.std.specs.Prelude.{length, slice_get, slice_index_or}
+use Rattle.std.specs.List.{list_all, range_with_len}
 use Rattle.types.specs.declared.form.OrdinalRange.{OrdinalRange}
 use Rattle.types.specs.declared.form.TypeForm.{TypeForm}
 use Rattle.types.specs.Types.{range_of}
@@ -49,6 +49,14 @@ found_in number (section ∷ sections) = or_else (found_among number section.loo
 abbrev pub claims_on : Certificate → ℕ → Claims
 claims_on certificate number = claims_of (found_in number (contents certificate))
 
+-- the claims of a certificate on each loop of the program, by its number
+abbrev pub all_claims : Tree → Certificate → List Claims
+all_claims tree certificate = map (claims_on certificate) (range_with_len 0 (length tree.loops.items))
+
+-- the claims on the loop of a number by those on all; none where there is no such loop
+abbrev pub claims_at : List Claims → ℕ → Claims
+claims_at claims number = slice_index_or claims number no_claims
+
 -- a loop round a point: the variables that its claims list, and the control variables of the for statements in it
 pub record Round : Type 0 where
   pub changes : List ℕ
@@ -62,10 +70,10 @@ controls_of (Some row) = row.controls.items
 abbrev pub controls_inside : Tree → ℕ → List ℕ
 controls_inside tree number = controls_of (slice_get tree.loops.items number)
 
--- the loop of a number
-abbrev pub round_of : Tree → Certificate → ℕ → Round
-round_of tree certificate number =
-    record { changes = (claims_on certificate number).changes; controls = controls_inside tree number }
+-- the loop of a number, by the claims on all loops
+abbrev pub round_of : Tree → List Claims → ℕ → Round
+round_of tree claims number =
+    record { changes = (claims_at claims number).changes; controls = controls_inside tree number }
 
 -- a loop at its head: a for statement has a control variable of its own
 abbrev pub with_own : Option ℕ → Round → Round

@@ -1,5 +1,5 @@
 -- The loops and ways of the program as the definitions see them. It does not say what is known of them.
-use Rattle.std.specs.Prelude.{ℕ, Bool, false, Option, Some, None, nat_eq}
+use Rattle.std.specs.Prelude.{ℕ, ◌≡◌, ◌<◌, Bool, false, List, Option, Some, None, get_or, length, nat_eq}
 use denote.Ref.{Bor}
 use Rattle.certificate.specs.declared.LoopClaims.{LoopClaims as KeptClaims}
 use Rattle.certificate.specs.Contents.{LoopClaims, loop_of}
@@ -7,7 +7,7 @@ use Rattle.abstract_state.specs.View.{said_form}
 use Rattle.structured_states.specs.declared.rounds.Round.{Round as KeptRound}
 use Rattle.structured_states.specs.declared.ways.End.{End as KeptEnd}
 use Rattle.structured_states.specs.declared.ways.Way.{Way as KeptWay}
-use Rattle.structured_states.specs.Loops.{Claims, Round, claims_of, with_own, without_own}
+use Rattle.structured_states.specs.Loops.{Claims, Round, claims_of, or_else, with_own, without_own}
 use Rattle.structured_states.specs.Ways.{End, Way}
 
 -- claims that the checker has found, as the definitions see them
@@ -18,6 +18,12 @@ found_as (Some claims) = Some (loop_of claims.now)
 -- what they claim of a loop
 abbrev pub said_claims : Option (Bor KeptClaims) → Claims
 said_claims claims = claims_of (found_as claims)
+
+-- claims were found for loops by their numbers: where some were known before, those stay
+pub record AreFound (old new : List (Option (Bor KeptClaims))) (found : ℕ → Option LoopClaims) : Type 0 where
+  pub same_length : length new ≡ length old
+  pub each : (number : ℕ) → number < length old
+      → found_as (get_or new number None) ≡ or_else (found_as (get_or old number None)) (found number)
 
 -- a loop of the checker: the loop itself, at its head, and round its body
 abbrev pub loop_of_round : KeptRound → Round

@@ -1,15 +1,15 @@
-ghost use Rattle.std.specs.Prelude.{◌≡◌, ◌++◌, IfOk, map};
+ghost use Rattle.std.specs.Prelude.{◌≡◌, ◌∷◌, ◌++◌, [], IfOk, map};
 ghost use Rattle.std.specs.List.{list_all};
 ghost use Rattle.domain.specs.Facts.{said};
 ghost use Rattle.abstract_state.specs.Loops.{gives_all, head, is_among};
 ghost use Rattle.abstract_state.specs.View.{viewed};
-ghost use Rattle.certificate.specs.Contents.{loop_of, section_of};
-ghost use Rattle.structured_states.specs.Loops.{all_limits, claims_on, controls_inside, found_among, found_in};
+ghost use Rattle.certificate.specs.Contents.{loop_of};
+ghost use Rattle.structured_states.specs.Loops.{all_claims, all_limits, claims_at, controls_inside, found_among};
 ghost use Rattle.structured_states.specs.Loops.{limits_at, touched, type_limits};
-ghost use Rattle.structured_states.specs.View.{found_as, head_round, is_own, kept_round, said_claims};
+ghost use Rattle.structured_states.specs.View.{AreFound, head_round, is_own, kept_round, said_claims};
 
 use abstract_state::{State, limits};
-use certificate::{Certificate, LoopClaims, Section};
+use certificate::{Certificate, LoopClaims};
 use domain::facts::Fact;
 use domain::interval::Interval;
 use std::alloc::{AllocError, Global};
@@ -157,35 +157,49 @@ pub fn controls_inside(tree: &Tree, number: u32) -> &[u32]
     }
 }
 
-/// What a certificate claims of the loop of a number.
-pub fn claims_on(certificate: &Certificate, number: u32) -> Option<&LoopClaims>
-    ensures { said_claims result ≡ claims_on certificate.now number }
+/// What a certificate claims of each loop of a program, by the numbers of the loops: none where it doesn't speak of
+/// one. Claims on a loop that the program doesn't have are passed over.
+pub fn all_claims<'a>(
+    alloc: Global,
+    tree: &Tree,
+    certificate: &'a Certificate,
+) -> Result<Vec<Option<&'a LoopClaims>>, AllocError>
+    ensures { IfOk result (λ found. map said_claims found.items ≡ all_claims tree.now certificate.now) }
 {
-    found_in(&certificate.sections, number)
-}
-
-/// The claims on the loop of a number in several sections.
-fn found_in(sections: &[Section], number: u32) -> Option<&LoopClaims>
-    ensures { found_as result ≡ found_in number (map section_of sections.now) }
-{
-    for section in sections {
-        if let Some(claims) = found_among(&section.loops, number) {
-            return Some(claims);
-        }
+    let mut found = vec![in alloc; None; tree.loops.len()]?;
+    for section in &certificate.sections {
+        enter_all(&mut found, &section.loops);
     }
-    None
+    Ok(found)
 }
 
-/// The claims on it among several.
-fn found_among(loops: &[LoopClaims], number: u32) -> Option<&LoopClaims>
-    ensures { found_as result ≡ found_among number (map loop_of loops.now) }
+/// Enters claims by the numbers of their loops.
+fn enter_all<'a>(found: &mut [Option<&'a LoopClaims>], loops: &'a [LoopClaims])
+    ensures { AreFound found.old found.new (λ number. found_among number (map loop_of loops.now)) }
 {
     for claims in loops {
-        if claims.number == number {
-            return Some(claims);
-        }
+        enter(found, claims);
     }
-    None
+}
+
+/// Enters the claims on a loop: the first ones count.
+fn enter<'a>(found: &mut [Option<&'a LoopClaims>], claims: &'a LoopClaims)
+    ensures { AreFound found.old found.new (λ number. found_among number (loop_of claims.now ∷ [])) }
+{
+    let number = claims.number as usize;
+    if let Some(None) = found.get(number) {
+        found[number] = Some(claims);
+    }
+}
+
+/// The claims on the loop of a number by those on all loops.
+pub fn claims_at<'a>(claims: &[Option<&'a LoopClaims>], number: u32) -> Option<&'a LoopClaims>
+    ensures { said_claims result ≡ claims_at (map said_claims claims.now) number }
+{
+    match claims.get(number as usize) {
+        None => None,
+        Some(found) => *found,
+    }
 }
 
 /// The values of the type of each variable, by root number.
