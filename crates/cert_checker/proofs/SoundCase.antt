@@ -7,6 +7,8 @@ use Rattle.std.specs.declared.vec.Vec.{Vec}
 use Rattle.std.proofs.lemmas.Int.{ints}
 use Rattle.std.proofs.lemmas.List.Folds.{list_any-append}
 use Rattle.domain.specs.Interval.{common}
+use Rattle.domain.specs.Numbers.{hull}
+use Rattle.domain.proofs.Numbers.{among-hull}
 use Rattle.meaning.specs.declared.store.Value.TheVariants.{Number}
 use Rattle.meaning.specs.declared.outcome.Ending.TheVariants.{Error}
 use Rattle.meaning.specs.Effect as effect
@@ -19,8 +21,7 @@ use Rattle.abstract_state.specs.Knows.{IsOfForm, Knows, moment}
 use Rattle.abstract_state.proofs.Bounded.{narrowed-known, root-here}
 use Rattle.abstract_state.proofs.Knows.{joined-known_one}
 use Rattle.abstract_state.proofs.Ranged.{common-in}
-use Rattle.structured_states.specs.Cases.{arm_start, at_constants, constants_before, hull}
-use Rattle.structured_states.proofs.Covered.{among-hull}
+use Rattle.structured_states.specs.Cases.{arm_start, at_constants, constants_before}
 use Rattle.expression_checker.specs.Walk.{Context, Walking}
 use Rattle.cert_checker.specs.Walk.{arms_walk}
 

@@ -41,8 +41,7 @@ use Rattle.structured_states.specs.Ways.{way_of}
 use Rattle.structured_states.proofs.OnWay.{of-form_may}
 use Rattle.cert_checker.proofs.SoundFor.{for-good}
 use Rattle.cert_checker.proofs.SoundCase.{arm-missing, arms-behind, at-constants_known, entire-number, first-constants}
-use Rattle.structured_states.specs.Cases.{at_constants, constants_before, covers, hull}
-use Rattle.structured_states.proofs.Covered.{among-hull, covered, either-way}
+use Rattle.structured_states.specs.Cases.{at_constants, constants_before}
 use Rattle.std.specs.declared.alloc.Global.{Global}
 use Rattle.std.specs.declared.vec.Vec.{Vec}
 use Rattle.std.specs.List.{list_all}
@@ -54,6 +53,8 @@ use Rattle.structured_states.specs.Loops.{all_list, limits_at}
 use Rattle.expression_checker.specs.declared.fault.Rule.TheVariants.{Changes}
 use Rattle.domain.specs.Facts.{Bound}
 use Rattle.domain.specs.Interval.{Interval, common, is_included}
+use Rattle.domain.specs.Numbers.{hull, is_covered}
+use Rattle.domain.proofs.Numbers.{among-hull, covered-among}
 use Rattle.abstract_state.specs.State.{State, Dead, is_dead, joined_states, limits_of}
 use Rattle.abstract_state.specs.Holds.{HasNumber, IsIn}
 use Rattle.place.specs.declared.Place.{Place}
@@ -72,6 +73,10 @@ by-arm world env context whole t one other false taken skipped = skipped refl
 only-other : (a b : Bool) → a ≡ false → (a || b) ≡ true → b ≡ true
 only-other false b isnt is = is
 only-other true b isnt is = absurd (cc)
+
+either-way : {P : Type 0} (b : Bool) → (b ≡ true → P) → (b ≡ false → P) → P
+either-way true one other = one refl
+either-way false one other = other refl
 
 true-isnt_false : (b : Bool) → b ≡ true → b ≡ false → ⊥
 true-isnt_false b is isnt = cc
@@ -363,7 +368,7 @@ module _ (world : World) (env : Environment) (shows : Shows world.variables env)
   case-good site index rows arms (Ordinal range) (Number n) context state t below well unbroken part stands form inside =
       let walks = map statement_walk (bodies arms) in
       let constants = constants_before (length walks) rows in
-      let closed = covers constants (length constants) range in
+      let closed = is_covered range constants in
       let passed = common range (hull constants) in
       let test = flow.tested closed site passed context state in
       let tested = walk.index_test site constants range context state in
@@ -386,7 +391,7 @@ module _ (world : World) (env : Environment) (shows : Shows world.variables env)
       let unclosed : (is_dead state || closed) ≡ true → ⊥ = λ is.
       true-isnt_false (meaning.is_among constants n)
       (closed-passes world.variables env state t.store closed (meaning.is_among constants n) stands.known
-      (λ covered_is. covered constants (length constants) range n covered_is inside) is) missing in
+      (λ covered_is. covered-among range constants n covered_is inside) is) missing in
       subst (λ (reply : effect.Reply (Unit {0})). Good world (Foretold world env context whole t.store) t.visited reply)
       (sym (arm-missing site rows (map effect_of (bodies arms)) n env t
       (subst (λ k. meaning.is_among (constants_before k rows) n ≡ false) (same_length ∙ sym (length-map (bodies arms) effect_of)) missing)))

@@ -11,6 +11,7 @@ use Rattle.typed_tree.specs.declared.tree.Stmt.{Stmt}
 use Rattle.typed_tree.specs.declared.tree.Stmt.TheVariants as stmt
 use Rattle.typed_tree.specs.declared.tree.Stmt.TheFolds.{the_lemmas as stmt_lemmas}
 use Rattle.domain.specs.Interval.{Interval, common}
+use Rattle.domain.specs.Numbers.{hull, is_covered}
 use Rattle.expression_checker.specs.declared.fault.CheckFault.{CheckFault}
 use Rattle.expression_checker.specs.Visits.{Visits, all_counted}
 use Rattle.cert_checker.specs.declared.walk.Walk.{Walk}
@@ -21,7 +22,7 @@ use Rattle.abstract_state.specs.View.{viewed}
 use Rattle.abstract_state.specs.State.{State, Dead, joined_states}
 use Rattle.abstract_state.specs.Conditions.{condition_of}
 use Rattle.abstract_state.specs.Forms.{root_of}
-use Rattle.structured_states.specs.Cases.{arm_start, constants_before, covers, hull}
+use Rattle.structured_states.specs.Cases.{arm_start, constants_before}
 use Rattle.structured_states.proofs.Claims.{item-cut, drop-past}
 use Rattle.expression_checker.specs.Walk.{IsBreachOf, Walked, Walking, ◌>>=◌, enter, give, numbers_of, tested, value_walk}
 use Rattle.cert_checker.specs.Walk.{arm_walk, arms_walk, case_walk, here, index_test, statement_walk, with_state}
@@ -83,12 +84,12 @@ case-not_tested site index rows arms range count old new before after fault coun
 
 pub index-done : (site : ℕ) (constants : List ℤ) (range : Interval) (closed : Bool) (passed value : Interval) (base : Kept) (old mid new : Walk)
     (visits : Visits)
-    → closed ≡ covers constants (length constants) range → passed ≡ common range (hull constants)
+    → closed ≡ is_covered range constants → passed ≡ common range (hull constants)
     → Walks (tested closed site passed) old visits mid visits value
     → base ≡ mid.flow.state → viewed new.flow.state ≡ Dead → new ≡ at_state new.flow.state mid
     → Walks (index_test site constants range) old visits new visits (viewed base)
 index-done site constants range closed passed value base old mid new visits closed_is passed_is one base_is dead only =
-    let first = tested (covers constants (length constants) range) site (common range (hull constants)) in
+    let first = tested (is_covered range constants) site (common range (hull constants)) in
     let rest = here >>= λ base. (with_state Dead >>= λ _. give base) in
     walks-then first (λ _. rest) old mid new visits visits visits value (viewed base)
     (subst (λ c. Walks (tested c site (common range (hull constants))) old visits mid visits value) closed_is
@@ -107,12 +108,12 @@ index-done site constants range closed passed value base old mid new visits clos
 -- the checker gave up there
 pub index-stopped : (site : ℕ) (constants : List ℤ) (range : Interval) (closed : Bool) (passed : Interval) (old new : Walk) (visits : Visits)
     (fault : CheckFault) (result : Result Kept CheckFault)
-    → closed ≡ covers constants (length constants) range → passed ≡ common range (hull constants) → IsErr result × IsErrAnd result (λ e. e ≡ fault)
+    → closed ≡ is_covered range constants → passed ≡ common range (hull constants) → IsErr result × IsErrAnd result (λ e. e ≡ fault)
     → IsBreachOf (tested closed site passed (context_of old) (viewed old.flow.state)) fault
     → Goes (index_test site constants range) old visits (said_state result) new visits
 index-stopped site constants range closed passed old new visits fault (Ok base) closed_is passed_is left stopped = absurd left.1
 index-stopped site constants range closed passed old new visits fault (Err other) closed_is passed_is left stopped =
-    let first = tested (covers constants (length constants) range) site (common range (hull constants)) in
+    let first = tested (is_covered range constants) site (common range (hull constants)) in
     let rest = here >>= λ base. (with_state Dead >>= λ _. give base) in
     subst (λ f. Goes {A = State} (index_test site constants range) old visits (Err f) new visits) (sym left.1)
     (goes-stopped first (λ _. rest) old new visits visits fault

@@ -20,6 +20,7 @@ use Rattle.typed_tree.specs.declared.tree.Stmt.TheOpen.Stmt-F.{Empty, Assign, Wr
 use Rattle.typed_tree.specs.declared.tree.Stmt.TheOpen.Stmt-F.{Case}
 use Rattle.typed_tree.specs.declared.tree.Stmt.TheFolds.{fold-Stmt}
 use Rattle.domain.specs.Interval.{Interval, is_included, common}
+use Rattle.domain.specs.Numbers.{hull, is_covered}
 use Rattle.domain.specs.Facts.{Bound, Fact}
 use Rattle.abstract_state.specs.declared.known.Known.{Known}
 use Rattle.abstract_state.specs.declared.known.Known.TheVariants.{Ordinal}
@@ -28,7 +29,7 @@ use Rattle.abstract_state.specs.Changes.{assigned}
 use Rattle.abstract_state.specs.Conditions.{bound_form, branched, condition_of}
 use Rattle.abstract_state.specs.Forms.{root_of}
 use Rattle.abstract_state.specs.Loops.{gives_all, head, with_undefined}
-use Rattle.structured_states.specs.Cases.{arm_start, constants_before, covers, hull}
+use Rattle.structured_states.specs.Cases.{arm_start, constants_before}
 use Rattle.structured_states.specs.Loops.{Round, all_claims, all_control, all_limits, all_list, claims_at, limits_at}
 use Rattle.structured_states.specs.Loops.{round_of, touched, with_own, without_own}
 use Rattle.structured_states.specs.Ways.{End, Way, met, steady, turn_begun, turn_ended, way_of, way_out, where_counts}
@@ -225,7 +226,7 @@ for_walk number place body way = do
 -- yet
 abbrev pub index_test : ℕ → List ℤ → Interval → Walking State
 index_test site constants range = do
-  _ ← tested (covers constants (length constants) range) site (common range (hull constants))
+  _ ← tested (is_covered range constants) site (common range (hull constants))
   base ← here
   _ ← with_state Dead
   give base

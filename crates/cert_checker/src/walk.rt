@@ -29,7 +29,7 @@ use expression_checker::visits::Visits;
 use place::Place;
 use std::alloc::{AllocError, Global};
 use std::mem;
-use structured_states::cases::{arm_start, constants_before, covers, hull};
+use structured_states::cases::{arm_start, constants_before, covers};
 use structured_states::rounds::{
     Round, all_claims, all_control, all_limits, all_list, claims_at, controls_inside, limits_at,
 };
@@ -662,9 +662,9 @@ impl<'a> Walk<'a> {
             self.old visits (said_state result) self.new visits }
     {
         let constants = constants_before(self.alloc, arms, constants)?;
-        let passed = range.meet(&hull(&constants));
-        self.flow
-            .test(covers(&constants, range), site, passed)?;
+        let passed = range.meet(&Interval::hull(&constants));
+        let closed = covers(self.alloc, &constants, range)?;
+        self.flow.test(closed, site, passed)?;
         Ok(mem::replace(&mut self.flow.state, State::Dead))
     }
 }

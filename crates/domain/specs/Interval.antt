@@ -70,14 +70,14 @@ abbrev pub negated : Interval → Interval
 negated a = if is_vacant a then vacant else record { first = neg_ℤ a.last; last = neg_ℤ a.first }
 
 -- the least range that has four numbers
-abbrev pub hull : ℤ → ℤ → ℤ → ℤ → Interval
-hull p q r s = record { first = int_min (int_min p q) (int_min r s); last = int_max (int_max p q) (int_max r s) }
+abbrev pub extent : ℤ → ℤ → ℤ → ℤ → Interval
+extent p q r s = record { first = int_min (int_min p q) (int_min r s); last = int_max (int_max p q) (int_max r s) }
 
 -- the products of a number of each
 abbrev pub product : Interval → Interval → Interval
 product a b =
     if is_vacant a || is_vacant b then vacant
-    else hull (a.first *ℤ b.first) (a.first *ℤ b.last) (a.last *ℤ b.first) (a.last *ℤ b.last)
+    else extent (a.first *ℤ b.first) (a.first *ℤ b.last) (a.last *ℤ b.first) (a.last *ℤ b.last)
 
 -- the absolute value of a number
 abbrev pub magnitude : ℤ → ℤ
@@ -122,7 +122,7 @@ abbrev pub quotient : Interval → Interval → Interval
 quotient a b =
     if is_vacant a || is_vacant b then vacant
     else (if has_number b (pos 0) then record { first = neg_ℤ (size a); last = size a }
-    else hull (int_div a.first b.first) (int_div a.first b.last) (int_div a.last b.first) (int_div a.last b.last))
+    else extent (int_div a.first b.first) (int_div a.first b.last) (int_div a.last b.first) (int_div a.last b.last))
 
 -- the remainders of a number of a by one of b that is at least 1: none is negative, nor greater than a dividend that
 -- isn't

@@ -1,4 +1,5 @@
 pub mod Facts
 pub mod Interval
+pub mod Numbers
 pub mod Order
 pub mod Ranges

@@ -10,7 +10,7 @@ use Rattle.std.specs.Int.{int_min, int_max, int_rem_euclid}
 use Rattle.std.specs.Ordering.{int_eq}
 use Rattle.domain.specs.Interval.{Interval, vacant, IsPlain, IsInner, IsEnd, limit, nearest_end, HasMember, Includes}
 use Rattle.domain.specs.Interval.{has_number, is_vacant, is_included, joined, between, common, sum, difference, negated}
-use Rattle.domain.specs.Interval.{hull, product, magnitude, size, squared, absolute, without_zero_end, at_least}
+use Rattle.domain.specs.Interval.{extent, product, magnitude, size, squared, absolute, without_zero_end, at_least}
 use Rattle.domain.specs.Interval.{at_most, quotient, remainder, truth, is_true, always_true, never_true, truths, both}
 use Rattle.domain.specs.Interval.{either, complement, held}
 use Rattle.domain.specs.Order.{span, span-ascending, span-descending, product-between, product-between_right, square-le}
@@ -75,9 +75,9 @@ pub negated-present : (a : Interval) (first last : ℤ)
     → ◌≡◌ {A = Interval} (record { first = first; last = last }) (negated a)
 negated-present a first last present first_is last_is = grind (arith, ints)
 
--- the range that joins two and two of four numbers is their hull
-pub joined-hull : (a b c : Interval) (p q r s : ℤ) → a ≡ span p q → b ≡ span r s → c ≡ joined a b → c ≡ hull p q r s
-joined-hull a b c p q r s left right whole =
+-- the range that joins two and two of four numbers is their extent
+pub joined-extent : (a b c : Interval) (p q r s : ℤ) → a ≡ span p q → b ≡ span r s → c ≡ joined a b → c ≡ extent p q r s
+joined-extent a b c p q r s left right whole =
     whole ∙ ap (λ x. joined x b) left ∙ ap (λ x. joined (span p q) x) right
     ∙ rw (
       not-vacant (int_min p q) (int_max p q) (omega (arith, ints, clamps)),
@@ -142,16 +142,16 @@ if-both_present : (a b : Interval) (x y z : ℤ) (r : Interval) → HasMember a 
     → HasMember (cond (is_vacant a || is_vacant b) vacant r) z
 if-both_present a b x y z r left right inside = rw (has-present a x left, has-present b y right) inside
 
--- a number between two that lie between the first two and the last two of four lies in their hull
-hull-has : (p q r s u v z : ℤ) → HasMember (span p q) u → HasMember (span r s) v → HasMember (span u v) z
-    → HasMember (hull p q r s) z
-hull-has p q r s u v z first last inside = (omega (arith, ints, clamps), omega (arith, ints, clamps))
+-- a number between two that lie between the first two and the last two of four lies in their extent
+extent-has : (p q r s u v z : ℤ) → HasMember (span p q) u → HasMember (span r s) v → HasMember (span u v) z
+    → HasMember (extent p q r s) z
+extent-has p q r s u v z first last inside = (omega (arith, ints, clamps), omega (arith, ints, clamps))
 
 pub product-has : (a b : Interval) (x y : ℤ) → HasMember a x → HasMember b y → HasMember (product a b) (x *ℤ y)
 product-has a b x y left right =
     if-both_present a b x y (x *ℤ y)
-    (hull (a.first *ℤ b.first) (a.first *ℤ b.last) (a.last *ℤ b.first) (a.last *ℤ b.last)) left right
-    (hull-has (a.first *ℤ b.first) (a.first *ℤ b.last) (a.last *ℤ b.first) (a.last *ℤ b.last)
+    (extent (a.first *ℤ b.first) (a.first *ℤ b.last) (a.last *ℤ b.first) (a.last *ℤ b.last)) left right
+    (extent-has (a.first *ℤ b.first) (a.first *ℤ b.last) (a.last *ℤ b.first) (a.last *ℤ b.last)
     (a.first *ℤ y) (a.last *ℤ y) (x *ℤ y)
     (product-between_right b.first y b.last a.first right.0 right.1)
     (product-between_right b.first y b.last a.last right.0 right.1)
@@ -209,10 +209,10 @@ pub quotient-has : (a b : Interval) (x y : ℤ) → HasMember a x → HasMember 
 quotient-has a b x y left right present =
     if-both_present a b x y (int_div x y) _ left right
     (cond_both (has_number b (pos 0)) (record { first = neg_ℤ (size a); last = size a })
-    (hull (int_div a.first b.first) (int_div a.first b.last) (int_div a.last b.first) (int_div a.last b.last))
+    (extent (int_div a.first b.first) (int_div a.first b.last) (int_div a.last b.first) (int_div a.last b.last))
     (λ r. HasMember r (int_div x y))
     (λ holds. quotient-within_size a x y left)
-    (λ outside. hull-has
+    (λ outside. extent-has
     (int_div a.first b.first) (int_div a.first b.last) (int_div a.last b.first) (int_div a.last b.last)
     (int_div a.first y) (int_div a.last y) (int_div x y)
     (by-divisor b y a.first right outside) (by-divisor b y a.last right outside)
@@ -422,7 +422,7 @@ last-near high last near below =
 nearest-ordered : (first last : ℤ) → first ≤ℤ last → nearest_end first ≤ℤ nearest_end last
 nearest-ordered first last ordered = omega (arith, ints, clamps)
 
-present-ordered : (a : Interval) → is_vacant a ≡ false → a.first ≤ℤ a.last
+pub present-ordered : (a : Interval) → is_vacant a ≡ false → a.first ≤ℤ a.last
 present-ordered a present = grind (arith, ints)
 
 pub held-included : (a limits : Interval) → IsPlain a → IsInner limits
@@ -462,14 +462,14 @@ difference-plain a b =
     let right = present-ordered b each.1 in
     omega (arith, ints))
 
-hull-ordered : (p q r s : ℤ) → int_min (int_min p q) (int_min r s) ≤ℤ int_max (int_max p q) (int_max r s)
-hull-ordered p q r s = omega (arith, ints, clamps)
+extent-ordered : (p q r s : ℤ) → int_min (int_min p q) (int_min r s) ≤ℤ int_max (int_max p q) (int_max r s)
+extent-ordered p q r s = omega (arith, ints, clamps)
 
 pub product-plain : (a b : Interval) → IsPlain (product a b)
 product-plain a b =
     if-plain (is_vacant a || is_vacant b)
-    (hull (a.first *ℤ b.first) (a.first *ℤ b.last) (a.last *ℤ b.first) (a.last *ℤ b.last)) (λ present.
-    hull-ordered (a.first *ℤ b.first) (a.first *ℤ b.last) (a.last *ℤ b.first) (a.last *ℤ b.last))
+    (extent (a.first *ℤ b.first) (a.first *ℤ b.last) (a.last *ℤ b.first) (a.last *ℤ b.last)) (λ present.
+    extent-ordered (a.first *ℤ b.first) (a.first *ℤ b.last) (a.last *ℤ b.first) (a.last *ℤ b.last))
 
 pub squared-plain : (a : Interval) → IsPlain (squared a)
 squared-plain a =
@@ -492,8 +492,9 @@ nearest-max x y = omega (arith, ints, clamps)
 held-span : (x y : ℤ) → span (nearest_end x) (nearest_end y) ≡ held (span x y)
 held-span x y = rw (nearest-min x y, nearest-max x y) refl
 
-held-hull : (x y z u : ℤ) → hull (nearest_end x) (nearest_end y) (nearest_end z) (nearest_end u) ≡ held (hull x y z u)
-held-hull x y z u =
+held-extent : (x y z u : ℤ)
+    → extent (nearest_end x) (nearest_end y) (nearest_end z) (nearest_end u) ≡ held (extent x y z u)
+held-extent x y z u =
     rw (
       nearest-min (int_min x y) (int_min z u),
       nearest-min x y,
@@ -504,29 +505,29 @@ held-hull x y z u =
     )
     refl
 
-same_hull : (p q r s p' q' r' s' : ℤ) → p ≡ p' → q ≡ q' → r ≡ r' → s ≡ s' → hull p q r s ≡ hull p' q' r' s'
-same_hull p q r s p' q' r' s' p-is q-is r-is s-is = λ i. hull (p-is i) (q-is i) (r-is i) (s-is i)
+same_extent : (p q r s p' q' r' s' : ℤ) → p ≡ p' → q ≡ q' → r ≡ r' → s ≡ s' → extent p q r s ≡ extent p' q' r' s'
+same_extent p q r s p' q' r' s' p-is q-is r-is s-is = λ i. extent (p-is i) (q-is i) (r-is i) (s-is i)
 
-pub product-present : (a b c : Interval) (p q r s : ℤ) → is_vacant a ≡ false → is_vacant b ≡ false → c ≡ hull p q r s
+pub product-present : (a b c : Interval) (p q r s : ℤ) → is_vacant a ≡ false → is_vacant b ≡ false → c ≡ extent p q r s
     → p ≡ nearest_end (a.first *ℤ b.first) → q ≡ nearest_end (a.first *ℤ b.last)
     → r ≡ nearest_end (a.last *ℤ b.first) → s ≡ nearest_end (a.last *ℤ b.last)
     → c ≡ held (product a b)
 product-present a b c p q r s left right whole p-is q-is r-is s-is =
     whole
-    ∙ same_hull p q r s
+    ∙ same_extent p q r s
     (nearest_end (a.first *ℤ b.first)) (nearest_end (a.first *ℤ b.last))
     (nearest_end (a.last *ℤ b.first)) (nearest_end (a.last *ℤ b.last)) p-is q-is r-is s-is
-    ∙ held-hull (a.first *ℤ b.first) (a.first *ℤ b.last) (a.last *ℤ b.first) (a.last *ℤ b.last)
+    ∙ held-extent (a.first *ℤ b.first) (a.first *ℤ b.last) (a.last *ℤ b.first) (a.last *ℤ b.last)
     ∙ ap held (neither (is_vacant a) (is_vacant b) vacant
-    (hull (a.first *ℤ b.first) (a.first *ℤ b.last) (a.last *ℤ b.first) (a.last *ℤ b.last)) (sym left) (sym right))
+    (extent (a.first *ℤ b.first) (a.first *ℤ b.last) (a.last *ℤ b.first) (a.last *ℤ b.last)) (sym left) (sym right))
 
 pub quotient-present : (a b c : Interval) (p q r s : ℤ)
-    → is_vacant a ≡ false → is_vacant b ≡ false → has_number b (pos 0) ≡ false → c ≡ hull p q r s
+    → is_vacant a ≡ false → is_vacant b ≡ false → has_number b (pos 0) ≡ false → c ≡ extent p q r s
     → p ≡ int_div a.first b.first → q ≡ int_div a.first b.last → r ≡ int_div a.last b.first → s ≡ int_div a.last b.last
     → c ≡ quotient a b
 quotient-present a b c p q r s left right outside whole p-is q-is r-is s-is =
     whole
-    ∙ same_hull p q r s
+    ∙ same_extent p q r s
     (int_div a.first b.first) (int_div a.first b.last) (int_div a.last b.first) (int_div a.last b.last)
     p-is q-is r-is s-is
     ∙ rw (left, right, outside) refl

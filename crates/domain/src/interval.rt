@@ -8,6 +8,7 @@ ghost use Rattle.domain.specs.Ranges.{common-has_right, has-present};
 use crate::Domain;
 use std::marker::Model;
 
+mod numbers;
 mod operators;
 mod truth_values;
 

@@ -109,5 +109,5 @@ fn close(met: &mut Met, row: usize, start: usize) -> Result<(), AllocError>
 fn behind(alloc: Global, numbers: &[u32], count: usize) -> Result<Vec<u32>, AllocError>
     ensures { IfOk result (λ found. found.items ≡ drop count numbers.now) }
 {
-    numbers.iter().skip(count).copied().collect(alloc)
+    Vec::from_slice(alloc, numbers.get(count..).unwrap_or(&[]))
 }

@@ -1,5 +1,5 @@
 pub mod Behind
 pub mod Claims
-pub mod Covered
+pub mod Constants
 pub mod OnWay
 pub mod Touched

@@ -1,34 +1,16 @@
--- What is known in a case statement (ISO 7185:1990, 6.8.3.5): which values its constants cover, and what is known where
--- an arm is executed. It does not say what an arm does.
-use Rattle.std.specs.Prelude.{ℕ, zero, suc, ℤ, pos, ◌+ℤ◌, Bool, ◌&&◌, ◌||◌, List, [], ◌∷◌, Option, Some, None, flat_map}
-use Rattle.std.specs.Prelude.{take}
+-- What is known in a case statement (ISO 7185:1990, 6.8.3.5): what its constants are, and what is known where an arm is
+-- executed. It does not say what an arm does.
+use Rattle.std.specs.Prelude.{ℕ, ℤ, List, Option, Some, None, flat_map, take}
 use Rattle.std.specs.declared.alloc.Global.{Global}
 use Rattle.std.specs.declared.vec.Vec.{Vec}
-use Rattle.domain.specs.Interval.{Interval, common, is_vacant, joined, vacant}
-use Rattle.meaning.specs.Meaning.{is_among}
+use Rattle.domain.specs.Interval.{common}
+use Rattle.domain.specs.Numbers.{hull}
 use Rattle.abstract_state.specs.State.{State, Dead, range_of}
 use Rattle.abstract_state.specs.Conditions.{narrowed}
 
 -- the constants before so many arms, by the rows of constants
 abbrev pub constants_before : ℕ → List (Vec ℤ Global) → List ℤ
 constants_before arms rows = flat_map (λ row. row.items) (take arms rows)
-
--- a range has at most so many numbers, each of them a constant
-abbrev pub covers : List ℤ → ℕ → Interval → Bool
-covers constants zero range = is_vacant range
-covers constants (suc most) range =
-    is_vacant range
-    || (is_among constants range.first
-    && covers constants most (record { first = range.first +ℤ pos 1; last = range.last }))
-
--- the least range that has the numbers of another and some more
-abbrev pub hull_with : Interval → List ℤ → Interval
-hull_with range [] = range
-hull_with range (n ∷ numbers) = hull_with (joined range (record { first = n; last = n })) numbers
-
--- the least range that has some numbers
-abbrev pub hull : List ℤ → Interval
-hull numbers = hull_with vacant numbers
 
 -- what is known where the index is one of some constants: of its range, if it is an entire variable
 abbrev pub at_constants : Option ℕ → List ℤ → State → State

@@ -1,7 +1,7 @@
-ghost use Rattle.std.specs.Prelude.{◌≡◌, IfOk, length, slice_get};
-ghost use Rattle.meaning.specs.Meaning.{is_among};
+ghost use Rattle.std.specs.Prelude.{◌≡◌, IfOk, slice_get};
+ghost use Rattle.domain.specs.Numbers.{is_covered};
 ghost use Rattle.abstract_state.specs.View.{viewed};
-ghost use Rattle.structured_states.specs.Cases.{arm_start, at_constants, constants_before, covers, hull};
+ghost use Rattle.structured_states.specs.Cases.{arm_start, at_constants, constants_before};
 
 use abstract_state::State;
 use domain::Domain;
@@ -23,42 +23,13 @@ pub fn constants_before(
     Ok(found)
 }
 
-/// Whether each number of a range is one of some constants.
-pub fn covers(constants: &[i32], range: Interval) -> bool
-    ensures { result ≡ covers constants.now (length constants.now) range }
+/// Whether each number of a range is one of some constants, in whatever order these stand.
+pub fn covers(alloc: Global, constants: &[i32], range: Interval) -> Result<bool, AllocError>
+    ensures { IfOk result (λ covered. covered ≡ is_covered range constants.now) }
 {
-    let mut next = range.first();
-    let last = range.last();
-    for _ in 0..constants.len() {
-        if last < next {
-            return true;
-        }
-        if !is_among(constants, next) {
-            return false;
-        }
-        next += 1;
-    }
-    last < next
-}
-
-/// Whether a number is among some constants.
-fn is_among(constants: &[i32], number: i64) -> bool
-    ensures { result ≡ is_among constants.now number }
-{
-    constants
-        .iter()
-        .any(|constant| i64::from(*constant) == number)
-}
-
-/// The least range that has some numbers.
-pub fn hull(numbers: &[i32]) -> Interval
-    ensures { result ≡ hull numbers.now }
-{
-    let mut range = Interval::EMPTY;
-    for number in numbers {
-        range = range.join(&Interval::between(*number, *number));
-    }
-    range
+    let mut sorted = Vec::from_slice(alloc, constants)?;
+    sorted.sort()?;
+    Ok(range.is_covered(&sorted))
 }
 
 /// What is known where the index, perhaps an entire variable, is one of some constants.
@@ -66,7 +37,7 @@ fn at_constants(state: &mut State, index: Option<u32>, constants: &[i32])
     ensures { viewed state.new ≡ at_constants index constants.now (viewed state.old) }
 {
     if let Some(root) = index {
-        let range = state.range(root).meet(&hull(constants));
+        let range = state.range(root).meet(&Interval::hull(constants));
         state.narrow(root, range);
     }
 }

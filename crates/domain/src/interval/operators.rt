@@ -2,7 +2,7 @@ ghost use Rattle.std.specs.Prelude.{◌≡◌, if◌then◌else◌, true, ℤ, p
 ghost use Rattle.std.specs.Int.{int_rem_euclid};
 ghost use Rattle.std.specs.Ordering.{int_eq};
 ghost use Rattle.domain.specs.Order.{span};
-ghost use Rattle.domain.specs.Interval.{IsEnd, HasMember, held, nearest_end, hull, product, squared, magnitude, size};
+ghost use Rattle.domain.specs.Interval.{IsEnd, HasMember, held, nearest_end, extent, product, squared, magnitude, size};
 ghost use Rattle.domain.specs.Interval.{absolute, without_zero_end, at_least, at_most, quotient, remainder, is_true};
 
 use crate::Domain;
@@ -18,7 +18,7 @@ impl Interval {
         if self.is_empty() || other.is_empty() {
             return Interval::EMPTY;
         }
-        Interval::hull(
+        Interval::extent(
             nearest_product(self.first(), other.first()),
             nearest_product(self.first(), other.last()),
             nearest_product(self.last(), other.first()),
@@ -108,7 +108,7 @@ impl Interval {
                 last: size,
             };
         }
-        Interval::hull(
+        Interval::extent(
             quotient(self.first(), divisor.first()),
             quotient(self.first(), divisor.last()),
             quotient(self.last(), divisor.first()),
@@ -133,12 +133,12 @@ impl Interval {
     }
 
     /// The least range that has four numbers.
-    fn hull(p: i64, q: i64, r: i64, s: i64) -> Interval
+    fn extent(p: i64, q: i64, r: i64, s: i64) -> Interval
         requires p_end { IsEnd p }
         requires q_end { IsEnd q }
         requires r_end { IsEnd r }
         requires s_end { IsEnd s }
-        ensures { result ≡ hull p q r s }
+        ensures { result ≡ extent p q r s }
     {
         Interval::span(p, q).join(&Interval::span(r, s))
     }

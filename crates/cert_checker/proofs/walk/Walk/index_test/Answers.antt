@@ -1,6 +1,7 @@
-use Rattle.std.proofs.Common.{ap, ◌∙◌, refl, length, Ok}
+use Rattle.std.proofs.Common.{ap, ◌∙◌, refl, Ok}
 use Rattle.domain.specs.Interval.{common}
-use Rattle.structured_states.specs.Cases.{constants_before, covers, hull}
+use Rattle.domain.specs.Numbers.{hull, is_covered}
+use Rattle.structured_states.specs.Cases.{constants_before}
 use Rattle.abstract_state.specs.View.{viewed}
 use Rattle.cert_checker.proofs.StepsCase.{index-done, index-stopped}
 use Rattle.expression_checker.specs.Walk.{tested}
@@ -13,11 +14,11 @@ returns c = λ visits.
     let constants = constants_before c.args.arms c.args.constants.now in
     let range = c.args.range in
     let old = c.args.self.now in
-    index-done c.args.site constants range c.covers.result c.meet-passed.result c.in_ok-test.field-0 c.replace.result old
+    index-done c.args.site constants range c.in_ok-closed.closed c.meet-passed.result c.in_ok-test.field-0 c.replace.result old
     (record old { flow = c.test.new.self }) _ visits
-    (c.covers.ensures ∙ ap (λ l. covers l (length l) range) (c.deref-2.ensures.value ∙ c.in_ok-constants.ensures))
-    (c.meet-passed.ensures.answer ∙ ap (common range) (c.hull.ensures ∙ ap hull (c.deref.ensures.value ∙ c.in_ok-constants.ensures)))
-    (lifted (tested c.covers.result c.args.site c.meet-passed.result) old c.test.new.self visits visits (Ok c.in_ok-test.field-0) (c.in_ok-test.ensures visits))
+    (c.in_ok-closed.ensures ∙ ap (is_covered range) (c.deref-2.ensures.value ∙ c.in_ok-constants.ensures))
+    (c.meet-passed.ensures.answer ∙ ap (common range) (c.hull.ensures.ends ∙ ap hull (c.deref.ensures.value ∙ c.in_ok-constants.ensures)))
+    (lifted (tested c.in_ok-closed.closed c.args.site c.meet-passed.result) old c.test.new.self visits visits (Ok c.in_ok-test.field-0) (c.in_ok-test.ensures visits))
     c.replace.ensures.value (ap viewed c.replace.ensures.after) refl
 
 pub returns-in_err-test : goal.returns-in_err-test
@@ -26,8 +27,8 @@ returns-in_err-test c = λ visits.
     let range = c.args.range in
     let left = c.from_residual-in_err-test in
     let old = c.args.self.now in
-    index-stopped c.args.site constants range c.covers.result c.meet-passed.result old (record old { flow = c.test.new.self }) visits c.in_err-test.field-0.0
+    index-stopped c.args.site constants range c.in_ok-closed.closed c.meet-passed.result old (record old { flow = c.test.new.self }) visits c.in_err-test.field-0.0
     left.result
-    (c.covers.ensures ∙ ap (λ l. covers l (length l) range) (c.deref-2.ensures.value ∙ c.in_ok-constants.ensures))
-    (c.meet-passed.ensures.answer ∙ ap (common range) (c.hull.ensures ∙ ap hull (c.deref.ensures.value ∙ c.in_ok-constants.ensures)))
+    (c.in_ok-closed.ensures ∙ ap (is_covered range) (c.deref-2.ensures.value ∙ c.in_ok-constants.ensures))
+    (c.meet-passed.ensures.answer ∙ ap (common range) (c.hull.ensures.ends ∙ ap hull (c.deref.ensures.value ∙ c.in_ok-constants.ensures)))
     left.ensures (c.in_err-test.ensures visits (context_of old))

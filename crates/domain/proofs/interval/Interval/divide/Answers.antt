@@ -55,7 +55,7 @@ quotient-requires-4-clause-divisor_present c =
 
 pub returns-clause-ends : goal.returns-clause-ends
 returns-clause-ends c =
-    quotient-present c.args.self.now c.args.divisor.now c.hull.result
+    quotient-present c.args.self.now c.args.divisor.now c.extent.result
     c.quotient.result c.quotient-2.result c.quotient-3.result c.quotient-4.result
     (sym c.is_empty.ensures.answer ∙ c.if-is_empty.false) (sym c.is_empty-else-is_empty.ensures.answer ∙ c.if-is_empty-2.false)
     (sym c.has.ensures.answer ∙ c.if-has.false) (search rules)

@@ -32,8 +32,8 @@ returns-clause-ends c =
     let r' = as_is c.first-4.result c.first-4.ensures.bounds ∙ c.first-4.ensures.value in
     let s = as_is c.last-3.result c.last-3.ensures.bounds ∙ c.last-3.ensures.value in
     let s' = as_is c.last-4.result c.last-4.ensures.bounds ∙ c.last-4.ensures.value in
-    product-present a b c.hull.result _ _ _ _
-    (sym c.is_empty.ensures.answer ∙ c.if-is_empty.false) (sym c.is_empty-else-is_empty.ensures.answer ∙ c.if-is_empty-2.false) c.hull.ensures
+    product-present a b c.extent.result _ _ _ _
+    (sym c.is_empty.ensures.answer ∙ c.if-is_empty.false) (sym c.is_empty-else-is_empty.ensures.answer ∙ c.if-is_empty-2.false) c.extent.ensures
     (as_is c.nearest_product.result c.nearest_product.ensures.bounds ∙ c.nearest_product.ensures.value ∙ same_product _ _ a.first b.first p p')
     (as_is c.nearest_product-2.result c.nearest_product-2.ensures.bounds ∙ c.nearest_product-2.ensures.value ∙ same_product _ _ a.first b.last q q')
     (as_is c.nearest_product-3.result c.nearest_product-3.ensures.bounds ∙ c.nearest_product-3.ensures.value ∙ same_product _ _ a.last b.first r r')
