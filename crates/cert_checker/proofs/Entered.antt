@@ -1,146 +1,34 @@
 -- The walk over a program links a state to each of its entries, once and in their order.
-use Rattle.std.proofs.Common.{arith, ◌+◌, ◌≡◌, ◌∙◌, sym, ap, ap₂, refl, ℕ, ℤ, true, false, List, [], ◌∷◌, ◌++◌, Option, Some, None, length, map, append-nil}
-use Rattle.std.proofs.lemmas.List.{map-append}
-use Rattle.std.specs.Prelude.{flat_map}
-use Rattle.typed_tree.specs.declared.tree.Monadic.{Monadic}
-use Rattle.typed_tree.specs.declared.tree.Monadic.TheVariants as monadic
-use Rattle.typed_tree.specs.declared.tree.Dyadic.{Dyadic}
-use Rattle.typed_tree.specs.declared.tree.Dyadic.TheVariants as dyadic
+use Rattle.std.proofs.Common.{◌+◌, ◌≡◌, ◌∙◌, sym, ap, refl, ℕ, ℤ, true, false, List, [], ◌∷◌, ◌++◌, Option, Some, None, length, map}
+use Rattle.std.specs.Prelude.{flat_map, drop, slice_get}
 use Rattle.typed_tree.specs.declared.tree.Access.{Access}
 use Rattle.typed_tree.specs.declared.tree.RangeTest.{RangeTest}
-use Rattle.typed_tree.specs.declared.tree.Width.{Width}
-use Rattle.typed_tree.specs.declared.tree.WriteParameter.{WriteParameter}
 use Rattle.typed_tree.specs.declared.tree.Expr.{Expr}
-use Rattle.typed_tree.specs.declared.tree.Link.{Link}
-use Rattle.typed_tree.specs.declared.tree.Expr.TheOpen.{Expr-F, Link-F}
-use Rattle.typed_tree.specs.declared.tree.Expr.TheOpen.Expr-F.{Constant, Variable, Monadic as MonadicOf, Chain}
-use Rattle.typed_tree.specs.declared.tree.Expr.TheFolds.{fold-Link, map-Expr, map-Link, fold-roll-Expr, fold-roll-Link, ind-Expr}
 use Rattle.typed_tree.specs.declared.tree.Stmt.{Stmt}
 use Rattle.typed_tree.specs.declared.tree.Stmt.TheOpen.{Stmt-F}
 use Rattle.typed_tree.specs.declared.tree.Stmt.TheOpen.Stmt-F.{Empty, Assign, Write, Compound, If, While, Repeat, For, Case}
 use Rattle.typed_tree.specs.declared.tree.Stmt.TheFolds.{map-Stmt, fold-roll-Stmt, ind-Stmt}
 use Rattle.typed_tree.specs.declared.tree.Tree.{Tree}
 use Rattle.typed_tree.specs.declared.tree.Block.{Block}
-use Rattle.typed_tree.specs.Entries.{joined, expression_entries, link_entries, entries_of_expression, entries_of_width, entries_of_parameter, statement_entries}
-use Rattle.typed_tree.specs.Entries.{entries_of_statement, entries_of}
+use Rattle.typed_tree.specs.Entries.{joined, entries_of_expression, entries_of_parameter, statement_entries, entries_of_statement, entries_of}
 use Rattle.certificate.specs.declared.Certificate.{Certificate}
 use Rattle.abstract_state.specs.declared.known.Known.{Known}
 use Rattle.abstract_state.specs.declared.known.Known.TheVariants.{Ordinal}
-use Rattle.cert_checker.specs.declared.visits.Visits.{Visits}
 use Rattle.cert_checker.specs.Promise.{LinksEntries}
 use Rattle.abstract_state.specs.State.{State, Dead, joined_states, start}
-use Rattle.cert_checker.specs.View.{all_counted, counted}
-use Rattle.structured_states.specs.Loops.{claims_on, limits_at, round_of, touched, with_own, without_own}
+use Rattle.structured_states.specs.Loops.{claims_at, limits_at, round_of, touched, with_own, without_own}
 use Rattle.structured_states.specs.Ways.{Way, turn_begun, way_of, where_counts}
 use Rattle.abstract_state.specs.Loops.{head}
-use Rattle.std.specs.Prelude.{drop, slice_get}
 use Rattle.std.specs.declared.alloc.Global.{Global}
 use Rattle.std.specs.declared.vec.Vec.{Vec}
 use Rattle.abstract_state.specs.Conditions.{bound_form, condition_of}
 use Rattle.abstract_state.specs.Forms.{root_of}
 use Rattle.structured_states.specs.Cases.{arm_start, constants_before}
 use Rattle.place.specs.declared.Place.{Place}
-use Rattle.cert_checker.specs.Walk.{Context, Linked, Walking, Combination, ◌>>=◌, first_context, numbers_of, operated, combined, width_test, fitting, assign}
-use Rattle.cert_checker.specs.Walk.{arms_walk, case_walk, change, for_round, for_turns, for_walk, index_test, loop_walk, steady_in, tested_way, while_round}
-use Rattle.cert_checker.specs.Walk.{repeat_round, value_step, link_step, value_walk, link_walk, width_walk, parameter_walk, statement_step, statement_walk}
-use Rattle.cert_checker.specs.Walk.{in_turn, where_so, all_of, block_walk, program_walk}
-
--- a walk links states to these, in whatever context and from whatever state
-abbrev Enters : {A : Type 0} → Walking A → List ℕ → Type 0
-Enters walk numbers = (context : Context) (state : State) → numbers_of (walk context state).linked ≡ numbers
-
-abbrev EntersFrom : Combination → List ℕ → Type 0
-EntersFrom walk numbers = (left : Known) → Enters (walk left) numbers
-
-abbrev entries_of_link : Link → List ℕ
-entries_of_link = fold-Link (List ℕ) (List ℕ) expression_entries link_entries
-
-abbrev EnteredExpr : Type 0
-EnteredExpr = (e : Expr) × Enters (value_walk e) (entries_of_expression e)
-
-abbrev EnteredLink : Type 0
-EnteredLink = (l : Link) × EntersFrom (link_walk l) (entries_of_link l)
-
-and_then : (first second : List Linked) (xs ys : List ℕ) → numbers_of first ≡ xs → numbers_of second ≡ ys → numbers_of (first ++ second) ≡ xs ++ ys
-and_then first second xs ys a b = map-append (λ (one : Linked). one.number) first second ∙ ap₂ (λ x y. x ++ y) a b
-
-and_no_more : (first second : List Linked) (xs : List ℕ) → numbers_of first ≡ xs → numbers_of second ≡ [] → numbers_of (first ++ second) ≡ xs
-and_no_more first second xs a b = and_then first second xs [] a b ∙ append-nil xs
-
--- an operation itself enters nothing
-operated-silent : (operation : Monadic) (known : Known) → Enters (operated operation known) []
-operated-silent monadic.Plus (Ordinal range) context state = refl
-operated-silent monadic.Minus (Ordinal range) context state = refl
-operated-silent monadic.Not (Ordinal range) context state = refl
-operated-silent monadic.Abs (Ordinal range) context state = refl
-operated-silent (monadic.Sqr overflow) (Ordinal range) context state = refl
-operated-silent monadic.Odd (Ordinal range) context state = refl
-
-combined-silent : (operation : Dyadic) (left right : Known) → Enters (combined operation left right) []
-combined-silent (dyadic.Plus overflow) (Ordinal left) (Ordinal right) context state = refl
-combined-silent (dyadic.Minus overflow) (Ordinal left) (Ordinal right) context state = refl
-combined-silent (dyadic.Times overflow) (Ordinal left) (Ordinal right) context state = refl
-combined-silent (dyadic.Div by_zero) (Ordinal left) (Ordinal right) context state = refl
-combined-silent (dyadic.Mod by_zero_or_less) (Ordinal left) (Ordinal right) context state = refl
-combined-silent dyadic.And (Ordinal left) (Ordinal right) context state = refl
-combined-silent dyadic.Or (Ordinal left) (Ordinal right) context state = refl
-combined-silent (dyadic.Relation relation) (Ordinal left) (Ordinal right) context state = refl
-
-turns-entered : (links : List EnteredLink) → EntersFrom (in_turn (map link_walk (map (λ l. l.0) links))) (joined (map entries_of_link (map (λ l. l.0) links)))
-turns-entered [] left context state = refl
-turns-entered (link ∷ links) left context state =
-    let first = link_walk link.0 left context state in
-    let rest = in_turn (map link_walk (map (λ l. l.0) links)) first.value context first.after in
-    and_then first.linked rest.linked _ _ (link.1 left context state) (turns-entered links first.value context first.after)
-
-value-parts : (y : Expr-F EnteredExpr EnteredLink)
-    → Enters (value_step
-    (map-Expr Expr Link (Walking Known) Combination value_walk link_walk (map-Expr EnteredExpr EnteredLink Expr Link (λ e. e.0) (λ l. l.0) y)))
-    (expression_entries
-    (map-Expr Expr Link (List ℕ) (List ℕ) entries_of_expression entries_of_link (map-Expr EnteredExpr EnteredLink Expr Link (λ e. e.0) (λ l. l.0) y)))
-value-parts (Constant number value) context state = refl
-value-parts (Variable access defined) context state = refl
-value-parts (MonadicOf number operation operand) context state =
-    let begun = value_walk operand.value.0 context state in
-    let after = operated operation begun.value context begun.after in
-    ap (λ numbers. number ∷ numbers) (and_no_more begun.linked after.linked _ (operand.value.1 context state)
-    (operated-silent operation begun.value context begun.after))
-value-parts (Chain first rest) context state =
-    let begun = value_walk first.value.0 context state in
-    let after = in_turn (map link_walk (map (λ l. l.0) rest.items)) begun.value context begun.after in
-    and_then begun.linked after.linked _ _ (first.value.1 context state) (turns-entered rest.items begun.value context begun.after)
-
-link-parts : (y : Link-F EnteredExpr EnteredLink)
-    → EntersFrom
-    (link_step (map-Link Expr Link (Walking Known) Combination value_walk link_walk (map-Link EnteredExpr EnteredLink Expr Link (λ e. e.0) (λ l. l.0) y)))
-    (link_entries
-    (map-Link Expr Link (List ℕ) (List ℕ) entries_of_expression entries_of_link (map-Link EnteredExpr EnteredLink Expr Link (λ e. e.0) (λ l. l.0) y)))
-link-parts y left context state =
-    let begun = value_walk y.operand.0 context state in
-    let after = combined y.operation left begun.value context begun.after in
-    ap (λ numbers. y.number ∷ numbers) (and_no_more begun.linked after.linked _ (y.operand.1 context state)
-    (combined-silent y.operation left begun.value context begun.after))
-
--- the walk over an expression enters its entries
-pub value-entered : (e : Expr) → Enters (value_walk e) (entries_of_expression e)
-value-entered = ind-Expr (λ e. Enters (value_walk e) (entries_of_expression e)) (λ l. EntersFrom (link_walk l) (entries_of_link l))
-    (λ x y is context state.
-    ap (λ (walk : Walking Known). numbers_of (walk context state).linked)
-    (fold-roll-Expr (Walking Known) Combination value_step link_step x
-    ∙ ap (λ z. value_step (map-Expr Expr Link (Walking Known) Combination value_walk link_walk z)) (sym is))
-    ∙ value-parts y context state
-    ∙ ap (λ z. expression_entries (map-Expr Expr Link (List ℕ) (List ℕ) entries_of_expression entries_of_link z)) is
-    ∙ sym (fold-roll-Expr (List ℕ) (List ℕ) expression_entries link_entries x))
-    (λ x y is left context state.
-    ap (λ (walk : Combination). numbers_of (walk left context state).linked)
-    (fold-roll-Link (Walking Known) Combination value_step link_step x
-    ∙ ap (λ z. link_step (map-Link Expr Link (Walking Known) Combination value_walk link_walk z)) (sym is))
-    ∙ link-parts y left context state
-    ∙ ap (λ z. link_entries (map-Link Expr Link (List ℕ) (List ℕ) entries_of_expression entries_of_link z)) is
-    ∙ sym (fold-roll-Link (List ℕ) (List ℕ) expression_entries link_entries x))
-
-test-silent : (site : ℕ) (known : Known) → Enters (width_test site known) []
-test-silent site (Ordinal range) context state = refl
+use Rattle.expression_checker.specs.Walk.{Context, Walking, ◌>>=◌, numbers_of, fitting, value_walk, parameter_walk}
+use Rattle.cert_checker.specs.Walk.{first_context, assign, arms_walk, case_walk, change, for_round, for_turns, for_walk, index_test, loop_walk, steady_in}
+use Rattle.cert_checker.specs.Walk.{tested_way, while_round, repeat_round, statement_step, statement_walk, where_so, all_of, block_walk, program_walk}
+use Rattle.expression_checker.proofs.Entered.{Enters, and_no_more, and_then, parameter-entered, value-entered}
 
 abbrev stores : Place → Access → RangeTest → Expr → Known → Walking (Unit {0})
 stores becomes target fits value known =
@@ -148,19 +36,6 @@ stores becomes target fits value known =
 
 fitting-silent : (becomes : Place) (target : Access) (fits : RangeTest) (value : Expr) (known : Known) → Enters (stores becomes target fits value known) []
 fitting-silent becomes target fits value (Ordinal range) context state = refl
-
-width-entered : (width : Option Width) → Enters (width_walk width) (entries_of_width width)
-width-entered None context state = refl
-width-entered (Some width) context state =
-    let first = value_walk width.value context state in
-    let test = width_test width.site first.value context first.after in
-    and_no_more first.linked test.linked _ (value-entered width.value context state) (test-silent width.site first.value context first.after)
-
-parameter-entered : (parameter : WriteParameter) → Enters (parameter_walk parameter) (entries_of_parameter parameter)
-parameter-entered parameter context state =
-    let first = value_walk parameter.value context state in
-    let width = width_walk parameter.width context first.after in
-    and_then first.linked width.linked _ _ (value-entered parameter.value context state) (width-entered parameter.width context first.after)
 
 -- walks one after another enter what each enters
 all-entered : {X : Type 0} (walk : X → Walking (Unit {0})) (numbers : X → List ℕ) → ((x : X) → Enters (walk x) (numbers x)) → (xs : List X)
@@ -186,8 +61,8 @@ statements-entered (statement ∷ statements) context state =
 loop-entered : (number : ℕ) (place : Place) (control : Option ℕ) (round : Walking State) (numbers : List ℕ) → Enters round numbers
     → Enters (loop_walk number place control round) numbers
 loop-entered number place control round numbers each context state =
-    let claims = claims_on context.certificate number in
-    let loop = round_of context.tree context.certificate number in
+    let claims = claims_at context.claims number in
+    let loop = round_of context.tree context.claims number in
     let own = with_own control loop in
     let within : Context = record context { rounds = context.rounds ++ without_own control loop ∷ [] } in
     let start = head (limits_at context.limits) (touched own) own.controls claims.facts state in
@@ -318,10 +193,3 @@ program-entered tree certificate =
 
 pub links_entries : (tree : Tree) (certificate : Certificate) → LinksEntries tree certificate
 links_entries tree certificate = record { of_block = block-entered; of_program = program-entered tree certificate }
-
--- the entries are as many as the numbers that were counted
-pub counted-many : (numbers : List ℕ) (visits : Visits) → (all_counted numbers visits).entries ≡ visits.entries + length numbers
-counted-many [] visits = omega arith
-counted-many (number ∷ numbers) visits =
-    let rest = counted-many numbers (counted number visits) in
-    omega (arith, rest)

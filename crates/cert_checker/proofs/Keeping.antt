@@ -1,4 +1,4 @@
--- What of the store a piece of a program keeps, for each loop round it; and that values lie in the ranges of their types.
+-- What an assignment keeps of the store, and that it keeps values in the ranges of their types; so does what undefines a variable.
 use Rattle.std.proofs.Common.{◌≡◌, ◌≢◌, ⊎_elim, ◌∙◌, sym, ap, refl, subst, ℕ, ◌<◌, Bool, true, false, cond, ◌||◌, nat_eq, List, [], ◌∷◌, Option, Some, None}
 use Rattle.std.specs.List.{Contains, list_all}
 use Rattle.std.proofs.lemmas.Bool.{cases_eq, false_from_ne_true}
@@ -9,26 +9,10 @@ use Rattle.meaning.specs.Store.{Environment, Place, Step, Store, place_eq, store
 use Rattle.abstract_state.specs.Holds.{IsIn, Separate, part_of, value_at}
 use Rattle.abstract_state.specs.Knows.{IsKept, Shows, moment}
 use Rattle.abstract_state.specs.Loops.{is_among}
-use Rattle.abstract_state.proofs.Looped.{kept-itself, kept-then}
+use Rattle.expression_checker.proofs.Keeping.{InTypes, Keeps}
 use Rattle.abstract_state.proofs.Apart.{part, part-overlaps, place-itself, share-none, written-stored, other-kept}
 use Rattle.abstract_state.proofs.Knows.{place_of, at-place, entire-value}
 use Rattle.structured_states.specs.Loops.{Round, all_control, all_list, limits_at, touched}
-
--- each variable's value lies in the range of its type
-abbrev pub InTypes : List Interval → Environment → Store → Type 0
-InTypes limits env store = (root : ℕ) (v : Value) → value_at (moment env store) root [] ≡ Some v → IsIn (limits_at limits root) v
-
--- so it is for each loop round a piece
-abbrev pub Keeps : Environment → List Round → Store → Store → Type 0
-Keeps env rounds before after = (round : Round) → Contains rounds round → IsKept env (touched round) round.controls before after
-
-pub keeps-itself : (env : Environment) (rounds : List Round) (store : Store) → Keeps env rounds store store
-keeps-itself env rounds store round inside = kept-itself env (touched round) round.controls store
-
-pub keeps-then : (env : Environment) (rounds : List Round) (before mid after : Store) → Keeps env rounds before mid → Keeps env rounds mid after
-    → Keeps env rounds before after
-keeps-then env rounds before mid after one two round inside =
-    kept-then env (touched round) round.controls before mid after (one round inside) (two round inside)
 
 -- ---- an assignment
 

@@ -1,13 +1,10 @@
 pub mod Among
 pub mod Entered
-pub mod Held
 pub mod Keeping
-pub mod Sound
 pub mod SoundCase
 pub mod SoundFor
 pub mod SoundForms
 pub mod SoundLoops
-pub mod SoundOperations
 pub mod SoundProgram
 pub mod Steps
 pub mod StepsCase

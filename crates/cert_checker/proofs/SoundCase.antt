@@ -22,7 +22,8 @@ use Rattle.abstract_state.proofs.Bounded.{narrowed-known, root-here}
 use Rattle.abstract_state.proofs.Knows.{joined-known_one}
 use Rattle.abstract_state.proofs.Ranged.{common-in}
 use Rattle.structured_states.specs.Cases.{arm_start, at_constants, constants_before}
-use Rattle.cert_checker.specs.Walk.{Context, Walking, arms_walk}
+use Rattle.expression_checker.specs.Walk.{Context, Walking}
+use Rattle.cert_checker.specs.Walk.{arms_walk}
 
 -- an entire variable has the number of the expression that it is
 pub entire-number : (form : Form) (m : Moment) (n : ℤ) (root : ℕ) → IsOfForm m (bound_of form) (Number n) → root_of form ≡ Some root → HasNumber m root n

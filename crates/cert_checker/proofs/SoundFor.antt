@@ -28,17 +28,20 @@ use Rattle.abstract_state.proofs.Looped.{replaced-known, undefined-known}
 use Rattle.abstract_state.proofs.Ranged.{included-in, is_in-limits, limits-is_in}
 use Rattle.structured_states.specs.Loops.{Round, all_control, limits_at, round_of, touched, with_own, without_own}
 use Rattle.structured_states.specs.Ways.{Way, met, turn_begun, turn_ended, way_out, where_counts, with_values}
+use Rattle.expression_checker.specs.Walk as flow
 use Rattle.cert_checker.specs.Walk as walk
-use Rattle.cert_checker.specs.Walk.{Context, Walked, Walking, followed, steady_in}
-use Rattle.cert_checker.specs.declared.fault.Rule.TheVariants.{Changes}
-use Rattle.cert_checker.proofs.Keeping.{Keeps, control-kept, gone-keeps, gone-kept, gone-none, gone-typed, keeps-itself, keeps-then, own-value, written-typed}
+use Rattle.expression_checker.specs.Walk.{Context, Walked, Walking, followed}
+use Rattle.cert_checker.specs.Walk.{steady_in}
+use Rattle.expression_checker.specs.declared.fault.Rule.TheVariants.{Changes}
+use Rattle.expression_checker.proofs.Keeping.{Keeps, keeps-itself, keeps-then}
+use Rattle.cert_checker.proofs.Keeping.{control-kept, gone-keeps, gone-kept, gone-none, gone-typed, own-value, written-typed}
 use Rattle.structured_states.proofs.OnWay.{Between, MayBe, begun-known, counts-known, counts-ordered, ended-known, kept-may, met-in, next-between}
 use Rattle.structured_states.proofs.OnWay.{ordered-itself, untouched-form}
-use Rattle.cert_checker.proofs.Sound.{World, IsPartOf, Stands, Good, IsForetold, Passes, Sound, Any_value, unbroken-left, unbroken-right, part-left, part-right}
-use Rattle.cert_checker.proofs.Sound.{nothing-new, good-give, good-weaker, good-then, stands-as}
+use Rattle.expression_checker.proofs.Sound.{World, IsPartOf, Stands, Good, IsForetold, Passes, Sound, Any_value, unbroken-left, unbroken-right, part-left}
+use Rattle.expression_checker.proofs.Sound.{part-right, nothing-new, good-give, good-weaker, good-then, stands-as}
 use Rattle.cert_checker.proofs.SoundLoops.{Foretold, RoundEnds, inner, kept-rule, loop-good, loop_begun, rounds-outer, rounds-own, turn-then, ways-good}
 use Rattle.cert_checker.proofs.SoundLoops.{with_head}
-use Rattle.cert_checker.proofs.SoundOperations.{within-sound}
+use Rattle.expression_checker.proofs.SoundOperations.{within-sound}
 use Rattle.structured_states.proofs.Touched.{inside-uncontrolled, inside-untouched, own-controls, own-untouched}
 
 -- a number between two of a range lies in the range
@@ -88,7 +91,7 @@ module _ (world : World) (env : Environment) (shows : Shows world.variables env)
       (in_last : HasMember way.last.values y) (first_typed : HasMember (limits_at world.limits way.control) x)
       (last_typed : HasMember (limits_at world.limits way.control) y) (controls : all_control way.control context.rounds ≡ true) where
     abbrev loop : Round
-    loop = round_of context.tree context.certificate number
+    loop = round_of context.tree context.claims number
 
     abbrev own : Round
     own = with_own (Some way.control) loop
@@ -183,7 +186,7 @@ module _ (world : World) (env : Environment) (shows : Shows world.variables env)
         let first : Walked (Unit {0}) = body within begun in
         let ended = first.after in
         let rest : Walked State = followed (walk.with_state (turn_ended steady ended) within ended)
-        (walk.give (way_out steady ended) within (turn_ended steady ended)) in
+        (flow.give (way_out steady ended) within (turn_ended steady ended)) in
         let P = RoundEnds world env within rounds at Fits (turn_ended steady ended) (way_out steady ended) start in
         let more = value_behind way.direction y n in
         let next = λ (used : Unit {0}). effect.◌>>=◌ (execution env) (λ done. effect.give more) in
@@ -216,7 +219,7 @@ module _ (world : World) (env : Environment) (shows : Shows world.variables env)
       let first = walk.tested_end state way.first context state in
       let last = walk.tested_end state way.last context first.after in
       let asked = walk.control_change place way.control way.first.fits.range way.last.fits.range context last.after in
-      let from_asked = followed asked (walk.give (with_values first.value last.value way) context last.after) in
+      let from_asked = followed asked (flow.give (with_values first.value last.value way) context last.after) in
       let tests = walk.tested_way place way context state in
       let begun = walk.assign way.control way.first.form (Ordinal first.value) context last.after in
       let turns = walk.rounds_of number place body (with_values first.value last.value way) context begun.after in
@@ -250,7 +253,7 @@ module _ (world : World) (env : Environment) (shows : Shows world.variables env)
     from_begun = followed begun turns
 
     abbrev from_asked : Walked Way
-    from_asked = followed asked (walk.give tested context last.after)
+    from_asked = followed asked (flow.give tested context last.after)
 
     abbrev from_last : Walked Way
     from_last = followed last from_asked
@@ -297,7 +300,7 @@ module _ (world : World) (env : Environment) (shows : Shows world.variables env)
       rounds-good : Good world (Foretold world env context turns v.store) v.visited (rounds_action v)
       rounds-good =
           let start = at context tested x y is_variable in_first in_last x_typed y_typed parts.0 x v.store in
-          let own = touched (with_own (Some way.control) (round_of context.tree context.certificate number)) in
+          let own = touched (with_own (Some way.control) (round_of context.tree context.claims number)) in
           let begun_kept = at-kept context tested x y is_variable in_first in_last x_typed y_typed parts.0 x v.store in
           let later = later-forms context tested x y is_variable in_first in_last x_typed y_typed parts.0 v.store start begun_kept
           (untouched-form env v.store own way.first.form x forms.0, untouched-form env v.store own way.last.form y forms.1) in
@@ -312,7 +315,7 @@ module _ (world : World) (env : Environment) (shows : Shows world.variables env)
             tie = tt;
             stands = told.stands;
             kept = keeps-then env context.rounds v.store start w.store
-                (rounds-outer env context.rounds (with_own (Some way.control) (round_of context.tree context.certificate number)) v.store start begun_kept)
+                (rounds-outer env context.rounds (with_own (Some way.control) (round_of context.tree context.claims number)) v.store start begun_kept)
                 told.kept;
           })
           (loop-good world env shows number place (Some way.control) (meaning.for_round way.control way.direction y execution env)
@@ -346,7 +349,7 @@ module _ (world : World) (env : Environment) (shows : Shows world.variables env)
       tests_part = part-left world tests from_begun part
 
       from-first : IsPartOf world (followed first from_last)
-      from-first = part-right world (walk.give state context state) (followed first from_last) tests_part
+      from-first = part-right world (flow.give state context state) (followed first from_last) tests_part
 
       turns_part : IsPartOf world turns
       turns_part = part-right world begun turns (part-right world tests from_begun part)
@@ -402,7 +405,7 @@ module _ (world : World) (env : Environment) (shows : Shows world.variables env)
     taken = walk.for_turns number place body way context (where_counts true way state)
 
     abbrev never : Walked (Unit {0})
-    never = walk.give tt context (where_counts false way state)
+    never = flow.give tt context (where_counts false way state)
 
     abbrev both : Walked (Unit {0})
     both = walk.either_of taken never

@@ -1,44 +1,39 @@
--- The walk over expressions, statements and programs is sound, form by form.
+-- The walk over statements is sound, form by form.
 use Rattle.std.proofs.Common.{◌≡◌, ◌∙◌, refl, sym, subst, ℕ, ◌<◌, Bool, true, false, cond, ◌&&◌, ◌||◌, ℤ, length, nat_lt, List, [], ◌∷◌, map, Option, Some}
 use Rattle.std.proofs.Common.{None}
 use Rattle.std.proofs.lemmas.Bool.{and_parts, ltb-true}
 use Rattle.typed_tree.specs.declared.tree.Access.{Access}
 use Rattle.typed_tree.specs.declared.tree.RangeTest.{RangeTest}
-use Rattle.typed_tree.specs.declared.tree.Representation.{Representation}
-use Rattle.typed_tree.specs.declared.tree.Width.{Width}
 use Rattle.typed_tree.specs.declared.tree.WriteParameter.{WriteParameter}
 use Rattle.typed_tree.specs.declared.tree.Expr.{Expr}
-use Rattle.typed_tree.specs.declared.tree.Link.{Link}
-use Rattle.typed_tree.specs.declared.tree.Expr.TheOpen.{Expr-F, Link-F}
-use Rattle.typed_tree.specs.declared.tree.Expr.TheOpen.Expr-F.{Constant, Variable, Monadic as MonadicOf, Chain}
-use Rattle.typed_tree.specs.declared.tree.Expr.TheViews.{roll-Expr, roll-Link}
-use Rattle.typed_tree.specs.declared.tree.Expr.TheFolds.{map-Expr, map-Link, fold-roll-Expr, fold-roll-Link, ind-Expr}
 use Rattle.typed_tree.specs.declared.tree.Stmt.{Stmt}
 use Rattle.typed_tree.specs.declared.tree.Stmt.TheOpen.{Stmt-F}
 use Rattle.typed_tree.specs.declared.tree.Stmt.TheOpen.Stmt-F.{Empty, Assign, Write, Compound, If, While, Repeat, For, Case}
 use Rattle.typed_tree.specs.declared.tree.Stmt.TheViews.{roll-Stmt}
 use Rattle.typed_tree.specs.declared.tree.Stmt.TheFolds.{map-Stmt, fold-roll-Stmt, ind-Stmt}
-use Rattle.typed_tree.specs.WellFormed.{all_hold, is_well_formed_test, dyadic_is_well_formed, expr_is_well_formed, is_well_formed_expr, is_well_formed_link}
-use Rattle.typed_tree.specs.WellFormed.{is_well_formed_parameter, is_well_formed_stmt, is_well_formed_width, are_whole, is_whole, link_is_well_formed}
-use Rattle.typed_tree.specs.WellFormed.{monadic_is_well_formed, stmt_is_well_formed}
+use Rattle.typed_tree.specs.WellFormed.{all_hold, is_well_formed_test, is_well_formed_expr, is_well_formed_parameter, is_well_formed_stmt, are_whole, is_whole}
+use Rattle.typed_tree.specs.WellFormed.{stmt_is_well_formed}
 use Rattle.meaning.specs.declared.store.Value.{Value}
 use Rattle.meaning.specs.declared.store.Value.TheVariants.{Number}
 use Rattle.meaning.specs.Store.{Environment, Place as StorePlace, Store}
 use Rattle.meaning.specs.Effect as effect
-use Rattle.meaning.specs.Effect.{is_in, is_positive, text_of}
+use Rattle.meaning.specs.Effect.{is_in}
 use Rattle.meaning.specs.Meaning as meaning
-use Rattle.meaning.specs.Meaning.{Evaluation, Execution, is_so, value_of, link_of, effect_of, parameter_of, width_of}
+use Rattle.meaning.specs.Meaning.{Execution, is_so, value_of, effect_of, parameter_of}
 use Rattle.abstract_state.specs.declared.known.Known.{Known}
 use Rattle.abstract_state.specs.declared.known.Known.TheVariants.{Ordinal}
+use Rattle.expression_checker.specs.Walk as flow
 use Rattle.cert_checker.specs.Walk as walk
-use Rattle.cert_checker.specs.Walk.{Context, Walked, Walking, followed, value_walk, link_walk, parameter_walk, width_walk, statement_walk}
-use Rattle.abstract_state.proofs.Ranged.{IsKnown, common-in, constant-in, included-in, is_in-limits}
-use Rattle.abstract_state.proofs.Knows.{Shows, at-place, moment}
-use Rattle.cert_checker.proofs.Sound.{World, Sound, Any_value, Passes, sound-then, sound-given, sound-written, sound-give, sound-enter, sound-use, IsPartOf}
-use Rattle.cert_checker.proofs.Sound.{IsForetold, Stands, Good, good-then, good-weaker, nothing-new, unbroken-left, unbroken-right, part-left, part-right}
-use Rattle.cert_checker.proofs.Sound.{closed-passes, errs-here, open-here, stands-as}
+use Rattle.expression_checker.specs.Walk.{Context, Walked, Walking, followed, value_walk, parameter_walk}
+use Rattle.cert_checker.specs.Walk.{statement_walk}
+use Rattle.abstract_state.proofs.Ranged.{IsKnown, common-in, included-in, is_in-limits}
+use Rattle.abstract_state.proofs.Knows.{Shows, at-place, moment, joined-known_other, nonempty-known}
+use Rattle.expression_checker.proofs.Sound.{World, Any_value, sound-then, sound-given, sound-written, sound-give, sound-enter, IsPartOf, IsForetold, Stands}
+use Rattle.expression_checker.proofs.Sound.{Good, good-then, good-weaker, nothing-new, unbroken-left, unbroken-right, part-left, part-right, closed-passes}
+use Rattle.expression_checker.proofs.Sound.{errs-here, open-here, stands-as}
 use Rattle.cert_checker.proofs.SoundLoops.{Foretold, sound-choice, sound-loop, sound-while, sound-repeat, kept-rule}
-use Rattle.cert_checker.proofs.Keeping.{written-kept, written-typed, keeps-then}
+use Rattle.cert_checker.proofs.Keeping.{written-kept, written-typed}
+use Rattle.expression_checker.proofs.Keeping.{keeps-then}
 use Rattle.abstract_state.proofs.Changed.{IsOfForm, assigned-known}
 use Rattle.abstract_state.proofs.Refined.{expression-kept, form-known}
 use Rattle.typed_tree.specs.declared.tree.Direction.{Direction}
@@ -53,10 +48,9 @@ use Rattle.std.specs.List.{list_all}
 use Rattle.std.proofs.lemmas.List.{length-map}
 use Rattle.std.proofs.lemmas.List.Elements.{Contains-append_left}
 use Rattle.abstract_state.specs.Forms.{root_of}
-use Rattle.abstract_state.proofs.Knows.{joined-known_other, nonempty-known}
 use Rattle.abstract_state.specs.Conditions.{bound_form, condition_of}
 use Rattle.structured_states.specs.Loops.{all_list, limits_at}
-use Rattle.cert_checker.specs.declared.fault.Rule.TheVariants.{Changes}
+use Rattle.expression_checker.specs.declared.fault.Rule.TheVariants.{Changes}
 use Rattle.domain.specs.Facts.{Bound}
 use Rattle.domain.specs.Interval.{Interval, common, is_included}
 use Rattle.domain.specs.Numbers.{hull, is_covered}
@@ -64,11 +58,8 @@ use Rattle.domain.proofs.Numbers.{among-hull, covered-among}
 use Rattle.abstract_state.specs.State.{State, Dead, is_dead, joined_states, limits_of}
 use Rattle.abstract_state.specs.Holds.{HasNumber, IsIn}
 use Rattle.place.specs.declared.Place.{Place}
-use Rattle.cert_checker.proofs.SoundOperations.{IsKnownOf, given-sound, operated-sound, combined-sound, positive-sound, fitting-sound}
-
--- the walk over an action that gives no value is sound
-abbrev pub SoundAction : World → Environment → effect.Action (Unit {0}) → Walking (Unit {0}) → Type 0
-SoundAction world env action walking = Sound {A = Unit {0}} {B = Unit {0}} world env Any_value action walking
+use Rattle.expression_checker.proofs.SoundExpressions.{SoundAction, entered-sound, parameter-sound, value-sound}
+use Rattle.expression_checker.proofs.SoundOperations.{IsKnownOf, fitting-sound}
 
 -- one of two actions, by a truth value
 by-arm : (world : World) (env : Environment) (context : Context) (whole : Walked (Unit {0})) (t : effect.State) (one other : effect.Action (Unit {0}))
@@ -94,163 +85,7 @@ module _ (world : World) (env : Environment) (shows : Shows world.variables env)
   abbrev well_expr : Expr → Bool
   well_expr = is_well_formed_expr world.variables world.sites
 
-  abbrev well_link : Link → Bool
-  well_link = is_well_formed_link world.variables world.sites
-
-  -- behind an entry
-  entered-sound : {A B : Type 0} (R : B → A → Type 0) (number : ℕ) (action : effect.Action A) (walking : Walking B) → Sound world env R action walking
-      → Sound world env R (effect.◌>>=◌ (effect.enter number env) (λ done. action)) (walk.◌>>=◌ (walk.enter number) (λ done. walking))
-  entered-sound R number action walking one =
-      sound-then world env Any_value R (effect.enter number env) (λ done. action) (walk.enter number) (λ done. walking) (sound-enter world env shows number)
-      (λ b a tie. one)
-
-  -- ---- expressions
-
-  -- the walk of an expression tells of its value
-  abbrev SoundValue : Bool → Evaluation → Walking Known → Type 0
-  SoundValue well evaluation walking = well ≡ true → Sound world env IsKnown (evaluation env) walking
-
-  abbrev SoundLink : Bool → meaning.Combination → walk.Combination → Type 0
-  SoundLink well combination walking = well ≡ true → (known : Known) (v : Value) → IsKnown known v → Sound world env IsKnown (combination env v) (walking known)
-
-  abbrev ValueIsSound : Expr → Type 0
-  ValueIsSound e = SoundValue (well_expr e) (value_of e) (value_walk e)
-
-  abbrev LinkIsSound : Link → Type 0
-  LinkIsSound l = SoundLink (well_link l) (link_of l) (link_walk l)
-
-  abbrev ProvedExpr : Type 0
-  ProvedExpr = (e : Expr) × ValueIsSound e
-
-  abbrev ProvedLink : Type 0
-  ProvedLink = (l : Link) × LinkIsSound l
-
-  -- the operators of a chain
-  turns-sound : (links : List ProvedLink)
-      → SoundLink (all_hold (map well_link (map (λ l. l.0) links))) (meaning.in_turn (map link_of (map (λ l. l.0) links)))
-      (walk.in_turn (map link_walk (map (λ l. l.0) links)))
-  turns-sound [] well known v inside = sound-give world env IsKnown v known inside
-  turns-sound (link ∷ links) well known v inside =
-      let later = map (λ (l : ProvedLink). l.0) links in
-      let parts = and_parts (well_link link.0) (all_hold (map well_link later)) well in
-      sound-then world env IsKnown IsKnown (link_of link.0 env v) (meaning.in_turn (map link_of later) env) (link_walk link.0 known)
-      (walk.in_turn (map link_walk later))
-      (link.1 parts.0 known v inside) (λ k w within. turns-sound links parts.1 k w within)
-
-  -- a layer of an expression, of which the parts are sound
-  abbrev ExprLayer : Expr-F Expr Link → Type 0
-  ExprLayer x =
-      SoundValue (expr_is_well_formed world.variables world.sites (map-Expr Expr Link Bool Bool well_expr well_link x))
-      (meaning.value_step (map-Expr Expr Link Evaluation meaning.Combination value_of link_of x))
-      (walk.value_step (map-Expr Expr Link (Walking Known) walk.Combination value_walk link_walk x))
-
-  abbrev LinkLayer : Link-F Expr Link → Type 0
-  LinkLayer x =
-      SoundLink (link_is_well_formed world.variables world.sites (map-Link Expr Link Bool Bool well_expr well_link x))
-      (meaning.link_step (map-Link Expr Link Evaluation meaning.Combination value_of link_of x))
-      (walk.link_step (map-Link Expr Link (Walking Known) walk.Combination value_walk link_walk x))
-
-  value-layer : (y : Expr-F ProvedExpr ProvedLink) → ExprLayer (map-Expr ProvedExpr ProvedLink Expr Link (λ e. e.0) (λ l. l.0) y)
-  value-layer (Constant number value) well =
-      entered-sound IsKnown number (effect.give (Number value)) (walk.ordinal (record { first = value; last = value }))
-      (given-sound world env (record { first = value; last = value }) value (constant-in value))
-  value-layer (Variable access defined) well =
-      let parts = and_parts (nat_lt access.root world.variables) (nat_lt defined world.sites) well in
-      entered-sound IsKnown access.number (effect.fetch (env access.root) defined) (walk.use_of access.root defined)
-      (sound-use world env shows access.root defined (ltb-true access.root world.variables parts.0) (ltb-true defined world.sites parts.1))
-  value-layer (MonadicOf number operation operand) well =
-      let parts = and_parts (monadic_is_well_formed world.variables world.sites operation) (well_expr operand.value.0) well in
-      entered-sound IsKnown number (effect.◌>>=◌ (value_of operand.value.0 env) (meaning.operated operation))
-      (walk.◌>>=◌ (value_walk operand.value.0) (walk.operated operation))
-      (sound-then world env IsKnown IsKnown (value_of operand.value.0 env) (meaning.operated operation) (value_walk operand.value.0) (walk.operated operation)
-      (operand.value.1 parts.1) (λ known v inside. operated-sound world env operation known v parts.0 inside))
-  value-layer (Chain first rest) well =
-      let links = map (λ (l : ProvedLink). l.0) rest.items in
-      let parts = and_parts (well_expr first.value.0) (all_hold (map well_link links)) well in
-      sound-then world env IsKnown IsKnown (value_of first.value.0 env) (meaning.in_turn (map link_of links) env) (value_walk first.value.0)
-      (walk.in_turn (map link_walk links))
-      (first.value.1 parts.0) (λ known v inside. turns-sound rest.items parts.1 known v inside)
-
-  link-layer : (y : Link-F ProvedExpr ProvedLink) → LinkLayer (map-Link ProvedExpr ProvedLink Expr Link (λ e. e.0) (λ l. l.0) y)
-  link-layer y well known v inside =
-      let right = y.operand.0 in
-      let meant = meaning.combined y.operation v in
-      let walked = walk.combined y.operation known in
-      let parts = and_parts (dyadic_is_well_formed world.variables world.sites y.operation) (well_expr right) well in
-      entered-sound IsKnown y.number (effect.◌>>=◌ (value_of right env) meant) (walk.◌>>=◌ (value_walk right) walked)
-      (sound-then world env IsKnown IsKnown (value_of right env) meant (value_walk right) walked
-      (y.operand.1 parts.1) (λ k w is. combined-sound world env y.operation known k v w parts.0 inside is))
-
-  -- by what the three folds are at a form
-  along-value : {a b : Bool} {evaluation evaluated : Evaluation} {walking walked : Walking Known} → a ≡ b → evaluation ≡ evaluated → walking ≡ walked
-      → SoundValue b evaluated walked → SoundValue a evaluation walking
-  along-value {a} {b} {evaluation} {evaluated} {walking} {walked} zero one two sound =
-      subst (λ (w : Bool). SoundValue w evaluation walking) (sym zero)
-      (subst (λ (e : Evaluation). SoundValue b e walking) (sym one) (subst (λ (w : Walking Known). SoundValue b evaluated w) (sym two) sound))
-
-  along-link : {a b : Bool} {combination combined : meaning.Combination} {walking walked : walk.Combination} → a ≡ b → combination ≡ combined → walking ≡ walked
-      → SoundLink b combined walked → SoundLink a combination walking
-  along-link {a} {b} {combination} {combined} {walking} {walked} zero one two sound =
-      subst (λ (w : Bool). SoundLink w combination walking) (sym zero)
-      (subst (λ (c : meaning.Combination). SoundLink b c walking) (sym one) (subst (λ (w : walk.Combination). SoundLink b combined w) (sym two) sound))
-
-  rolled-expr : (x : Expr-F Expr Link) → ExprLayer x → ValueIsSound (roll-Expr x)
-  rolled-expr x =
-      along-value
-      (fold-roll-Expr Bool Bool (expr_is_well_formed world.variables world.sites) (link_is_well_formed world.variables world.sites) x)
-      (fold-roll-Expr Evaluation meaning.Combination meaning.value_step meaning.link_step x)
-      (fold-roll-Expr (Walking Known) walk.Combination walk.value_step walk.link_step x)
-
-  rolled-link : (x : Link-F Expr Link) → LinkLayer x → LinkIsSound (roll-Link x)
-  rolled-link x =
-      along-link
-      (fold-roll-Link Bool Bool (expr_is_well_formed world.variables world.sites) (link_is_well_formed world.variables world.sites) x)
-      (fold-roll-Link Evaluation meaning.Combination meaning.value_step meaning.link_step x)
-      (fold-roll-Link (Walking Known) walk.Combination walk.value_step walk.link_step x)
-
-  abbrev plain_expr : Expr-F ProvedExpr ProvedLink → Expr-F Expr Link
-  plain_expr = map-Expr ProvedExpr ProvedLink Expr Link (λ e. e.0) (λ l. l.0)
-
-  abbrev plain_link : Link-F ProvedExpr ProvedLink → Link-F Expr Link
-  plain_link = map-Link ProvedExpr ProvedLink Expr Link (λ e. e.0) (λ l. l.0)
-
-  pub value-sound : (e : Expr) → ValueIsSound e
-  value-sound =
-      ind-Expr ValueIsSound LinkIsSound
-      (λ x y is. subst (λ (z : Expr-F Expr Link). ValueIsSound (roll-Expr z)) is (rolled-expr (plain_expr y) (value-layer y)))
-      (λ x y is. subst (λ (z : Link-F Expr Link). LinkIsSound (roll-Link z)) is (rolled-link (plain_link y) (link-layer y)))
-
   -- ---- values that are written
-
-  -- a width that has to be at least 1
-  width-tested : (site : ℕ) (known : Known) (w : Value) → nat_lt site world.sites ≡ true → IsKnown known w
-      → Sound {B = Unit {0}} world env Any_value (effect.◌>>=◌ (effect.require (is_positive w) site) (λ tested. effect.give w)) (walk.width_test site known)
-  width-tested site (Ordinal range) w below inside =
-      sound-then {D = Unit {0}} world env (Passes (is_positive w) w) Any_value (effect.require (is_positive w) site) (λ tested. effect.give w)
-      (walk.positive site range) (λ passed. walk.give tt)
-      (positive-sound world env site range w (ltb-true site world.sites below) inside)
-      (λ passed tested passes. sound-give {B = Unit {0}} world env Any_value w tt tt)
-
-  width-sound : (width : Option Width) (representation : Representation) → is_well_formed_width world.variables world.sites width ≡ true
-      → Sound {B = Unit {0}} world env Any_value (width_of width representation env) (width_walk width)
-  width-sound None representation well = sound-give {B = Unit {0}} world env Any_value (Number (meaning.default_width representation)) tt tt
-  width-sound (Some width) representation well =
-      let parts = and_parts (nat_lt width.site world.sites) (well_expr width.value) well in
-      let tests = λ (w : Value). effect.◌>>=◌ (effect.require (is_positive w) width.site) (λ tested. effect.give w) in
-      sound-then {D = Unit {0}} world env IsKnown Any_value (value_of width.value env) tests (value_walk width.value) (walk.width_test width.site)
-      (value-sound width.value parts.1) (λ known w inside. width-tested width.site known w parts.0 inside)
-
-  -- a value that is written, and its width
-  parameter-sound : (parameter : WriteParameter) → is_well_formed_parameter world.variables world.sites parameter ≡ true
-      → SoundAction world env (parameter_of parameter env) (parameter_walk parameter)
-  parameter-sound parameter well =
-      let parts = and_parts (well_expr parameter.value) (is_well_formed_width world.variables world.sites parameter.width) well in
-      let width = width_of parameter.width parameter.representation env in
-      sound-then world env IsKnown Any_value (value_of parameter.value env) (λ v. effect.◌>>=◌ width (λ w. effect.write (text_of parameter.representation v w)))
-      (value_walk parameter.value) (λ known. width_walk parameter.width)
-      (value-sound parameter.value parts.0)
-      (λ known v inside. sound-written world env Any_value (text_of parameter.representation v) width (width_walk parameter.width)
-      (width-sound parameter.width parameter.representation parts.1))
 
   parameters-sound : (parameters : List WriteParameter) → all_hold (map (is_well_formed_parameter world.variables world.sites) parameters) ≡ true
       → SoundAction world env (meaning.all_of (map parameter_of parameters) env) (walk.all_of (map parameter_walk parameters))
@@ -260,7 +95,7 @@ module _ (world : World) (env : Environment) (shows : Shows world.variables env)
       let parts = and_parts (is_well parameter) (all_hold (map is_well parameters)) well in
       sound-then world env Any_value Any_value (parameter_of parameter env) (λ done. meaning.all_of (map parameter_of parameters) env)
       (parameter_walk parameter) (λ done. walk.all_of (map parameter_walk parameters))
-      (parameter-sound parameter parts.0) (λ b a tie. parameters-sound parameters parts.1)
+      (parameter-sound world env shows parameter parts.0) (λ b a tie. parameters-sound parameters parts.1)
 
   -- a line end changes nothing that the walk knows of
   ended-sound : (ends_line : Bool) (action : effect.Action (Unit {0})) (walking : Walking (Unit {0})) → SoundAction world env action walking
@@ -305,8 +140,8 @@ module _ (world : World) (env : Environment) (shows : Shows world.variables env)
   -- what the walk does with a value that is tested and stored
   abbrev walked-store : Place → Access → RangeTest → Expr → Known → Walking (Unit {0})
   walked-store becomes target fits value known =
-      walk.◌>>=◌ (walk.fitting fits known)
-      (λ passed. walk.◌>>=◌ (walk.change becomes target.root fits.range) (λ listed. walk.assign target.root (bound_form value) passed))
+      flow.◌>>=◌ (flow.fitting fits known)
+      (λ passed. flow.◌>>=◌ (walk.change becomes target.root fits.range) (λ listed. walk.assign target.root (bound_form value) passed))
 
   -- the value is stored: each loop round lists its variable, and it lies in the range of the variable's type
   stored-good : (target : Access) (fits : RangeTest) (form : Option Bound) (known : Known) (v : Value) (context : Context) (state : State) (t : effect.State)
@@ -344,7 +179,7 @@ module _ (world : World) (env : Environment) (shows : Shows world.variables env)
       → Stands world env context state t.store
       → Good world (Foretold world env context (walked-store becomes target fits value known context state) t.store) t.visited (tested-store target fits v t)
   store-sound becomes target fits value known v context state s t within below is inside unbroken part stands =
-      let first = walk.fitting fits known context state in
+      let first = flow.fitting fits known context state in
       let listed = all_list target.root context.rounds && is_included (limits_of fits.range) (limits_at context.limits target.root) in
       let asked = walk.change becomes target.root fits.range context first.after in
       let last = walk.assign target.root (bound_form value) first.value context first.after in
@@ -373,13 +208,13 @@ module _ (world : World) (env : Environment) (shows : Shows world.variables env)
   value-stored : (becomes : Place) (target : Access) (fits : RangeTest) (value : Expr) → well_expr value ≡ true → nat_lt target.root world.variables ≡ true
       → nat_lt fits.site world.sites ≡ true
       → SoundAction world env (effect.◌>>=◌ (value_of value env) (tested-store target fits))
-      (walk.◌>>=◌ (value_walk value) (walked-store becomes target fits value))
+      (flow.◌>>=◌ (value_walk value) (walked-store becomes target fits value))
   value-stored becomes target fits value well within below context state s unbroken part stands =
       let first = value_walk value context state in
       let second = walked-store becomes target fits value first.value context first.after in
       good-then world (IsForetold world env IsKnown context first s.store) (Foretold world env context (followed first second) s.store) s.visited
       (value_of value env s) (tested-store target fits)
-      (value-sound value well context state s (unbroken-left first.broken second.broken unbroken) (part-left world first second part) stands)
+      (value-sound world env shows value well context state s (unbroken-left first.broken second.broken unbroken) (part-left world first second part) stands)
       (λ v t is told.
       good-weaker world (Foretold world env context second t.store) (Foretold world env context (followed first second) s.store) t.visited
       (tested-store target fits v t)
@@ -395,8 +230,8 @@ module _ (world : World) (env : Environment) (shows : Shows world.variables env)
       let one = and_parts (nat_lt target.root world.variables) (is_test && well_expr value) well in
       let two = and_parts is_test (well_expr value) one.1 in
       let three = and_parts (nat_lt fits.site world.sites) (is_whole fits.range.first && is_whole fits.range.last) two.0 in
-      entered-sound {A = Unit {0}} {B = Unit {0}} Any_value target.number
-      (effect.◌>>=◌ (value_of value env) (tested-store target fits)) (walk.◌>>=◌ (value_walk value) (walked-store becomes target fits value))
+      entered-sound {A = Unit {0}} {B = Unit {0}} world env shows Any_value target.number
+      (effect.◌>>=◌ (value_of value env) (tested-store target fits)) (flow.◌>>=◌ (value_walk value) (walked-store becomes target fits value))
       (value-stored becomes target fits value two.1 one.0 three.0)
 
   -- a conditional statement: the condition, and then one of its branches
@@ -405,12 +240,12 @@ module _ (world : World) (env : Environment) (shows : Shows world.variables env)
       → SoundAction world env consequence true_walk → SoundAction world env alternative false_walk
       → SoundAction world env
       (effect.◌>>=◌ (effect.enter number env) (λ done. effect.◌>>=◌ (value_of condition env) (λ v. cond (is_so v) consequence alternative)))
-      (walk.◌>>=◌ (walk.enter number) (λ done. walk.◌>>=◌ (value_walk condition) (walk.branches condition true_walk false_walk)))
+      (flow.◌>>=◌ (flow.enter number) (λ done. flow.◌>>=◌ (value_walk condition) (walk.branches condition true_walk false_walk)))
   choice-sound number condition consequence alternative true_walk false_walk well one other =
-      entered-sound {A = Unit {0}} {B = Unit {0}} Any_value number
+      entered-sound {A = Unit {0}} {B = Unit {0}} world env shows Any_value number
       (effect.◌>>=◌ (value_of condition env) (λ v. cond (is_so v) consequence alternative))
-      (walk.◌>>=◌ (value_walk condition) (walk.branches condition true_walk false_walk))
-      (sound-choice world env condition consequence alternative true_walk false_walk (value-sound condition well) one other)
+      (flow.◌>>=◌ (value_walk condition) (walk.branches condition true_walk false_walk))
+      (sound-choice world env condition consequence alternative true_walk false_walk (value-sound world env shows condition well) one other)
 
   site-within : (fits : RangeTest) → is_well_formed_test world.variables world.sites fits ≡ true → fits.site < world.sites
   site-within fits well =
@@ -440,7 +275,7 @@ module _ (world : World) (env : Environment) (shows : Shows world.variables env)
       → SoundAction world env
       (effect.◌>>=◌ (value_of first env) (λ a. effect.◌>>=◌ (value_of last env) (λ b.
       effect.◌>>=◌ (meaning.for_between control first_fits direction last_fits execution env a b) (λ done. effect.undefine (env control)))))
-      (walk.◌>>=◌ (value_walk first) (λ from. walk.◌>>=◌ (value_walk last) (λ to.
+      (flow.◌>>=◌ (value_walk first) (λ from. flow.◌>>=◌ (value_walk last) (λ to.
       walk.for_walk number place walking (way_of control direction first first_fits last last_fits from to))))
   for-sound number place control first first_fits direction last last_fits execution walking one within first_well first_site last_well last_site
       context state s unbroken part stands =
@@ -454,10 +289,10 @@ module _ (world : World) (env : Environment) (shows : Shows world.variables env)
       let more_unbroken = unbroken-right from.broken more.broken unbroken in
       let more_part = part-right world from more part in
       good-then world (IsForetold world env IsKnown context from s.store) Q s.visited (value_of first env s) (λ a. effect.◌>>=◌ (value_of last env) (finish a))
-      (value-sound first first_well context state s (unbroken-left from.broken more.broken unbroken) (part-left world from more part) stands)
+      (value-sound world env shows first first_well context state s (unbroken-left from.broken more.broken unbroken) (part-left world from more part) stands)
       (λ a t first_is first_told.
       good-then world (IsForetold world env IsKnown context to t.store) Q t.visited (value_of last env t) (finish a)
-      (value-sound last last_well context from.after t (unbroken-left to.broken rest.broken more_unbroken)
+      (value-sound world env shows last last_well context from.after t (unbroken-left to.broken rest.broken more_unbroken)
       (part-left world to rest more_part) first_told.stands)
       (λ b u last_is last_told.
       let form = subst (λ (store : Store). IsOfForm (moment env store) (bound_form first) a) (sym (expression-kept last env t u b last_is))
@@ -535,7 +370,7 @@ module _ (world : World) (env : Environment) (shows : Shows world.variables env)
       let constants = constants_before (length walks) rows in
       let closed = is_covered range constants in
       let passed = common range (hull constants) in
-      let test = walk.tested closed site passed context state in
+      let test = flow.tested closed site passed context state in
       let tested = walk.index_test site constants range context state in
       let root = root_of (condition_of index).form in
       let rest = walk.arms_walk test.after root rows walks context Dead in
@@ -571,14 +406,14 @@ module _ (world : World) (env : Environment) (shows : Shows world.variables env)
       → all_hold (map well_stmt (bodies arms)) ≡ true
       → SoundAction world env
       (effect.◌>>=◌ (value_of index env) (λ v. meaning.arm_of site rows (map effect_of (bodies arms)) (meaning.number_of v) env))
-      (walk.◌>>=◌ (value_walk index) (walk.case_walk site index rows (map statement_walk (bodies arms))))
+      (flow.◌>>=◌ (value_walk index) (walk.case_walk site index rows (map statement_walk (bodies arms))))
   case-sound site index rows arms below index_well well context state s unbroken part stands =
       let first = value_walk index context state in
       let rest = walk.case_walk site index rows (map statement_walk (bodies arms)) first.value context first.after in
       let finish = λ (v : Value). meaning.arm_of site rows (map effect_of (bodies arms)) (meaning.number_of v) env in
       good-then world (IsForetold world env IsKnown context first s.store) (Foretold world env context (followed first rest) s.store) s.visited
       (value_of index env s) finish
-      (value-sound index index_well context state s (unbroken-left first.broken rest.broken unbroken) (part-left world first rest part) stands)
+      (value-sound world env shows index index_well context state s (unbroken-left first.broken rest.broken unbroken) (part-left world first rest part) stands)
       (λ v t is told.
       good-weaker world (Foretold world env context rest t.store) (Foretold world env context (followed first rest) s.store) t.visited (finish v t)
       (λ done u gives then. record { tie = tt; stands = then.stands; kept = keeps-then env context.rounds s.store t.store u.store told.kept then.kept })
@@ -594,21 +429,21 @@ module _ (world : World) (env : Environment) (shows : Shows world.variables env)
   statement-layer : (y : Stmt-F ProvedStmt) → StmtLayer (map-Stmt ProvedStmt Stmt (λ s. s.0) y)
   statement-layer (Empty number) well = sound-enter world env shows number
   statement-layer (Assign number becomes target fits value) well =
-      entered-sound {A = Unit {0}} {B = Unit {0}} Any_value number (assigned target fits value) (walk.assignment becomes target fits value)
+      entered-sound {A = Unit {0}} {B = Unit {0}} world env shows Any_value number (assigned target fits value) (walk.assignment becomes target fits value)
       (assignment-sound becomes target fits value well)
   statement-layer (Write number name parameters ends_line) well =
       let written = meaning.all_of (map parameter_of parameters.items) env in
       let walked = walk.all_of (map parameter_walk parameters.items) in
-      entered-sound {A = Unit {0}} {B = Unit {0}} Any_value number (effect.◌>>=◌ written (λ done. meaning.line_ended ends_line)) walked
+      entered-sound {A = Unit {0}} {B = Unit {0}} world env shows Any_value number (effect.◌>>=◌ written (λ done. meaning.line_ended ends_line)) walked
       (ended-sound ends_line written walked (parameters-sound parameters.items well))
   statement-layer (Compound number statements) well =
       let inner = map (λ (s : ProvedStmt). s.0) statements.items in
-      entered-sound {A = Unit {0}} {B = Unit {0}} Any_value number (meaning.all_of (map effect_of inner) env) (walk.all_of (map statement_walk inner))
+      entered-sound {A = Unit {0}} {B = Unit {0}} world env shows Any_value number (meaning.all_of (map effect_of inner) env) (walk.all_of (map statement_walk inner))
       (all-sound statements.items well)
   statement-layer (If number condition consequence None) well =
       let parts = and_parts (well_expr condition) (well_stmt consequence.value.0 && true) well in
       let each = and_parts (well_stmt consequence.value.0) true parts.1 in
-      choice-sound number condition (effect_of consequence.value.0 env) (effect.give tt) (statement_walk consequence.value.0) (walk.give tt) parts.0
+      choice-sound number condition (effect_of consequence.value.0 env) (effect.give tt) (statement_walk consequence.value.0) (flow.give tt) parts.0
       (consequence.value.1 each.0) (sound-give {A = Unit {0}} {B = Unit {0}} world env Any_value tt tt tt)
   statement-layer (If number condition consequence (Some alternative)) well =
       let parts = and_parts (well_expr condition) (well_stmt consequence.value.0 && well_stmt alternative.value.0) well in
@@ -619,9 +454,9 @@ module _ (world : World) (env : Environment) (shows : Shows world.variables env)
       let parts = and_parts (well_expr condition) (well_stmt body.value.0) well in
       let round = meaning.while_round (value_of condition) (effect_of body.value.0) env in
       let walked = walk.while_round condition (statement_walk body.value.0) in
-      entered-sound {A = Unit {0}} {B = Unit {0}} Any_value number (effect.looped round tt) (walk.loop_walk loop_number place None walked)
+      entered-sound {A = Unit {0}} {B = Unit {0}} world env shows Any_value number (effect.looped round tt) (walk.loop_walk loop_number place None walked)
       (sound-loop world env shows loop_number place round tt walked
-      (λ a. sound-while world env condition (effect_of body.value.0) (statement_walk body.value.0) (value-sound condition parts.0) (body.value.1 parts.1)))
+      (λ a. sound-while world env condition (effect_of body.value.0) (statement_walk body.value.0) (value-sound world env shows condition parts.0) (body.value.1 parts.1)))
   statement-layer (Repeat number loop_number place statements condition) well =
       let inner = map (λ (s : ProvedStmt). s.0) statements.items in
       let parts = and_parts (all_hold (map well_stmt inner)) (well_expr condition) well in
@@ -629,9 +464,9 @@ module _ (world : World) (env : Environment) (shows : Shows world.variables env)
       let bodies = walk.all_of (map statement_walk inner) in
       let round = meaning.repeat_round body (value_of condition) env in
       let walked = walk.repeat_round bodies condition in
-      entered-sound {A = Unit {0}} {B = Unit {0}} Any_value number (effect.looped round tt) (walk.loop_walk loop_number place None walked)
+      entered-sound {A = Unit {0}} {B = Unit {0}} world env shows Any_value number (effect.looped round tt) (walk.loop_walk loop_number place None walked)
       (sound-loop world env shows loop_number place round tt walked
-      (λ a. sound-repeat world env condition body bodies (all-sound statements.items parts.0) (value-sound condition parts.1)))
+      (λ a. sound-repeat world env condition body bodies (all-sound statements.items parts.0) (value-sound world env shows condition parts.1)))
   statement-layer (For number loop_number place control first first_fits direction last last_fits body) well =
       let is_test = is_well_formed_test world.variables world.sites in
       let one = and_parts (nat_lt control world.variables)
@@ -643,9 +478,9 @@ module _ (world : World) (env : Environment) (shows : Shows world.variables env)
       let execution = effect_of body.value.0 in
       let finish = λ (a b : Value). effect.◌>>=◌ (meaning.for_between control first_fits direction last_fits execution env a b)
       (λ done. effect.undefine (env control)) in
-      entered-sound {A = Unit {0}} {B = Unit {0}} Any_value number
+      entered-sound {A = Unit {0}} {B = Unit {0}} world env shows Any_value number
       (effect.◌>>=◌ (value_of first env) (λ a. effect.◌>>=◌ (value_of last env) (finish a)))
-      (walk.◌>>=◌ (value_walk first) (λ from. walk.◌>>=◌ (value_walk last) (λ to.
+      (flow.◌>>=◌ (value_walk first) (λ from. flow.◌>>=◌ (value_walk last) (λ to.
       walk.for_walk loop_number place (statement_walk body.value.0) (way_of control direction first first_fits last last_fits from to))))
       (for-sound loop_number place control first first_fits direction last last_fits execution (statement_walk body.value.0) (body.value.1 five.1)
       (ltb-true control world.variables one.0) two.0 (site-within first_fits three.0) four.0 (site-within last_fits five.0))
@@ -654,9 +489,9 @@ module _ (world : World) (env : Environment) (shows : Shows world.variables env)
       let one = and_parts (nat_lt site world.sites) (well_expr index && (list_all are_whole constants.items && all_hold (map well_stmt inner))) well in
       let two = and_parts (well_expr index) (list_all are_whole constants.items && all_hold (map well_stmt inner)) one.1 in
       let three = and_parts (list_all are_whole constants.items) (all_hold (map well_stmt inner)) two.1 in
-      entered-sound {A = Unit {0}} {B = Unit {0}} Any_value number
+      entered-sound {A = Unit {0}} {B = Unit {0}} world env shows Any_value number
       (effect.◌>>=◌ (value_of index env) (λ v. meaning.arm_of site constants.items (map effect_of inner) (meaning.number_of v) env))
-      (walk.◌>>=◌ (value_walk index) (walk.case_walk site index constants.items (map statement_walk inner)))
+      (flow.◌>>=◌ (value_walk index) (walk.case_walk site index constants.items (map statement_walk inner)))
       (case-sound site index constants.items arms.items (ltb-true site world.sites one.0) two.0 three.1)
 
   along-statement : {a b : Bool} {execution executed : Execution} {walking walked : Walking (Unit {0})} → a ≡ b → execution ≡ executed → walking ≡ walked

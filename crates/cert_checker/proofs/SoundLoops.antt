@@ -4,8 +4,8 @@ use Rattle.std.proofs.Common.{arith, ◌≡◌, sym, refl, subst, ℕ, zero, suc
 use Rattle.std.specs.List.{All}
 use Rattle.std.proofs.lemmas.List.Elements.{Contains-append_left, Contains-append_right}
 use Rattle.domain.specs.Interval.{Interval}
-use Rattle.cert_checker.specs.declared.fault.Rule.{Rule}
-use Rattle.cert_checker.specs.declared.fault.Rule.TheVariants.{LoopEntry, LoopTurn}
+use Rattle.expression_checker.specs.declared.fault.Rule.{Rule}
+use Rattle.expression_checker.specs.declared.fault.Rule.TheVariants.{LoopEntry, LoopTurn}
 use Rattle.typed_tree.specs.declared.tree.Expr.{Expr}
 use Rattle.place.specs.declared.Place.{Place as SourcePlace}
 use Rattle.domain.specs.Facts.{Fact}
@@ -13,7 +13,7 @@ use Rattle.meaning.specs.declared.outcome.Ending.TheVariants.{More}
 use Rattle.meaning.specs.declared.store.Value.{Value}
 use Rattle.meaning.specs.Store.{Environment, Store}
 use Rattle.meaning.specs.Effect as effect
-use Rattle.meaning.specs.Effect.{Action, Reply, Visit, and_then}
+use Rattle.meaning.specs.Effect.{Action, and_then}
 use Rattle.meaning.specs.Meaning as meaning
 use Rattle.meaning.specs.Meaning.{is_so, value_of}
 use Rattle.abstract_state.specs.State.{State, joined_states}
@@ -23,15 +23,17 @@ use Rattle.abstract_state.specs.declared.known.Known.TheVariants.{Ordinal}
 use Rattle.abstract_state.proofs.Ranged.{IsKnown}
 use Rattle.abstract_state.proofs.Knows.{joined-known_one, joined-known_other}
 use Rattle.abstract_state.proofs.Refined.{branched-known}
-use Rattle.structured_states.specs.Loops.{Round, claims_on, limits_at, round_of, touched, with_own, without_own}
+use Rattle.structured_states.specs.Loops.{Round, claims_at, limits_at, round_of, touched, with_own, without_own}
 use Rattle.abstract_state.specs.Loops.{gives_all, head}
 use Rattle.abstract_state.specs.Knows.{IsKept, Shows, moment}
 use Rattle.abstract_state.proofs.Looped.{given-all_known, head-known}
+use Rattle.expression_checker.specs.Walk as flow
 use Rattle.cert_checker.specs.Walk as walk
-use Rattle.cert_checker.specs.Walk.{Context, Walked, Walking, followed, value_walk, where_so}
-use Rattle.cert_checker.proofs.Keeping.{Keeps, InTypes, keeps-itself, keeps-then}
-use Rattle.cert_checker.proofs.Sound.{World, IsPartOf, Stands, Good, IsForetold, Sound, Any_value, unbroken-left, unbroken-right, part-left, part-right}
-use Rattle.cert_checker.proofs.Sound.{nothing-new, good-give, good-weaker, good-then, stands-as}
+use Rattle.expression_checker.specs.Walk.{Context, Walked, Walking, followed, value_walk}
+use Rattle.cert_checker.specs.Walk.{where_so}
+use Rattle.expression_checker.proofs.Keeping.{Keeps, InTypes, keeps-itself, keeps-then}
+use Rattle.expression_checker.proofs.Sound.{World, IsPartOf, Stands, Good, IsForetold, Sound, Any_value, unbroken-left, unbroken-right, part-left, part-right}
+use Rattle.expression_checker.proofs.Sound.{nothing-new, good-give, good-weaker, good-then, stands-as}
 
 -- ---- branches
 
@@ -107,7 +109,7 @@ pub sound-choice : (world : World) (env : Environment) (condition : Expr) (one_a
     → Sound {A = Unit {0}} {B = Unit {0}} world env Any_value other_action alternative
     → Sound {A = Unit {0}} {B = Unit {0}} world env Any_value
     (effect.◌>>=◌ (value_of condition env) (λ v. cond (is_so v) one_action other_action))
-    (walk.◌>>=◌ (value_walk condition) (walk.branches condition consequence alternative))
+    (flow.◌>>=◌ (value_walk condition) (walk.branches condition consequence alternative))
 sound-choice world env condition one_action other_action consequence alternative valued one other context state s unbroken part stands =
     let first = value_walk condition context state in
     let second = walk.branches condition consequence alternative first.value context first.after in
@@ -198,11 +200,11 @@ rounds-outer env rounds own before after kept round inside = kept round (Contain
 
 -- a loop by its number, and perhaps a control variable: at its head, and inside it
 abbrev pub at_head : Context → ℕ → Option ℕ → Round
-at_head context number control = with_own control (round_of context.tree context.certificate number)
+at_head context number control = with_own control (round_of context.tree context.claims number)
 
 abbrev pub inner : Context → ℕ → Option ℕ → Context
 inner context number control =
-    record context { rounds = context.rounds ++ without_own control (round_of context.tree context.certificate number) ∷ [] }
+    record context { rounds = context.rounds ++ without_own control (round_of context.tree context.claims number) ∷ [] }
 
 abbrev pub with_head : Context → ℕ → Option ℕ → List Round
 with_head context number control = context.rounds ++ at_head context number control ∷ []
@@ -210,13 +212,13 @@ with_head context number control = context.rounds ++ at_head context number cont
 abbrev pub loop_begun : Context → ℕ → Option ℕ → State → State
 loop_begun context number control state =
     let own = at_head context number control in
-    head (limits_at context.limits) (touched own) own.controls (claims_on context.certificate number).facts state
+    head (limits_at context.limits) (touched own) own.controls (claims_at context.claims number).facts state
 
 module _ {A : Type 0} (world : World) (env : Environment) (shows : Shows world.variables env) (context : Context) (number : ℕ) (control : Option ℕ)
     (state : State)
     (start : Store) (at : A → Store → Store) (Fits : A → Store → Type 0) (again out : State) (stands : Stands world env context state start) where
   abbrev facts : List Fact
-  facts = (claims_on context.certificate number).facts
+  facts = (claims_at context.claims number).facts
 
   abbrev own : Round
   own = at_head context number control
@@ -273,7 +275,7 @@ pub loop-good : {A : Type 0} (world : World) (env : Environment) → Shows world
     → Stands world env context state (at a s.store) → Fits a (at a s.store)
     → Good world (Foretold world env context (walk.loop_walk number place control walking context state) (at a s.store)) s.visited (effect.looped round a s)
 loop-good {A} world env shows number place control round walking at Fits context state a s each unbroken part stands fits =
-    let facts = (claims_on context.certificate number).facts in
+    let facts = (claims_at context.claims number).facts in
     let own = at_head context number control in
     let begun = loop_begun context number control state in
     let within = inner context number control in
@@ -385,7 +387,7 @@ sound-while world env condition execution body valued one context state s unbrok
     let first = value_walk condition context state in
     let inner = body context (where_so true condition first.value first.after) in
     let out = where_so false condition first.value first.after in
-    let rest = followed inner (walk.give out context inner.after) in
+    let rest = followed inner (flow.give out context inner.after) in
     good-then world (IsForetold world env IsKnown context first s.store) (EndsHold world env context inner.after out s.store {A = Unit {0}}) s.visited
     (value_of condition env s) (λ v. meaning.turn_if (is_so v) (execution env))
     (valued context state s (unbroken-left first.broken rest.broken unbroken) (part-left world first rest part) stands)
@@ -393,7 +395,7 @@ sound-while world env condition execution body valued one context state s unbrok
     while-turned world env condition execution body valued one context s.store first.value first.after (is_so v) t told.kept
     (chosen-stands world env condition first.value v s t context first.after is told.tie told.stands)
     (unbroken-left inner.broken [] (unbroken-right first.broken (inner.broken ++ []) unbroken))
-    (part-left world inner (walk.give out context inner.after) (part-right world first rest part)))
+    (part-left world inner (flow.give out context inner.after) (part-right world first rest part)))
 
 -- a round of a repeat: behind the condition
 repeat-ends : (world : World) (env : Environment) (condition : Expr) (known : Known) (context : Context) (start : Store) (tested : State) (b : Bool)
@@ -413,7 +415,7 @@ sound-repeat world env condition execution body one valued context state s unbro
     let second = value_walk condition context first.after in
     let again = where_so false condition second.value second.after in
     let out = where_so true condition second.value second.after in
-    let rest = followed second (walk.give out context again) in
+    let rest = followed second (flow.give out context again) in
     let P = EndsHold world env context again out s.store {A = Unit {0}} in
     let answer = λ (v : Value). cond (is_so v) None (Some (tt {0})) in
     turn-then world P (λ done. effect.◌>>=◌ (execution env) (λ done. effect.◌>>=◌ (value_of condition env) (λ v. effect.give (answer v)))) s
@@ -425,7 +427,7 @@ sound-repeat world env condition execution body one valued context state s unbro
     (λ done w is told.
     good-then world (IsForetold world env IsKnown context second w.store) P w.visited (value_of condition env w) (λ v. effect.give (answer v))
     (valued context first.after w (unbroken-left second.broken [] (unbroken-right first.broken (second.broken ++ []) unbroken))
-    (part-left world second (walk.give out context again) (part-right world first rest part)) told.stands)
+    (part-left world second (flow.give out context again) (part-right world first rest part)) told.stands)
     (λ v t gives then.
     good-give world P (answer v) t
     (repeat-ends world env condition second.value context s.store second.after (is_so v) t

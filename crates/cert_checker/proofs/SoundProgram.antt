@@ -22,13 +22,15 @@ use Rattle.meaning.specs.Effect as effect
 use Rattle.meaning.specs.Effect.{Reply, Visit}
 use Rattle.meaning.specs.Meaning.{run, run_of, first_state, ended, home_of, program_environment}
 use Rattle.abstract_state.specs.State.{Dead, start}
-use Rattle.cert_checker.specs.Walk.{Context, Linked, Walked, block_walk, all_of, begin, first_context, statement_walk, program_walk, numbers_of}
+use Rattle.expression_checker.specs.Walk.{Context, Linked, Walked, numbers_of}
+use Rattle.cert_checker.specs.Walk.{block_walk, all_of, begin, first_context, statement_walk, program_walk}
 use Rattle.abstract_state.specs.Holds.{Separate, StateHolds, part_of}
 use Rattle.meaning.specs.declared.store.Value.{Value}
-use Rattle.cert_checker.specs.Promise.{open_in, AreNumbered, ClosedNeverErr, HoldsAt, StatesHold, moment_of, visits_of}
+use Rattle.cert_checker.specs.Promise.{open_in, AreNumbered, ClosedNeverErr, HoldsAt, StatesHold}
+use Rattle.expression_checker.specs.Visits.{moment_of, visits_of}
 use Rattle.abstract_state.proofs.Knows.{Shows, Knows, known-start}
 use Rattle.structured_states.specs.Loops.{all_limits}
-use Rattle.cert_checker.proofs.Sound.{World, IsPartOf, Meets, New, ErrsWithin, unbroken-left, part-left, part-right}
+use Rattle.expression_checker.proofs.Sound.{World, IsPartOf, Meets, New, ErrsWithin, unbroken-left, part-left, part-right}
 use Rattle.cert_checker.proofs.SoundForms.{statement-sound}
 
 -- ---- the environment of a program

@@ -1,5 +1,5 @@
 -- What the checker did over a piece of a program, from what it did over the parts of the piece.
-use Rattle.std.proofs.Common.{rules, ◌≡◌, ◌≤◌, Bool, true, false, ◌&&◌, Option, Some, None, Result, Ok, Err, ℕ, ℤ, ◌+◌, List, [], ◌∷◌, ◌++◌, length, map, refl}
+use Rattle.std.proofs.Common.{rules, ◌≡◌, ◌≤◌, Bool, true, false, ◌&&◌, Option, Some, None, Result, Ok, Err, ℕ, ◌+◌, List, [], ◌∷◌, ◌++◌, length, map, refl}
 use Rattle.std.proofs.Common.{sym, ap, ◌∙◌, subst, append_assoc, append-nil, ◌<◌, get_or, drop}
 use Rattle.std.specs.Result.{IsErr, IsErrAnd}
 use Rattle.std.specs.Prelude.{MatchResult}
@@ -7,68 +7,48 @@ use Rattle.place.specs.declared.Place.{Place as SourcePlace}
 use Rattle.typed_tree.specs.declared.tree.Access.{Access}
 use Rattle.typed_tree.specs.declared.tree.RangeTest.{RangeTest}
 use Rattle.typed_tree.specs.declared.tree.WriteParameter.{WriteParameter}
-use Rattle.typed_tree.specs.declared.tree.Monadic.{Monadic}
 use Rattle.typed_tree.specs.declared.tree.Expr.{Expr}
-use Rattle.typed_tree.specs.declared.tree.Link.{Link}
-use Rattle.typed_tree.specs.declared.tree.Expr.TheVariants as expr
-use Rattle.typed_tree.specs.declared.tree.Expr.TheFolds.{the_lemmas}
 use Rattle.typed_tree.specs.declared.tree.Stmt.{Stmt}
 use Rattle.typed_tree.specs.declared.tree.Stmt.TheVariants as stmt
 use Rattle.typed_tree.specs.declared.tree.Stmt.TheFolds.{the_lemmas as stmt_lemmas}
 use Rattle.std.specs.declared.boxed.Box.{Box}
 use Rattle.std.specs.declared.vec.Vec.{Vec}
 use Rattle.std.specs.declared.alloc.Global.{Global}
-use Rattle.cert_checker.specs.declared.fault.CheckFault.{CheckFault}
-use Rattle.cert_checker.specs.declared.fault.CheckFault.TheVariants.{Memory, Foreign, Broken}
+use Rattle.expression_checker.specs.declared.fault.CheckFault.{CheckFault}
+use Rattle.expression_checker.specs.declared.fault.CheckFault.TheVariants.{Broken}
 use Rattle.abstract_state.specs.declared.known.Known.{Known}
-use Rattle.cert_checker.specs.declared.visits.Visits.{Visits}
+use Rattle.expression_checker.specs.Visits.{Visits, all_counted}
 use Rattle.cert_checker.specs.declared.walk.Walk.{Walk}
-use Rattle.domain.specs.Interval.{Interval}
+use Rattle.domain.specs.Interval.{Interval, is_included}
 use Rattle.abstract_state.specs.declared.state.State.{State as Kept}
 use Rattle.abstract_state.specs.declared.known.Known.TheVariants.{Ordinal}
 use Rattle.abstract_state.specs.View.{viewed}
 use Rattle.abstract_state.specs.Changes.{assigned}
 use Rattle.abstract_state.specs.Conditions.{bound_form}
 use Rattle.domain.specs.Facts.{Bound}
-use Rattle.abstract_state.specs.State.{State, Dead, Live, is_defined, joined_states, limits_of, range_of, with_defined}
-use Rattle.cert_checker.specs.Walk.{Breach, Context, Linked, Walked, Walking, use_of, tested, positive, within, width_test, assign, change, fitting, ◌>>=◌}
-use Rattle.cert_checker.specs.Walk.{give, ordinal, enter, variable_walk, operated, combined, in_turn, value_walk, link_walk, parameter_walk, statement_walk}
-use Rattle.cert_checker.specs.Walk.{all_of, assignment, block_walk, branches, breach_unless, facts_given, first_context, program_walk, followed, here}
-use Rattle.cert_checker.specs.Walk.{loop_walk, parted, repeat_round, while_round, with_state, where_so, numbers_of}
+use Rattle.abstract_state.specs.State.{State, joined_states, limits_of}
+use Rattle.expression_checker.specs.Walk.{Context, Walked, Walking, tested, fitting, ◌>>=◌, give}
+use Rattle.expression_checker.specs.Walk.{enter, value_walk, parameter_walk, followed, numbers_of}
+use Rattle.expression_checker.specs.Walk.{first_breach, IsBreachOf}
+use Rattle.cert_checker.specs.Walk.{assign, change, statement_walk, all_of, assignment, block_walk, branches, breach_unless, facts_given, first_context}
+use Rattle.cert_checker.specs.Walk.{program_walk, here, loop_walk, parted, repeat_round, while_round, with_state, where_so}
 use Rattle.structured_states.specs.View.{kept_round}
-use Rattle.cert_checker.specs.View.{context_of, all_counted, counted, else_walk, AtHead, EntersLoop, IsBegun, IsMoved, LeavesLoop, loop_in, Meets, Parts, Walks}
+use Rattle.cert_checker.specs.View.{at_state, claims_in, context_of, else_walk, AtHead, EntersLoop, IsBegun, IsMoved, LeavesLoop, loop_in, Meets, Parts, Walks}
 use Rattle.cert_checker.specs.View.{Goes}
-use Rattle.structured_states.specs.Loops.{Claims, Round, all_list, claims_on, limits_at, touched, with_own, without_own}
+use Rattle.structured_states.specs.Loops.{Claims, Round, all_list, claims_at, limits_at, touched, with_own, without_own}
 use Rattle.abstract_state.specs.Loops.{gives_all, head, is_among}
 use Rattle.std.specs.List.{list_all}
 use Rattle.std.proofs.lemmas.List.Folds.{list_all-map}
-use Rattle.domain.specs.Interval.{is_included}
 use Rattle.types.specs.declared.form.OrdinalRange.{OrdinalRange}
 use Rattle.typed_tree.specs.declared.tree.Tree.{Tree}
 use Rattle.certificate.specs.declared.Certificate.{Certificate}
-use Rattle.cert_checker.specs.declared.fault.Rule.TheVariants.{LoopEntry, LoopTurn, Changes}
-use Rattle.cert_checker.specs.Promise.{first_breach, IsBreachOf}
+use Rattle.expression_checker.specs.declared.fault.Rule.TheVariants.{LoopEntry, LoopTurn, Changes}
 use Rattle.structured_states.proofs.Claims.{item-cut, drop-past}
+use Rattle.expression_checker.specs.declared.flow.Flow.{Flow}
+use Rattle.expression_checker.specs.View.{Flows, Goes as FlowGoes}
+use Rattle.expression_checker.proofs.Steps.{breach-first, breach-later, breach-same, breach-stays, counted-both, flows-give, flows-then}
 
 -- ---- the walk, form by form
-
-pub value-Constant : (number : ℕ) (value : ℤ)
-    → value_walk (expr.Constant number value) ≡ (enter number >>= λ _. ordinal (record { first = value; last = value }))
-value-Constant number value = search (rules, the_lemmas)
-
-pub value-Variable : (access : Access) (defined : ℕ) → value_walk (expr.Variable access defined) ≡ variable_walk access defined
-value-Variable access defined = search (rules, the_lemmas)
-
-pub value-Monadic : (number : ℕ) (operation : Monadic) (operand : Box Expr Global)
-    → value_walk (expr.Monadic number operation operand) ≡ (enter number >>= λ _. (value_walk operand.value >>= operated operation))
-value-Monadic number operation operand = search (rules, the_lemmas)
-
-pub value-Chain : (first : Box Expr Global) (rest : Vec Link Global)
-    → value_walk (expr.Chain first rest) ≡ (value_walk first.value >>= in_turn (map link_walk rest.items))
-value-Chain first rest = search (rules, the_lemmas)
-
-pub link-walks : (link : Link) → link_walk link ≡ (λ (left : Known). enter link.number >>= λ _. (value_walk link.operand >>= combined link.operation left))
-link-walks link = search (rules, the_lemmas)
 
 pub statement-Empty : (number : ℕ) → statement_walk (stmt.Empty number) ≡ enter number
 statement-Empty number = search (rules, stmt_lemmas)
@@ -103,81 +83,42 @@ statement-Repeat number loop_number place statements condition = search (rules, 
 
 -- ---- one piece of a walk after another
 
--- entries that are counted in two parts
-counted-both : (one two : List Linked) (visits : Visits)
-    → all_counted (numbers_of (one ++ two)) visits ≡ all_counted (numbers_of two) (all_counted (numbers_of one) visits)
-counted-both [] two visits = refl
-counted-both (linked ∷ one) two visits = counted-both one two (counted linked.number visits)
-
--- from where the first piece left the checker, the next is what it is behind the first
-then-same : {A B : Type 0} (first : Walking A) (next : A → Walking B) (old mid : Walk) (before between : Visits) (a : A) → Walks first old before mid between a
-    → next a (context_of mid) (viewed mid.state)
-    ≡ next (first (context_of old) (viewed old.state)).value (context_of old) (first (context_of old) (viewed old.state)).after
-then-same {A} first next old mid before between a one =
-    let was : Walked A = first (context_of old) (viewed old.state) in
-    ap (λ x. next x (context_of mid) (viewed mid.state)) one.value_is ∙ ap (λ x. next was.value x (viewed mid.state)) one.context_is
-    ∙ ap (next was.value (context_of old)) one.state_is
+-- what went on is walked in the same context
+goes-on : {B : Type 0} (walking : Walking B) (old mid new : Walk) (between after : Visits) (b : B) → context_of mid ≡ context_of old
+    → Walks walking mid between new after b → Flows (context_of old) walking mid.flow between new.flow after b
+goes-on walking old mid new between after b same two = subst (λ context. Flows context walking mid.flow between new.flow after b) same two.flows
 
 pub walks-then : {A B : Type 0} (first : Walking A) (next : A → Walking B) (old mid new : Walk) (before between after : Visits) (a : A) (b : B)
     → Walks first old before mid between a → Walks (next a) mid between new after b → Walks (first >>= next) old before new after b
-walks-then {A} {B} first next old mid new before between after a b one two =
-    let was : Walked A = first (context_of old) (viewed old.state) in
-    let then : Walked B = next a (context_of mid) (viewed mid.state) in
-    let same : then ≡ next was.value (context_of old) was.after = then-same first next old mid before between a one in
-    record {
-      context_is = two.context_is ∙ one.context_is;
-      value_is = two.value_is ∙ ap (λ w. w.value) same;
-      state_is = two.state_is ∙ ap (λ w. w.after) same;
-      open_is = two.open_is ∙ ap (λ ids. ids ++ then.open_ids) one.open_is ∙ ap (λ w. (old.open_ids.items ++ was.open_ids) ++ w.open_ids) same
-          ∙ append_assoc old.open_ids.items was.open_ids (next was.value (context_of old) was.after).open_ids;
-      visits_are = two.visits_are ∙ ap (all_counted (numbers_of then.linked)) one.visits_are
-          ∙ ap (λ w. all_counted (numbers_of w.linked) (all_counted (numbers_of was.linked) before)) same
-          ∙ sym (counted-both was.linked (next was.value (context_of old) was.after).linked before);
-      unbroken = ap (λ w. was.broken ++ w.broken) (sym same) ∙ ap (λ b. b ++ then.broken) one.unbroken ∙ two.unbroken;
-    }
+walks-then first next old mid new before between after a b one two = record {
+  context_is = two.context_is ∙ one.context_is;
+  flows = flows-then (context_of old) first next old.flow mid.flow before between a one.flows new.flow after b
+      (goes-on (next a) old mid new between after b one.context_is two);
+}
 
 -- a piece that only gives its value
 pub walks-give : {A : Type 0} (value : A) (old : Walk) (visits : Visits) → Walks (give value) old visits old visits value
-walks-give value old visits =
-    record { context_is = refl; value_is = refl; state_is = refl; open_is = sym (append-nil old.open_ids.items); visits_are = refl; unbroken = refl }
+walks-give value old visits = record { context_is = refl; flows = flows-give (context_of old) value old.flow visits }
 
--- a first breach stays the first
-first-stays : (one two : List Breach) (breach : Breach) → first_breach one ≡ Some breach → first_breach (one ++ two) ≡ Some breach
-first-stays [] two breach is = cc
-first-stays (first ∷ one) two breach is = is
-
-pub breach-stays : {A B : Type 0} (walked : Walked A) (more : Walked B) (fault : CheckFault) (both : Walked B) → both.broken ≡ walked.broken ++ more.broken
-    → IsBreachOf walked fault → IsBreachOf both fault
-breach-stays walked more Memory both are is = tt
-breach-stays walked more Foreign both are is = is
-breach-stays walked more (Broken rule place) both are is =
-    ap first_breach are ∙ first-stays walked.broken more.broken (record { rule = rule; place = place }) is
-
--- the rules that are broken are the same
-pub breach-same : {A B : Type 0} (walked : Walked A) (other : Walked B) (fault : CheckFault) → walked.broken ≡ other.broken → IsBreachOf walked fault
-    → IsBreachOf other fault
-breach-same walked other Memory same is = tt
-breach-same walked other Foreign same is = is
-breach-same walked other (Broken rule place) same is = ap first_breach (sym same) ∙ is
+-- what the checker did over an expression, whatever it goes by
+pub lifted : {A : Type 0} (walking : Walking A) (old : Walk) (flow : Flow) (before after : Visits) (result : Result A CheckFault)
+    → FlowGoes walking old.flow before result flow after → Goes walking old before result (record old { flow = flow }) after
+lifted walking old flow before after (Ok value) goes = record { context_is = refl; flows = goes (context_of old) }
+lifted walking old flow before after (Err fault) goes = goes (context_of old)
 
 -- the first piece was walked over: what the checker did over the next is what it did over both
 pub goes-then : {A B : Type 0} (first : Walking A) (next : A → Walking B)
     (old mid new : Walk) (before between after : Visits) (a : A) (result : Result B CheckFault)
     → Walks first old before mid between a → Goes (next a) mid between result new after → Goes (first >>= next) old before result new after
 goes-then first next old mid new before between after a (Ok b) one two = walks-then first next old mid new before between after a b one two
-goes-then {A} {B} first next old mid new before between after a (Err fault) one two =
-    let was : Walked A = first (context_of old) (viewed old.state) in
-    let then : Walked B = next a (context_of mid) (viewed mid.state) in
-    let same : then ≡ next was.value (context_of old) was.after = then-same first next old mid before between a one in
-    breach-same then ((first >>= next) (context_of old) (viewed old.state)) fault
-    (sym (ap (λ w. was.broken ++ w.broken) (sym same) ∙ ap (λ b. b ++ then.broken) one.unbroken)) two
+goes-then first next old mid new before between after a (Err fault) one two =
+    breach-later (context_of old) first next old.flow mid.flow before between a one.flows fault
+    (subst (λ context. IsBreachOf (next a context (viewed mid.flow.state)) fault) one.context_is two)
 
 -- the checker gave up over the first piece: so it does over both
 pub goes-stopped : {A B : Type 0} (first : Walking A) (next : A → Walking B) (old new : Walk) (before after : Visits) (fault : CheckFault)
-    → IsBreachOf (first (context_of old) (viewed old.state)) fault → Goes (first >>= next) old before (Err fault) new after
-goes-stopped {A} {B} first next old new before after fault is =
-    let was : Walked A = first (context_of old) (viewed old.state) in
-    breach-stays was (next was.value (context_of old) was.after) fault ((first >>= next) (context_of old) (viewed old.state)) refl is
+    → IsBreachOf (first (context_of old) (viewed old.flow.state)) fault → Goes (first >>= next) old before (Err fault) new after
+goes-stopped first next old new before after fault is = breach-first (context_of old) first next (viewed old.flow.state) fault is
 
 -- by what a walk is
 pub goes-as : {A : Type 0} (walk form : Walking A) (old new : Walk) (before after : Visits) (result : Result A CheckFault) → walk ≡ form
@@ -208,7 +149,7 @@ all-step walk items i item old mid new before between after value result inside 
     (goes-then (walk item) (λ _. all_of (map walk (drop (i + 1) items))) old mid new before between after value result one two)
 
 pub all-stopped : {X : Type 0} (walk : X → Walking (Unit {0})) (items : List X) (i : ℕ) (item : X) (old new : Walk) (before after : Visits) (fault : CheckFault)
-    → i < length items → item ≡ get_or items i item → IsBreachOf (walk item (context_of old) (viewed old.state)) fault
+    → i < length items → item ≡ get_or items i item → IsBreachOf (walk item (context_of old) (viewed old.flow.state)) fault
     → Goes (all_of (map walk (drop i items))) old before (Err fault) new after
 all-stopped walk items i item old new before after fault inside is one =
     goes-as (all_of (map walk (drop i items))) (walk item >>= λ _. all_of (map walk (drop (i + 1) items))) old new before after (Err fault)
@@ -221,69 +162,18 @@ pub all-end : {X : Type 0} (walk : X → Walking (Unit {0})) (items : List X) (i
 all-end {X} walk items i old visits past =
     subst (λ (ls : List X). Goes (all_of (map walk ls)) old visits (Ok tt) old visits) (sym (drop-past items i past)) (walks-give tt old visits)
 
--- the operators of a chain, from one of them on
-turn-cut : (items : List Link) (i : ℕ) (link : Link) (left : Known) → i < length items → link ≡ get_or items i link
-    → in_turn (map link_walk (drop i items)) left ≡ (link_walk link left >>= in_turn (map link_walk (drop (i + 1) items)))
-turn-cut items i link left inside is = ap (λ links. in_turn (map link_walk links) left) (item-cut items i link inside is)
-
-pub turn-step : (items : List Link) (i : ℕ) (link : Link) (left value : Known) (old mid new : Walk) (before between after : Visits)
-    (result : Result Known CheckFault)
-    → i < length items → link ≡ get_or items i link → Walks (link_walk link left) old before mid between value
-    → Goes (in_turn (map link_walk (drop (i + 1) items)) value) mid between result new after
-    → Goes (in_turn (map link_walk (drop i items)) left) old before result new after
-turn-step items i link left value old mid new before between after result inside is one two =
-    goes-as (in_turn (map link_walk (drop i items)) left) (link_walk link left >>= in_turn (map link_walk (drop (i + 1) items))) old new before after
-    result (turn-cut items i link left inside is)
-    (goes-then (link_walk link left) (in_turn (map link_walk (drop (i + 1) items))) old mid new before between after value result one two)
-
-pub turn-stopped : (items : List Link) (i : ℕ) (link : Link) (left : Known) (old new : Walk) (before after : Visits) (fault : CheckFault)
-    → i < length items → link ≡ get_or items i link → IsBreachOf (link_walk link left (context_of old) (viewed old.state)) fault
-    → Goes (in_turn (map link_walk (drop i items)) left) old before (Err fault) new after
-turn-stopped items i link left old new before after fault inside is one =
-    goes-as (in_turn (map link_walk (drop i items)) left) (link_walk link left >>= in_turn (map link_walk (drop (i + 1) items))) old new before after
-    (Err fault) (turn-cut items i link left inside is)
-    (goes-stopped (link_walk link left) (in_turn (map link_walk (drop (i + 1) items))) old new before after fault one)
-
-pub turn-end : (items : List Link) (i : ℕ) (left : Known) (old : Walk) (visits : Visits) → length items ≤ i
-    → Goes (in_turn (map link_walk (drop i items)) left) old visits (Ok left) old visits
-turn-end items i left old visits past =
-    subst (λ links. Goes (in_turn (map link_walk links) left) old visits (Ok left) old visits) (sym (drop-past items i past)) (walks-give left old visits)
-
--- ---- the use of a variable, and the assignment to one
-
--- a use is a test of whether the variable is defined, in the state in which it is
-use-same : (root site : ℕ) (context : Context) (state : State)
-    → (use_of root site context state).open_ids ≡ (tested (is_defined state root) site (range_of state root) context (with_defined root state)).open_ids
-use-same root site context Dead = refl
-use-same root site context (Live facts) = search rules
-
-pub use-walks : (root site : ℕ) (closed : Bool) (range value : Interval) (old new : Walk) (state : Kept) (before after : Visits)
-    → closed ≡ is_defined (viewed old.state) root → range ≡ range_of (viewed old.state) root → viewed state ≡ with_defined root (viewed old.state)
-    → Walks (tested closed site range) (record old { state = state }) before new after value → Walks (use_of root site) old before new after (Ordinal value)
-use-walks root site closed range value old new state before after closed_is range_is state_is done =
-    let was : State = viewed old.state in
-    let same : tested closed site range (context_of old) (viewed state) ≡ tested (is_defined was root) site (range_of was root) (context_of old)
-    (with_defined root was) =
-    ap (λ c. tested c site range (context_of old) (viewed state)) closed_is
-    ∙ ap (λ r. tested (is_defined was root) site r (context_of old) (viewed state)) range_is
-    ∙ ap (tested (is_defined was root) site (range_of was root) (context_of old)) state_is in
-    record {
-      context_is = done.context_is;
-      value_is = ap Ordinal (done.value_is ∙ ap (λ w. w.value) same);
-      state_is = done.state_is ∙ ap (λ w. w.after) same;
-      open_is = done.open_is ∙ ap (λ w. old.open_ids.items ++ w.open_ids) same
-          ∙ ap (λ ids. old.open_ids.items ++ ids) (sym (use-same root site (context_of old) was));
-      visits_are = done.visits_are;
-      unbroken = refl;
-    }
+-- ---- the assignment to a variable
 
 -- an assignment changes nothing but the state
 pub assign-walks : (root : ℕ) (form : Option Bound) (known : Known) (range : Interval) (old : Walk) (state : Kept) (visits : Visits) → known ≡ Ordinal range
-    → viewed state ≡ assigned root range form (viewed old.state)
-    → Walks (assign root form known) old visits (record old { state = state }) visits tt
+    → viewed state ≡ assigned root range form (viewed old.flow.state)
+    → Walks (assign root form known) old visits (at_state state old) visits tt
 assign-walks root form known range old state visits known_is is =
-    subst (λ k. Walks (assign root form k) old visits (record old { state = state }) visits tt) (sym known_is)
-    (record { context_is = refl; value_is = refl; state_is = is; open_is = sym (append-nil old.open_ids.items); visits_are = refl; unbroken = refl })
+    subst (λ k. Walks (assign root form k) old visits (at_state state old) visits tt) (sym known_is)
+    (record {
+      context_is = refl;
+      flows = record { value_is = refl; state_is = is; open_is = sym (append-nil old.flow.open_ids.items); visits_are = refl; unbroken = refl };
+    })
 
 -- an assignment from its target's entry on
 pub assignment-done : (becomes : SourcePlace) (target : Access) (fits : RangeTest) (value : Expr) (old entered valued : Walk) (before entries after : Visits)
@@ -298,110 +188,48 @@ assignment-done becomes target fits value old entered valued before entries afte
     goes-then (enter target.number) (λ _. value_walk value >>= rest) old entered new before entries after tt result one
     (goes-then (value_walk value) rest entered valued new entries after after known result two three)
 
-pub use-stopped : (root site : ℕ) (old new : Walk) (before after : Visits) (closed : Bool) (range : Interval) (state : Kept) (fault : CheckFault)
-    → IsBreachOf (tested closed site range (context_of old) (viewed state)) fault → Goes (use_of root site) old before (Err fault) new after
-use-stopped root site old new before after closed range state fault is =
-    breach-same (tested closed site range (context_of old) (viewed state)) (use_of root site (context_of old) (viewed old.state)) fault refl is
-
--- ---- an expression that the checker has begun
-
-pub monadic-begun : (expression : Expr) (number : ℕ) (operation : Monadic) (operand : Box Expr Global) (inner : Expr) (old entered new : Walk)
-    (before between after : Visits) (value : Unit {0}) (result : Result Known CheckFault)
-    → expression ≡ expr.Monadic number operation operand → inner ≡ operand.value → Walks (enter number) old before entered between value
-    → Goes (value_walk inner >>= operated operation) entered between result new after → Goes (value_walk expression) old before result new after
-monadic-begun expression number operation operand inner old entered new before between after value result is inner_is one two =
-    goes-as (value_walk expression) (enter number >>= λ _. (value_walk inner >>= operated operation)) old new before after result
-    (ap value_walk is ∙ value-Monadic number operation operand ∙ ap (λ e. enter number >>= λ _. (value_walk e >>= operated operation)) (sym inner_is))
-    (goes-then (enter number) (λ _. value_walk inner >>= operated operation) old entered new before between after value result one two)
-
-pub chain-begun : (expression : Expr) (first : Box Expr Global) (rest : Vec Link Global) (inner : Expr) (items : List Link) (left : Known)
-    (old mid : Walk) (before between : Visits)
-    → expression ≡ expr.Chain first rest → inner ≡ first.value → items ≡ rest.items → Walks (value_walk inner) old before mid between left
-    → (result : Result Known CheckFault) (new : Walk) (after : Visits) → Goes (in_turn (map link_walk items) left) mid between result new after
-    → Goes (value_walk expression) old before result new after
-chain-begun expression first rest inner items left old mid before between is inner_is items_are one result new after two =
-    goes-as (value_walk expression) (value_walk inner >>= in_turn (map link_walk items)) old new before after result
-    (ap value_walk is ∙ value-Chain first rest ∙ ap (λ e. value_walk e >>= in_turn (map link_walk rest.items)) (sym inner_is)
-    ∙ ap (λ links. value_walk inner >>= in_turn (map link_walk links)) (sym items_are))
-    (goes-then (value_walk inner) (in_turn (map link_walk items)) old mid new before between after left result one two)
-
-pub link-done : (link : Link) (left right : Known) (old entered valued new : Walk) (before between after end : Visits) (value : Unit {0})
-    (result : Result Known CheckFault)
-    → Walks (enter link.number) old before entered between value → Walks (value_walk link.operand) entered between valued after right
-    → Goes (combined link.operation left right) valued after result new end → Goes (link_walk link left) old before result new end
-link-done link left right old entered valued new before between after end value result one two three =
-    goes-as (link_walk link left) (enter link.number >>= λ _. (value_walk link.operand >>= combined link.operation left)) old new before end result
-    (ap (λ walk. walk left) (link-walks link))
-    (goes-then (enter link.number) (λ _. value_walk link.operand >>= combined link.operation left) old entered new before between end value result one
-    (goes-then (value_walk link.operand) (combined link.operation left) entered valued new between after end right result two three))
-
--- ---- what is tested of a value by its range
-
-pub width-as : (site : ℕ) (known : Known) (range : Interval) → known ≡ Ordinal range → width_test site known ≡ (positive site range >>= λ _. give (tt {0}))
-width-as site known range is = ap (width_test site) is
-
-pub fitting-as : (fits : RangeTest) (known : Known) (limits range : Interval) → known ≡ Ordinal range → limits ≡ limits_of fits.range
-    → fitting fits known ≡ (within limits fits.site range >>= ordinal)
-fitting-as fits known limits range is limits_are = ap (fitting fits) is ∙ ap (λ l. within l fits.site range >>= ordinal) (sym limits_are)
-
--- a value was tested, and what passed is given on
-pub tested-goes : {A B : Type 0} (walk : Walking B) (test : Walking A) (next : A → B) (passed : A) (result : B) (old new : Walk) (visits : Visits)
-    → walk ≡ (test >>= λ x. give (next x))
-    → result ≡ next passed → Walks test old visits new visits passed → Goes walk old visits (Ok result) new visits
-tested-goes walk test next passed result old new visits is result_is tested =
-    goes-as walk (test >>= λ x. give (next x)) old new visits visits (Ok result) is
-    (subst (λ r. Walks (test >>= λ x. give (next x)) old visits new visits r) (sym result_is)
-    (walks-then test (λ x. give (next x)) old new new visits visits visits passed (next passed) tested (walks-give (next passed) new visits)))
-
--- a value was tested, and the checker gave up there
-pub tested-stopped : {A B : Type 0} (walk : Walking B) (test : Walking A) (next : A → B)
-    (old new : Walk) (visits : Visits) (fault : CheckFault) (result : Result B CheckFault)
-    → walk ≡ (test >>= λ x. give (next x)) → IsErr result × IsErrAnd result (λ e. e ≡ fault) → IsBreachOf (test (context_of old) (viewed old.state)) fault
-    → Goes walk old visits result new visits
-tested-stopped walk test next old new visits fault result is left stopped =
-    given-up walk old new visits visits fault result left
-    (goes-as walk (test >>= λ x. give (next x)) old new visits visits (Err fault) is
-    (goes-stopped test (λ x. give (next x)) old new visits visits fault stopped))
-
 -- ---- branches
 
 -- from where only the state of the checker was moved, a piece is walked from that state
 pub moved-same : {A : Type 0} (walking : Walking A) (state : State) (old new : Walk) → IsMoved state old new
-    → walking (context_of new) (viewed new.state) ≡ walking (context_of old) state
+    → walking (context_of new) (viewed new.flow.state) ≡ walking (context_of old) state
 moved-same walking state old new moved =
-    ap (λ context. walking context (viewed new.state)) (ap context_of moved.only_state) ∙ ap (walking (context_of old)) moved.says
+    ap (λ context. walking context (viewed new.flow.state)) (ap context_of moved.only_state) ∙ ap (walking (context_of old)) moved.says
 
 -- the ways of two branches, and where they meet
 pub branches-walk : (one_state other_state : State → State) (one_walk other_walk : Walking (Unit {0})) (old taken mid start done new : Walk)
     (before between after : Visits)
-    → IsMoved (one_state (viewed old.state)) old taken → Walks one_walk taken before mid between tt
-    → IsMoved (other_state (viewed old.state)) mid start → Walks other_walk start between done after tt
-    → IsMoved (joined_states (viewed mid.state) (viewed done.state)) done new
+    → IsMoved (one_state (viewed old.flow.state)) old taken → Walks one_walk taken before mid between tt
+    → IsMoved (other_state (viewed old.flow.state)) mid start → Walks other_walk start between done after tt
+    → IsMoved (joined_states (viewed mid.flow.state) (viewed done.flow.state)) done new
     → Walks (parted one_state other_state one_walk other_walk) old before new after tt
 branches-walk one_state other_state one_walk other_walk old taken mid start done new before between after to_yes one to_no two met =
-    let first : Walked (Unit {0}) = one_walk (context_of old) (one_state (viewed old.state)) in
-    let second : Walked (Unit {0}) = other_walk (context_of old) (other_state (viewed old.state)) in
-    let first_same = moved-same one_walk (one_state (viewed old.state)) old taken to_yes in
+    let first : Walked (Unit {0}) = one_walk (context_of old) (one_state (viewed old.flow.state)) in
+    let second : Walked (Unit {0}) = other_walk (context_of old) (other_state (viewed old.flow.state)) in
+    let first_same = moved-same one_walk (one_state (viewed old.flow.state)) old taken to_yes in
     let context : context_of mid ≡ context_of old = one.context_is ∙ ap context_of to_yes.only_state in
-    let second_same : other_walk (context_of start) (viewed start.state) ≡ second =
-    moved-same other_walk (other_state (viewed old.state)) mid start to_no ∙ ap (λ x. other_walk x (other_state (viewed old.state))) context in
-    let first_after = one.state_is ∙ ap (λ w. w.after) first_same in
-    let second_after = two.state_is ∙ ap (λ w. w.after) second_same in
-    let first_open = one.open_is ∙ ap (λ (w : Walk). w.open_ids.items ++ (one_walk (context_of taken) (viewed taken.state)).open_ids) to_yes.only_state
-    ∙ ap (λ w. old.open_ids.items ++ w.open_ids) first_same in
+    let second_same : other_walk (context_of start) (viewed start.flow.state) ≡ second =
+    moved-same other_walk (other_state (viewed old.flow.state)) mid start to_no ∙ ap (λ x. other_walk x (other_state (viewed old.flow.state))) context in
+    let first_after = one.flows.state_is ∙ ap (λ w. w.after) first_same in
+    let second_after = two.flows.state_is ∙ ap (λ w. w.after) second_same in
+    let first_open = one.flows.open_is
+    ∙ ap (λ (w : Walk). w.flow.open_ids.items ++ (one_walk (context_of taken) (viewed taken.flow.state)).open_ids) to_yes.only_state
+    ∙ ap (λ w. old.flow.open_ids.items ++ w.open_ids) first_same in
     record {
       context_is = ap context_of met.only_state ∙ two.context_is ∙ ap context_of to_no.only_state ∙ context;
-      value_is = refl;
-      state_is = met.says ∙ ap (λ s. joined_states s (viewed done.state)) first_after ∙ ap (joined_states first.after) second_after;
-      open_is = ap (λ (w : Walk). w.open_ids.items) met.only_state ∙ two.open_is
-          ∙ ap (λ (w : Walk). w.open_ids.items ++ (other_walk (context_of start) (viewed start.state)).open_ids) to_no.only_state
-          ∙ ap (λ w. mid.open_ids.items ++ w.open_ids) second_same ∙ ap (λ ids. ids ++ second.open_ids) first_open
-          ∙ append_assoc old.open_ids.items first.open_ids second.open_ids;
-      visits_are = two.visits_are ∙ ap (λ w. all_counted (numbers_of w.linked) between) second_same
-          ∙ ap (all_counted (numbers_of second.linked)) (one.visits_are ∙ ap (λ w. all_counted (numbers_of w.linked) before) first_same)
-          ∙ sym (counted-both first.linked second.linked before);
-      unbroken = ap (λ b. b ++ second.broken) (ap (λ w. w.broken) (sym first_same) ∙ one.unbroken)
-          ∙ ap (λ w. w.broken) (sym second_same) ∙ two.unbroken;
+      flows = record {
+        value_is = refl;
+        state_is = met.says ∙ ap (λ s. joined_states s (viewed done.flow.state)) first_after ∙ ap (joined_states first.after) second_after;
+        open_is = ap (λ (w : Walk). w.flow.open_ids.items) met.only_state ∙ two.flows.open_is
+            ∙ ap (λ (w : Walk). w.flow.open_ids.items ++ (other_walk (context_of start) (viewed start.flow.state)).open_ids) to_no.only_state
+            ∙ ap (λ w. mid.flow.open_ids.items ++ w.open_ids) second_same ∙ ap (λ ids. ids ++ second.open_ids) first_open
+            ∙ append_assoc old.flow.open_ids.items first.open_ids second.open_ids;
+        visits_are = two.flows.visits_are ∙ ap (λ w. all_counted (numbers_of w.linked) between) second_same
+            ∙ ap (all_counted (numbers_of second.linked)) (one.flows.visits_are ∙ ap (λ w. all_counted (numbers_of w.linked) before) first_same)
+            ∙ sym (counted-both first.linked second.linked before);
+        unbroken = ap (λ b. b ++ second.broken) (ap (λ w. w.broken) (sym first_same) ∙ one.flows.unbroken)
+            ∙ ap (λ w. w.broken) (sym second_same) ∙ two.flows.unbroken;
+      };
     }
 
 -- where the ways meet, or no memory is found there
@@ -409,32 +237,32 @@ pub branches-done : (one_state other_state : State → State) (one_walk other_wa
     (before between after : Visits)
     (behind otherwise : Kept) (result : Result (Unit {0}) CheckFault)
     → Parts one_state other_state old (Ok otherwise) taken → Walks one_walk taken before mid between tt
-    → behind ≡ mid.state → start.state ≡ otherwise → start ≡ record mid { state = start.state } → Walks other_walk start between done after tt
+    → behind ≡ mid.flow.state → start.flow.state ≡ otherwise → start ≡ at_state start.flow.state mid → Walks other_walk start between done after tt
     → Meets behind done result new
     → Goes (parted one_state other_state one_walk other_walk) old before result new after
 branches-done one_state other_state one_walk other_walk old taken mid start done new before between after behind otherwise
     (Ok value) parts one behind_is replaced only two
     met =
-    let to_no : IsMoved (other_state (viewed old.state)) mid start = record { only_state = only; says = ap viewed replaced ∙ parts.1 } in
+    let to_no : IsMoved (other_state (viewed old.flow.state)) mid start = record { only_state = only; says = ap viewed replaced ∙ parts.1 } in
     branches-walk one_state other_state one_walk other_walk old taken mid start done new before between after parts.0 one to_no two
-    (subst (λ (s : Kept). IsMoved (joined_states (viewed s) (viewed done.state)) done new) behind_is met)
+    (subst (λ (s : Kept). IsMoved (joined_states (viewed s) (viewed done.flow.state)) done new) behind_is met)
 branches-done one_state other_state one_walk other_walk old taken mid start done new before between after behind otherwise
     (Err fault) parts one behind_is replaced only two
     is =
-    subst (IsBreachOf (parted one_state other_state one_walk other_walk (context_of old) (viewed old.state))) (sym is) tt
+    subst (IsBreachOf (parted one_state other_state one_walk other_walk (context_of old) (viewed old.flow.state))) (sym is) tt
 
 -- the checker gave up on the first way
 pub branches-stopped : (one_state other_state : State → State) (one_walk other_walk : Walking (Unit {0})) (old taken new : Walk) (before after : Visits)
     (otherwise : Kept)
     (fault : CheckFault)
-    → Parts one_state other_state old (Ok otherwise) taken → IsBreachOf (one_walk (context_of taken) (viewed taken.state)) fault
+    → Parts one_state other_state old (Ok otherwise) taken → IsBreachOf (one_walk (context_of taken) (viewed taken.flow.state)) fault
     → Goes (parted one_state other_state one_walk other_walk) old before (Err fault) new after
 branches-stopped one_state other_state one_walk other_walk old taken new before after otherwise fault parts is =
-    let first : Walked (Unit {0}) = one_walk (context_of old) (one_state (viewed old.state)) in
-    let second : Walked (Unit {0}) = other_walk (context_of old) (other_state (viewed old.state)) in
-    breach-stays first second fault (parted one_state other_state one_walk other_walk (context_of old) (viewed old.state)) refl
-    (breach-same (one_walk (context_of taken) (viewed taken.state)) first fault
-    (ap (λ w. w.broken) (moved-same one_walk (one_state (viewed old.state)) old taken parts.0)) is)
+    let first : Walked (Unit {0}) = one_walk (context_of old) (one_state (viewed old.flow.state)) in
+    let second : Walked (Unit {0}) = other_walk (context_of old) (other_state (viewed old.flow.state)) in
+    breach-stays first second fault (parted one_state other_state one_walk other_walk (context_of old) (viewed old.flow.state)) refl
+    (breach-same (one_walk (context_of taken) (viewed taken.flow.state)) first fault
+    (ap (λ w. w.broken) (moved-same one_walk (one_state (viewed old.flow.state)) old taken parts.0)) is)
 
 -- a conditional statement from its entry on
 pub if-begun : (statement : Stmt) (number : ℕ) (condition : Expr) (consequence : Box Stmt Global) (alternative : Option (Box Stmt Global)) (inner : Stmt)
@@ -459,10 +287,10 @@ pub loop-not_entered : (number : ℕ) (place : SourcePlace) (control : Option �
     (fault : CheckFault)
     → EntersLoop number place control old (Err fault) new → Goes (loop_walk number place control walking) old before (Err fault) new after
 loop-not_entered number place control walking old new before after fault is =
-    let claims = claims_on old.certificate.now number in
+    let claims = claims_in number old in
     let own = with_own control (loop_in number old) in
     let context = context_of old in
-    let state = viewed old.state in
+    let state = viewed old.flow.state in
     let entry = facts_given LoopEntry place claims.facts context state in
     let begun = head (limits_at old.limits.items) (touched own) own.controls claims.facts state in
     let turn = walking (record context { rounds = context.rounds ++ without_own control (loop_in number old) ∷ [] }) begun in
@@ -473,7 +301,7 @@ loop-not_entered number place control walking old new before after fault is =
 module _ (number : ℕ) (place : SourcePlace) (control : Option ℕ) (walking : Walking State) (old headed : Walk)
     (at_head : AtHead number control old headed) where
   abbrev claims : Claims
-  claims = claims_on old.certificate.now number
+  claims = claims_in number old
 
   abbrev own : Round
   own = with_own control (loop_in number old)
@@ -482,13 +310,13 @@ module _ (number : ℕ) (place : SourcePlace) (control : Option ℕ) (walking : 
   inner_context = record (context_of old) { rounds = (context_of old).rounds ++ without_own control (loop_in number old) ∷ [] }
 
   abbrev turn : Walked State
-  turn = walking inner_context (head (limits_at old.limits.items) (touched own) own.controls claims.facts (viewed old.state))
+  turn = walking inner_context (head (limits_at old.limits.items) (touched own) own.controls claims.facts (viewed old.flow.state))
 
   abbrev whole : Walked (Unit {0})
-  whole = loop_walk number place control walking (context_of old) (viewed old.state)
+  whole = loop_walk number place control walking (context_of old) (viewed old.flow.state)
 
-  turn-same : walking (context_of headed) (viewed headed.state) ≡ turn
-  turn-same = ap (λ context. walking context (viewed headed.state)) at_head.context_is ∙ ap (walking inner_context) at_head.state_is
+  turn-same : walking (context_of headed) (viewed headed.flow.state) ≡ turn
+  turn-same = ap (λ context. walking context (viewed headed.flow.state)) at_head.context_is ∙ ap (walking inner_context) at_head.state_is
 
   -- no rule is broken where the loop is entered
   entered-unbroken : whole.broken ≡ turn.broken ++ ((facts_given LoopTurn place claims.facts (context_of old) turn.after).broken ++ [])
@@ -497,29 +325,29 @@ module _ (number : ℕ) (place : SourcePlace) (control : Option ℕ) (walking : 
       ++ (turn.broken ++ ((facts_given LoopTurn place claims.facts (context_of old) turn.after).broken ++ []))) at_head.given
 
   -- the checker gave up in a round
-  pub loop-stopped : (new : Walk) (before after : Visits) (fault : CheckFault) → IsBreachOf (walking (context_of headed) (viewed headed.state)) fault
+  pub loop-stopped : (new : Walk) (before after : Visits) (fault : CheckFault) → IsBreachOf (walking (context_of headed) (viewed headed.flow.state)) fault
       → Goes (loop_walk number place control walking) old before (Err fault) new after
   loop-stopped new before after fault is =
       let rest : Walked (Unit {0}) = followed (facts_given LoopTurn place claims.facts (context_of old) turn.after)
       (with_state turn.value (context_of old) turn.after) in
       breach-stays turn rest fault whole entered-unbroken
-      (breach-same (walking (context_of headed) (viewed headed.state)) turn fault (ap (λ w. w.broken) turn-same) is)
+      (breach-same (walking (context_of headed) (viewed headed.flow.state)) turn fault (ap (λ w. w.broken) turn-same) is)
 
   module _ (rounded : Walk) (before after : Visits) (behind : Kept) (one : Walks walking headed before rounded after (viewed behind)) where
     context-within : context_of rounded ≡ inner_context
     context-within = one.context_is ∙ at_head.context_is
 
-    claims-same : claims_on rounded.certificate.now number ≡ claims
-    claims-same = ap (λ (context : Context). claims_on context.certificate number) context-within
+    claims-same : claims_in number rounded ≡ claims
+    claims-same = ap (λ (context : Context). claims_at context.claims number) context-within
 
-    after-same : viewed rounded.state ≡ turn.after
-    after-same = one.state_is ∙ ap (λ w. w.after) turn-same
+    after-same : viewed rounded.flow.state ≡ turn.after
+    after-same = one.flows.state_is ∙ ap (λ w. w.after) turn-same
 
     value-same : viewed behind ≡ turn.value
-    value-same = one.value_is ∙ ap (λ w. w.value) turn-same
+    value-same = one.flows.value_is ∙ ap (λ w. w.value) turn-same
 
     turn-unbroken : turn.broken ≡ []
-    turn-unbroken = ap (λ w. w.broken) (sym turn-same) ∙ one.unbroken
+    turn-unbroken = ap (λ w. w.broken) (sym turn-same) ∙ one.flows.unbroken
 
     -- the whole breaks no rule but that which is asked behind a round
     whole-broken : whole.broken ≡ breach_unless (gives_all turn.after claims.facts) LoopTurn place ++ []
@@ -531,22 +359,24 @@ module _ (number : ℕ) (place : SourcePlace) (control : Option ℕ) (walking : 
         let behind_loop = left (context_of old).rounds (without_own control (loop_in number old)) (ap (λ (context : Context). context.rounds) context-within) in
         let given : gives_all turn.after claims.facts ≡ true =
         ap (λ (s : State). gives_all s claims.facts) (sym after-same)
-        ∙ ap (λ (c : Claims). gives_all (viewed rounded.state) c.facts) (sym claims-same) ∙ behind_loop.given in
+        ∙ ap (λ (c : Claims). gives_all (viewed rounded.flow.state) c.facts) (sym claims-same) ∙ behind_loop.given in
         record {
           context_is = behind_loop.context_is ∙ ap (λ (context : Context). record context { rounds = (context_of old).rounds }) context-within;
-          value_is = refl;
-          state_is = behind_loop.state_is ∙ value-same;
-          open_is = ap (λ (ids : Vec ℕ Global). ids.items) behind_loop.open_is ∙ one.open_is
-              ∙ ap (λ (ids : Vec ℕ Global). ids.items ++ (walking (context_of headed) (viewed headed.state)).open_ids) at_head.open_is
-              ∙ ap (λ (w : Walked State). old.open_ids.items ++ w.open_ids) turn-same
-              ∙ ap (λ ids. old.open_ids.items ++ ids) (sym (append-nil turn.open_ids));
-          visits_are = one.visits_are ∙ ap (λ (w : Walked State). all_counted (numbers_of w.linked) before) turn-same
-              ∙ ap (λ linked. all_counted (numbers_of linked) before) (sym (append-nil turn.linked));
-          unbroken = whole-broken ∙ ap (λ given. breach_unless given LoopTurn place ++ []) given;
+          flows = record {
+            value_is = refl;
+            state_is = behind_loop.state_is ∙ value-same;
+            open_is = ap (λ (ids : Vec ℕ Global). ids.items) behind_loop.open_is ∙ one.flows.open_is
+                ∙ ap (λ (ids : Vec ℕ Global). ids.items ++ (walking (context_of headed) (viewed headed.flow.state)).open_ids) at_head.open_is
+                ∙ ap (λ (w : Walked State). old.flow.open_ids.items ++ w.open_ids) turn-same
+                ∙ ap (λ ids. old.flow.open_ids.items ++ ids) (sym (append-nil turn.open_ids));
+            visits_are = one.flows.visits_are ∙ ap (λ (w : Walked State). all_counted (numbers_of w.linked) before) turn-same
+                ∙ ap (λ linked. all_counted (numbers_of linked) before) (sym (append-nil turn.linked));
+            unbroken = whole-broken ∙ ap (λ given. breach_unless given LoopTurn place ++ []) given;
+          };
         }
     loop-done (Err fault) new is =
-        breach-same (facts_given LoopTurn place (claims_on rounded.certificate.now number).facts (context_of rounded) (viewed rounded.state)) whole fault
-        (ap (λ (c : Claims). breach_unless (gives_all (viewed rounded.state) c.facts) LoopTurn place) claims-same
+        breach-same (facts_given LoopTurn place (claims_in number rounded).facts (context_of rounded) (viewed rounded.flow.state)) whole fault
+        (ap (λ (c : Claims). breach_unless (gives_all (viewed rounded.flow.state) c.facts) LoopTurn place) claims-same
         ∙ ap (λ (s : State). breach_unless (gives_all s claims.facts) LoopTurn place) after-same
         ∙ sym (append-nil (breach_unless (gives_all turn.after claims.facts) LoopTurn place)) ∙ sym whole-broken) is
 
@@ -586,27 +416,30 @@ pub while_round-done : (condition : Expr) (body : Walking (Unit {0})) (known : K
     → Parts (where_so true condition known) (where_so false condition known) valued (Ok behind) taken → Walks body taken between new after tt
     → Walks (while_round condition body) old before new after (viewed behind)
 while_round-done condition body known old valued taken new before between after behind one parts two =
-    let was : Walked (Unit {0}) = body (context_of valued) (where_so true condition known (viewed valued.state)) in
-    let same = moved-same body (where_so true condition known (viewed valued.state)) valued taken parts.0 in
+    let was : Walked (Unit {0}) = body (context_of valued) (where_so true condition known (viewed valued.flow.state)) in
+    let same = moved-same body (where_so true condition known (viewed valued.flow.state)) valued taken parts.0 in
     let rest = λ (known : Known). here >>= λ tested. (with_state (where_so true condition known tested) >>= λ _.
     (body >>= λ _. give (where_so false condition known tested))) in
     walks-then (value_walk condition) rest old valued new before between after known (viewed behind) one (record {
       context_is = two.context_is ∙ ap context_of parts.0.only_state;
-      value_is = parts.1;
-      state_is = two.state_is ∙ ap (λ w. w.after) same;
-      open_is = two.open_is ∙ ap (λ (w : Walk). w.open_ids.items ++ (body (context_of taken) (viewed taken.state)).open_ids) parts.0.only_state
-          ∙ ap (λ w. valued.open_ids.items ++ w.open_ids) same ∙ ap (λ ids. valued.open_ids.items ++ ids) (sym (append-nil was.open_ids));
-      visits_are = two.visits_are ∙ ap (λ w. all_counted (numbers_of w.linked) between) same
-          ∙ ap (λ linked. all_counted (numbers_of linked) between) (sym (append-nil was.linked));
-      unbroken = append-nil was.broken ∙ ap (λ w. w.broken) (sym same) ∙ two.unbroken;
+      flows = record {
+        value_is = parts.1;
+        state_is = two.flows.state_is ∙ ap (λ w. w.after) same;
+        open_is = two.flows.open_is
+            ∙ ap (λ (w : Walk). w.flow.open_ids.items ++ (body (context_of taken) (viewed taken.flow.state)).open_ids) parts.0.only_state
+            ∙ ap (λ w. valued.flow.open_ids.items ++ w.open_ids) same ∙ ap (λ ids. valued.flow.open_ids.items ++ ids) (sym (append-nil was.open_ids));
+        visits_are = two.flows.visits_are ∙ ap (λ w. all_counted (numbers_of w.linked) between) same
+            ∙ ap (λ linked. all_counted (numbers_of linked) between) (sym (append-nil was.linked));
+        unbroken = append-nil was.broken ∙ ap (λ w. w.broken) (sym same) ∙ two.flows.unbroken;
+      };
     })
 
 -- a round of a repeat: the body, and then the condition
 pub repeat_round-done : (body : Walking (Unit {0})) (condition : Expr) (known : Known) (old bodied valued taken new : Walk) (before between after : Visits)
     (again behind : Kept)
     → Walks body old before bodied between tt → Walks (value_walk condition) bodied between valued after known
-    → Parts (where_so true condition known) (where_so false condition known) valued (Ok again) taken → behind ≡ taken.state → new.state ≡ again
-    → new ≡ record taken { state = new.state }
+    → Parts (where_so true condition known) (where_so false condition known) valued (Ok again) taken → behind ≡ taken.flow.state → new.flow.state ≡ again
+    → new ≡ at_state new.flow.state taken
     → Walks (repeat_round body condition) old before new after (viewed behind)
 repeat_round-done body condition known old bodied valued taken new before between after again behind one two parts behind_is again_is only =
     let rest = λ (known : Known). here >>= λ tested.
@@ -614,11 +447,14 @@ repeat_round-done body condition known old bodied valued taken new before betwee
     walks-then body (λ _. value_walk condition >>= rest) old bodied new before between after tt (viewed behind) one
     (walks-then (value_walk condition) rest bodied valued new between after after known (viewed behind) two (record {
       context_is = ap context_of only ∙ ap context_of parts.0.only_state;
-      value_is = ap viewed behind_is ∙ parts.0.says;
-      state_is = ap viewed again_is ∙ parts.1;
-      open_is = ap (λ (w : Walk). w.open_ids.items) only ∙ ap (λ (w : Walk). w.open_ids.items) parts.0.only_state ∙ sym (append-nil valued.open_ids.items);
-      visits_are = refl;
-      unbroken = refl;
+      flows = record {
+        value_is = ap viewed behind_is ∙ parts.0.says;
+        state_is = ap viewed again_is ∙ parts.1;
+        open_is = ap (λ (w : Walk). w.flow.open_ids.items) only ∙ ap (λ (w : Walk). w.flow.open_ids.items) parts.0.only_state
+            ∙ sym (append-nil valued.flow.open_ids.items);
+        visits_are = refl;
+        unbroken = refl;
+      };
     }))
 
 -- ---- a change of a variable, and the whole program
@@ -631,12 +467,14 @@ change-done place root range walk visits fits listed fits_is listed_is fit list 
     let all = list_all-map (λ (round : Round). is_among root round.changes) kept_round walk.rounds.items ∙ sym listed_is in
     record {
       context_is = refl;
-      value_is = refl;
-      state_is = refl;
-      open_is = sym (append-nil walk.open_ids.items);
-      visits_are = refl;
-      unbroken = ap (λ l. breach_unless (l && is_included (limits_of range) (limits_at walk.limits.items root)) Changes place) (all ∙ list)
-          ∙ ap (λ f. breach_unless f Changes place) (sym fits_is ∙ fit);
+      flows = record {
+        value_is = refl;
+        state_is = refl;
+        open_is = sym (append-nil walk.flow.open_ids.items);
+        visits_are = refl;
+        unbroken = ap (λ l. breach_unless (l && is_included (limits_of range) (limits_at walk.limits.items root)) Changes place) (all ∙ list)
+            ∙ ap (λ f. breach_unless f Changes place) (sym fits_is ∙ fit);
+      };
     }
 
 and-false : (a b : Bool) → b ≡ false → (a && b) ≡ false
@@ -669,32 +507,33 @@ unfit place root range walk visits fits fits_is none =
     (and-false (all_list root (context_of walk).rounds) (is_included (limits_of range) (limits_at walk.limits.items root)) (sym fits_is ∙ none))
 
 module _ (tree : Tree) (certificate : Certificate) (begun : Walk) (start : IsBegun tree certificate begun) where
-  pub program-same : all_of (map block_walk begun.tree.now.blocks.items) (context_of begun) (viewed begun.state) ≡ program_walk tree certificate
+  pub program-same : all_of (map block_walk begun.tree.now.blocks.items) (context_of begun) (viewed begun.flow.state) ≡ program_walk tree certificate
   program-same =
-      ap (λ (context : Context). all_of (map block_walk context.tree.blocks.items) context (viewed begun.state)) start.context_is
+      ap (λ (context : Context). all_of (map block_walk context.tree.blocks.items) context (viewed begun.flow.state)) start.context_is
       ∙ ap (all_of (map block_walk tree.blocks.items) (first_context tree certificate)) start.state_is
 
   module _ (new : Walk) (before after : Visits) (walked : Walks (all_of (map block_walk begun.tree.now.blocks.items)) begun before new after tt) where
-    pub program-open : new.open_ids.items ≡ (program_walk tree certificate).open_ids
+    pub program-open : new.flow.open_ids.items ≡ (program_walk tree certificate).open_ids
     program-open =
-        walked.open_is ∙ ap (λ ids. ids ++ (all_of (map block_walk begun.tree.now.blocks.items) (context_of begun) (viewed begun.state)).open_ids) start.open_is
+        walked.flows.open_is
+        ∙ ap (λ ids. ids ++ (all_of (map block_walk begun.tree.now.blocks.items) (context_of begun) (viewed begun.flow.state)).open_ids) start.open_is
         ∙ ap (λ w. w.open_ids) program-same
 
     pub program-visits : after ≡ all_counted (numbers_of (program_walk tree certificate).linked) before
-    program-visits = walked.visits_are ∙ ap (λ w. all_counted (numbers_of w.linked) before) program-same
+    program-visits = walked.flows.visits_are ∙ ap (λ w. all_counted (numbers_of w.linked) before) program-same
 
     pub program-unbroken : (program_walk tree certificate).broken ≡ []
-    program-unbroken = ap (λ w. w.broken) (sym program-same) ∙ walked.unbroken
+    program-unbroken = ap (λ w. w.broken) (sym program-same) ∙ walked.flows.unbroken
 
-  pub program-stopped : (fault : CheckFault) → IsBreachOf (all_of (map block_walk begun.tree.now.blocks.items) (context_of begun) (viewed begun.state)) fault
+  pub program-stopped : (fault : CheckFault) → IsBreachOf (all_of (map block_walk begun.tree.now.blocks.items) (context_of begun) (viewed begun.flow.state)) fault
       → IsBreachOf (program_walk tree certificate) fault
   program-stopped fault is =
-      breach-same (all_of (map block_walk begun.tree.now.blocks.items) (context_of begun) (viewed begun.state)) (program_walk tree certificate) fault
+      breach-same (all_of (map block_walk begun.tree.now.blocks.items) (context_of begun) (viewed begun.flow.state)) (program_walk tree certificate) fault
       (ap (λ w. w.broken) program-same) is
 
   pub program-given_up : {A : Type 0} (P : A → Type 0) (result : Result A CheckFault) (fault : CheckFault)
       → IsErr result × IsErrAnd result (λ e. e ≡ fault)
-      → IsBreachOf (all_of (map block_walk begun.tree.now.blocks.items) (context_of begun) (viewed begun.state)) fault
+      → IsBreachOf (all_of (map block_walk begun.tree.now.blocks.items) (context_of begun) (viewed begun.flow.state)) fault
       → MatchResult result P (IsBreachOf (program_walk tree certificate))
   program-given_up P (Ok a) fault left is = absurd left.1
   program-given_up P (Err other) fault left is =

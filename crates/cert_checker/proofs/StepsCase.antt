@@ -12,8 +12,8 @@ use Rattle.typed_tree.specs.declared.tree.Stmt.TheVariants as stmt
 use Rattle.typed_tree.specs.declared.tree.Stmt.TheFolds.{the_lemmas as stmt_lemmas}
 use Rattle.domain.specs.Interval.{Interval, common}
 use Rattle.domain.specs.Numbers.{hull, is_covered}
-use Rattle.cert_checker.specs.declared.fault.CheckFault.{CheckFault}
-use Rattle.cert_checker.specs.declared.visits.Visits.{Visits}
+use Rattle.expression_checker.specs.declared.fault.CheckFault.{CheckFault}
+use Rattle.expression_checker.specs.Visits.{Visits, all_counted}
 use Rattle.cert_checker.specs.declared.walk.Walk.{Walk}
 use Rattle.abstract_state.specs.declared.known.Known.{Known}
 use Rattle.abstract_state.specs.declared.known.Known.TheVariants.{Ordinal}
@@ -24,11 +24,11 @@ use Rattle.abstract_state.specs.Conditions.{condition_of}
 use Rattle.abstract_state.specs.Forms.{root_of}
 use Rattle.structured_states.specs.Cases.{arm_start, constants_before}
 use Rattle.structured_states.proofs.Claims.{item-cut, drop-past}
-use Rattle.cert_checker.specs.Promise.{IsBreachOf}
-use Rattle.cert_checker.specs.Walk.{Walked, Walking, ◌>>=◌, arm_walk, arms_walk, case_walk, enter, give, here, index_test, numbers_of, statement_walk, tested}
-use Rattle.cert_checker.specs.Walk.{value_walk, with_state}
-use Rattle.cert_checker.specs.View.{Goes, IsMoved, Meets, Walks, all_counted, context_of, said_state}
-use Rattle.cert_checker.proofs.Steps.{breach-same, goes-as, goes-stopped, goes-then, moved-same, walks-give, walks-then}
+use Rattle.expression_checker.specs.Walk.{IsBreachOf, Walked, Walking, ◌>>=◌, enter, give, numbers_of, tested, value_walk}
+use Rattle.cert_checker.specs.Walk.{arm_walk, arms_walk, case_walk, here, index_test, statement_walk, with_state}
+use Rattle.cert_checker.specs.View.{Goes, IsMoved, Meets, Walks, at_state, context_of, said_state}
+use Rattle.expression_checker.proofs.Steps.{breach-same}
+use Rattle.cert_checker.proofs.Steps.{goes-as, goes-stopped, goes-then, moved-same, walks-give, walks-then}
 
 pub statement-Case : (number site : ℕ) (index : Expr) (constants : Vec (Vec ℤ Global) Global) (arms : Vec Stmt Global)
     → statement_walk (stmt.Case number site index constants arms)
@@ -71,14 +71,14 @@ case-tested site index rows arms range count root base old tested new before aft
 
 pub case-not_tested : (site : ℕ) (index : Expr) (rows : List (Vec ℤ Global)) (arms : List Stmt) (range : Interval) (count : ℕ) (old new : Walk)
     (before after : Visits) (fault : CheckFault)
-    → count ≡ length arms → IsBreachOf (index_test site (constants_before count rows) range (context_of old) (viewed old.state)) fault
+    → count ≡ length arms → IsBreachOf (index_test site (constants_before count rows) range (context_of old) (viewed old.flow.state)) fault
     → Goes (case_walk site index rows (map statement_walk arms) (Ordinal range)) old before (Err fault) new after
 case-not_tested site index rows arms range count old new before after fault count_is is =
     let inner = map statement_walk arms in
     let many : count ≡ length inner = count_is ∙ sym (length-map arms statement_walk) in
     let rest = λ (base : State). arms_walk base (root_of (condition_of index).form) rows inner in
     goes-stopped (index_test site (constants_before (length inner) rows) range) rest old new before after fault
-    (subst (λ n. IsBreachOf (index_test site (constants_before n rows) range (context_of old) (viewed old.state)) fault) many is)
+    (subst (λ n. IsBreachOf (index_test site (constants_before n rows) range (context_of old) (viewed old.flow.state)) fault) many is)
 
 -- ---- the test of an index
 
@@ -86,7 +86,7 @@ pub index-done : (site : ℕ) (constants : List ℤ) (range : Interval) (closed 
     (visits : Visits)
     → closed ≡ is_covered range constants → passed ≡ common range (hull constants)
     → Walks (tested closed site passed) old visits mid visits value
-    → base ≡ mid.state → viewed new.state ≡ Dead → new ≡ record mid { state = new.state }
+    → base ≡ mid.flow.state → viewed new.flow.state ≡ Dead → new ≡ at_state new.flow.state mid
     → Walks (index_test site constants range) old visits new visits (viewed base)
 index-done site constants range closed passed value base old mid new visits closed_is passed_is one base_is dead only =
     let first = tested (is_covered range constants) site (common range (hull constants)) in
@@ -96,18 +96,20 @@ index-done site constants range closed passed value base old mid new visits clos
     (subst (λ p. Walks (tested closed site p) old visits mid visits value) passed_is one))
     (record {
       context_is = ap context_of only;
-      value_is = ap viewed base_is;
-      state_is = dead;
-      open_is = ap (λ (w : Walk). w.open_ids.items) only ∙ sym (append-nil mid.open_ids.items);
-      visits_are = refl;
-      unbroken = refl;
+      flows = record {
+        value_is = ap viewed base_is;
+        state_is = dead;
+        open_is = ap (λ (w : Walk). w.flow.open_ids.items) only ∙ sym (append-nil mid.flow.open_ids.items);
+        visits_are = refl;
+        unbroken = refl;
+      };
     })
 
 -- the checker gave up there
 pub index-stopped : (site : ℕ) (constants : List ℤ) (range : Interval) (closed : Bool) (passed : Interval) (old new : Walk) (visits : Visits)
     (fault : CheckFault) (result : Result Kept CheckFault)
     → closed ≡ is_covered range constants → passed ≡ common range (hull constants) → IsErr result × IsErrAnd result (λ e. e ≡ fault)
-    → IsBreachOf (tested closed site passed (context_of old) (viewed old.state)) fault
+    → IsBreachOf (tested closed site passed (context_of old) (viewed old.flow.state)) fault
     → Goes (index_test site constants range) old visits (said_state result) new visits
 index-stopped site constants range closed passed old new visits fault (Ok base) closed_is passed_is left stopped = absurd left.1
 index-stopped site constants range closed passed old new visits fault (Err other) closed_is passed_is left stopped =
@@ -115,41 +117,44 @@ index-stopped site constants range closed passed old new visits fault (Err other
     let rest = here >>= λ base. (with_state Dead >>= λ _. give base) in
     subst (λ f. Goes {A = State} (index_test site constants range) old visits (Err f) new visits) (sym left.1)
     (goes-stopped first (λ _. rest) old new visits visits fault
-    (subst (λ c. IsBreachOf (tested c site (common range (hull constants)) (context_of old) (viewed old.state)) fault) closed_is
-    (subst (λ p. IsBreachOf (tested closed site p (context_of old) (viewed old.state)) fault) passed_is stopped)))
+    (subst (λ c. IsBreachOf (tested c site (common range (hull constants)) (context_of old) (viewed old.flow.state)) fault) closed_is
+    (subst (λ p. IsBreachOf (tested closed site p (context_of old) (viewed old.flow.state)) fault) passed_is stopped)))
 
 -- ---- an arm
 
-module _ (start : Kept) (arm : Walking (Unit {0})) (old begun : Walk) (begins : begun.state ≡ start) (only : begun ≡ record old { state = begun.state }) where
+module _ (start : Kept) (arm : Walking (Unit {0})) (old begun : Walk) (begins : begun.flow.state ≡ start)
+    (only : begun ≡ at_state begun.flow.state old) where
   abbrev was : Walked (Unit {0})
   was = arm (context_of old) (viewed start)
 
   moved : IsMoved (viewed start) old begun
   moved = record { only_state = only; says = ap viewed begins }
 
-  same : arm (context_of begun) (viewed begun.state) ≡ was
+  same : arm (context_of begun) (viewed begun.flow.state) ≡ was
   same = moved-same arm (viewed start) old begun moved
 
-  pub arm-done : (behind : Kept) (done new : Walk) (before after : Visits) (result : Result (Unit {0}) CheckFault) → behind ≡ old.state
+  pub arm-done : (behind : Kept) (done new : Walk) (before after : Visits) (result : Result (Unit {0}) CheckFault) → behind ≡ old.flow.state
       → Walks arm begun before done after tt → Meets behind done result new → Goes (arm_walk (viewed start) arm) old before result new after
   arm-done behind done new before after (Ok value) behind_is one met = record {
     context_is = ap context_of met.only_state ∙ one.context_is ∙ ap context_of only;
-    value_is = refl;
-    state_is = met.says ∙ ap (λ s. joined_states s (viewed done.state)) (ap viewed behind_is)
-        ∙ ap (joined_states (viewed old.state)) (one.state_is ∙ ap (λ w. w.after) same);
-    open_is = ap (λ (w : Walk). w.open_ids.items) met.only_state ∙ one.open_is
-        ∙ ap (λ (w : Walk). w.open_ids.items ++ (arm (context_of begun) (viewed begun.state)).open_ids) only
-        ∙ ap (λ w. old.open_ids.items ++ w.open_ids) same;
-    visits_are = one.visits_are ∙ ap (λ w. all_counted (numbers_of w.linked) before) same;
-    unbroken = ap (λ w. w.broken) (sym same) ∙ one.unbroken;
+    flows = record {
+      value_is = refl;
+      state_is = met.says ∙ ap (λ s. joined_states s (viewed done.flow.state)) (ap viewed behind_is)
+          ∙ ap (joined_states (viewed old.flow.state)) (one.flows.state_is ∙ ap (λ w. w.after) same);
+      open_is = ap (λ (w : Walk). w.flow.open_ids.items) met.only_state ∙ one.flows.open_is
+          ∙ ap (λ (w : Walk). w.flow.open_ids.items ++ (arm (context_of begun) (viewed begun.flow.state)).open_ids) only
+          ∙ ap (λ w. old.flow.open_ids.items ++ w.open_ids) same;
+      visits_are = one.flows.visits_are ∙ ap (λ w. all_counted (numbers_of w.linked) before) same;
+      unbroken = ap (λ w. w.broken) (sym same) ∙ one.flows.unbroken;
+    };
   }
   arm-done behind done new before after (Err fault) behind_is one is =
-      subst (IsBreachOf (arm_walk (viewed start) arm (context_of old) (viewed old.state))) (sym is) tt
+      subst (IsBreachOf (arm_walk (viewed start) arm (context_of old) (viewed old.flow.state))) (sym is) tt
 
-  pub arm-stopped : (new : Walk) (before after : Visits) (fault : CheckFault) → IsBreachOf (arm (context_of begun) (viewed begun.state)) fault
+  pub arm-stopped : (new : Walk) (before after : Visits) (fault : CheckFault) → IsBreachOf (arm (context_of begun) (viewed begun.flow.state)) fault
       → Goes (arm_walk (viewed start) arm) old before (Err fault) new after
   arm-stopped new before after fault is =
-      breach-same (arm (context_of begun) (viewed begun.state)) (arm_walk (viewed start) arm (context_of old) (viewed old.state)) fault
+      breach-same (arm (context_of begun) (viewed begun.flow.state)) (arm_walk (viewed start) arm (context_of old) (viewed old.flow.state)) fault
       (ap (λ w. w.broken) same) is
 
 -- ---- the arms, from one of them on
@@ -195,13 +200,13 @@ module _ (base : State) (index : Option ℕ) (rows : List (Vec ℤ Global)) (arm
       (subst (λ s. Walks (arm_walk s (statement_walk arm)) old before mid between value) start_is one) two)
 
   pub arms-stopped : (old new : Walk) (before after : Visits) (fault : CheckFault)
-      → IsBreachOf (arm_walk start (statement_walk arm) (context_of old) (viewed old.state)) fault
+      → IsBreachOf (arm_walk start (statement_walk arm) (context_of old) (viewed old.flow.state)) fault
       → Goes (arms_from base index rows arms i) old before (Err fault) new after
   arms-stopped old new before after fault stopped =
       goes-as (arms_from base index rows arms i) (first >>= λ _. arms_from base index rows arms (i + 1)) old new before after (Err fault)
       (from-cut base index rows arms i arm inside is)
       (goes-stopped first (λ _. arms_from base index rows arms (i + 1)) old new before after fault
-      (subst (λ s. IsBreachOf (arm_walk s (statement_walk arm) (context_of old) (viewed old.state)) fault) start_is stopped))
+      (subst (λ s. IsBreachOf (arm_walk s (statement_walk arm) (context_of old) (viewed old.flow.state)) fault) start_is stopped))
 
 pub arms-end : (base : State) (index : Option ℕ) (rows : List (Vec ℤ Global)) (arms : List Stmt) (i : ℕ) (old : Walk) (visits : Visits) → length arms ≤ i
     → Goes (arms_from base index rows arms i) old visits (Ok tt) old visits

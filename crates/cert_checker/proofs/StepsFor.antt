@@ -9,24 +9,25 @@ use Rattle.typed_tree.specs.declared.tree.RangeTest.{RangeTest}
 use Rattle.typed_tree.specs.declared.tree.Stmt.{Stmt}
 use Rattle.typed_tree.specs.declared.tree.Stmt.TheVariants as stmt
 use Rattle.typed_tree.specs.declared.tree.Stmt.TheFolds.{the_lemmas as stmt_lemmas}
-use Rattle.cert_checker.specs.declared.fault.CheckFault.{CheckFault}
-use Rattle.cert_checker.specs.declared.visits.Visits.{Visits}
+use Rattle.expression_checker.specs.declared.fault.CheckFault.{CheckFault}
+use Rattle.expression_checker.specs.Visits.{Visits, all_counted}
 use Rattle.cert_checker.specs.declared.walk.Walk.{Walk}
 use Rattle.abstract_state.specs.declared.known.Known.{Known}
 use Rattle.abstract_state.specs.declared.state.State.{State as Kept}
 use Rattle.abstract_state.specs.View.{viewed}
 use Rattle.abstract_state.specs.State.{State, joined_states, limits_of}
 use Rattle.abstract_state.specs.Loops.{with_undefined}
-use Rattle.cert_checker.specs.Promise.{IsBreachOf}
+use Rattle.expression_checker.specs.Walk.{IsBreachOf, Walked, Walking, ◌>>=◌, enter, followed, give, numbers_of, value_walk, within}
 use Rattle.std.specs.Result.{IsErr, IsErrAnd}
 use Rattle.domain.specs.Interval.{Interval}
 use Rattle.abstract_state.specs.declared.known.Known.TheVariants.{Ordinal}
 use Rattle.structured_states.specs.declared.ways.Way.{Way as KeptWay}
 use Rattle.structured_states.specs.Ways.{End, Way, end_of, met, turn_begun, turn_ended, way_of, way_out, where_counts, with_values}
-use Rattle.cert_checker.specs.Walk.{Walked, Walking, ◌>>=◌, assign, changed_by, control_change, enter, followed, for_round, for_turns, for_walk, give}
-use Rattle.cert_checker.specs.Walk.{loop_walk, numbers_of, parted, rounds_of, statement_walk, steady_in, tested_end, tested_way, value_walk, with_state, within}
-use Rattle.cert_checker.specs.View.{Goes, IsMoved, Moves, Parts, Walks, all_counted, context_of, said_tested}
-use Rattle.cert_checker.proofs.Steps.{breach-same, breach-stays, branches-stopped, goes-as, goes-stopped, goes-then, moved-same, walks-give}
+use Rattle.cert_checker.specs.Walk.{assign, changed_by, control_change, for_round, for_turns, for_walk, loop_walk, parted, rounds_of, statement_walk, steady_in}
+use Rattle.cert_checker.specs.Walk.{tested_end, tested_way, with_state}
+use Rattle.cert_checker.specs.View.{Goes, IsMoved, Moves, Parts, Walks, context_of, said_tested}
+use Rattle.expression_checker.proofs.Steps.{breach-same, breach-stays}
+use Rattle.cert_checker.proofs.Steps.{branches-stopped, goes-as, goes-stopped, goes-then, moved-same, walks-give}
 
 pub statement-For : (number loop_number : ℕ) (place : SourcePlace) (control : ℕ) (first : Expr) (first_fits : RangeTest) (direction : Direction) (last : Expr)
     (last_fits : RangeTest) (body : Box Stmt Global)
@@ -65,7 +66,7 @@ pub for-last_stopped : (statement : Stmt) (number loop_number : ℕ) (place : So
     (before between middle after : Visits) (fault : CheckFault)
     → statement ≡ stmt.For number loop_number place control first first_fits direction last last_fits body
     → Walks (enter number) old before entered between tt → Walks (value_walk first) entered between begun middle from
-    → IsBreachOf (value_walk last (context_of begun) (viewed begun.state)) fault → Goes (statement_walk statement) old before (Err fault) new after
+    → IsBreachOf (value_walk last (context_of begun) (viewed begun.flow.state)) fault → Goes (statement_walk statement) old before (Err fault) new after
 for-last_stopped statement number loop_number place control first first_fits direction last last_fits body from old entered begun new before between middle
     after fault is one two stopped =
     let walked = λ (from to : Known). for_walk loop_number place (statement_walk body.value)
@@ -79,18 +80,20 @@ for-last_stopped statement number loop_number place control first first_fits dir
 
 -- two walks that are the same from here
 pub goes-here : {A : Type 0} (walk form : Walking A) (old new : Walk) (before after : Visits) (result : Result A CheckFault)
-    → walk (context_of old) (viewed old.state) ≡ form (context_of old) (viewed old.state)
+    → walk (context_of old) (viewed old.flow.state) ≡ form (context_of old) (viewed old.flow.state)
     → Goes form old before result new after → Goes walk old before result new after
 goes-here walk form old new before after (Ok value) is one = record {
   context_is = one.context_is;
-  value_is = one.value_is ∙ ap (λ w. w.value) (sym is);
-  state_is = one.state_is ∙ ap (λ w. w.after) (sym is);
-  open_is = one.open_is ∙ ap (λ w. old.open_ids.items ++ w.open_ids) (sym is);
-  visits_are = one.visits_are ∙ ap (λ w. all_counted (numbers_of w.linked) before) (sym is);
-  unbroken = ap (λ w. w.broken) is ∙ one.unbroken;
+  flows = record {
+    value_is = one.flows.value_is ∙ ap (λ w. w.value) (sym is);
+    state_is = one.flows.state_is ∙ ap (λ w. w.after) (sym is);
+    open_is = one.flows.open_is ∙ ap (λ w. old.flow.open_ids.items ++ w.open_ids) (sym is);
+    visits_are = one.flows.visits_are ∙ ap (λ w. all_counted (numbers_of w.linked) before) (sym is);
+    unbroken = ap (λ w. w.broken) is ∙ one.flows.unbroken;
+  };
 }
 goes-here walk form old new before after (Err fault) is one =
-    breach-same (form (context_of old) (viewed old.state)) (walk (context_of old) (viewed old.state)) fault (ap (λ w. w.broken) (sym is)) one
+    breach-same (form (context_of old) (viewed old.flow.state)) (walk (context_of old) (viewed old.flow.state)) fault (ap (λ w. w.broken) (sym is)) one
 
 -- where there are values and where there are none, and behind both
 pub for-done : (number : ℕ) (place : SourcePlace) (body : Walking (Unit {0})) (way : Way) (never : Kept) (old taken mid new : Walk) (before after : Visits)
@@ -100,29 +103,31 @@ pub for-done : (number : ℕ) (place : SourcePlace) (body : Walking (Unit {0})) 
     → Goes (for_walk number place body way) old before result new after
 for-done number place body way never old taken mid new before after (Ok value) parts one left =
     let turns = for_turns number place body way in
-    let first : Walked (Unit {0}) = turns (context_of old) (where_counts true way (viewed old.state)) in
-    let same = moved-same turns (where_counts true way (viewed old.state)) old taken parts.0 in
+    let first : Walked (Unit {0}) = turns (context_of old) (where_counts true way (viewed old.flow.state)) in
+    let same = moved-same turns (where_counts true way (viewed old.flow.state)) old taken parts.0 in
     let undefined = with_undefined way.control in
     record {
       context_is = ap context_of left.only_state ∙ one.context_is ∙ ap context_of parts.0.only_state;
-      value_is = refl;
-      state_is = left.says ∙ ap (λ s. undefined (joined_states s (viewed never))) (one.state_is ∙ ap (λ w. w.after) same)
-          ∙ ap (λ s. undefined (joined_states first.after s)) parts.1;
-      open_is = ap (λ (w : Walk). w.open_ids.items) left.only_state ∙ one.open_is
-          ∙ ap (λ (w : Walk). w.open_ids.items ++ (turns (context_of taken) (viewed taken.state)).open_ids) parts.0.only_state
-          ∙ ap (λ w. old.open_ids.items ++ w.open_ids) same
-          ∙ ap (λ ids. old.open_ids.items ++ ids) (sym (append-nil first.open_ids) ∙ sym (append-nil (first.open_ids ++ [])));
-      visits_are = one.visits_are ∙ ap (λ w. all_counted (numbers_of w.linked) before) same
-          ∙ ap (λ linked. all_counted (numbers_of linked) before) (sym (append-nil first.linked) ∙ sym (append-nil (first.linked ++ [])));
-      unbroken = append-nil (first.broken ++ []) ∙ append-nil first.broken ∙ ap (λ w. w.broken) (sym same) ∙ one.unbroken;
+      flows = record {
+        value_is = refl;
+        state_is = left.says ∙ ap (λ s. undefined (joined_states s (viewed never))) (one.flows.state_is ∙ ap (λ w. w.after) same)
+            ∙ ap (λ s. undefined (joined_states first.after s)) parts.1;
+        open_is = ap (λ (w : Walk). w.flow.open_ids.items) left.only_state ∙ one.flows.open_is
+            ∙ ap (λ (w : Walk). w.flow.open_ids.items ++ (turns (context_of taken) (viewed taken.flow.state)).open_ids) parts.0.only_state
+            ∙ ap (λ w. old.flow.open_ids.items ++ w.open_ids) same
+            ∙ ap (λ ids. old.flow.open_ids.items ++ ids) (sym (append-nil first.open_ids) ∙ sym (append-nil (first.open_ids ++ [])));
+        visits_are = one.flows.visits_are ∙ ap (λ w. all_counted (numbers_of w.linked) before) same
+            ∙ ap (λ linked. all_counted (numbers_of linked) before) (sym (append-nil first.linked) ∙ sym (append-nil (first.linked ++ [])));
+        unbroken = append-nil (first.broken ++ []) ∙ append-nil first.broken ∙ ap (λ w. w.broken) (sym same) ∙ one.flows.unbroken;
+      };
     }
 for-done number place body way never old taken mid new before after (Err fault) parts one left =
-    subst (IsBreachOf (for_walk number place body way (context_of old) (viewed old.state))) (sym left) tt
+    subst (IsBreachOf (for_walk number place body way (context_of old) (viewed old.flow.state))) (sym left) tt
 
 pub for-stopped : (number : ℕ) (place : SourcePlace) (body : Walking (Unit {0})) (way : Way) (never : Kept) (old taken new : Walk) (before after : Visits)
     (fault : CheckFault)
     → Parts (where_counts true way) (where_counts false way) old (Ok never) taken
-    → IsBreachOf (for_turns number place body way (context_of taken) (viewed taken.state)) fault
+    → IsBreachOf (for_turns number place body way (context_of taken) (viewed taken.flow.state)) fault
     → Goes (for_walk number place body way) old before (Err fault) new after
 for-stopped number place body way never old taken new before after fault parts is =
     let turns = for_turns number place body way in
@@ -131,42 +136,44 @@ for-stopped number place body way never old taken new before after fault parts i
     (branches-stopped (where_counts true way) (where_counts false way) turns (give tt) old taken new before after never fault parts is)
 
 -- a round of a for
-module _ (way : Way) (body : Walking (Unit {0})) (old begun : Walk) (moved : IsMoved (turn_begun way (viewed old.state)) old begun) where
+module _ (way : Way) (body : Walking (Unit {0})) (old begun : Walk) (moved : IsMoved (turn_begun way (viewed old.flow.state)) old begun) where
   abbrev was : Walked (Unit {0})
-  was = body (context_of old) (turn_begun way (viewed old.state))
+  was = body (context_of old) (turn_begun way (viewed old.flow.state))
 
-  same : body (context_of begun) (viewed begun.state) ≡ was
-  same = moved-same body (turn_begun way (viewed old.state)) old begun moved
+  same : body (context_of begun) (viewed begun.flow.state) ≡ was
+  same = moved-same body (turn_begun way (viewed old.flow.state)) old begun moved
 
   pub for_round-done : (bodied new : Walk) (before after : Visits) (behind : Kept) → Walks body begun before bodied after tt
       → Parts (turn_ended way) (way_out way) bodied (Ok behind) new
       → Walks (for_round way body) old before new after (viewed behind)
   for_round-done bodied new before after behind one parts =
-      let after_is = one.state_is ∙ ap (λ w. w.after) same in
+      let after_is = one.flows.state_is ∙ ap (λ w. w.after) same in
       record {
         context_is = ap context_of parts.0.only_state ∙ one.context_is ∙ ap context_of moved.only_state;
-        value_is = parts.1 ∙ ap (way_out way) after_is;
-        state_is = parts.0.says ∙ ap (turn_ended way) after_is;
-        open_is = ap (λ (w : Walk). w.open_ids.items) parts.0.only_state ∙ one.open_is
-            ∙ ap (λ (w : Walk). w.open_ids.items ++ (body (context_of begun) (viewed begun.state)).open_ids) moved.only_state
-            ∙ ap (λ w. old.open_ids.items ++ w.open_ids) same ∙ ap (λ ids. old.open_ids.items ++ ids) (sym (append-nil was.open_ids));
-        visits_are = one.visits_are ∙ ap (λ w. all_counted (numbers_of w.linked) before) same
-            ∙ ap (λ linked. all_counted (numbers_of linked) before) (sym (append-nil was.linked));
-        unbroken = append-nil was.broken ∙ ap (λ w. w.broken) (sym same) ∙ one.unbroken;
+        flows = record {
+          value_is = parts.1 ∙ ap (way_out way) after_is;
+          state_is = parts.0.says ∙ ap (turn_ended way) after_is;
+          open_is = ap (λ (w : Walk). w.flow.open_ids.items) parts.0.only_state ∙ one.flows.open_is
+              ∙ ap (λ (w : Walk). w.flow.open_ids.items ++ (body (context_of begun) (viewed begun.flow.state)).open_ids) moved.only_state
+              ∙ ap (λ w. old.flow.open_ids.items ++ w.open_ids) same ∙ ap (λ ids. old.flow.open_ids.items ++ ids) (sym (append-nil was.open_ids));
+          visits_are = one.flows.visits_are ∙ ap (λ w. all_counted (numbers_of w.linked) before) same
+              ∙ ap (λ linked. all_counted (numbers_of linked) before) (sym (append-nil was.linked));
+          unbroken = append-nil was.broken ∙ ap (λ w. w.broken) (sym same) ∙ one.flows.unbroken;
+        };
       }
 
-  pub for_round-stopped : (new : Walk) (before after : Visits) (fault : CheckFault) → IsBreachOf (body (context_of begun) (viewed begun.state)) fault
+  pub for_round-stopped : (new : Walk) (before after : Visits) (fault : CheckFault) → IsBreachOf (body (context_of begun) (viewed begun.flow.state)) fault
       → Goes (for_round way body) old before (Err fault) new after
   for_round-stopped new before after fault is =
       let ended = with_state (turn_ended way was.after) (context_of old) was.after in
       let rest : Walked State = followed ended (give (way_out way was.after) (context_of old) ended.after) in
-      breach-stays was rest fault (for_round way body (context_of old) (viewed old.state)) refl
-      (breach-same (body (context_of begun) (viewed begun.state)) was fault (ap (λ w. w.broken) same) is)
+      breach-stays was rest fault (for_round way body (context_of old) (viewed old.flow.state)) refl
+      (breach-same (body (context_of begun) (viewed begun.flow.state)) was fault (ap (λ w. w.broken) same) is)
 
 -- the tests of both bounds
 module _ (place : SourcePlace) (way : Way) (old : Walk) where
   abbrev start : State
-  start = viewed old.state
+  start = viewed old.flow.state
 
   pub way-given_up : (new : Walk) (visits : Visits) (fault : CheckFault) (result : Result KeptWay CheckFault)
       → IsErr result × IsErrAnd result (λ e. e ≡ fault) → Goes {A = Way} (tested_way place way) old visits (Err fault) new visits
@@ -210,12 +217,12 @@ module _ (place : SourcePlace) (way : Way) (old : Walk) where
         (goes-then (tested_end start way.first) from_first old one new visits visits visits first result
         (subst (λ r. Walks (first_test r) old visits one visits first) first_is passed) then)
 
-    pub last-stopped : (new : Walk) (fault : CheckFault) → IsBreachOf (last_test last_range (context_of one) (viewed one.state)) fault
+    pub last-stopped : (new : Walk) (fault : CheckFault) → IsBreachOf (last_test last_range (context_of one) (viewed one.flow.state)) fault
         → Goes {A = Way} (tested_way place way) old visits (Err fault) new visits
     last-stopped new fault stopped =
         first-goes new (Err fault)
         (goes-stopped (tested_end start way.last) (from_last first) one new visits visits fault
-        (subst (λ r. IsBreachOf (last_test r (context_of one) (viewed one.state)) fault) last_is stopped))
+        (subst (λ r. IsBreachOf (last_test r (context_of one) (viewed one.flow.state)) fault) last_is stopped))
 
     module _ (two : Walk) (last : Interval) (passed_too : Walks (last_test last_range) one visits two visits last) where
       last-goes : (new : Walk) (result : Result Way CheckFault) → Goes (from_last first last) two visits result new visits
@@ -226,7 +233,7 @@ module _ (place : SourcePlace) (way : Way) (old : Walk) where
           (subst (λ r. Walks (last_test r) one visits two visits last) last_is passed_too) then)
 
       pub control-stopped : (new : Walk) (fault : CheckFault)
-          → IsBreachOf (control_change place way.control way.first.fits.range way.last.fits.range (context_of two) (viewed two.state)) fault
+          → IsBreachOf (control_change place way.control way.first.fits.range way.last.fits.range (context_of two) (viewed two.flow.state)) fault
           → Goes {A = Way} (tested_way place way) old visits (Err fault) new visits
       control-stopped new fault stopped =
           last-goes new (Err fault)
@@ -247,13 +254,13 @@ module _ (number : ℕ) (place : SourcePlace) (body : Walking (Unit {0})) (way :
   abbrev from_tests : Way → Walking (Unit {0})
   from_tests tested = assign tested.control tested.first.form (Ordinal tested.first.values) >>= λ _. rounds_of number place body tested
 
-  pub turns-not_tested : (new : Walk) (before after : Visits) (fault : CheckFault) → IsBreachOf (tested_way place way (context_of old) (viewed old.state)) fault
+  pub turns-not_tested : (new : Walk) (before after : Visits) (fault : CheckFault) → IsBreachOf (tested_way place way (context_of old) (viewed old.flow.state)) fault
       → Goes (for_turns number place body way) old before (Err fault) new after
   turns-not_tested new before after fault stopped = goes-stopped (tested_way place way) from_tests old new before after fault stopped
 
   module _ (one : Walk) (before : Visits) (tested : Way) (done : Walks (tested_way place way) old before one before tested) where
     pub turns-not_begun : (new : Walk) (after : Visits) (fault : CheckFault)
-        → IsBreachOf (assign tested.control tested.first.form (Ordinal tested.first.values) (context_of one) (viewed one.state)) fault
+        → IsBreachOf (assign tested.control tested.first.form (Ordinal tested.first.values) (context_of one) (viewed one.flow.state)) fault
         → Goes (for_turns number place body way) old before (Err fault) new after
     turns-not_begun new after fault stopped =
         goes-then (tested_way place way) from_tests old one new before before after tested (Err fault) done

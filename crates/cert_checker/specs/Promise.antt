@@ -1,7 +1,7 @@
 -- What a verdict promises: the list of open sites, and of the runs of a program that they err at its open sites alone
 -- (ISO 7185:1990, 3.1), and that at each entry the states of the walk hold; and why a certificate gets no verdict. It
 -- does not say that an open site can err.
-use Rattle.std.specs.Prelude.{◌≡◌, ℕ, true, false, List, [], ◌∷◌, ◌==◌, Contains, Option, Some, None, filter, length}
+use Rattle.std.specs.Prelude.{◌≡◌, ℕ, true, false, List, [], ◌==◌, Contains, filter, length}
 use Rattle.std.specs.List.{list_any, range_with_len}
 use Rattle.certificate.specs.declared.Certificate.{Certificate}
 use Rattle.typed_tree.specs.declared.tree.Tree.{Tree}
@@ -9,14 +9,16 @@ use Rattle.typed_tree.specs.declared.tree.Block.{Block}
 use Rattle.typed_tree.specs.declared.site.Site.{Site}
 use Rattle.typed_tree.specs.Entries.{entries_of, entries_of_statement}
 use Rattle.meaning.specs.declared.outcome.Ending.TheVariants.{Error}
-use Rattle.meaning.specs.Effect.{Reply, Gives, Stops, Visit}
+use Rattle.meaning.specs.Effect.{Visit}
 use Rattle.meaning.specs.Meaning.{run, meaning}
 use Rattle.abstract_state.specs.State.{State}
-use Rattle.cert_checker.specs.declared.fault.CheckFault.{CheckFault}
-use Rattle.cert_checker.specs.declared.fault.CheckFault.TheVariants.{Memory, Foreign, Broken}
+use Rattle.expression_checker.specs.declared.fault.CheckFault.{CheckFault}
+use Rattle.expression_checker.specs.declared.fault.CheckFault.TheVariants.{Memory, Foreign, Broken}
 use Rattle.cert_checker.specs.Names.{is_known}
-use Rattle.cert_checker.specs.Walk.{Breach, Context, Linked, Walked, block_walk, program_walk, numbers_of}
-use Rattle.abstract_state.specs.Holds.{Moment, StateHolds, Separate}
+use Rattle.expression_checker.specs.Visits.{moment_of, visits_of}
+use Rattle.expression_checker.specs.Walk.{Context, IsBreachOf, Linked, numbers_of}
+use Rattle.cert_checker.specs.Walk.{block_walk, program_walk}
+use Rattle.abstract_state.specs.Holds.{StateHolds, Separate}
 
 -- the sites of the table that the walk leaves open, in the order of the table
 abbrev pub open_in : List ℕ → List Site → List Site
@@ -28,17 +30,6 @@ pub record Valid (tree : Tree) (certificate : Certificate) (open_sites : List Si
   pub known : is_known tree certificate ≡ true
   pub unbroken : (program_walk tree certificate).broken ≡ []
   pub open_are : open_sites ≡ open_in (program_walk tree certificate).open_ids tree.sites.items
-
--- the first breach of a list, if there is one
-abbrev pub first_breach : List Breach → Option Breach
-first_breach [] = None
-first_breach (breach ∷ breaches) = Some breach
-
--- why a walk by a certificate is given up: for the first rule that it breaks, or for want of memory
-abbrev pub IsBreachOf : {A : Type 0} → Walked A → CheckFault → Type 0
-IsBreachOf walked Memory = Unit {0}
-IsBreachOf walked Foreign = ⊥
-IsBreachOf walked (Broken rule place) = first_breach walked.broken ≡ Some (record { rule = rule; place = place })
 
 -- why a certificate is refused: it names what the program doesn't have; or the walk by it breaks a rule; or for want of
 -- memory
@@ -63,15 +54,6 @@ pub record LinksEntries (tree : Tree) (certificate : Certificate) : Type 0 where
 -- the entries of a program are numbered from 0, in the order of the text
 abbrev pub AreNumbered : Tree → Type 0
 AreNumbered tree = entries_of tree ≡ range_with_len 0 (length (entries_of tree))
-
--- the entries of a run
-abbrev pub visits_of : {A : Type 0} → Reply A → List Visit
-visits_of (Gives done state) = state.visited
-visits_of (Stops ending state) = state.visited
-
--- the moment of an entry
-abbrev pub moment_of : Visit → Moment
-moment_of visit = record { environment = visit.environment; store = visit.store }
 
 -- a state is linked to the number of an entry, and each that is linked to it holds there
 pub record HoldsAt (linked : List Linked) (visit : Visit) : Type 0 where

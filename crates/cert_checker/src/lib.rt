@@ -9,19 +9,17 @@ ghost use Rattle.cert_checker.specs.Promise.{AreNumbered, ClosedNeverErr, IsRefu
 ghost use Rattle.cert_checker.specs.Promise.{Valid};
 ghost use Rattle.cert_checker.specs.Walk.{program_walk};
 
-pub mod fault;
 mod names;
 mod open_sites;
-mod visits;
 mod walk;
 
 use certificate::Certificate;
-use fault::CheckFault;
+use expression_checker::fault::CheckFault;
+use expression_checker::visits::Visits;
 use open_sites::open_sites;
 use std::alloc::Global;
 use typed_tree::site::Site;
 use typed_tree::tree::Tree;
-use visits::Visits;
 
 /// What the checker found out of a program.
 #[derive(Drop)]

@@ -1,42 +1,40 @@
 ghost use Rattle.std.specs.Prelude.{◌≡◌, ◌&&◌, [], true, false, map, IfOk, MatchResult};
-ghost use Rattle.cert_checker.specs.Walk.{enter, variable_walk, tested, within, positive, divisor, whole, operated};
-ghost use Rattle.cert_checker.specs.Walk.{combined, value_walk, link_walk, width_test, width_walk, parameter_walk};
-ghost use Rattle.cert_checker.specs.Walk.{all_of, fitting, assignment, assign, change, control_change, may_control};
-ghost use Rattle.cert_checker.specs.Walk.{where_so, while_round, repeat_round, for_round, rounds_of, for_turns};
-ghost use Rattle.cert_checker.specs.Walk.{for_walk, index_test, arm_walk, arms_walk, case_walk, tested_way, steady_in};
-ghost use Rattle.cert_checker.specs.Walk.{statement_walk, block_walk, program_walk};
+ghost use Rattle.domain.specs.Interval.{is_included};
 ghost use Rattle.typed_tree.specs.Entries.{entries_of};
-ghost use Rattle.structured_states.specs.View.{said_way};
-ghost use Rattle.cert_checker.specs.View.{EntersLoop, Goes, IsBegun, IsLoop, LeavesLoop, Meets, Moves, Parts};
-ghost use Rattle.cert_checker.specs.View.{all_counted, context_of, else_walk, said_state, said_tested};
 ghost use Rattle.abstract_state.specs.declared.known.Known.TheVariants.{Ordinal};
-ghost use Rattle.abstract_state.specs.View.{said_form, viewed};
+ghost use Rattle.abstract_state.specs.Conditions.{bound_form};
 ghost use Rattle.abstract_state.specs.Loops.{with_undefined};
 ghost use Rattle.abstract_state.specs.State.{joined_states, limits_of};
-ghost use Rattle.abstract_state.specs.Conditions.{bound_form};
+ghost use Rattle.abstract_state.specs.View.{said_form, viewed};
 ghost use Rattle.structured_states.specs.Cases.{constants_before};
 ghost use Rattle.structured_states.specs.Loops.{limits_at};
-ghost use Rattle.cert_checker.specs.Promise.{IsBreachOf};
-ghost use Rattle.domain.specs.Interval.{is_included};
+ghost use Rattle.structured_states.specs.View.{said_way};
 ghost use Rattle.structured_states.specs.Ways.{turn_begun, turn_ended, way_out, where_counts};
+ghost use Rattle.expression_checker.specs.Visits.{Visits, all_counted};
+ghost use Rattle.expression_checker.specs.Walk.{IsBreachOf, enter, parameter_walk, value_walk, within};
+ghost use Rattle.cert_checker.specs.View.{EntersLoop, Goes, IsBegun, IsLoop, LeavesLoop, Meets, Moves, Parts};
+ghost use Rattle.cert_checker.specs.View.{context_of, else_walk, said_state, said_tested};
+ghost use Rattle.cert_checker.specs.Walk.{all_of, arm_walk, arms_walk, assign, assignment, block_walk, case_walk};
+ghost use Rattle.cert_checker.specs.Walk.{change, control_change, for_round, for_turns, for_walk, index_test};
+ghost use Rattle.cert_checker.specs.Walk.{may_control, program_walk, repeat_round, rounds_of, statement_walk};
+ghost use Rattle.cert_checker.specs.Walk.{steady_in, tested_way, where_so, while_round};
 
-use crate::fault::{CheckFault, Rule};
-use crate::visits::Visits;
 use abstract_state::{Known, State, bound_form, entire, limits};
-use certificate::Certificate;
+use certificate::{Certificate, LoopClaims};
 use domain::Domain;
 use domain::interval::Interval;
+use expression_checker::fault::{CheckFault, Rule};
+use expression_checker::flow::Flow;
+use expression_checker::visits::Visits;
 use place::Place;
 use std::alloc::{AllocError, Global};
 use std::mem;
 use structured_states::cases::{arm_start, constants_before, covers};
 use structured_states::rounds::{
-    Round, all_control, all_limits, all_list, claims_on, controls_inside, limits_at,
+    Round, all_claims, all_control, all_limits, all_list, claims_at, controls_inside, limits_at,
 };
 use structured_states::ways::{End, Way};
-use typed_tree::tree::{
-    Access, Block, Dyadic, Expr, Link, Monadic, RangeTest, Stmt, Tree, Width, WriteParameter,
-};
+use typed_tree::tree::{Access, Block, Expr, RangeTest, Stmt, Tree, WriteParameter};
 use types::OrdinalRange;
 
 /// A walk over the statements of a program, in the order in which they are run. The counter of entries is lent to it.
@@ -44,22 +42,20 @@ use types::OrdinalRange;
 pub(crate) struct Walk<'a> {
     alloc: Global,
     tree: &'a Tree,
-    certificate: &'a Certificate,
     /// The values of the variables' types, by root number.
     limits: Vec<Interval>,
+    /// What the certificate claims of the loops, by their numbers.
+    claims: Vec<Option<&'a LoopClaims>>,
     /// The loops round the walk, the outermost first.
     rounds: Vec<Round<'a>>,
-    /// What is known where the walk is.
-    state: State,
-    /// The ids of the sites that the walk leaves open, in its order.
-    open_ids: Vec<u32>,
+    flow: Flow,
 }
 
 /// Walks over a program, block by block; the ids of the sites that it leaves open.
-pub(crate) fn program(
+pub(crate) fn program<'a>(
     alloc: Global,
-    tree: &Tree,
-    certificate: &Certificate,
+    tree: &'a Tree,
+    certificate: &'a Certificate,
     visits: &mut Visits,
 ) -> Result<Vec<u32>, CheckFault>
     ensures sites { IfOk result (λ ids. ids.items ≡ (program_walk tree.now certificate.now).open_ids) }
@@ -69,7 +65,8 @@ pub(crate) fn program(
 {
     let mut walk = Walk::new(alloc, tree, certificate)?;
     walk.blocks(visits)?;
-    Ok(walk.open_ids)
+    let flow = walk.flow;
+    Ok(flow.open_ids)
 }
 
 impl<'a> Walk<'a> {
@@ -84,11 +81,13 @@ impl<'a> Walk<'a> {
         Ok(Walk {
             alloc,
             tree,
-            certificate,
             limits: all_limits(alloc, tree)?,
+            claims: all_claims(alloc, tree, certificate)?,
             rounds: Vec::new(alloc),
-            state: State::Dead,
-            open_ids: Vec::new(alloc),
+            flow: Flow {
+                state: State::Dead,
+                open_ids: Vec::new(alloc),
+            },
         })
     }
 
@@ -105,7 +104,7 @@ impl<'a> Walk<'a> {
     fn block(&mut self, block: &Block, visits: &mut Visits) -> Result<(), CheckFault>
         ensures { Goes (block_walk block.now) self.old visits.old result self.new visits.new }
     {
-        self.state = State::undefined(self.alloc, self.tree.variables.len())?;
+        self.flow.state = State::undefined(self.alloc, self.tree.variables.len())?;
         self.statement(&block.body, visits)
     }
 
@@ -147,7 +146,7 @@ impl<'a> Walk<'a> {
                 let known = self.expression(condition, visits)?;
                 let otherwise = self.part(condition, known)?;
                 self.statement(consequence, visits)?;
-                let behind = mem::replace(&mut self.state, otherwise);
+                let behind = mem::replace(&mut self.flow.state, otherwise);
                 self.alternative(alternative, visits)?;
                 self.meet(behind)
             }
@@ -255,7 +254,7 @@ impl<'a> Walk<'a> {
         self.statements(statements, visits)?;
         let known = self.expression(condition, visits)?;
         let again = self.part(condition, known)?;
-        Ok(mem::replace(&mut self.state, again))
+        Ok(mem::replace(&mut self.flow.state, again))
     }
 
     /// A for, from the values of its bounds.
@@ -369,7 +368,7 @@ impl<'a> Walk<'a> {
         ensures { Goes (arm_walk (viewed start) (statement_walk arm.now)) self.old visits.old result
             self.new visits.new }
     {
-        let behind = mem::replace(&mut self.state, start);
+        let behind = mem::replace(&mut self.flow.state, start);
         self.statement(arm, visits)?;
         self.meet(behind)
     }
@@ -402,7 +401,7 @@ impl<'a> Walk<'a> {
     {
         self.enter(target.number, visits)?;
         let known = self.expression(value, visits)?;
-        let passed = self.fitting(fits, known)?;
+        let passed = self.flow.fitting(fits, known)?;
         self.change(becomes, target.root, fits.range)?;
         self.store(target.root, value, passed)
     }
@@ -413,7 +412,7 @@ impl<'a> Walk<'a> {
             → Goes (assign root (bound_form value.now) passed) self.old visits result self.new visits }
     {
         let range = passed.range();
-        self.state.assign(root, range, bound_form(value))?;
+        self.flow.state.assign(root, range, bound_form(value))?;
         Ok(())
     }
 
@@ -440,102 +439,23 @@ impl<'a> Walk<'a> {
         ensures { Goes (all_of (map parameter_walk parameters.now)) self.old visits.old result self.new visits.new }
     {
         for parameter in parameters {
-            self.parameter(parameter, visits)?;
+            self.flow.parameter(parameter, visits)?;
         }
         Ok(())
-    }
-
-    /// A value that is written, and then its width.
-    fn parameter(
-        &mut self,
-        parameter: &WriteParameter,
-        visits: &mut Visits,
-    ) -> Result<(), CheckFault>
-        ensures { Goes (parameter_walk parameter.now) self.old visits.old result self.new visits.new }
-    {
-        self.expression(&parameter.value, visits)?;
-        self.width(&parameter.width, visits)
-    }
-
-    /// The width of a value that is written.
-    fn width(&mut self, width: &Option<Width>, visits: &mut Visits) -> Result<(), CheckFault>
-        ensures { Goes (width_walk width.now) self.old visits.old result self.new visits.new }
-    {
-        match width {
-            None => Ok(()),
-            Some(width) => {
-                let known = self.expression(&width.value, visits)?;
-                self.width_test(width.site, known)
-            }
-        }
     }
 
     /// What is known of an expression's value.
-    #[cycle(expression)]
     fn expression(&mut self, expression: &Expr, visits: &mut Visits) -> Result<Known, CheckFault>
         ensures { Goes (value_walk expression.now) self.old visits.old result self.new visits.new }
     {
-        match expression {
-            Expr::Constant { number, value } => {
-                self.enter(*number, visits)?;
-                Ok(Known::Ordinal(Interval::between(*value, *value)))
-            }
-            Expr::Variable { access, defined } => self.variable(*access, *defined, visits),
-            Expr::Monadic {
-                number,
-                operation,
-                operand,
-            } => {
-                self.enter(*number, visits)?;
-                let known = self.expression(operand, visits)?;
-                self.operated(*operation, known)
-            }
-            Expr::Chain { first, rest } => {
-                let mut known = self.expression(first, visits)?;
-                for link in rest {
-                    known = self.link(link, known, visits)?;
-                }
-                Ok(known)
-            }
-        }
+        self.flow.expression(expression, visits)
     }
 
-    /// An operator and its right operand, by what is known to its left.
-    #[cycle(expression)]
-    fn link(&mut self, link: &Link, left: Known, visits: &mut Visits) -> Result<Known, CheckFault>
-        ensures { Goes (link_walk link.now left) self.old visits.old result self.new visits.new }
-    {
-        self.enter(link.number, visits)?;
-        let right = self.expression(&link.operand, visits)?;
-        self.combined(link.operation, left, right)
-    }
-
-    /// The use of a variable: it is defined afterwards.
-    fn variable(
-        &mut self,
-        access: Access,
-        defined: u32,
-        visits: &mut Visits,
-    ) -> Result<Known, CheckFault>
-        ensures { Goes (variable_walk access defined) self.old visits.old result self.new visits.new }
-    {
-        self.enter(access.number, visits)?;
-        let is_defined = self.state.is_defined(access.root);
-        let range = self.state.range(access.root);
-        self.state.define(access.root);
-        Ok(Known::Ordinal(self.test(is_defined, defined, range)?))
-    }
-
-    /// Counts the entry into a statement or an expression.
+    /// Counts the entry into a statement or the target of an assignment.
     fn enter(&mut self, number: u32, visits: &mut Visits) -> Result<(), CheckFault>
         ensures { Goes (enter number) self.old visits.old result self.new visits.new }
     {
-        // A tree of so many entries fits no memory, so this never comes: it spares the callers a bound on the tree.
-        if !visits.has_room() {
-            return Err(CheckFault::Memory);
-        }
-        visits.tick(number);
-        Ok(())
+        self.flow.enter(number, visits)
     }
 }
 
@@ -547,9 +467,9 @@ impl<'a> Walk<'a> {
             self.old result self.new }
     {
         let range = known.range();
-        let mut otherwise = self.state.copied(self.alloc)?;
+        let mut otherwise = self.flow.state.copied(self.alloc)?;
         otherwise.branch(condition, range, false)?;
-        self.state.branch(condition, range, true)?;
+        self.flow.state.branch(condition, range, true)?;
         Ok(otherwise)
     }
 
@@ -557,8 +477,8 @@ impl<'a> Walk<'a> {
     fn meet(&mut self, before: State) -> Result<(), CheckFault>
         ensures { Meets before self.old result self.new }
     {
-        let now = mem::replace(&mut self.state, before);
-        self.state.join(self.alloc, now)?;
+        let now = mem::replace(&mut self.flow.state, before);
+        self.flow.state.join(self.alloc, now)?;
         Ok(())
     }
 }
@@ -575,13 +495,13 @@ impl<'a> Walk<'a> {
         ensures { EntersLoop number place control self.old result self.new }
     {
         let round = self.round(number, control);
-        if !round.is_given(&self.state) {
+        if !round.is_given(&self.flow.state) {
             return Err(CheckFault::Broken {
                 rule: Rule::LoopEntry,
                 place,
             });
         }
-        round.head(self.alloc, &mut self.state, &self.limits)?;
+        round.head(self.alloc, &mut self.flow.state, &self.limits)?;
         self.rounds.push(round)?;
         Ok(())
     }
@@ -590,7 +510,7 @@ impl<'a> Walk<'a> {
     fn leave_loop(&mut self, number: u32, place: Place, behind: State) -> Result<(), CheckFault>
         ensures { LeavesLoop number place behind self.old result self.new }
     {
-        let is_given = self.round(number, None).is_given(&self.state);
+        let is_given = self.round(number, None).is_given(&self.flow.state);
         if !is_given {
             return Err(CheckFault::Broken {
                 rule: Rule::LoopTurn,
@@ -598,7 +518,7 @@ impl<'a> Walk<'a> {
             });
         }
         self.rounds.pop();
-        self.state = behind;
+        self.flow.state = behind;
         Ok(())
     }
 
@@ -607,7 +527,7 @@ impl<'a> Walk<'a> {
         ensures { IsLoop number control self.now result }
     {
         Round {
-            claims: claims_on(self.certificate, number),
+            claims: claims_at(&self.claims, number),
             controls: controls_inside(self.tree, number),
             own: control,
         }
@@ -621,9 +541,9 @@ impl<'a> Walk<'a> {
         ensures { Parts (where_counts true (said_way way.now)) (where_counts false (said_way way.now))
             self.old result self.new }
     {
-        let mut never = self.state.copied(self.alloc)?;
+        let mut never = self.flow.state.copied(self.alloc)?;
         way.relate(&mut never, false)?;
-        way.relate(&mut self.state, true)?;
+        way.relate(&mut self.flow.state, true)?;
         Ok(never)
     }
 
@@ -632,8 +552,8 @@ impl<'a> Walk<'a> {
         ensures { Moves (λ state. with_undefined control (joined_states state (viewed never)))
             self.old result self.new }
     {
-        self.state.join(self.alloc, never)?;
-        self.state.undefine(control);
+        self.flow.state.join(self.alloc, never)?;
+        self.flow.state.undefine(control);
         Ok(())
     }
 
@@ -642,8 +562,8 @@ impl<'a> Walk<'a> {
         ensures { (visits : Visits)
             → Goes (tested_way place (said_way way)) self.old visits (said_tested result) self.new visits }
     {
-        let first = way.first.met(&self.state);
-        let last = way.last.met(&self.state);
+        let first = way.first.met(&self.flow.state);
+        let last = way.last.met(&self.flow.state);
         let first = self.tested_end(way.first.fits, first)?;
         let last = self.tested_end(way.last.fits, last)?;
         self.control_change(place, &way)?;
@@ -655,7 +575,7 @@ impl<'a> Walk<'a> {
         ensures { (visits : Visits)
             → Goes (within (limits_of fits.range) fits.site range) self.old visits result self.new visits }
     {
-        self.within(limits(fits.range), fits.site, range)
+        self.flow.within(limits(fits.range), fits.site, range)
     }
 
     /// In each loop round the walk is a for statement that the variable controls, and its values are of its type.
@@ -697,7 +617,7 @@ impl<'a> Walk<'a> {
             → Goes (assign way.now.control (said_form way.now.first.form) (Ordinal way.now.first.values))
             self.old visits result self.new visits }
     {
-        self.state
+        self.flow.state
             .assign(way.control, way.first.values, way.first.form)?;
         Ok(())
     }
@@ -713,7 +633,7 @@ impl<'a> Walk<'a> {
     fn begin_turn(&mut self, way: &Way) -> Result<(), CheckFault>
         ensures { Moves (turn_begun (said_way way.now)) self.old result self.new }
     {
-        way.begin_turn(&mut self.state)?;
+        way.begin_turn(&mut self.flow.state)?;
         Ok(())
     }
 
@@ -721,9 +641,9 @@ impl<'a> Walk<'a> {
     fn end_turn(&mut self, way: &Way) -> Result<State, CheckFault>
         ensures { Parts (turn_ended (said_way way.now)) (way_out (said_way way.now)) self.old result self.new }
     {
-        let mut out = self.state.copied(self.alloc)?;
+        let mut out = self.flow.state.copied(self.alloc)?;
         out.replace(self.alloc, way.control, way.last.form)?;
-        way.end_turn(&mut self.state)?;
+        way.end_turn(&mut self.flow.state)?;
         Ok(out)
     }
 }
@@ -744,115 +664,7 @@ impl<'a> Walk<'a> {
         let constants = constants_before(self.alloc, arms, constants)?;
         let passed = range.meet(&Interval::hull(&constants));
         let closed = covers(self.alloc, &constants, range)?;
-        self.test(closed, site, passed)?;
-        Ok(mem::replace(&mut self.state, State::Dead))
-    }
-}
-
-// Operations and tests, which enter nothing.
-impl<'a> Walk<'a> {
-    /// What an operation gives for a value.
-    fn operated(&mut self, operation: Monadic, known: Known) -> Result<Known, CheckFault>
-        ensures { (visits : Visits) → Goes (operated operation known) self.old visits result self.new visits }
-    {
-        let range = known.range();
-        match operation {
-            Monadic::Plus => Ok(Known::Ordinal(range)),
-            Monadic::Minus => Ok(Known::Ordinal(range.negate())),
-            Monadic::Not => Ok(Known::Ordinal(range.complement())),
-            Monadic::Abs => Ok(Known::Ordinal(range.absolute())),
-            Monadic::Sqr { overflow } => self.whole(overflow, range.square()),
-            Monadic::Odd => Ok(Known::Ordinal(Interval::TRUTH_VALUES)),
-        }
-    }
-
-    /// What an operation gives for two values.
-    fn combined(
-        &mut self,
-        operation: Dyadic,
-        left: Known,
-        right: Known,
-    ) -> Result<Known, CheckFault>
-        ensures { (visits : Visits) → Goes (combined operation left right) self.old visits result self.new visits }
-    {
-        let left = left.range();
-        let right = right.range();
-        match operation {
-            Dyadic::Plus { overflow } => self.whole(overflow, left.add(&right)),
-            Dyadic::Minus { overflow } => self.whole(overflow, left.subtract(&right)),
-            Dyadic::Times { overflow } => self.whole(overflow, left.multiply(&right)),
-            Dyadic::Div { by_zero } => {
-                let divisor = self.divisor(by_zero, right)?;
-                Ok(Known::Ordinal(left.divide(&divisor)))
-            }
-            Dyadic::Mod { by_zero_or_less } => {
-                let divisor = self.positive(by_zero_or_less, right)?;
-                Ok(Known::Ordinal(left.remainder(&divisor)))
-            }
-            Dyadic::And => Ok(Known::Ordinal(left.both(&right))),
-            Dyadic::Or => Ok(Known::Ordinal(left.either(&right))),
-            Dyadic::Relation(_) => Ok(Known::Ordinal(Interval::TRUTH_VALUES)),
-        }
-    }
-
-    /// A result that has to be an integer.
-    fn whole(&mut self, overflow: u32, range: Interval) -> Result<Known, CheckFault>
-        ensures { (visits : Visits) → Goes (whole overflow range) self.old visits result self.new visits }
-    {
-        Ok(Known::Ordinal(self.within(Interval::INTEGER, overflow, range)?))
-    }
-
-    /// A value that has to lie in the range of a type.
-    fn fitting(&mut self, fits: RangeTest, known: Known) -> Result<Known, CheckFault>
-        ensures { (visits : Visits) → Goes (fitting fits known) self.old visits result self.new visits }
-    {
-        let range = known.range();
-        Ok(Known::Ordinal(self.within(limits(fits.range), fits.site, range)?))
-    }
-
-    /// A width has to be at least 1.
-    fn width_test(&mut self, site: u32, known: Known) -> Result<(), CheckFault>
-        ensures { (visits : Visits) → Goes (width_test site known) self.old visits result self.new visits }
-    {
-        let range = known.range();
-        self.positive(site, range)?;
-        Ok(())
-    }
-
-    /// A value that has to lie in limits.
-    fn within(
-        &mut self,
-        limits: Interval,
-        site: u32,
-        range: Interval,
-    ) -> Result<Interval, CheckFault>
-        ensures { (visits : Visits) → Goes (within limits site range) self.old visits result self.new visits }
-    {
-        self.test(range.leq(&limits), site, range.meet(&limits))
-    }
-
-    /// A number that has to be at least 1.
-    fn positive(&mut self, site: u32, range: Interval) -> Result<Interval, CheckFault>
-        ensures { (visits : Visits) → Goes (positive site range) self.old visits result self.new visits }
-    {
-        self.test(1 <= range.first(), site, range.at_least(1))
-    }
-
-    /// A divisor, which may not be 0.
-    fn divisor(&mut self, site: u32, range: Interval) -> Result<Interval, CheckFault>
-        ensures { (visits : Visits) → Goes (divisor site range) self.old visits result self.new visits }
-    {
-        self.test(!range.has(0), site, range.without_zero_end())
-    }
-
-    /// The test of a value at a site: what passes lies in a range, and it is closed where the value surely passes.
-    fn test(&mut self, closed: bool, site: u32, passed: Interval) -> Result<Interval, CheckFault>
-        ensures { (visits : Visits) → Goes (tested closed site passed) self.old visits result self.new visits }
-    {
-        if !self.state.is_dead() && !closed {
-            self.open_ids.push(site)?;
-        }
-        self.state.unless_empty(passed);
-        Ok(passed)
+        self.flow.test(closed, site, passed)?;
+        Ok(mem::replace(&mut self.flow.state, State::Dead))
     }
 }

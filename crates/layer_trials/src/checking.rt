@@ -1,7 +1,7 @@
 use crate::sources::{fault_told, sites_told, tree_of};
-use cert_checker::fault::CheckFault;
 use cert_checker::{Verdict, check};
 use certificate::{Certificate, Version};
+use expression_checker::fault::CheckFault;
 use place::Place;
 use std::alloc::{AllocError, Global};
 use std::test::Fail;

@@ -13,10 +13,10 @@ use Rattle.typed_tree.specs.declared.site.SiteKind.{SiteKind}
 use Rattle.typed_tree.specs.Sites.{name_of, kind_of}
 use Rattle.certificate.specs.declared.fault.ReadFault.{ReadFault}
 use Rattle.certificate.specs.declared.fault.ReadFault.TheVariants as read
-use Rattle.cert_checker.specs.declared.fault.CheckFault.{CheckFault}
-use Rattle.cert_checker.specs.declared.fault.CheckFault.TheVariants as check
-use Rattle.cert_checker.specs.declared.fault.Rule.{Rule}
-use Rattle.cert_checker.specs.declared.fault.Rule.TheVariants as rule
+use Rattle.expression_checker.specs.declared.fault.CheckFault.{CheckFault}
+use Rattle.expression_checker.specs.declared.fault.CheckFault.TheVariants as check
+use Rattle.expression_checker.specs.declared.fault.Rule.{Rule}
+use Rattle.expression_checker.specs.declared.fault.Rule.TheVariants as rule
 use Rattle.code_generator.specs.declared.fault.GenFault.{GenFault}
 use Rattle.code_generator.specs.declared.fault.GenFault.TheVariants as generate
 use Rattle.stack_machine.specs.declared.stop.Stop.{Stop}

@@ -3,9 +3,9 @@ ghost use Rattle.report.specs.Faults.{lexer_fault, parser_fault, typing_fault, c
 ghost use Rattle.report.specs.Faults.{generator_fault};
 ghost use Rattle.report.specs.declared.fault.Fault.TheVariants.{Memory};
 
-use cert_checker::fault::CheckFault;
 use certificate::fault::ReadFault;
 use code_generator::fault::GenFault;
+use expression_checker::fault::CheckFault;
 use lexer::fault::LexFault;
 use std::alloc::AllocError;
 use thiserror::Error;

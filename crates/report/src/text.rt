@@ -9,9 +9,9 @@ ghost use Rattle.report.specs.Text.{checker_refusal, rule_number, generator_refu
 
 use crate::fault::Fault;
 use cert_checker::Verdict;
-use cert_checker::fault::{CheckFault, Rule};
 use certificate::fault::ReadFault;
 use code_generator::fault::GenFault;
+use expression_checker::fault::{CheckFault, Rule};
 use itoa::Buffer;
 use lexer::fault::LexFault;
 use place::Place;

@@ -1,6 +1,6 @@
 use crate::shown::{refusal, refusal_told, stop_told, visits};
-use cert_checker::fault::{CheckFault, Rule};
 use certificate::fault::ReadFault;
+use expression_checker::fault::{CheckFault, Rule};
 use pcode_assembler::code::{Point, Site};
 use place::Place;
 use report::fault::Fault;

@@ -4,10 +4,10 @@ use Rattle.typed_tree.specs.declared.site.Site.{Site}
 use Rattle.certificate.specs.declared.Certificate.{Certificate}
 use Rattle.typed_tree.specs.Entries.{entries_of}
 use Rattle.cert_checker.specs.Promise.{open_in}
-use Rattle.cert_checker.specs.View.{all_counted}
+use Rattle.expression_checker.specs.Visits.{all_counted, Visits}
 use Rattle.cert_checker.specs.Walk.{program_walk}
-use Rattle.cert_checker.specs.declared.visits.Visits.{Visits}
-use Rattle.cert_checker.proofs.Entered.{counted-many, links_entries, program-entered}
+use Rattle.expression_checker.proofs.Entered.{counted-many}
+use Rattle.cert_checker.proofs.Entered.{links_entries, program-entered}
 use Rattle.cert_checker.proofs.SoundProgram.{closed-never_err, states-hold}
 use Rattle.cert_checker.proofs.check.Goals as goal
 

@@ -1,5 +1,5 @@
 use Rattle.std.proofs.Common.{ap, ◌∙◌}
-use Rattle.cert_checker.specs.View.{all_counted}
+use Rattle.expression_checker.specs.Visits.{all_counted}
 use Rattle.cert_checker.proofs.Entered.{program-entered}
 use Rattle.cert_checker.proofs.Steps.{program-open, program-visits, program-unbroken, program-given_up}
 use Rattle.cert_checker.proofs.walk.program.Goals as goal

@@ -1,6 +1,6 @@
 use Rattle.std.proofs.Common.{Result, map, drop}
-use Rattle.cert_checker.specs.declared.fault.CheckFault.{CheckFault}
-use Rattle.cert_checker.specs.declared.visits.Visits.{Visits}
+use Rattle.expression_checker.specs.declared.fault.CheckFault.{CheckFault}
+use Rattle.expression_checker.specs.Visits.{Visits}
 use Rattle.cert_checker.specs.declared.walk.Walk.{Walk}
 use Rattle.cert_checker.specs.Walk.{all_of, arms_walk, statement_walk}
 use Rattle.abstract_state.specs.View.{viewed}

@@ -1,7 +1,9 @@
-use Rattle.std.proofs.Common.{Err}
+use Rattle.std.proofs.Common.{Err, Ok}
 use Rattle.abstract_state.specs.Conditions.{bound_form}
-use Rattle.cert_checker.specs.Walk.{◌>>=◌, assign, assignment, change, fitting}
-use Rattle.cert_checker.proofs.Steps.{given-up, goes-then, goes-stopped, assignment-done}
+use Rattle.expression_checker.specs.Walk.{◌>>=◌, fitting}
+use Rattle.cert_checker.specs.Walk.{assign, assignment, change}
+use Rattle.cert_checker.proofs.Steps.{given-up, goes-then, goes-stopped, assignment-done, lifted}
+use Rattle.cert_checker.specs.View.{context_of}
 use Rattle.cert_checker.proofs.walk.Walk.assignment.Goals as goal
 
 pub returns-in_err-passed : goal.returns-in_err-passed
@@ -10,7 +12,7 @@ returns-in_err-passed c =
     let fits = c.args.fits in
     let value = c.args.value.now in
     let valued = c.expression.new.self in
-    let new = c.fitting.new.self in
+    let new = record valued { flow = c.fitting.new.self } in
     let after = c.expression.new.visits in
     let known = c.in_ok-known.known in
     let fault = c.in_err-passed.field-0.0 in
@@ -19,7 +21,7 @@ returns-in_err-passed c =
     (assignment-done c.args.becomes target fits value c.args.self.now c.enter.new.self valued c.args.visits.now c.enter.new.visits after known (Err fault) new
     c.in_ok-enter.ensures c.in_ok-known.ensures
     (goes-stopped (fitting fits known) (λ passed. change c.args.becomes target.root fits.range >>= λ _. assign target.root (bound_form value) passed)
-    valued new after after fault (c.in_err-passed.ensures after)))
+    valued new after after fault (c.in_err-passed.ensures after (context_of valued))))
 
 pub returns-in_err-change : goal.returns-in_err-change
 returns-in_err-change c =
@@ -27,7 +29,7 @@ returns-in_err-change c =
     let fits = c.args.fits in
     let value = c.args.value.now in
     let valued = c.expression.new.self in
-    let tested = c.fitting.new.self in
+    let tested = record valued { flow = c.fitting.new.self } in
     let new = c.change.new.self in
     let after = c.expression.new.visits in
     let known = c.in_ok-known.known in
@@ -38,7 +40,8 @@ returns-in_err-change c =
     (assignment-done c.args.becomes target fits value c.args.self.now c.enter.new.self valued c.args.visits.now c.enter.new.visits after known (Err fault) new
     c.in_ok-enter.ensures c.in_ok-known.ensures
     (goes-then (fitting fits known) (λ passed. change c.args.becomes target.root fits.range >>= λ _. assign target.root (bound_form value) passed)
-    valued tested new after after after passed (Err fault) (c.in_ok-passed.ensures after)
+    valued tested new after after after passed (Err fault)
+    (lifted (fitting fits known) valued c.fitting.new.self after after (Ok passed) (c.in_ok-passed.ensures after))
     (goes-stopped (change c.args.becomes target.root fits.range) (λ _. assign target.root (bound_form value) passed) tested new after after fault
     (c.in_err-change.ensures after))))
 
@@ -48,7 +51,7 @@ returns c =
     let fits = c.args.fits in
     let value = c.args.value.now in
     let valued = c.expression.new.self in
-    let tested = c.fitting.new.self in
+    let tested = record valued { flow = c.fitting.new.self } in
     let changed = c.change.new.self in
     let new = c.store.new.self in
     let after = c.expression.new.visits in
@@ -57,6 +60,7 @@ returns c =
     assignment-done c.args.becomes target fits value c.args.self.now c.enter.new.self valued c.args.visits.now c.enter.new.visits after known c.store.result new
     c.in_ok-enter.ensures c.in_ok-known.ensures
     (goes-then (fitting fits known) (λ passed. change c.args.becomes target.root fits.range >>= λ _. assign target.root (bound_form value) passed)
-    valued tested new after after after passed c.store.result (c.in_ok-passed.ensures after)
+    valued tested new after after after passed c.store.result
+    (lifted (fitting fits known) valued c.fitting.new.self after after (Ok passed) (c.in_ok-passed.ensures after))
     (goes-then (change c.args.becomes target.root fits.range) (λ _. assign target.root (bound_form value) passed) tested changed new after after after
     tt c.store.result (c.in_ok-change.ensures after) (c.store.ensures after)))

@@ -1,28 +1,34 @@
-use Rattle.std.proofs.Common.{ap, ◌∙◌, refl}
+use Rattle.std.proofs.Common.{ap, ◌∙◌, refl, Ok}
 use Rattle.domain.specs.Interval.{common}
 use Rattle.domain.specs.Numbers.{hull, is_covered}
 use Rattle.structured_states.specs.Cases.{constants_before}
 use Rattle.abstract_state.specs.View.{viewed}
 use Rattle.cert_checker.proofs.StepsCase.{index-done, index-stopped}
+use Rattle.expression_checker.specs.Walk.{tested}
+use Rattle.cert_checker.specs.View.{context_of}
+use Rattle.cert_checker.proofs.Steps.{lifted}
 use Rattle.cert_checker.proofs.walk.Walk.index_test.Goals as goal
 
 pub returns : goal.returns
 returns c = λ visits.
     let constants = constants_before c.args.arms c.args.constants.now in
     let range = c.args.range in
-    index-done c.args.site constants range c.in_ok-closed.closed c.meet-passed.result c.in_ok-test.field-0 c.replace.result c.args.self.now
-    c.test.new.self _ visits
+    let old = c.args.self.now in
+    index-done c.args.site constants range c.in_ok-closed.closed c.meet-passed.result c.in_ok-test.field-0 c.replace.result old
+    (record old { flow = c.test.new.self }) _ visits
     (c.in_ok-closed.ensures ∙ ap (is_covered range) (c.deref-2.ensures.value ∙ c.in_ok-constants.ensures))
     (c.meet-passed.ensures.answer ∙ ap (common range) (c.hull.ensures.ends ∙ ap hull (c.deref.ensures.value ∙ c.in_ok-constants.ensures)))
-    (c.in_ok-test.ensures visits) c.replace.ensures.value (ap viewed c.replace.ensures.after) refl
+    (lifted (tested c.in_ok-closed.closed c.args.site c.meet-passed.result) old c.test.new.self visits visits (Ok c.in_ok-test.field-0) (c.in_ok-test.ensures visits))
+    c.replace.ensures.value (ap viewed c.replace.ensures.after) refl
 
 pub returns-in_err-test : goal.returns-in_err-test
 returns-in_err-test c = λ visits.
     let constants = constants_before c.args.arms c.args.constants.now in
     let range = c.args.range in
     let left = c.from_residual-in_err-test in
-    index-stopped c.args.site constants range c.in_ok-closed.closed c.meet-passed.result c.args.self.now
-    c.test.new.self visits c.in_err-test.field-0.0 left.result
+    let old = c.args.self.now in
+    index-stopped c.args.site constants range c.in_ok-closed.closed c.meet-passed.result old (record old { flow = c.test.new.self }) visits c.in_err-test.field-0.0
+    left.result
     (c.in_ok-closed.ensures ∙ ap (is_covered range) (c.deref-2.ensures.value ∙ c.in_ok-constants.ensures))
     (c.meet-passed.ensures.answer ∙ ap (common range) (c.hull.ensures.ends ∙ ap hull (c.deref.ensures.value ∙ c.in_ok-constants.ensures)))
-    left.ensures (c.in_err-test.ensures visits)
+    left.ensures (c.in_err-test.ensures visits (context_of old))

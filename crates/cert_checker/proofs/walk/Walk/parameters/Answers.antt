@@ -1,18 +1,32 @@
-use Rattle.std.proofs.Common.{Ok}
-use Rattle.cert_checker.specs.Walk.{parameter_walk}
-use Rattle.cert_checker.proofs.Steps.{all-step, all-end}
+use Rattle.std.proofs.Common.{Err, Ok, map}
+use Rattle.expression_checker.specs.Walk.{parameter_walk}
+use Rattle.cert_checker.proofs.Steps.{all-end, all-step, all-stopped, given-up, lifted}
+use Rattle.cert_checker.specs.Walk.{all_of}
+use Rattle.cert_checker.specs.View.{context_of}
 use Rattle.cert_checker.proofs.walk.Walk.parameters.Goals as goal
 
 pub loop-parameter-preserved : goal.loop-parameter-preserved
 loop-parameter-preserved c = λ result new after goes.
     let here = c.loop-parameter in
     here.invariant result new after
-    (all-step parameter_walk c.args.parameters.now here.parameter-index c.parameter-item.result here.self c.parameter.new.self new here.visits
-    c.parameter.new.visits after tt result
-    c.loop-parameter-test.true c.parameter-item.is c.in_ok-parameter.ensures goes)
+    (all-step parameter_walk c.args.parameters.now here.parameter-index c.parameter-item.result here.self (record (here.self) { flow = c.parameter.new.self })
+    new here.visits c.parameter.new.visits after tt result c.loop-parameter-test.true c.parameter-item.is
+    (lifted (parameter_walk c.parameter-item.result) here.self c.parameter.new.self here.visits c.parameter.new.visits (Ok tt) c.in_ok-parameter.ensures) goes)
 
 pub returns : goal.returns
 returns c =
     let here = c.loop-parameter in
     here.invariant (Ok tt) here.self here.visits (all-end parameter_walk c.args.parameters.now here.parameter-index here.self here.visits
     c.loop-parameter-test.false)
+
+pub returns-in_err-parameter : goal.returns-in_err-parameter
+returns-in_err-parameter c =
+    let here = c.loop-parameter in
+    let new = record (here.self) { flow = c.parameter.new.self } in
+    let after = c.parameter.new.visits in
+    let fault = c.in_err-parameter.field-0.0 in
+    given-up (all_of (map parameter_walk c.args.parameters.now)) c.args.self.now new c.args.visits.now after fault c.from_residual.result
+    c.from_residual.ensures
+    (here.invariant (Err fault) new after
+    (all-stopped parameter_walk c.args.parameters.now here.parameter-index c.parameter-item.result here.self new here.visits after fault
+    c.loop-parameter-test.true c.parameter-item.is (c.in_err-parameter.ensures (context_of here.self))))

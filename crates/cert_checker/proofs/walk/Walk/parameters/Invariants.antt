@@ -1,8 +1,9 @@
 use Rattle.std.proofs.Common.{Result, map, drop}
-use Rattle.cert_checker.specs.declared.fault.CheckFault.{CheckFault}
-use Rattle.cert_checker.specs.declared.visits.Visits.{Visits}
+use Rattle.expression_checker.specs.declared.fault.CheckFault.{CheckFault}
+use Rattle.expression_checker.specs.Visits.{Visits}
 use Rattle.cert_checker.specs.declared.walk.Walk.{Walk}
-use Rattle.cert_checker.specs.Walk.{all_of, parameter_walk}
+use Rattle.cert_checker.specs.Walk.{all_of}
+use Rattle.expression_checker.specs.Walk.{parameter_walk}
 use Rattle.cert_checker.specs.View.{Goes}
 use Rattle.cert_checker.proofs.walk.Walk.parameters.Given as goal
 

@@ -1,0 +1,26 @@
+-- What of the store a piece of a program keeps, for each loop round it; and that values lie in the ranges of their types.
+use Rattle.std.proofs.Common.{◌≡◌, ℕ, List, [], Some}
+use Rattle.std.specs.List.{Contains}
+use Rattle.domain.specs.Interval.{Interval}
+use Rattle.meaning.specs.declared.store.Value.{Value}
+use Rattle.meaning.specs.Store.{Environment, Store}
+use Rattle.abstract_state.specs.Holds.{IsIn, value_at}
+use Rattle.abstract_state.specs.Knows.{IsKept, moment}
+use Rattle.abstract_state.proofs.Looped.{kept-itself, kept-then}
+use Rattle.structured_states.specs.Loops.{Round, limits_at, touched}
+
+-- each variable's value lies in the range of its type
+abbrev pub InTypes : List Interval → Environment → Store → Type 0
+InTypes limits env store = (root : ℕ) (v : Value) → value_at (moment env store) root [] ≡ Some v → IsIn (limits_at limits root) v
+
+-- so it is for each loop round a piece
+abbrev pub Keeps : Environment → List Round → Store → Store → Type 0
+Keeps env rounds before after = (round : Round) → Contains rounds round → IsKept env (touched round) round.controls before after
+
+pub keeps-itself : (env : Environment) (rounds : List Round) (store : Store) → Keeps env rounds store store
+keeps-itself env rounds store round inside = kept-itself env (touched round) round.controls store
+
+pub keeps-then : (env : Environment) (rounds : List Round) (before mid after : Store) → Keeps env rounds before mid → Keeps env rounds mid after
+    → Keeps env rounds before after
+keeps-then env rounds before mid after one two round inside =
+    kept-then env (touched round) round.controls before mid after (one round inside) (two round inside)

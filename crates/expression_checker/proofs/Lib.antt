@@ -1,0 +1,7 @@
+pub mod Entered
+pub mod Held
+pub mod Keeping
+pub mod Sound
+pub mod SoundExpressions
+pub mod SoundOperations
+pub mod Steps

@@ -1,0 +1,197 @@
+-- The walk over expressions is sound, form by form, and so is that over values that are written.
+use Rattle.std.proofs.Common.{◌≡◌, sym, subst, ℕ, Bool, true, nat_lt, List, [], ◌∷◌, map, Option, Some, None}
+use Rattle.std.proofs.lemmas.Bool.{and_parts, ltb-true}
+use Rattle.typed_tree.specs.declared.tree.Representation.{Representation}
+use Rattle.typed_tree.specs.declared.tree.Width.{Width}
+use Rattle.typed_tree.specs.declared.tree.WriteParameter.{WriteParameter}
+use Rattle.typed_tree.specs.declared.tree.Expr.{Expr}
+use Rattle.typed_tree.specs.declared.tree.Link.{Link}
+use Rattle.typed_tree.specs.declared.tree.Expr.TheOpen.{Expr-F, Link-F}
+use Rattle.typed_tree.specs.declared.tree.Expr.TheOpen.Expr-F.{Constant, Variable, Monadic as MonadicOf, Chain}
+use Rattle.typed_tree.specs.declared.tree.Expr.TheViews.{roll-Expr, roll-Link}
+use Rattle.typed_tree.specs.declared.tree.Expr.TheFolds.{map-Expr, map-Link, fold-roll-Expr, fold-roll-Link, ind-Expr}
+use Rattle.typed_tree.specs.WellFormed.{all_hold, dyadic_is_well_formed, expr_is_well_formed, is_well_formed_expr, is_well_formed_link}
+use Rattle.typed_tree.specs.WellFormed.{is_well_formed_parameter, is_well_formed_width, link_is_well_formed, monadic_is_well_formed}
+use Rattle.meaning.specs.declared.store.Value.{Value}
+use Rattle.meaning.specs.declared.store.Value.TheVariants.{Number}
+use Rattle.meaning.specs.Store.{Environment}
+use Rattle.meaning.specs.Effect as effect
+use Rattle.meaning.specs.Effect.{is_positive, text_of}
+use Rattle.meaning.specs.Meaning as meaning
+use Rattle.meaning.specs.Meaning.{Evaluation, value_of, link_of, parameter_of, width_of}
+use Rattle.abstract_state.specs.declared.known.Known.{Known}
+use Rattle.abstract_state.specs.declared.known.Known.TheVariants.{Ordinal}
+use Rattle.expression_checker.specs.Walk as walk
+use Rattle.expression_checker.specs.Walk.{Walking, value_walk, link_walk, parameter_walk, width_walk}
+use Rattle.abstract_state.proofs.Ranged.{IsKnown, constant-in}
+use Rattle.abstract_state.proofs.Knows.{Shows}
+use Rattle.expression_checker.proofs.Sound.{World, Sound, Any_value, Passes, sound-then, sound-written, sound-give, sound-enter, sound-use}
+use Rattle.expression_checker.proofs.SoundOperations.{given-sound, operated-sound, combined-sound, positive-sound}
+
+-- the walk over an action that gives no value is sound
+abbrev pub SoundAction : World → Environment → effect.Action (Unit {0}) → Walking (Unit {0}) → Type 0
+SoundAction world env action walking = Sound {A = Unit {0}} {B = Unit {0}} world env Any_value action walking
+
+-- behind an entry
+pub entered-sound : {A B : Type 0} (world : World) (env : Environment) → Shows world.variables env → (R : B → A → Type 0) (number : ℕ)
+    (action : effect.Action A) (walking : Walking B)
+    → Sound world env R action walking
+    → Sound world env R (effect.◌>>=◌ (effect.enter number env) (λ done. action)) (walk.◌>>=◌ (walk.enter number) (λ done. walking))
+entered-sound world env shows R number action walking one =
+    sound-then world env Any_value R (effect.enter number env) (λ done. action) (walk.enter number) (λ done. walking) (sound-enter world env shows number)
+    (λ b a tie. one)
+
+module _ (world : World) (env : Environment) (shows : Shows world.variables env) where
+  abbrev well_expr : Expr → Bool
+  well_expr = is_well_formed_expr world.variables world.sites
+
+  abbrev well_link : Link → Bool
+  well_link = is_well_formed_link world.variables world.sites
+
+  -- ---- expressions
+
+  -- the walk of an expression tells of its value
+  abbrev SoundValue : Bool → Evaluation → Walking Known → Type 0
+  SoundValue well evaluation walking = well ≡ true → Sound world env IsKnown (evaluation env) walking
+
+  abbrev SoundLink : Bool → meaning.Combination → walk.Combination → Type 0
+  SoundLink well combination walking = well ≡ true → (known : Known) (v : Value) → IsKnown known v → Sound world env IsKnown (combination env v) (walking known)
+
+  abbrev ValueIsSound : Expr → Type 0
+  ValueIsSound e = SoundValue (well_expr e) (value_of e) (value_walk e)
+
+  abbrev LinkIsSound : Link → Type 0
+  LinkIsSound l = SoundLink (well_link l) (link_of l) (link_walk l)
+
+  abbrev ProvedExpr : Type 0
+  ProvedExpr = (e : Expr) × ValueIsSound e
+
+  abbrev ProvedLink : Type 0
+  ProvedLink = (l : Link) × LinkIsSound l
+
+  -- the operators of a chain
+  turns-sound : (links : List ProvedLink)
+      → SoundLink (all_hold (map well_link (map (λ l. l.0) links))) (meaning.in_turn (map link_of (map (λ l. l.0) links)))
+      (walk.in_turn (map link_walk (map (λ l. l.0) links)))
+  turns-sound [] well known v inside = sound-give world env IsKnown v known inside
+  turns-sound (link ∷ links) well known v inside =
+      let later = map (λ (l : ProvedLink). l.0) links in
+      let parts = and_parts (well_link link.0) (all_hold (map well_link later)) well in
+      sound-then world env IsKnown IsKnown (link_of link.0 env v) (meaning.in_turn (map link_of later) env) (link_walk link.0 known)
+      (walk.in_turn (map link_walk later))
+      (link.1 parts.0 known v inside) (λ k w within. turns-sound links parts.1 k w within)
+
+  -- a layer of an expression, of which the parts are sound
+  abbrev ExprLayer : Expr-F Expr Link → Type 0
+  ExprLayer x =
+      SoundValue (expr_is_well_formed world.variables world.sites (map-Expr Expr Link Bool Bool well_expr well_link x))
+      (meaning.value_step (map-Expr Expr Link Evaluation meaning.Combination value_of link_of x))
+      (walk.value_step (map-Expr Expr Link (Walking Known) walk.Combination value_walk link_walk x))
+
+  abbrev LinkLayer : Link-F Expr Link → Type 0
+  LinkLayer x =
+      SoundLink (link_is_well_formed world.variables world.sites (map-Link Expr Link Bool Bool well_expr well_link x))
+      (meaning.link_step (map-Link Expr Link Evaluation meaning.Combination value_of link_of x))
+      (walk.link_step (map-Link Expr Link (Walking Known) walk.Combination value_walk link_walk x))
+
+  value-layer : (y : Expr-F ProvedExpr ProvedLink) → ExprLayer (map-Expr ProvedExpr ProvedLink Expr Link (λ e. e.0) (λ l. l.0) y)
+  value-layer (Constant number value) well =
+      entered-sound world env shows IsKnown number (effect.give (Number value)) (walk.ordinal (record { first = value; last = value }))
+      (given-sound world env (record { first = value; last = value }) value (constant-in value))
+  value-layer (Variable access defined) well =
+      let parts = and_parts (nat_lt access.root world.variables) (nat_lt defined world.sites) well in
+      entered-sound world env shows IsKnown access.number (effect.fetch (env access.root) defined) (walk.use_of access.root defined)
+      (sound-use world env shows access.root defined (ltb-true access.root world.variables parts.0) (ltb-true defined world.sites parts.1))
+  value-layer (MonadicOf number operation operand) well =
+      let parts = and_parts (monadic_is_well_formed world.variables world.sites operation) (well_expr operand.value.0) well in
+      entered-sound world env shows IsKnown number (effect.◌>>=◌ (value_of operand.value.0 env) (meaning.operated operation))
+      (walk.◌>>=◌ (value_walk operand.value.0) (walk.operated operation))
+      (sound-then world env IsKnown IsKnown (value_of operand.value.0 env) (meaning.operated operation) (value_walk operand.value.0) (walk.operated operation)
+      (operand.value.1 parts.1) (λ known v inside. operated-sound world env operation known v parts.0 inside))
+  value-layer (Chain first rest) well =
+      let links = map (λ (l : ProvedLink). l.0) rest.items in
+      let parts = and_parts (well_expr first.value.0) (all_hold (map well_link links)) well in
+      sound-then world env IsKnown IsKnown (value_of first.value.0 env) (meaning.in_turn (map link_of links) env) (value_walk first.value.0)
+      (walk.in_turn (map link_walk links))
+      (first.value.1 parts.0) (λ known v inside. turns-sound rest.items parts.1 known v inside)
+
+  link-layer : (y : Link-F ProvedExpr ProvedLink) → LinkLayer (map-Link ProvedExpr ProvedLink Expr Link (λ e. e.0) (λ l. l.0) y)
+  link-layer y well known v inside =
+      let right = y.operand.0 in
+      let meant = meaning.combined y.operation v in
+      let walked = walk.combined y.operation known in
+      let parts = and_parts (dyadic_is_well_formed world.variables world.sites y.operation) (well_expr right) well in
+      entered-sound world env shows IsKnown y.number (effect.◌>>=◌ (value_of right env) meant) (walk.◌>>=◌ (value_walk right) walked)
+      (sound-then world env IsKnown IsKnown (value_of right env) meant (value_walk right) walked
+      (y.operand.1 parts.1) (λ k w is. combined-sound world env y.operation known k v w parts.0 inside is))
+
+  -- by what the three folds are at a form
+  along-value : {a b : Bool} {evaluation evaluated : Evaluation} {walking walked : Walking Known} → a ≡ b → evaluation ≡ evaluated → walking ≡ walked
+      → SoundValue b evaluated walked → SoundValue a evaluation walking
+  along-value {a} {b} {evaluation} {evaluated} {walking} {walked} zero one two sound =
+      subst (λ (w : Bool). SoundValue w evaluation walking) (sym zero)
+      (subst (λ (e : Evaluation). SoundValue b e walking) (sym one) (subst (λ (w : Walking Known). SoundValue b evaluated w) (sym two) sound))
+
+  along-link : {a b : Bool} {combination combined : meaning.Combination} {walking walked : walk.Combination} → a ≡ b → combination ≡ combined → walking ≡ walked
+      → SoundLink b combined walked → SoundLink a combination walking
+  along-link {a} {b} {combination} {combined} {walking} {walked} zero one two sound =
+      subst (λ (w : Bool). SoundLink w combination walking) (sym zero)
+      (subst (λ (c : meaning.Combination). SoundLink b c walking) (sym one) (subst (λ (w : walk.Combination). SoundLink b combined w) (sym two) sound))
+
+  rolled-expr : (x : Expr-F Expr Link) → ExprLayer x → ValueIsSound (roll-Expr x)
+  rolled-expr x =
+      along-value
+      (fold-roll-Expr Bool Bool (expr_is_well_formed world.variables world.sites) (link_is_well_formed world.variables world.sites) x)
+      (fold-roll-Expr Evaluation meaning.Combination meaning.value_step meaning.link_step x)
+      (fold-roll-Expr (Walking Known) walk.Combination walk.value_step walk.link_step x)
+
+  rolled-link : (x : Link-F Expr Link) → LinkLayer x → LinkIsSound (roll-Link x)
+  rolled-link x =
+      along-link
+      (fold-roll-Link Bool Bool (expr_is_well_formed world.variables world.sites) (link_is_well_formed world.variables world.sites) x)
+      (fold-roll-Link Evaluation meaning.Combination meaning.value_step meaning.link_step x)
+      (fold-roll-Link (Walking Known) walk.Combination walk.value_step walk.link_step x)
+
+  abbrev plain_expr : Expr-F ProvedExpr ProvedLink → Expr-F Expr Link
+  plain_expr = map-Expr ProvedExpr ProvedLink Expr Link (λ e. e.0) (λ l. l.0)
+
+  abbrev plain_link : Link-F ProvedExpr ProvedLink → Link-F Expr Link
+  plain_link = map-Link ProvedExpr ProvedLink Expr Link (λ e. e.0) (λ l. l.0)
+
+  pub value-sound : (e : Expr) → ValueIsSound e
+  value-sound =
+      ind-Expr ValueIsSound LinkIsSound
+      (λ x y is. subst (λ (z : Expr-F Expr Link). ValueIsSound (roll-Expr z)) is (rolled-expr (plain_expr y) (value-layer y)))
+      (λ x y is. subst (λ (z : Link-F Expr Link). LinkIsSound (roll-Link z)) is (rolled-link (plain_link y) (link-layer y)))
+
+  -- ---- values that are written
+
+  -- a width that has to be at least 1
+  width-tested : (site : ℕ) (known : Known) (w : Value) → nat_lt site world.sites ≡ true → IsKnown known w
+      → Sound {B = Unit {0}} world env Any_value (effect.◌>>=◌ (effect.require (is_positive w) site) (λ tested. effect.give w)) (walk.width_test site known)
+  width-tested site (Ordinal range) w below inside =
+      sound-then {D = Unit {0}} world env (Passes (is_positive w) w) Any_value (effect.require (is_positive w) site) (λ tested. effect.give w)
+      (walk.positive site range) (λ passed. walk.give tt)
+      (positive-sound world env site range w (ltb-true site world.sites below) inside)
+      (λ passed tested passes. sound-give {B = Unit {0}} world env Any_value w tt tt)
+
+  width-sound : (width : Option Width) (representation : Representation) → is_well_formed_width world.variables world.sites width ≡ true
+      → Sound {B = Unit {0}} world env Any_value (width_of width representation env) (width_walk width)
+  width-sound None representation well = sound-give {B = Unit {0}} world env Any_value (Number (meaning.default_width representation)) tt tt
+  width-sound (Some width) representation well =
+      let parts = and_parts (nat_lt width.site world.sites) (well_expr width.value) well in
+      let tests = λ (w : Value). effect.◌>>=◌ (effect.require (is_positive w) width.site) (λ tested. effect.give w) in
+      sound-then {D = Unit {0}} world env IsKnown Any_value (value_of width.value env) tests (value_walk width.value) (walk.width_test width.site)
+      (value-sound width.value parts.1) (λ known w inside. width-tested width.site known w parts.0 inside)
+
+  -- a value that is written, and its width
+  pub parameter-sound : (parameter : WriteParameter) → is_well_formed_parameter world.variables world.sites parameter ≡ true
+      → SoundAction world env (parameter_of parameter env) (parameter_walk parameter)
+  parameter-sound parameter well =
+      let parts = and_parts (well_expr parameter.value) (is_well_formed_width world.variables world.sites parameter.width) well in
+      let width = width_of parameter.width parameter.representation env in
+      sound-then world env IsKnown Any_value (value_of parameter.value env) (λ v. effect.◌>>=◌ width (λ w. effect.write (text_of parameter.representation v w)))
+      (value_walk parameter.value) (λ known. width_walk parameter.width)
+      (value-sound parameter.value parts.0)
+      (λ known v inside. sound-written world env Any_value (text_of parameter.representation v) width (width_walk parameter.width)
+      (width-sound parameter.width parameter.representation parts.1))

@@ -1,0 +1,15 @@
+use Rattle.std.proofs.Common.{Result, map, drop}
+use Rattle.expression_checker.specs.declared.fault.CheckFault.{CheckFault}
+use Rattle.abstract_state.specs.declared.known.Known.{Known}
+use Rattle.expression_checker.specs.Visits.{Visits}
+use Rattle.expression_checker.specs.declared.flow.Flow.{Flow}
+use Rattle.expression_checker.specs.Walk.{in_turn, value_walk, link_walk}
+use Rattle.expression_checker.specs.View.{Goes}
+use Rattle.expression_checker.proofs.flow.Flow.+expression.Given as goal
+
+-- whatever the checker does over the operators that are left, it did it over the whole expression
+abbrev pub invariant-expression-loop-link : goal.invariant-expression-loop-link
+invariant-expression-loop-link l =
+    (result : Result Known CheckFault) (new : Flow) (after : Visits)
+    → Goes (in_turn (map link_walk (drop l.link-index l.link-items)) l.known) l.self l.visits result new after
+    → Goes (value_walk l.expression) l.fn.self l.fn.visits result new after

@@ -1,0 +1,244 @@
+-- The walk of the checker over an expression, one equation a form: what is known of its value, the state after it, the
+-- sites that it leaves open, and the state at each entry into an expression (ISO 7185:1990, 6.7). Rules of certificates
+-- are broken by statements alone. It does not say that a run does what the walk says of it.
+use Rattle.std.specs.Prelude.{◌≡◌, ℕ, pos, Bool, not, ◌||◌, int_le, List, [], ◌∷◌, ◌++◌, Option, Some, None}
+use Rattle.std.specs.Prelude.{if◌then◌else◌, map}
+use Rattle.place.specs.declared.Place.{Place}
+use Rattle.typed_tree.specs.declared.tree.Tree.{Tree}
+use Rattle.typed_tree.specs.declared.tree.Access.{Access}
+use Rattle.typed_tree.specs.declared.tree.RangeTest.{RangeTest}
+use Rattle.typed_tree.specs.declared.tree.Monadic.{Monadic}
+use Rattle.typed_tree.specs.declared.tree.Monadic.TheVariants as monadic
+use Rattle.typed_tree.specs.declared.tree.Dyadic.{Dyadic}
+use Rattle.typed_tree.specs.declared.tree.Dyadic.TheVariants as dyadic
+use Rattle.typed_tree.specs.declared.tree.Width.{Width}
+use Rattle.typed_tree.specs.declared.tree.WriteParameter.{WriteParameter}
+use Rattle.typed_tree.specs.declared.tree.Expr.{Expr}
+use Rattle.typed_tree.specs.declared.tree.Link.{Link}
+use Rattle.typed_tree.specs.declared.tree.Expr.TheOpen.{Expr-F, Link-F}
+use Rattle.typed_tree.specs.declared.tree.Expr.TheOpen.Expr-F.{Constant, Variable, Monadic as MonadicOf, Chain}
+use Rattle.typed_tree.specs.declared.tree.Expr.TheFolds.{fold-Expr, fold-Link}
+use Rattle.domain.specs.Interval.{Interval, is_included, has_number, common, sum, difference, negated, product, squared}
+use Rattle.domain.specs.Interval.{absolute, quotient, remainder, without_zero_end, at_least, both, either, complement}
+use Rattle.domain.specs.Interval.{truth_values}
+use Rattle.expression_checker.specs.declared.fault.Rule.{Rule}
+use Rattle.expression_checker.specs.declared.fault.CheckFault.{CheckFault}
+use Rattle.expression_checker.specs.declared.fault.CheckFault.TheVariants.{Memory, Foreign, Broken}
+use Rattle.abstract_state.specs.declared.known.Known.{Known}
+use Rattle.abstract_state.specs.declared.known.Known.TheVariants.{Ordinal}
+use Rattle.abstract_state.specs.State.{State, integer, is_dead, is_defined, limits_of, range_of, with_defined}
+use Rattle.abstract_state.specs.State.{unless_empty}
+use Rattle.structured_states.specs.Loops.{Claims, Round}
+
+-- what a walk goes by: the program, the values of its variables' types, the claims on its loops, and the loops round
+-- the point, the outermost first
+pub record Context : Type 0 where
+  pub tree : Tree
+  pub limits : List Interval
+  pub claims : List Claims
+  pub rounds : List Round
+
+-- a rule of certificates that is broken at a place
+pub record Breach : Type 0 where
+  pub rule : Rule
+  pub place : Place
+
+-- a state that is linked to a number, that of the statement or expression which is entered with it
+pub record Linked : Type 0 where
+  pub number : ℕ
+  pub state : State
+
+-- what a piece of a walk gives: a value, the state after it, the ids of the sites that aren't closed, the rules that
+-- are broken, and the states that are linked
+pub record Walked (A : Type 0) : Type 0 where
+  pub value : A
+  pub after : State
+  pub open_ids : List ℕ
+  pub broken : List Breach
+  pub linked : List Linked
+
+-- a piece of a walk, in its context and from the state before it
+abbrev pub Walking : Type 0 → Type 0
+Walking A = Context → State → Walked A
+
+-- goes on from what was walked
+abbrev pub followed : {A B : Type 0} → Walked A → Walked B → Walked B
+followed first second = record {
+  value = second.value;
+  after = second.after;
+  open_ids = first.open_ids ++ second.open_ids;
+  broken = first.broken ++ second.broken;
+  linked = first.linked ++ second.linked;
+}
+
+-- one after the other
+infixl 10 ◌>>=◌
+abbrev pub ◌>>=◌ : {A B : Type 0} → Walking A → (A → Walking B) → Walking B
+(first >>= next) context state =
+    followed (first context state) (next (first context state).value context (first context state).after)
+
+-- a value, and nothing changes
+abbrev pub give : {A : Type 0} → A → Walking A
+give value context state = record { value = value; after = state; open_ids = []; broken = []; linked = [] }
+
+-- the entry into a statement or an expression
+abbrev pub enter : ℕ → Walking (Unit {0})
+enter number context state =
+    record
+    { value = tt; after = state; open_ids = []; broken = []; linked = record { number = number; state = state } ∷ [] }
+
+-- the numbers to which states are linked
+abbrev pub numbers_of : List Linked → List ℕ
+numbers_of = map (λ one. one.number)
+
+-- the first breach of a list, if there is one
+abbrev pub first_breach : List Breach → Option Breach
+first_breach [] = None
+first_breach (breach ∷ breaches) = Some breach
+
+-- why a walk by a certificate is given up: for the first rule that it breaks, or for want of memory
+abbrev pub IsBreachOf : {A : Type 0} → Walked A → CheckFault → Type 0
+IsBreachOf walked Memory = Unit {0}
+IsBreachOf walked Foreign = ⊥
+IsBreachOf walked (Broken rule place) = first_breach walked.broken ≡ Some (record { rule = rule; place = place })
+
+-- a site is left open unless it is closed
+abbrev pub left_open : Bool → ℕ → List ℕ
+left_open closed site = if closed then [] else site ∷ []
+
+-- the use of a variable: closed where the variable is defined, which it is afterwards
+abbrev pub use_of : ℕ → ℕ → Walking Known
+use_of root site context state = record {
+  value = Ordinal (range_of state root);
+  after = unless_empty (range_of state root) (with_defined root state);
+  open_ids = left_open (is_defined state root) site;
+  broken = [];
+  linked = [];
+}
+
+-- the test of a value at a site: closed where it surely passes; afterwards the value lies in the range that passes
+abbrev pub tested : Bool → ℕ → Interval → Walking Interval
+tested closed site passed context state = record {
+  value = passed;
+  after = unless_empty passed state;
+  open_ids = left_open (is_dead state || closed) site;
+  broken = [];
+  linked = [];
+}
+
+-- a value that has to lie in limits: its range is met with them
+abbrev pub within : Interval → ℕ → Interval → Walking Interval
+within limits site range = tested (is_included range limits) site (common range limits)
+
+-- a number that has to be at least 1
+abbrev pub positive : ℕ → Interval → Walking Interval
+positive site range = tested (int_le (pos 1) range.first) site (at_least (pos 1) range)
+
+-- a divisor, which may not be 0: an end of its range that is 0 is cut off
+abbrev pub divisor : ℕ → Interval → Walking Interval
+divisor site range = tested (not (has_number range (pos 0))) site (without_zero_end range)
+
+-- an ordinal of a range
+abbrev pub ordinal : Interval → Walking Known
+ordinal range = give (Ordinal range)
+
+-- a result that has to be an integer
+abbrev pub whole : ℕ → Interval → Walking Known
+whole overflow range = do
+  passed ← within integer overflow range
+  ordinal passed
+
+-- an operation on one operand, by what is known of the operand
+abbrev pub operated : Monadic → Known → Walking Known
+operated monadic.Plus (Ordinal range) = ordinal range
+operated monadic.Minus (Ordinal range) = ordinal (negated range)
+operated monadic.Not (Ordinal range) = ordinal (complement range)
+operated monadic.Abs (Ordinal range) = ordinal (absolute range)
+operated (monadic.Sqr overflow) (Ordinal range) = whole overflow (squared range)
+operated monadic.Odd (Ordinal range) = ordinal truth_values
+
+-- an operation on two operands, by what is known of them
+abbrev pub combined : Dyadic → Known → Known → Walking Known
+combined (dyadic.Plus overflow) (Ordinal left) (Ordinal right) = whole overflow (sum left right)
+combined (dyadic.Minus overflow) (Ordinal left) (Ordinal right) = whole overflow (difference left right)
+combined (dyadic.Times overflow) (Ordinal left) (Ordinal right) = whole overflow (product left right)
+combined (dyadic.Div by_zero) (Ordinal left) (Ordinal right) = do
+  passed ← divisor by_zero right
+  ordinal (quotient left passed)
+combined (dyadic.Mod by_zero_or_less) (Ordinal left) (Ordinal right) = do
+  passed ← positive by_zero_or_less right
+  ordinal (remainder left passed)
+combined dyadic.And (Ordinal left) (Ordinal right) = ordinal (both left right)
+combined dyadic.Or (Ordinal left) (Ordinal right) = ordinal (either left right)
+combined (dyadic.Relation relation) (Ordinal left) (Ordinal right) = ordinal truth_values
+
+-- the use of a variable, which is entered first
+abbrev pub variable_walk : Access → ℕ → Walking Known
+variable_walk access site = do
+  _ ← enter access.number
+  use_of access.root site
+
+-- what the walk does with an operator and its right operand, by what is known of the value to its left
+abbrev pub Combination : Type 0
+Combination = Known → Walking Known
+
+-- the right operand, and then the operation
+abbrev pub link_step : Link-F (Walking Known) Combination → Combination
+link_step link left = do
+  _ ← enter link.number
+  right ← link.operand
+  combined link.operation left right
+
+-- the operators of a chain, from left to right
+abbrev pub in_turn : List Combination → Combination
+in_turn [] left = give left
+in_turn (link ∷ links) left = do
+  result ← link left
+  in_turn links result
+
+-- one layer of an expression
+abbrev pub value_step : Expr-F (Walking Known) Combination → Walking Known
+value_step (Constant number value) = do
+  _ ← enter number
+  ordinal (record { first = value; last = value })
+value_step (Variable access defined) = variable_walk access defined
+value_step (MonadicOf number operation operand) = do
+  _ ← enter number
+  known ← operand.value
+  operated operation known
+value_step (Chain first rest) = do
+  known ← first.value
+  in_turn rest.items known
+
+-- the walk over an operator and its right operand
+abbrev pub link_walk : Link → Combination
+link_walk = fold-Link (Walking Known) Combination value_step link_step
+
+-- the walk over an expression: what is known of its value
+abbrev pub value_walk : Expr → Walking Known
+value_walk = fold-Expr (Walking Known) Combination value_step link_step
+
+-- a width has to be at least 1
+abbrev pub width_test : ℕ → Known → Walking (Unit {0})
+width_test site (Ordinal range) = do
+  _ ← positive site range
+  give tt
+
+-- the width of a value that is written
+abbrev pub width_walk : Option Width → Walking (Unit {0})
+width_walk None = give tt
+width_walk (Some width) = do
+  known ← value_walk width.value
+  width_test width.site known
+
+-- a value that is written, and then its width
+abbrev pub parameter_walk : WriteParameter → Walking (Unit {0})
+parameter_walk parameter = do
+  _ ← value_walk parameter.value
+  width_walk parameter.width
+
+-- a value has to lie in the range of a type
+abbrev pub fitting : RangeTest → Known → Walking Known
+fitting fits (Ordinal range) = do
+  passed ← within (limits_of fits.range) fits.site range
+  ordinal passed
