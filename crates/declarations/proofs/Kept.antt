@@ -1,6 +1,5 @@
 -- A name that is known stays known while declarations are passed.
-use Rattle.std.proofs.Common.{◌≡◌, ℕ, ◌+◌, Bool, true, false, if◌then◌else◌, List, [], ◌∷◌, ◌++◌, slice_index_or, Result, Ok, Err, IfOk, codes, nat_eq, nat_lt}
-use Rattle.std.proofs.Common.{nat_le, pos}
+use Rattle.std.proofs.Common.{◌≡◌, ℕ, ◌+◌, ◌-◌, ℤ, pos, nat_le, length, Bool, true, false, if◌then◌else◌, List, [], ◌∷◌, ◌++◌, slice_index_or, Result, Ok, Err, IfOk, codes, nat_eq, nat_lt}
 use Rattle.std.specs.Cmp.Lexicographic.{pointwise}
 use Rattle.std.proofs.lemmas.Result.{IfOk-at_ok}
 use Rattle.place.specs.declared.Place.{Place}
@@ -9,12 +8,14 @@ use Rattle.syntax_tree.specs.declared.Constant.{Constant}
 use Rattle.syntax_tree.specs.declared.ConstantDefinition.{ConstantDefinition}
 use Rattle.syntax_tree.specs.declared.ConstantValue.{ConstantValue}
 use Rattle.syntax_tree.specs.declared.ConstantValue.TheVariants as written
+use Rattle.syntax_tree.specs.declared.TypeDefinition.{TypeDefinition}
 use Rattle.syntax_tree.specs.declared.TypeDenoter.{TypeDenoter}
 use Rattle.syntax_tree.specs.declared.TypeDenoter.TheVariants as denoter
 use Rattle.syntax_tree.specs.declared.VariableGroup.{VariableGroup}
 use Rattle.types.specs.declared.form.TypeForm.{TypeForm}
+use Rattle.types.specs.declared.form.TypeForm.TheVariants.{Enumeration}
 use Rattle.types.specs.declared.form.TypeId.{TypeId}
-use Rattle.types.specs.Types.{integer, cells_of, most_cells}
+use Rattle.types.specs.Types.{integer, admitted, cells_of, most_cells}
 use Rattle.scopes.specs.Scopes.{Region, Knows, found, define}
 use Rattle.scopes.specs.declared.denotation.Denotation.{Denotation}
 use Rattle.scopes.specs.declared.denotation.Denotation.TheVariants as denotes
@@ -22,13 +23,14 @@ use Rattle.scopes.specs.declared.fault.ScopeFault.{ScopeFault}
 use Rattle.scopes.proofs.Known.{define_keeps}
 use Rattle.typed_tree.specs.declared.fault.TypeFault.TheVariants as fault
 use Rattle.typed_tree.specs.Look.{Look}
-use Rattle.typing.specs.Names.{folded}
-use Rattle.typing.specs.Passing.{Passed, Checked, After, Passing, after, and_then, behind_marks, each, ◌>>=◌, ◌>>◌, ◌>>?◌}
-use Rattle.typing.specs.Steps.{told, pass, find, declare, give_output, next_root, reserve}
-use Rattle.typing.specs.Constants.{as_constant, unsigned_constant, behind_sign, constant}
+use Rattle.typing.specs.Names.{folded, group_names, type_names}
+use Rattle.typing.specs.Passing.{Passed, Checked, After, Passing, after, and_then, behind_marks, given, pure, each, ◌>>=◌, ◌>>◌, ◌>>?◌}
+use Rattle.typing.specs.Steps.{told, pass, find, declare, added, add_type, latest, give_output, next_root, reserve}
+use Rattle.typing.specs.Constants.{as_constant, behind_sign, unsigned_constant, constant}
 use Rattle.typing.specs.Expressions.{fits}
-use Rattle.typing.specs.Typing.{definition, named_type, denoted_type, parameter_of_program, variable, group}
-use Rattle.declarations.specs.Known.{AreKnown, AreKnownDefinitions, AreKnownGroups}
+use Rattle.typing.specs.Denoters.{named_type, type_of_name, value_of, constants_from, enumeration, between, subrange, denoted_type}
+use Rattle.typing.specs.Typing.{definition, type_definition, parameter_of_program, variable, group}
+use Rattle.declarations.specs.Known.{AreKnown, AreKnownDefinitions, AreKnownTypes, AreKnownGroups}
 
 -- what an outcome leaves knows a name
 abbrev pub Leaves : {A : Type 0} → List ℕ → Checked (After A) → Type 0
@@ -55,7 +57,7 @@ pub each_keeps : {A : Type 0} (step : A → Passing (Unit {0})) (forms : List A)
 each_keeps step [] keeps = λ old name known. known
 each_keeps step (form ∷ forms) keeps = then_keeps (step form) (λ _. each step forms) (keeps form) (λ _. each_keeps step forms keeps)
 
-declare_keeps : (name : Name) (denotation : Denotation) → Keeps (declare name denotation)
+pub declare_keeps : (name : Name) (denotation : Denotation) → Keeps (declare name denotation)
 unfolding declare
 declare_keeps name denotation old other known =
     by (define (folded name.text.now) denotation old.regions) (define_keeps old.regions (folded name.text.now) denotation other known)
@@ -127,13 +129,75 @@ variable_keeps type_id name =
     (λ root. then_keeps (declare name (denotes.Variable root type_id)) (λ _. reserve name.place type_id)
     (declare_keeps name (denotes.Variable root type_id)) (λ _. reserve_keeps name.place type_id))
 
-pub denoted_type_keeps : (names : List Name) (denoter : TypeDenoter) → Keeps (denoted_type names denoter)
-unfolding denoted_type
-denoted_type_keeps names (denoter.Name name) old other known = by (named_type names name (found old.regions (folded name.text.now)))
+given_keeps : {A : Type 0} (checked : Checked A) → Keeps (given checked)
+given_keeps (Ok answer) old name known = known
+given_keeps (Err why) old name known = tt
+
+pub add_type_keeps : (place : Place) (form : TypeForm) → Keeps (add_type place form)
+unfolding add_type
+add_type_keeps place form old name known = by (added place (admitted old.types form))
+  where
+    by : (outcome : Checked TypeId) → Leaves name (and_then outcome (λ id. Ok (after id [] (record old { types = old.types ++ form ∷ [] }))))
+    by (Ok id) = known
+    by (Err why) = tt
+
+type_of_name_keeps : (names : List Name) (name : Name) → Keeps (type_of_name names name)
+unfolding type_of_name
+type_of_name_keeps names name old other known = by (named_type names name (found old.regions (folded name.text.now)))
   where
     by : (outcome : Checked TypeId) → Leaves other (and_then outcome (λ type_id. Ok (after type_id [] (record old { latest = name.place }))))
     by (Ok type_id) = known
     by (Err why) = tt
+
+constants_from_keeps : (type_id : TypeId) (number : ℕ) (names : List Name) → Keeps (constants_from type_id number names)
+constants_from_keeps type_id number [] = λ old other known. known
+constants_from_keeps type_id number (name ∷ names) =
+    then_keeps (given (value_of number name.place)) (λ value. declare name (denotes.Constant value type_id) >> constants_from type_id (number + 1) names)
+    (given_keeps (value_of number name.place)) λ value.
+    then_keeps (declare name (denotes.Constant value type_id)) (λ _. constants_from type_id (number + 1) names)
+    (declare_keeps name (denotes.Constant value type_id)) λ _.
+    constants_from_keeps type_id (number + 1) names
+
+latest_keeps : Keeps latest
+unfolding latest
+latest_keeps old name known = known
+
+abbrev last_value : List Name → Place → Passing ℤ
+last_value names place = given (value_of (length names - 1) place)
+
+abbrev with_constants : List Name → TypeId → Passing TypeId
+with_constants names type_id = constants_from type_id 0 names >>= (λ _. pure type_id)
+
+abbrev added_type : List Name → Place → ℤ → Passing TypeId
+added_type names place last = add_type place (Enumeration last) >>= with_constants names
+
+enumeration_keeps : (names : List Name) → Keeps (enumeration names)
+unfolding enumeration
+enumeration_keeps names =
+    then_keeps latest (λ place. last_value names place >>= added_type names place) latest_keeps λ place.
+    then_keeps (last_value names place) (added_type names place) (given_keeps (value_of (length names - 1) place)) λ last.
+    then_keeps (add_type place (Enumeration last)) (with_constants names) (add_type_keeps place (Enumeration last)) λ type_id.
+    then_keeps (constants_from type_id 0 names) (λ _. pure type_id) (constants_from_keeps type_id 0 names) (λ _ old other known. known)
+
+subrange_keeps : (first : Constant) (place : Place) (last : Constant) → Keeps (subrange first place last)
+unfolding subrange
+subrange_keeps first place last =
+    then_keeps (constant first) (λ f. (constant last >>? (λ types l. between types place f l)) >>= (λ form. add_type place form)) (constant_keeps first) λ f.
+    then_keeps (constant last >>? (λ types l. between types place f l)) (λ form. add_type place form)
+    (checks_keep (constant last) (λ types l. between types place f l) (constant_keeps last)) λ form.
+    add_type_keeps place form
+
+pub denoted_type_keeps : (names : List Name) (denoter : TypeDenoter) → Keeps (denoted_type names denoter)
+unfolding denoted_type
+denoted_type_keeps names (denoter.Name name) = type_of_name_keeps names name
+denoted_type_keeps names (denoter.Enumerated constants) = enumeration_keeps constants.items
+denoted_type_keeps names (denoter.Subrange first place last) = subrange_keeps first place last
+
+pub type_definition_keeps : (d : TypeDefinition) → Keeps (type_definition d)
+unfolding type_definition
+type_definition_keeps d =
+    then_keeps (denoted_type [] d.denoter) (λ type_id. declare d.name (denotes.TypeName type_id)) (denoted_type_keeps [] d.denoter)
+    (λ type_id. declare_keeps d.name (denotes.TypeName type_id))
 
 pub group_keeps : (g : VariableGroup) → Keeps (group g)
 unfolding group
@@ -155,6 +219,10 @@ module _ {A : Type 0} (step : Passing A) (keeps : Keeps step) (answer : A) (look
   pub definitions_stay : (definitions : List ConstantDefinition) → AreKnownDefinitions definitions old.regions → AreKnownDefinitions definitions new.regions
   definitions_stay definitions known k d within = still_known (folded (slice_index_or definitions k d).name.text.now) (known k d within)
 
+  -- names of types stay known
+  pub types_stay : (definitions : List TypeDefinition) → AreKnownTypes definitions old.regions → AreKnownTypes definitions new.regions
+  types_stay definitions known k d within = names_stay (type_names (slice_index_or definitions k d)) (known k d within)
+
   -- names of groups stay known
   pub groups_stay : (groups : List VariableGroup) → AreKnownGroups groups old.regions → AreKnownGroups groups new.regions
-  groups_stay groups known k d within = names_stay (slice_index_or groups k d).names.items (known k d within)
+  groups_stay groups known k d within = names_stay (group_names (slice_index_or groups k d)) (known k d within)

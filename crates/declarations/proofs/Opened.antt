@@ -1,19 +1,18 @@
 -- The region of a block knows from its beginning the names that the block defines.
-use Rattle.std.proofs.Common.{◌≡◌, ◌∙◌, ℕ, List, [], ◌∷◌, ◌++◌, Ok, Err, All, Vec, map, flat_map, refl, sym, ap, subst, append_assoc}
+use Rattle.std.proofs.Common.{◌≡◌, ◌∙◌, ℕ, List, [], ◌∷◌, ◌++◌, Ok, Err, All, Vec, map, flat_map, refl, sym, ap, subst, append_assoc, append-nil}
 use Rattle.std.specs.declared.alloc.Global.{Global}
 use Rattle.std.proofs.lemmas.List.{map-append}
 use Rattle.std.proofs.lemmas.List.Elements.{All-cons, All-nil}
 use Rattle.syntax_tree.specs.declared.ConstantDefinition.{ConstantDefinition}
 use Rattle.syntax_tree.specs.declared.Name.{Name}
 use Rattle.syntax_tree.specs.declared.Program.{Program}
-use Rattle.syntax_tree.specs.declared.VariableGroup.{VariableGroup}
 use Rattle.scopes.specs.Scopes.{Region, opened, Knows}
 use Rattle.scopes.proofs.Known.{opened_knows}
-use Rattle.typing.specs.Names.{folded, all_folded, block_names, defined_names}
+use Rattle.typing.specs.Names.{folded, all_folded, type_names, group_names, block_names, defined_names}
 use Rattle.typing.specs.Passing.{Passed, Checked, After, after}
 use Rattle.typing.specs.Steps.{open_block}
 use Rattle.declarations.specs.Declared.{texts}
-use Rattle.declarations.specs.Known.{AreKnown, AreKnownDefinitions, AreKnownGroups}
+use Rattle.declarations.specs.Known.{AreKnown, AreKnownDefinitions, AreKnownTypes, AreKnownGroups}
 
 -- the regions that an outcome leaves
 regions_of : Checked (After (Unit {0})) → List Region
@@ -48,21 +47,20 @@ module _ (outer : List Region) where
       keys_are [] = refl
       keys_are (d ∷ ds) = ap (λ l. folded d.name.text.now ∷ l) (keys_are ds)
 
-  abbrev names_of : List VariableGroup → List Name
-  names_of groups = flat_map (λ group. group.names.items) groups
-
-  -- the names of groups behind others
-  groups_behind : (before : List (List ℕ)) (groups : List VariableGroup)
-      → AreKnownGroups groups (opened (before ++ all_folded (names_of groups)) ∷ outer)
-  groups_behind before [] = All-nil (λ group. AreKnown group.names.items (opened (before ++ []) ∷ outer))
-  groups_behind before (group ∷ groups) =
-      let names = group.names.items in
-      let behind = all_folded (names_of groups) in
-      subst (λ l. AreKnownGroups (group ∷ groups) (opened (before ++ l) ∷ outer)) (sym (map-append (λ name. folded name.text.now) names (names_of groups)))
-      (All-cons (λ g. AreKnown g.names.items (opened (before ++ (all_folded names ++ behind)) ∷ outer)) group groups
-      (names_between before names behind)
-      (subst (λ l. AreKnownGroups groups (opened l ∷ outer)) (append_assoc before (all_folded names) behind)
-      (groups_behind (before ++ all_folded names) groups)))
+  -- the names of forms between others
+  module _ {A : Type 0} (names : A → List Name) where
+    forms_between : (before : List (List ℕ)) (forms : List A) (behind : List (List ℕ))
+        → All (λ form. AreKnown (names form) (opened (before ++ (all_folded (flat_map names forms) ++ behind)) ∷ outer)) forms
+    forms_between before [] behind = All-nil (λ form. AreKnown (names form) (opened (before ++ behind) ∷ outer))
+    forms_between before (form ∷ forms) behind =
+        let own = all_folded (names form) in
+        let rest = all_folded (flat_map names forms) in
+        let parts = ap (λ l. l ++ behind) (map-append (λ name. folded name.text.now) (names form) (flat_map names forms)) ∙ append_assoc own rest behind in
+        subst (λ l. All (λ f. AreKnown (names f) (opened (before ++ l) ∷ outer)) (form ∷ forms)) (sym parts)
+        (All-cons (λ f. AreKnown (names f) (opened (before ++ (own ++ (rest ++ behind))) ∷ outer)) form forms
+        (names_between before (names form) (rest ++ behind))
+        (subst (λ l. All (λ f. AreKnown (names f) (opened l ∷ outer)) forms) (append_assoc before own (rest ++ behind))
+        (forms_between (before ++ own) forms behind)))
 
   module _ (program : Program) where
     parameters : List (List ℕ)
@@ -71,33 +69,47 @@ module _ (outer : List Region) where
     constants : List (List ℕ)
     constants = all_folded (map (λ d. d.name) program.block.constants.items)
 
-    variables : List (List ℕ)
-    variables = all_folded (names_of program.block.variables.items)
+    types : List (List ℕ)
+    types = all_folded (flat_map type_names program.block.types.items)
 
-    in_parts : parameters ++ (constants ++ variables) ≡ all_folded (defined_names program)
-    unfolding parameters constants variables
+    variables : List (List ℕ)
+    variables = all_folded (flat_map group_names program.block.variables.items)
+
+    in_parts : parameters ++ (constants ++ (types ++ variables)) ≡ all_folded (defined_names program)
+    unfolding parameters constants types variables
     in_parts = sym (
         map-append (λ name. folded name.text.now) program.parameters.items (block_names program.block)
         ∙ ap (λ l. all_folded program.parameters.items ++ l)
-        (map-append (λ name. folded name.text.now) (map (λ d. d.name) program.block.constants.items) (names_of program.block.variables.items)))
+        (map-append (λ name. folded name.text.now) (map (λ d. d.name) program.block.constants.items)
+        (flat_map type_names program.block.types.items ++ flat_map group_names program.block.variables.items)
+        ∙ ap (λ l. all_folded (map (λ d. d.name) program.block.constants.items) ++ l)
+        (map-append (λ name. folded name.text.now) (flat_map type_names program.block.types.items) (flat_map group_names program.block.variables.items))))
 
     parameters_known : AreKnown program.parameters.items (opened (all_folded (defined_names program)) ∷ outer)
     unfolding parameters
     parameters_known =
         subst (λ l. AreKnown program.parameters.items (opened l ∷ outer)) in_parts
-        (names_between [] program.parameters.items (constants ++ variables))
+        (names_between [] program.parameters.items (constants ++ (types ++ variables)))
 
     constants_known : AreKnownDefinitions program.block.constants.items (opened (all_folded (defined_names program)) ∷ outer)
     unfolding constants
     constants_known =
         subst (λ l. AreKnownDefinitions program.block.constants.items (opened l ∷ outer)) in_parts
-        (constants_between parameters program.block.constants.items variables)
+        (constants_between parameters program.block.constants.items (types ++ variables))
+
+    types_known : AreKnownTypes program.block.types.items (opened (all_folded (defined_names program)) ∷ outer)
+    unfolding types
+    types_known =
+        subst (λ l. AreKnownTypes program.block.types.items (opened l ∷ outer)) (append_assoc parameters constants (types ++ variables) ∙ in_parts)
+        (forms_between type_names (parameters ++ constants) program.block.types.items variables)
 
     variables_known : AreKnownGroups program.block.variables.items (opened (all_folded (defined_names program)) ∷ outer)
     unfolding variables
     variables_known =
-        subst (λ l. AreKnownGroups program.block.variables.items (opened l ∷ outer)) (append_assoc parameters constants variables ∙ in_parts)
-        (groups_behind (parameters ++ constants) program.block.variables.items)
+        subst (λ l. AreKnownGroups program.block.variables.items (opened l ∷ outer))
+        (ap (λ l. ((parameters ++ constants) ++ types) ++ l) (append-nil variables)
+        ∙ append_assoc (parameters ++ constants) types variables ∙ append_assoc parameters constants (types ++ variables) ∙ in_parts)
+        (forms_between group_names ((parameters ++ constants) ++ types) program.block.variables.items [])
 
 -- once the region of a block is open
 module _ (program : Program) (keys : List (Vec ℕ Global)) (old new : Passed)
@@ -113,6 +125,10 @@ module _ (program : Program) (keys : List (Vec ℕ Global)) (old new : Passed)
   -- its constants are known
   pub constants_are_known : AreKnownDefinitions program.block.constants.items new.regions
   constants_are_known = subst (AreKnownDefinitions program.block.constants.items) regions_behind (constants_known old.regions program)
+
+  -- its types are known
+  pub types_are_known : AreKnownTypes program.block.types.items new.regions
+  types_are_known = subst (AreKnownTypes program.block.types.items) regions_behind (types_known old.regions program)
 
   -- its variables are known
   pub variables_are_known : AreKnownGroups program.block.variables.items new.regions

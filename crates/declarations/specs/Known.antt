@@ -3,9 +3,10 @@
 use Rattle.std.specs.Prelude.{List, All}
 use Rattle.syntax_tree.specs.declared.ConstantDefinition.{ConstantDefinition}
 use Rattle.syntax_tree.specs.declared.Name.{Name}
+use Rattle.syntax_tree.specs.declared.TypeDefinition.{TypeDefinition}
 use Rattle.syntax_tree.specs.declared.VariableGroup.{VariableGroup}
 use Rattle.scopes.specs.Scopes.{Region, Knows}
-use Rattle.typing.specs.Names.{folded}
+use Rattle.typing.specs.Names.{folded, group_names, type_names}
 
 -- the innermost region lists each of these names
 abbrev pub AreKnown : List Name → List Region → Type 0
@@ -15,6 +16,10 @@ AreKnown names regions = All (λ name. Knows regions (folded name.text.now)) nam
 abbrev pub AreKnownDefinitions : List ConstantDefinition → List Region → Type 0
 AreKnownDefinitions definitions regions = All (λ d. Knows regions (folded d.name.text.now)) definitions
 
+-- the innermost region lists each name of these type definitions
+abbrev pub AreKnownTypes : List TypeDefinition → List Region → Type 0
+AreKnownTypes definitions regions = All (λ d. AreKnown (type_names d) regions) definitions
+
 -- the innermost region lists each name of these groups
 abbrev pub AreKnownGroups : List VariableGroup → List Region → Type 0
-AreKnownGroups groups regions = All (λ group. AreKnown group.names.items regions) groups
+AreKnownGroups groups regions = All (λ group. AreKnown (group_names group) regions) groups

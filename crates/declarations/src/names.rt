@@ -1,13 +1,14 @@
-ghost use Rattle.std.specs.Prelude.{◌≡◌, ◌++◌, OnOk, IfOk};
+ghost use Rattle.std.specs.Prelude.{◌≡◌, ◌++◌, OnOk, IfOk, flat_map};
 ghost use Rattle.typing.specs.Names.{all_folded};
 ghost use Rattle.typing.specs.Names as spec;
 ghost use Rattle.declarations.specs.Declared.{texts};
 
 use std::alloc::{AllocError, Global};
-use syntax_tree::{Name, Program};
+use syntax_tree::{Name, Program, TypeDefinition, TypeDenoter, VariableGroup};
 use typing::folded;
 
-/// The names that the program's block defines, in small letters: its parameters, its constants and its variables.
+/// The names that the program's block defines, in small letters: its parameters, its constants, its types and
+/// its variables.
 pub(crate) fn defined_names(alloc: Global, program: &Program) -> Result<Vec<Vec<u8>>, AllocError>
     ensures { IfOk result (λ keys. texts keys.items ≡ all_folded (spec.defined_names program.now)) }
 {
@@ -16,13 +17,59 @@ pub(crate) fn defined_names(alloc: Global, program: &Program) -> Result<Vec<Vec<
     for definition in &program.block.constants {
         keys.push(folded(alloc, definition.name.text)?)?;
     }
-    for group in &program.block.variables {
-        fold_names(alloc, &group.names, &mut keys)?;
-    }
+    fold_types(alloc, &program.block.types, &mut keys)?;
+    fold_groups(alloc, &program.block.variables, &mut keys)?;
     Ok(keys)
 }
 
-// These names too, in small letters.
+// The names of these type definitions too, in small letters.
+fn fold_types(
+    alloc: Global,
+    definitions: &[TypeDefinition],
+    keys: &mut Vec<Vec<u8>>,
+) -> Result<(), AllocError>
+    ensures { OnOk result
+        (texts keys.new.items ≡ texts keys.old.items ++ all_folded (flat_map spec.type_names definitions.now)) }
+{
+    for definition in definitions {
+        fold_denoter(alloc, &definition.denoter, keys)?;
+        keys.push(folded(alloc, definition.name.text)?)?;
+    }
+    Ok(())
+}
+
+// Those of these variables.
+fn fold_groups(
+    alloc: Global,
+    groups: &[VariableGroup],
+    keys: &mut Vec<Vec<u8>>,
+) -> Result<(), AllocError>
+    ensures { OnOk result
+        (texts keys.new.items ≡ texts keys.old.items ++ all_folded (flat_map spec.group_names groups.now)) }
+{
+    for group in groups {
+        fold_denoter(alloc, &group.denoter, keys)?;
+        fold_names(alloc, &group.names, keys)?;
+    }
+    Ok(())
+}
+
+// Those that a denoter defines.
+fn fold_denoter(
+    alloc: Global,
+    denoter: &TypeDenoter,
+    keys: &mut Vec<Vec<u8>>,
+) -> Result<(), AllocError>
+    ensures { OnOk result
+        (texts keys.new.items ≡ texts keys.old.items ++ all_folded (spec.denoter_names denoter.now)) }
+{
+    match denoter {
+        TypeDenoter::Enumerated { constants } => fold_names(alloc, constants, keys),
+        TypeDenoter::Name(_) | TypeDenoter::Subrange { .. } => Ok(()),
+    }
+}
+
+// These names.
 fn fold_names(alloc: Global, names: &[Name], keys: &mut Vec<Vec<u8>>) -> Result<(), AllocError>
     ensures { OnOk result (texts keys.new.items ≡ texts keys.old.items ++ all_folded names.now) }
 {

@@ -1,9 +1,11 @@
 ghost use Rattle.std.specs.Prelude.{◌≡◌};
+ghost use Rattle.typing.specs.Names.{group_names};
 ghost use Rattle.typing.specs.Outcomes.{Takes};
 ghost use Rattle.typing.specs.Passing.{each};
 ghost use Rattle.typing.specs.Typing as spec;
 ghost use Rattle.declarations.specs.Known.{AreKnown, AreKnownGroups};
 
+use crate::denoters::denoted_type;
 use syntax_tree::{Name, VariableGroup};
 use typed_tree::fault::TypeFault;
 use types::TypeId;
@@ -20,13 +22,13 @@ pub(crate) fn declare_groups(typer: &mut Typer, groups: &[VariableGroup]) -> Res
     Ok(())
 }
 
-// Variables that are declared together. Their type is looked up first.
+// Variables that are declared together: first their type.
 #[tactic(auto, unfolding(typing::specs::Typing::group))]
 fn declare_group(typer: &mut Typer, group: &VariableGroup) -> Result<(), TypeFault>
-    requires known { AreKnown group.now.names.items typer.old.regions }
+    requires known { AreKnown (group_names group.now) typer.old.regions }
     ensures { Takes (spec.group group.now typer.old) result typer.new }
 {
-    let type_id = typer.denoted_type(&group.names, &group.denoter)?;
+    let type_id = denoted_type(typer, &group.names, &group.denoter)?;
     declare_variables(typer, type_id, &group.names)
 }
 

@@ -74,8 +74,8 @@ fn named(typer: &mut Typer, name: &syntax::Name, lead: Option<SiteKind>) -> Resu
     denoted(typer, denotation, name.place, lead)
 }
 
-// What a name denotes, as an expression: a constant or a variable.
-#[tactic(auto, unfolding(typing::specs::Expressions::denoted))]
+// What a name denotes, as an expression: a constant, or a variable, whose value is of the host type (6.7.1).
+#[tactic(auto, unfolding(typing::specs::Expressions::denoted, typing::specs::Steps::host_type))]
 fn denoted(
     typer: &mut Typer,
     denotation: Denotation,
@@ -103,7 +103,7 @@ fn denoted(
             };
             Ok(Typed {
                 expression: Expr::Variable { access, defined },
-                type_id,
+                type_id: typer.host(type_id),
                 site,
             })
         }

@@ -11,7 +11,7 @@ use Rattle.syntax_tree.specs.declared.Constant.{Constant}
 use Rattle.syntax_tree.specs.declared.ConstantDefinition.{ConstantDefinition}
 use Rattle.grammar.specs.Spelling.{Reads, of_kind_at, mark, word_symbol, identifier, joined, constant_spelling, definition_spelling}
 use Rattle.grammar.specs.Begins.{BeginsConstant, BeginsDefinition, BeginsDefinitions, BeginsConstantPart}
-use Rattle.grammar.specs.Following.{next_kind, NoNext, Next, EndsConstants, variable_part, statement_part}
+use Rattle.grammar.specs.Following.{next_kind, NoNext, Next, EndsConstants, type_part, no_types, EndsTypes, variable_part, statement_part}
 use Rattle.grammar.proofs.Rows.{parted, begins, same_first}
 use Rattle.grammar.proofs.Reading.{reads_fewer}
 
@@ -33,8 +33,8 @@ pub record ConstantThenClosed (a c : List Token) (value : Constant) : Type 0 whe
 pub definition_behind_equal : (p : Place) (a b c : List Token) (value : Constant) → Reads a (of_kind_at (kind.Symbol symbol.Equal) p ∷ []) b
     → Reads a (mark symbol.Equal ∷ constant_spelling value ++ mark symbol.Semicolon ∷ []) c → ConstantThenClosed b c value
 definition_behind_equal p a b c value taken h =
-    let others = constant_spelling value ++ mark symbol.Semicolon ∷ [] in
-    let behind = (same_first (of_kind_at (kind.Symbol symbol.Equal) p) (mark symbol.Equal) others a b c taken h).1 in
+    let behind = (same_first (of_kind_at (kind.Symbol symbol.Equal) p) (mark symbol.Equal)
+    (constant_spelling value ++ mark symbol.Semicolon ∷ []) a b c taken h).1 in
     let r = parted (constant_spelling value) (mark symbol.Semicolon ∷ []) b c behind in
     record { middle = r.0; begun = r.1; closed = r.2 }
 
@@ -104,18 +104,24 @@ definitions_end start a left none definitions others h ends =
 
 -- ---- the part of a block
 
--- what doesn't come next behind the constants
-ends_with : (a : List Token) (k : Kind) → ¬ (Some (kind.Word word.Var) ≡ Some k) → ¬ (Some (kind.Word word.Begin) ≡ Some k) → EndsConstants a → NoNext k a
-ends_with a k var begin (variable_part h) e = var (sym h ∙ e)
-ends_with a k var begin (statement_part h) e = begin (sym h ∙ e)
+-- what doesn't come next behind the types
+pub types_end_with : (a : List Token) (k : Kind) → ¬ (Some (kind.Word word.Var) ≡ Some k) → ¬ (Some (kind.Word word.Begin) ≡ Some k) → EndsTypes a → NoNext k a
+types_end_with a k var begin (variable_part h) e = var (sym h ∙ e)
+types_end_with a k var begin (statement_part h) e = begin (sym h ∙ e)
+
+-- nor behind the constants
+ends_with : (a : List Token) (k : Kind) → ¬ (Some (kind.Word word.Type) ≡ Some k) → ¬ (Some (kind.Word word.Var) ≡ Some k)
+    → ¬ (Some (kind.Word word.Begin) ≡ Some k) → EndsConstants a → NoNext k a
+ends_with a k type var begin (type_part h) e = type (sym h ∙ e)
+ends_with a k type var begin (no_types h) e = types_end_with a k var begin h e
 
 -- there the definitions end
 pub constants_end : (a : List Token) → EndsConstants a → NoNext kind.Identifier a
-constants_end a h = ends_with a kind.Identifier (λ e. cc) (λ e. cc) h
+constants_end a h = ends_with a kind.Identifier (λ e. cc) (λ e. cc) (λ e. cc) h
 
 -- and no second part begins
 pub constants_no_const : (a : List Token) → EndsConstants a → NoNext (kind.Word word.Const) a
-constants_no_const a h = ends_with a (kind.Word word.Const) (λ e. cc) (λ e. cc) h
+constants_no_const a h = ends_with a (kind.Word word.Const) (λ e. cc) (λ e. cc) (λ e. cc) h
 
 -- behind `const`
 pub constants_opened : (p : Place) (a b c : List Token) (ds : List ConstantDefinition) → Reads a (of_kind_at (kind.Word word.Const) p ∷ []) b

@@ -4,6 +4,7 @@ pub mod Cases
 pub mod Chains
 pub mod Conditionals
 pub mod Definitions
+pub mod Denoters
 pub mod Equations
 pub mod Expressions
 pub mod Forms
@@ -15,8 +16,10 @@ pub mod OneTreeConstants
 pub mod OneTreeDefinitions
 pub mod OneTreeExpressions
 pub mod OneTreeLists
+pub mod OneTreeNames
 pub mod OneTreePrograms
 pub mod OneTreeStatements
+pub mod OneTreeTypes
 pub mod Parts
 pub mod ProgramPlaces
 pub mod Programs
@@ -25,3 +28,4 @@ pub mod Rows
 pub mod Starts
 pub mod Statements
 pub mod TreePlaces
+pub mod Types

@@ -1,109 +1,70 @@
 -- Two programs from the same tokens are written alike: part by part.
-use Rattle.std.proofs.Common.{◌≡◌, ℕ, ◌+◌, Bool, true, ◌&&◌, List, [], ◌∷◌, ◌++◌, map, length, Some, refl, subst, sym, ap, ◌∙◌, append_assoc, arith}
+use Rattle.std.proofs.Common.{◌≡◌, ◌+◌, true, ◌&&◌, List, [], ◌∷◌, ◌++◌, map, length, Some, refl, subst, sym, ap, ◌∙◌, append_assoc, arith}
 use Rattle.std.specs.List.{list_all}
 use Rattle.place.specs.declared.Place.{Place}
-use Rattle.lexer.specs.declared.token.Kind.{Kind}
 use Rattle.lexer.specs.declared.token.Kind.TheVariants as kind
 use Rattle.lexer.specs.declared.token.Symbol.TheVariants as symbol
 use Rattle.lexer.specs.declared.token.Word.TheVariants as word
 use Rattle.lexer.specs.declared.token.Token.{Token}
 use Rattle.syntax_tree.specs.declared.Name.{Name}
-use Rattle.syntax_tree.specs.declared.TypeDenoter.{TypeDenoter}
-use Rattle.syntax_tree.specs.declared.TypeDenoter.TheVariants as denoter
+use Rattle.syntax_tree.specs.declared.TypeDefinition.{TypeDefinition}
 use Rattle.syntax_tree.specs.declared.VariableGroup.{VariableGroup}
 use Rattle.syntax_tree.specs.declared.Stmt.{Stmt}
 use Rattle.syntax_tree.specs.declared.Block.{Block}
 use Rattle.syntax_tree.specs.declared.Program.{Program}
 use Rattle.grammar.specs.Spelling.{Lexeme, Spelling, Reads, Spells, of_kind_at, mark, word_symbol, identifier, identifiers, separated, joined, in_parentheses}
-use Rattle.grammar.specs.Spelling.{denoter_spelling, group_spelling, constants_spelling, variables_spelling, stmt_spelling, block_spelling}
-use Rattle.grammar.specs.Spelling.{program_spelling}
-use Rattle.grammar.specs.WellFormed.{is_group, is_statement, is_block, is_program, has_items}
-use Rattle.grammar.specs.Following.{next_kind, NoNext, Next, EndsConstants, variable_part, statement_part}
-use Rattle.grammar.specs.Notation.{Notation, bracketed, token, row, names_notation, denoter_notation, group_notation, stmt_notation, block_notation}
+use Rattle.grammar.specs.Spelling.{denoter_spelling, type_definition_spelling, group_spelling, constants_spelling, types_spelling, variables_spelling}
+use Rattle.grammar.specs.Spelling.{stmt_spelling, block_spelling, program_spelling}
+use Rattle.grammar.specs.WellFormed.{is_denoter, is_type_definition, is_group, is_statement, is_block, is_program, has_items}
+use Rattle.grammar.specs.Following.{next_kind, NoNext, Next, EndsConstants, type_part, no_types, EndsTypes, variable_part, statement_part}
+use Rattle.grammar.specs.Notation.{Notation, bracketed, token, row, names_notation, type_definition_notation, group_notation, stmt_notation, block_notation}
 use Rattle.grammar.specs.Notation.{notation}
 use Rattle.grammar.specs.Notation as note
 use Rattle.grammar.specs.Laws.{HasOneTree}
 use Rattle.grammar.proofs.Lists.{and_left, and_right}
 use Rattle.grammar.proofs.Rows.{parted, begins}
-use Rattle.grammar.proofs.Led.{list_begins}
-use Rattle.grammar.proofs.Programs.{some_items, other_kind}
+use Rattle.grammar.proofs.Programs.{some_items, other_kind, behind_types, behind_constants, is_body}
 use Rattle.grammar.proofs.OneTree.{Alike, first_is_one, last_is_one, at_is_one, name_is_one}
-use Rattle.grammar.proofs.OneTreeLists.{Parts, OnePart, Listed, list_alike, InParentheses, parenthesized_alike}
+use Rattle.grammar.proofs.OneTreeLists.{Listed, list_alike, InParentheses, parenthesized_alike}
+use Rattle.grammar.proofs.OneTreeNames.{name_spelling, name_written, any_name, name_parts, all_names, names_row, one_name, names_first}
 use Rattle.grammar.proofs.OneTreeDefinitions.{Constants, constants_alike}
+use Rattle.grammar.proofs.OneTreeTypes.{Types, closed_alike, types_alike}
 use Rattle.grammar.proofs.OneTreeStatements.{statement_parts, end_closes, one_statement}
 
--- ---- names
-
-name_spelling : Name → Spelling
-name_spelling name = identifier name ∷ []
-
-name_written : Name → Notation
-name_written name = token (identifier name) ∷ []
-
-any_name : Name → Bool
-any_name name = true
-
--- the parts of a list of names behind which such a token stands
-name_parts : Kind → Parts Name
-name_parts k = record { symbol = symbol.Comma; closer = k; spelling = name_spelling; well = any_name; written = name_written }
-
-all_names : (names : List Name) → list_all any_name names ≡ true
-unfolding any_name
-all_names [] = refl
-all_names (n ∷ ns) = all_names ns
-
-names_row : (names : List Name) → row (map name_written names) ≡ names_notation names
-unfolding name_written
-names_row [] = refl
-names_row (n ∷ ns) = ap (λ w. token (identifier n) ∷ w) (names_row ns)
-
-one_name : (k : Kind) (n : ℕ) → OnePart Name (name_parts k) n
-unfolding name_parts name_spelling name_written
-one_name k n a c d x y few h i ends_one ends_two =
-    let b = first_is_one (identifier x) (identifier y) [] [] a c d h.spelled i.spelled in
-    record { written = ap (λ l. token l ∷ []) (name_is_one x y b.first b.one b.two); left = sym b.one_behind ∙ b.two_behind }
-
 -- ---- variables
-
--- names, their type behind a colon, and a semicolon
-record GroupAs (a c : List Token) (w : Notation) : Type 0 where
-  pub names : List Name
-  pub middle : List Token
-  pub type : Name
-  pub begun : Listed Name (name_parts (kind.Symbol symbol.Colon)) a middle names
-  pub behind : Reads middle (mark symbol.Colon ∷ identifier type ∷ mark symbol.Semicolon ∷ []) c
-  pub written : w ≡ bracketed note.group (names_notation names ++ token (identifier type) ∷ [])
-
-group_with : (a c : List Token) (names : List Name) (d : TypeDenoter)
-    → Reads a (separated symbol.Comma (identifiers names) ++ mark symbol.Colon ∷ denoter_spelling d ++ mark symbol.Semicolon ∷ []) c → has_items names ≡ true
-    → GroupAs a c (bracketed note.group (names_notation names ++ denoter_notation d))
-unfolding name_parts name_spelling
-group_with a c names (denoter.Name n) h some =
-    let r = parted (separated symbol.Comma (identifiers names)) (mark symbol.Colon ∷ identifier n ∷ mark symbol.Semicolon ∷ []) a c
-    (subst (λ s. Reads a s c) (append_assoc (separated symbol.Comma (identifiers names)) (mark symbol.Colon ∷ identifier n ∷ [])
-    (mark symbol.Semicolon ∷ [])) h) in
-    record {
-      names = names;
-      middle = r.0;
-      type = n;
-      begun = record {
-        some = some_items names some;
-        spelled = r.1;
-        formed = all_names names;
-        closed = begins (mark symbol.Colon)
-            (identifier n ∷ mark symbol.Semicolon ∷ []) r.0 c r.2;
-      };
-      behind = r.2;
-      written = refl;
-    }
 
 -- a group of variables that begins these tokens
 record Group (a c : List Token) (g : VariableGroup) : Type 0 where
   pub spelled : Reads a (group_spelling g) c
   pub formed : is_group g ≡ true
 
-group_as : (a c : List Token) (g : VariableGroup) → Group a c g → GroupAs a c (group_notation g)
-group_as a c g h = group_with a c g.names.items g.denoter h.spelled h.formed
+-- its names, and their type behind a colon
+record GroupAs (a c : List Token) (g : VariableGroup) : Type 0 where
+  pub middle : List Token
+  pub begun : Listed Name (name_parts (kind.Symbol symbol.Colon)) a middle g.names.items
+  pub behind : Reads middle (mark symbol.Colon ∷ denoter_spelling g.denoter ++ mark symbol.Semicolon ∷ []) c
+  pub formed : is_denoter g.denoter ≡ true
+
+group_as : (a c : List Token) (g : VariableGroup) → Group a c g → GroupAs a c g
+unfolding name_parts name_spelling
+group_as a c g h =
+    let type = mark symbol.Colon ∷ denoter_spelling g.denoter in
+    let r = parted (separated symbol.Comma (identifiers g.names.items)) (type ++ mark symbol.Semicolon ∷ []) a c
+    (subst (λ s. Reads a s c) (append_assoc (separated symbol.Comma (identifiers g.names.items)) type (mark symbol.Semicolon ∷ [])) h.spelled) in
+    record {
+      middle = r.0;
+      begun = record {
+        some = some_items g.names.items (and_left (has_items g.names.items) (is_denoter g.denoter) h.formed);
+        spelled = r.1;
+        formed = all_names g.names.items;
+        closed = begins (mark symbol.Colon) (denoter_spelling g.denoter ++ mark symbol.Semicolon ∷ []) r.0 c r.2;
+      };
+      behind = r.2;
+      formed = and_right (has_items g.names.items) (is_denoter g.denoter) h.formed;
+    }
+
+group_written : (u v w x : Notation) → u ≡ v → w ≡ x → bracketed note.group (u ++ w) ≡ bracketed note.group (v ++ x)
+group_written u v w x h i = cc
 
 group_alike : (a c d : List Token) (g h : VariableGroup) → Group a c g → Group a d h → Alike Notation (group_notation g) (group_notation h) c d
 unfolding name_parts
@@ -111,17 +72,17 @@ group_alike a c d g h i j =
     let x = group_as a c g i in
     let y = group_as a d h j in
     let n = length a + 1 in
-    let names = list_alike Name (name_parts (kind.Symbol symbol.Colon)) n a x.middle y.middle x.names y.names (λ e. cc) (one_name (kind.Symbol symbol.Colon) n)
-    (omega arith) x.begun y.begun in
-    let s : Spelling = mark symbol.Semicolon ∷ [] in
-    let b = first_is_one (mark symbol.Colon) (mark symbol.Colon) (identifier x.type ∷ s) (identifier y.type ∷ s) x.middle c d x.behind
-    (subst (λ t. Reads t (mark symbol.Colon ∷ identifier y.type ∷ s) d) (sym names.left) y.behind) in
-    let t = first_is_one (identifier x.type) (identifier y.type) s s b.behind c d b.one_behind b.two_behind in
-    let list : names_notation x.names ≡ names_notation y.names = sym (names_row x.names) ∙ ap row names.written ∙ names_row y.names in
+    let names = list_alike Name (name_parts (kind.Symbol symbol.Colon)) n a x.middle y.middle g.names.items h.names.items (λ e. cc)
+    (one_name (kind.Symbol symbol.Colon) n) (omega arith) x.begun y.begun in
+    let s : Spelling = denoter_spelling g.denoter ++ mark symbol.Semicolon ∷ [] in
+    let t : Spelling = denoter_spelling h.denoter ++ mark symbol.Semicolon ∷ [] in
+    let b = first_is_one (mark symbol.Colon) (mark symbol.Colon) s t x.middle c d x.behind
+    (subst (λ u. Reads u (mark symbol.Colon ∷ t) d) (sym names.left) y.behind) in
+    let types = closed_alike b.behind c d g.denoter h.denoter (record { spelled = b.one_behind; formed = x.formed })
+    (record { spelled = b.two_behind; formed = y.formed }) in
     record {
-      written = x.written ∙ ap (λ w. bracketed note.group (w ++ token (identifier x.type) ∷ [])) list
-          ∙ ap (λ l. bracketed note.group (names_notation y.names ++ token l ∷ [])) (name_is_one x.type y.type t.first t.one t.two) ∙ sym y.written;
-      left = last_is_one (mark symbol.Semicolon) (mark symbol.Semicolon) t.behind c d t.one_behind t.two_behind;
+      written = group_written _ _ _ _ (sym (names_row g.names.items) ∙ ap row names.written ∙ names_row h.names.items) types.written;
+      left = types.left;
     }
 
 -- groups one behind another, and the compound statement behind them
@@ -129,11 +90,6 @@ record Groups (a c : List Token) (gs : List VariableGroup) : Type 0 where
   pub spelled : Reads a (joined (map group_spelling gs)) c
   pub formed : list_all is_group gs ≡ true
   pub closed : Next (kind.Word word.Begin) c
-
-names_first : (k : Kind) (a c : List Token) (names : List Name) → Listed Name (name_parts k) a c names → Next kind.Identifier a
-unfolding name_parts name_spelling
-names_first k a c [] h = let some = h.some in absurd (omega arith)
-names_first k a c (n ∷ ns) h = let r = list_begins symbol.Comma (identifier n ∷ []) (identifiers ns) a c h.spelled in begins (identifier n) [] a r.0 r.1
 
 -- a group, and the others behind it
 record GroupParted (a c : List Token) (g : VariableGroup) (gs : List VariableGroup) : Type 0 where
@@ -155,7 +111,7 @@ no_group a c d g gs h k =
     let p = group_parted a d g gs k in
     let x = group_as a p.middle g p.group in
     let no : Some (kind.Word word.Begin) ≡ Some kind.Identifier = sym h.closed ∙ ap next_kind (sym h.spelled) ∙ names_first
-    (kind.Symbol symbol.Colon) a x.middle x.names x.begun in cc
+    (kind.Symbol symbol.Colon) a x.middle g.names.items x.begun in cc
 
 groups_alike : (a c d : List Token) (gs hs : List VariableGroup) → Groups a c gs → Groups a d hs
     → Alike (List Notation) (map group_notation gs) (map group_notation hs) c d
@@ -195,7 +151,7 @@ variables_alike a c d (g ∷ gs) (h ∷ hs) i j =
 
 -- ---- blocks
 
--- what stands behind the constants of a block: its variables, its statements, and its `end`
+-- what stands behind the types of a block: its variables, its statements, and its `end`
 record BodyAs (a c : List Token) (b : Block) : Type 0 where
   pub middle : List Token
   pub variables : Variables a middle b.variables.items
@@ -204,12 +160,7 @@ record BodyAs (a c : List Token) (b : Block) : Type 0 where
   pub some : has_items b.statements.items ≡ true
   pub formed : list_all is_statement b.statements.items ≡ true
 
-abbrev body_spelling : Block → Spelling
-body_spelling b =
-    variables_spelling b.variables.items
-    ++ word_symbol word.Begin ∷ separated symbol.Semicolon (map stmt_spelling b.statements.items) ++ of_kind_at (kind.Word word.End) b.end ∷ []
-
-body_as : (a c : List Token) (b : Block) → Reads a (body_spelling b) c → is_block b ≡ true → BodyAs a c b
+body_as : (a c : List Token) (b : Block) → Reads a (behind_types b) c → is_body b ≡ true → BodyAs a c b
 body_as a c b h f =
     let compound : Spelling = word_symbol word.Begin ∷ separated symbol.Semicolon (map stmt_spelling b.statements.items) in
     let last : Spelling = of_kind_at (kind.Word word.End) b.end ∷ [] in
@@ -229,23 +180,48 @@ body_as a c b h f =
       formed = and_right (has_items b.statements.items) (list_all is_statement b.statements.items) g;
     }
 
+body_follows : (a c : List Token) (gs : List VariableGroup) → Variables a c gs → EndsTypes a
+body_follows a c [] h = statement_part (ap next_kind h.spelled ∙ h.closed)
+body_follows a c (g ∷ gs) h = variable_part (begins (word_symbol word.Var) (joined (map group_spelling (g ∷ gs))) a c h.spelled)
+
+-- what stands behind the constants of a block: its types, and what stands behind these
+record TypedAs (a c : List Token) (b : Block) : Type 0 where
+  pub middle : List Token
+  pub types : Types a middle b.types.items
+  pub behind : BodyAs middle c b
+
+typed_as : (a c : List Token) (b : Block) → Reads a (behind_constants b) c → is_block b ≡ true → TypedAs a c b
+typed_as a c b h f =
+    let r = parted (types_spelling b.types.items) (behind_types b) a c h in
+    let types = list_all is_type_definition b.types.items in
+    let behind = body_as r.0 c b r.2 (and_right types (is_body b) f) in
+    record {
+      middle = r.0;
+      types = record {
+        spelled = r.1;
+        formed = and_left types (is_body b) f;
+        closed = body_follows r.0 behind.middle b.variables.items behind.variables;
+      };
+      behind = behind;
+    }
+
+types_follow : (a c : List Token) (ts : List TypeDefinition) → Types a c ts → EndsConstants a
+types_follow a c [] h = no_types (subst EndsTypes (sym h.spelled) h.closed)
+types_follow a c (t ∷ ts) h = type_part (begins (word_symbol word.Type) (joined (map type_definition_spelling (t ∷ ts))) a c h.spelled)
+
 -- a block that begins these tokens: its constants, and what stands behind them
 record BlockAs (a c : List Token) (b : Block) : Type 0 where
   pub middle : List Token
   pub constants : Constants a middle b.constants.items
-  pub behind : BodyAs middle c b
-
-body_follows : (a c : List Token) (gs : List VariableGroup) → Variables a c gs → EndsConstants a
-body_follows a c [] h = statement_part (ap next_kind h.spelled ∙ h.closed)
-body_follows a c (g ∷ gs) h = variable_part (begins (word_symbol word.Var) (joined (map group_spelling (g ∷ gs))) a c h.spelled)
+  pub behind : TypedAs middle c b
 
 block_as : (a c : List Token) (b : Block) → Reads a (block_spelling b) c → is_block b ≡ true → BlockAs a c b
 block_as a c b h f =
-    let r = parted (constants_spelling b.constants.items) (body_spelling b) a c h in
-    let behind = body_as r.0 c b r.2 f in
+    let r = parted (constants_spelling b.constants.items) (behind_constants b) a c h in
+    let behind = typed_as r.0 c b r.2 f in
     record {
       middle = r.0;
-      constants = record { spelled = r.1; closed = body_follows r.0 behind.middle b.variables.items behind.variables };
+      constants = record { spelled = r.1; closed = types_follow r.0 behind.middle b.types.items behind.types };
       behind = behind;
     }
 
@@ -273,7 +249,7 @@ body_notation b =
 body_written : (u v w x : Notation) (l m : Lexeme) → u ≡ v → w ≡ x → l ≡ m → u ++ w ++ token l ∷ [] ≡ v ++ x ++ token m ∷ []
 body_written u v w x l m h i j = cc
 
--- two blocks behind their constants
+-- two blocks behind their types
 body_alike : (a c d : List Token) (b e : Block) → BodyAs a c b → BodyAs a d e → Alike Notation (body_notation b) (body_notation e) c d
 body_alike a c d b e x y =
     let variables = variables_alike a x.middle y.middle b.variables.items e.variables.items x.variables y.variables in
@@ -295,15 +271,24 @@ body_alike a c d b e x y =
       left = last_is_one (of_kind_at (kind.Word word.End) b.end) (of_kind_at (kind.Word word.End) e.end) p.middle c d p.closed closed;
     }
 
-block_written : (u v w x : Notation) → u ≡ v → w ≡ x → bracketed note.block (u ++ w) ≡ bracketed note.block (v ++ x)
-block_written u v w x h i = cc
+both_written : (u v w x : Notation) → u ≡ v → w ≡ x → u ++ w ≡ v ++ x
+both_written u v w x h i = cc
+
+-- two blocks behind their constants
+typed_alike : (a c d : List Token) (b e : Block) → TypedAs a c b → TypedAs a d e
+    → Alike Notation (row (map type_definition_notation b.types.items) ++ body_notation b)
+    (row (map type_definition_notation e.types.items) ++ body_notation e) c d
+typed_alike a c d b e x y =
+    let types = types_alike a x.middle y.middle b.types.items e.types.items x.types y.types in
+    let behind = body_alike x.middle c d b e x.behind (subst (λ u. BodyAs u d e) (sym types.left) y.behind) in
+    record { written = both_written _ _ _ _ (ap row types.written) behind.written; left = behind.left }
 
 -- two blocks
 block_alike : (a c d : List Token) (b e : Block) → BlockAs a c b → BlockAs a d e → Alike Notation (block_notation b) (block_notation e) c d
 block_alike a c d b e x y =
     let constants = constants_alike a x.middle y.middle b.constants.items e.constants.items x.constants y.constants in
-    let behind = body_alike x.middle c d b e x.behind (subst (λ u. BodyAs u d e) (sym constants.left) y.behind) in
-    record { written = block_written _ _ _ _ (ap row constants.written) behind.written; left = behind.left }
+    let behind = typed_alike x.middle c d b e x.behind (subst (λ u. TypedAs u d e) (sym constants.left) y.behind) in
+    record { written = ap (bracketed note.block) (both_written _ _ _ _ (ap row constants.written) behind.written); left = behind.left }
 
 -- ---- programs
 

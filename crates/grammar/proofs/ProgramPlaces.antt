@@ -22,6 +22,7 @@ use Rattle.syntax_tree.specs.Places.{arms_of}
 use Rattle.syntax_tree.specs.declared.Name.{Name}
 use Rattle.syntax_tree.specs.declared.Actual.{Actual}
 use Rattle.syntax_tree.specs.declared.ConstantDefinition.{ConstantDefinition}
+use Rattle.syntax_tree.specs.declared.TypeDefinition.{TypeDefinition}
 use Rattle.syntax_tree.specs.declared.TypeDenoter.{TypeDenoter}
 use Rattle.syntax_tree.specs.declared.TypeDenoter.TheVariants as denoter
 use Rattle.syntax_tree.specs.declared.VariableGroup.{VariableGroup}
@@ -36,10 +37,11 @@ use Rattle.syntax_tree.specs.Places as place
 use Rattle.grammar.specs.Spelling.{Lexeme, Spelling, IsSpelledBy, Reads, Spells, joined, separated, in_parentheses, mark, word_symbol, of_kind_at, identifier}
 use Rattle.grammar.specs.Spelling.{identifiers, direction_word, sign, sign_spelling, value_lexeme, constant_spelling, arm_spelling, case_end, expr_spelling}
 use Rattle.grammar.specs.Spelling.{actual_spelling, stmt_spelling, denoter_spelling, group_spelling, variables_spelling, block_spelling, program_spelling}
-use Rattle.grammar.specs.Spelling.{definition_spelling, constants_spelling}
+use Rattle.grammar.specs.Spelling.{definition_spelling, constants_spelling, type_definition_spelling, types_spelling}
 use Rattle.grammar.specs.Spelling as spell
 use Rattle.grammar.proofs.TreePlaces.{kept, kept_places, kept_both, AllKept, each_kept, all_kept, joined_kept, separated_kept, parenthesized_kept, expr_kept}
 use Rattle.grammar.proofs.TreePlaces.{actual_kept}
+use Rattle.grammar.proofs.Programs.{behind_types, behind_constants}
 
 -- ---- statements
 
@@ -201,6 +203,23 @@ constants_kept (d ∷ ds) =
 
 denoter_kept : (d : TypeDenoter) → denoter_places d ≡ kept_places (denoter_spelling d)
 denoter_kept (denoter.Name n) = refl
+denoter_kept (denoter.Enumerated constants) =
+    names_in_turn constants.items ∙ parenthesized_kept Name one_name one_place constants.items (names_kept constants.items)
+denoter_kept (denoter.Subrange first p last) =
+    let one = constant_kept first in
+    let two = constant_kept last in
+    (λ i. one i ++ p ∷ two i) ∙ sym (kept_both (constant_spelling first) (of_kind_at (kind.Symbol symbol.Range) p ∷ constant_spelling last))
+
+type_kept : (d : TypeDefinition) → place.type_definition_places d ≡ kept_places (type_definition_spelling d)
+type_kept d =
+    ap (λ ps. d.name.place ∷ ps)
+    (denoter_kept d.denoter ∙ sym (append-nil _) ∙ sym (kept_both (denoter_spelling d.denoter) (mark symbol.Semicolon ∷ [])))
+
+types_kept : (types : List TypeDefinition) → flat_map place.type_definition_places types ≡ kept_places (types_spelling types)
+types_kept [] = refl
+types_kept (d ∷ ds) =
+    joined_kept TypeDefinition type_definition_spelling place.type_definition_places (d ∷ ds)
+    (each_kept TypeDefinition type_definition_spelling place.type_definition_places (d ∷ ds) type_kept)
 
 group_kept : (g : VariableGroup) → group_places g ≡ kept_places (group_spelling g)
 group_kept g =
@@ -215,10 +234,9 @@ variables_kept [] = refl
 variables_kept (g ∷ gs) =
     joined_kept VariableGroup group_spelling group_places (g ∷ gs) (each_kept VariableGroup group_spelling group_places (g ∷ gs) group_kept)
 
--- what stands behind the constants of a block
+-- what stands behind the types of a block
 body_kept : (b : Block) → flat_map group_places b.variables.items ++ (flat_map stmt_places b.statements.items ++ (b.end ∷ []))
-    ≡ kept_places (variables_spelling b.variables.items
-    ++ word_symbol word.Begin ∷ separated symbol.Semicolon (map stmt_spelling b.statements.items) ++ of_kind_at (kind.Word word.End) b.end ∷ [])
+    ≡ kept_places (behind_types b)
 body_kept b =
     let statements = separated symbol.Semicolon (map stmt_spelling b.statements.items) in
     let end : Spelling = of_kind_at (kind.Word word.End) b.end ∷ [] in
@@ -232,10 +250,12 @@ body_kept b =
 
 block_kept : (b : Block) → block_places b ≡ kept_places (block_spelling b)
 block_kept b =
-    let first = constants_kept b.constants.items in
+    let constants = constants_kept b.constants.items in
+    let types = types_kept b.types.items in
     let behind = body_kept b in
-    (λ i. first i ++ behind i) ∙ sym (kept_both (constants_spelling b.constants.items) (variables_spelling b.variables.items
-    ++ word_symbol word.Begin ∷ separated symbol.Semicolon (map stmt_spelling b.statements.items) ++ of_kind_at (kind.Word word.End) b.end ∷ []))
+    (λ i. constants i ++ (types i ++ behind i))
+    ∙ ap (λ ps. kept_places (constants_spelling b.constants.items) ++ ps) (sym (kept_both (types_spelling b.types.items) (behind_types b)))
+    ∙ sym (kept_both (constants_spelling b.constants.items) (behind_constants b))
 
 pub program_kept : (p : Program) → program_places p ≡ kept_places (program_spelling p)
 program_kept p =

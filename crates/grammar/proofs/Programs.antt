@@ -1,5 +1,6 @@
 -- The rules of declarations, blocks and programs read each spelling of their form.
-use Rattle.std.proofs.Common.{◌≡◌, ℕ, ◌+◌, ◌<◌, ◌≤◌, true, false, ◌&&◌, List, [], ◌∷◌, ◌++◌, length, map, Some, refl, subst, sym, ap, ◌∙◌, append_assoc, arith}
+use Rattle.std.proofs.Common.{◌≡◌, ℕ, ◌+◌, ◌<◌, ◌≤◌, Bool, true, false, ◌&&◌, List, [], ◌∷◌, ◌++◌, length, map, Some, subst, sym, ap, ◌∙◌}
+use Rattle.std.proofs.Common.{append_assoc, arith}
 use Rattle.std.specs.List.{list_all}
 use Rattle.place.specs.declared.Place.{Place}
 use Rattle.lexer.specs.declared.token.Kind.{Kind}
@@ -9,19 +10,21 @@ use Rattle.lexer.specs.declared.token.Word.TheVariants as word
 use Rattle.lexer.specs.declared.token.Token.{Token}
 use Rattle.syntax_tree.specs.declared.Name.{Name}
 use Rattle.syntax_tree.specs.declared.ConstantDefinition.{ConstantDefinition}
+use Rattle.syntax_tree.specs.declared.TypeDefinition.{TypeDefinition}
 use Rattle.syntax_tree.specs.declared.TypeDenoter.{TypeDenoter}
-use Rattle.syntax_tree.specs.declared.TypeDenoter.TheVariants as denoter
 use Rattle.syntax_tree.specs.declared.VariableGroup.{VariableGroup}
 use Rattle.syntax_tree.specs.declared.Stmt.{Stmt}
 use Rattle.syntax_tree.specs.declared.Block.{Block}
 use Rattle.syntax_tree.specs.declared.Program.{Program}
 use Rattle.grammar.specs.Spelling.{Spelling, Reads, of_kind_at, mark, word_symbol, identifier, identifiers, separated, joined, in_parentheses, group_spelling}
-use Rattle.grammar.specs.Spelling.{denoter_spelling, constants_spelling, variables_spelling, stmt_spelling, block_spelling}
-use Rattle.grammar.specs.WellFormed.{is_group, is_statement, is_block, has_items}
+use Rattle.grammar.specs.Spelling.{denoter_spelling, type_definition_spelling, constants_spelling, types_spelling, variables_spelling, stmt_spelling}
+use Rattle.grammar.specs.Spelling.{block_spelling}
+use Rattle.grammar.specs.WellFormed.{is_denoter, is_type_definition, is_group, is_statement, is_block, has_items}
 use Rattle.grammar.specs.Nesting.{stmt_levels, deepest}
 use Rattle.grammar.specs.Begins.{BeginsNames, BeginsParameters, BeginsGroup, BeginsGroups, BeginsConstantPart, BeginsVariables, BeginsCompound, BeginsBlock}
-use Rattle.grammar.specs.Begins.{BeginsProgram}
-use Rattle.grammar.specs.Following.{next_kind, NoNext, Next, EndsConstants, variable_part, statement_part, BeginsStatementPart}
+use Rattle.grammar.specs.Begins.{BeginsDenoter, BeginsTypePart, BeginsProgram}
+use Rattle.grammar.specs.Following.{next_kind, NoNext, Next, EndsDenoter, EndsConstants, type_part, no_types, EndsTypes, variable_part, statement_part}
+use Rattle.grammar.specs.Following.{BeginsStatementPart}
 use Rattle.grammar.proofs.Rows.{parted, begins, same_first}
 use Rattle.grammar.proofs.Lists.{and_left, and_right, length_map}
 use Rattle.grammar.proofs.Reading.{both, reads_no_more, reads_fewer}
@@ -85,56 +88,66 @@ pub names_end : (start a : List Token) → NamesLeft start a → NoNext (kind.Sy
     → (names : List Name) (others : List Token) → BeginsNames start others names → NoNext (kind.Symbol symbol.Comma) others → a ≡ others
 names_end start a left none names others h ends = let r = left names others h ends in led_ends symbol.Comma (identifiers r.0) a others none r.1
 
+-- a type denoter, and the semicolon behind it
+pub record DenoterThenClosed (tokens others : List Token) : Type 0 where
+  pub denoter : TypeDenoter
+  pub middle : List Token
+  pub begun : BeginsDenoter tokens middle denoter
+  pub closed : Reads middle (mark symbol.Semicolon ∷ []) others
+
+pub denoter_closed : (d : TypeDenoter) (a c : List Token) → Reads a (denoter_spelling d ++ mark symbol.Semicolon ∷ []) c → is_denoter d ≡ true
+    → DenoterThenClosed a c
+denoter_closed d a c h formed =
+    let r = parted (denoter_spelling d) (mark symbol.Semicolon ∷ []) a c h in
+    record { denoter = d; middle = r.0; begun = record { spelled = r.1; formed = formed }; closed = r.2 }
+
+-- at the semicolon it ends
+pub denoter_ends : (a c : List Token) (h : DenoterThenClosed a c) → EndsDenoter h.middle
+denoter_ends a c h =
+    other_kind (kind.Symbol symbol.Semicolon) (kind.Symbol symbol.Range) h.middle (begins (mark symbol.Semicolon) [] h.middle c h.closed) (λ e. cc)
+
 -- the parts of variables declared together
 pub record GroupParts (tokens others : List Token) : Type 0 where
   pub names : List Name
   pub middle : List Token
-  pub type : Name
+  pub type : TypeDenoter
   pub begun : BeginsNames tokens middle names
-  pub behind : Reads middle (mark symbol.Colon ∷ identifier type ∷ mark symbol.Semicolon ∷ []) others
-
-denoter_named : (d : TypeDenoter) → (n : Name) × (denoter_spelling d ≡ identifier n ∷ [])
-denoter_named (denoter.Name n) = (n, refl)
-
-group_parts : (n : Name) (a c : List Token) (g : VariableGroup) → denoter_spelling g.denoter ≡ identifier n ∷ [] → 0 < length g.names.items → BeginsGroup a c g
-    → GroupParts a c
-group_parts n a c g named some h =
-    let r = parted (separated symbol.Comma (identifiers g.names.items)) (mark symbol.Colon ∷ denoter_spelling g.denoter ++ mark symbol.Semicolon ∷ []) a c
-    (subst (λ s. Reads a s c) (append_assoc (separated symbol.Comma (identifiers g.names.items)) (mark symbol.Colon ∷ denoter_spelling g.denoter)
-    (mark symbol.Semicolon ∷ [])) h.spelled) in
-    record {
-      names = g.names.items;
-      middle = r.0;
-      type = n;
-      begun = record { some = let e = length_map (λ name. identifier name ∷ []) g.names.items in omega arith; spelled = r.1 };
-      behind = subst (λ s. Reads r.0 (mark symbol.Colon ∷ s ++ mark symbol.Semicolon ∷ []) c) named r.2;
-    }
+  pub behind : Reads middle (mark symbol.Colon ∷ denoter_spelling type ++ mark symbol.Semicolon ∷ []) others
+  pub formed : is_denoter type ≡ true
 
 -- each group has them
 pub group_begins : (a c : List Token) (g : VariableGroup) → BeginsGroup a c g → GroupParts a c
-group_begins a c g h = let d = denoter_named g.denoter in group_parts d.0 a c g d.1 (some_items g.names.items h.formed) h
+group_begins a c g h =
+    let r = parted (separated symbol.Comma (identifiers g.names.items)) (mark symbol.Colon ∷ denoter_spelling g.denoter ++ mark symbol.Semicolon ∷ []) a c
+    (subst (λ s. Reads a s c) (append_assoc (separated symbol.Comma (identifiers g.names.items)) (mark symbol.Colon ∷ denoter_spelling g.denoter)
+    (mark symbol.Semicolon ∷ [])) h.spelled) in
+    let some = some_items g.names.items (and_left (has_items g.names.items) (is_denoter g.denoter) h.formed) in
+    record {
+      names = g.names.items;
+      middle = r.0;
+      type = g.denoter;
+      begun = record { some = let e = length_map (λ name. identifier name ∷ []) g.names.items in omega arith; spelled = r.1 };
+      behind = r.2;
+      formed = and_right (has_items g.names.items) (is_denoter g.denoter) h.formed;
+    }
 
 -- at the colon the names end
 pub group_names_end : (a c : List Token) (p : GroupParts a c) → NoNext (kind.Symbol symbol.Comma) p.middle
 group_names_end a c p = other_kind (kind.Symbol symbol.Colon) (kind.Symbol symbol.Comma) p.middle
-    (begins (mark symbol.Colon) (identifier p.type ∷ mark symbol.Semicolon ∷ []) p.middle c p.behind) (λ e. cc)
+    (begins (mark symbol.Colon) (denoter_spelling p.type ++ mark symbol.Semicolon ∷ []) p.middle c p.behind) (λ e. cc)
 
 -- what stands behind the names of a group
 pub record GroupBehindNames (tokens others : List Token) : Type 0 where
-  pub type : Name
-  pub spelled : Reads tokens (mark symbol.Colon ∷ identifier type ∷ mark symbol.Semicolon ∷ []) others
+  pub type : TypeDenoter
+  pub spelled : Reads tokens (mark symbol.Colon ∷ denoter_spelling type ++ mark symbol.Semicolon ∷ []) others
+  pub formed : is_denoter type ≡ true
 
 -- behind the colon too
-pub group_behind_colon : (p : Place) (a b c : List Token) → Reads a (of_kind_at (kind.Symbol symbol.Colon) p ∷ []) b → (h : GroupBehindNames a c)
-    → Reads b (identifier h.type ∷ mark symbol.Semicolon ∷ []) c
-group_behind_colon p a b c k h = (same_first (of_kind_at (kind.Symbol symbol.Colon) p) (mark symbol.Colon)
-    (identifier h.type ∷ mark symbol.Semicolon ∷ []) a b c k h.spelled).1
-
--- behind the type too
-pub group_behind_type : (p : Place) (n : Name) (a b c d : List Token) → Reads a (of_kind_at (kind.Symbol symbol.Colon) p ∷ []) b → Reads b (identifier n ∷ []) c
-    → GroupBehindNames a d → Reads c (mark symbol.Semicolon ∷ []) d
-group_behind_type p n a b c d k named h =
-    (same_first (identifier n) (identifier h.type) (mark symbol.Semicolon ∷ []) b c d named (group_behind_colon p a b d k h)).1
+pub group_behind_colon : (p : Place) (a b c : List Token) → Reads a (of_kind_at (kind.Symbol symbol.Colon) p ∷ []) b → GroupBehindNames a c
+    → DenoterThenClosed b c
+group_behind_colon p a b c k h =
+    denoter_closed h.type b c (same_first (of_kind_at (kind.Symbol symbol.Colon) p) (mark symbol.Colon)
+    (denoter_spelling h.type ++ mark symbol.Semicolon ∷ []) a b c k h.spelled).1 h.formed
 
 -- groups one behind another, or none
 pub record GroupsLeft (tokens others : List Token) : Type 0 where
@@ -196,7 +209,7 @@ pub group_fewer : (a c : List Token) (g : VariableGroup) → BeginsGroup a c g �
 group_fewer a c g h =
     let p = group_begins a c g h in
     let names = reads_no_more (separated symbol.Comma (identifiers p.names)) a p.middle p.begun.spelled in
-    let behind = reads_fewer (mark symbol.Colon) (identifier p.type ∷ mark symbol.Semicolon ∷ []) p.middle c p.behind in
+    let behind = reads_fewer (mark symbol.Colon) (denoter_spelling p.type ++ mark symbol.Semicolon ∷ []) p.middle c p.behind in
     omega arith
 
 groups_stop : (a c : List Token) (gs : List VariableGroup) → Reads a (joined (map group_spelling gs)) c → list_all is_group gs ≡ true
@@ -217,15 +230,26 @@ pub record NamesThenClosed (tokens others : List Token) : Type 0 where
   pub closed : Reads middle (mark symbol.CloseParenthesis ∷ []) others
 
 -- behind the opening parenthesis
+pub names_opened : (p : Place) (a b c : List Token) (names : List Name) → Reads a (of_kind_at (kind.Symbol symbol.OpenParenthesis) p ∷ []) b
+    → Reads a (mark symbol.OpenParenthesis ∷ separated symbol.Comma (identifiers names) ++ mark symbol.CloseParenthesis ∷ []) c → 0 < length names
+    → NamesThenClosed b c
+names_opened p a b c names k h some =
+    let r = parted (separated symbol.Comma (identifiers names)) (mark symbol.CloseParenthesis ∷ []) b c
+    (same_first (of_kind_at (kind.Symbol symbol.OpenParenthesis) p) (mark symbol.OpenParenthesis)
+    (separated symbol.Comma (identifiers names) ++ mark symbol.CloseParenthesis ∷ []) a b c k h).1 in
+    record {
+      names = names;
+      middle = r.0;
+      begun = record { some = let e = length_map (λ name. identifier name ∷ []) names in omega arith; spelled = r.1 };
+      closed = r.2;
+    }
+
+-- and of parameters, or none
 pub parameters_opened : (p : Place) (a b c : List Token) (names : List Name) → Reads a (of_kind_at (kind.Symbol symbol.OpenParenthesis) p ∷ []) b
     → BeginsParameters a c names
     → NoNext (kind.Symbol symbol.OpenParenthesis) c → NamesThenClosed b c
 parameters_opened p a b c [] k h ends = absurd (ends (ap next_kind (sym h) ∙ begins (of_kind_at (kind.Symbol symbol.OpenParenthesis) p) [] a b k))
-parameters_opened p a b c (n ∷ ns) k h ends =
-    let r = parted (separated symbol.Comma (identifiers (n ∷ ns))) (mark symbol.CloseParenthesis ∷ []) b c
-    (same_first (of_kind_at (kind.Symbol symbol.OpenParenthesis) p) (mark symbol.OpenParenthesis)
-    (separated symbol.Comma (identifiers (n ∷ ns)) ++ mark symbol.CloseParenthesis ∷ []) a b c k h).1 in
-    record { names = n ∷ ns; middle = r.0; begun = record { some = omega arith; spelled = r.1 }; closed = r.2 }
+parameters_opened p a b c (n ∷ ns) k h ends = names_opened p a b c (n ∷ ns) k h (omega arith)
 
 -- at the parenthesis the names end
 pub parameters_names_end : (a c : List Token) (o : NamesThenClosed a c) → NoNext (kind.Symbol symbol.Comma) o.middle
@@ -250,12 +274,17 @@ pub statement_part_ends : (a : List Token) → BeginsStatementPart a → NoNext 
 statement_part_ends a h = other_kind (kind.Word word.Begin) kind.Identifier a h (λ e. cc)
 
 -- what comes next where variables may be declared
-variables_next : (a c : List Token) (groups : List VariableGroup) → BeginsVariables a c groups → BeginsStatementPart c → EndsConstants a
+variables_next : (a c : List Token) (groups : List VariableGroup) → BeginsVariables a c groups → BeginsStatementPart c → EndsTypes a
 variables_next a c [] h begins = statement_part (ap next_kind h.spelled ∙ begins)
 variables_next a c (g ∷ gs) h _ = variable_part (begins (word_symbol word.Var) (joined (map group_spelling (g ∷ gs))) a c h.spelled)
 
--- what stands behind the constants of a block
-pub record BlockBehindConstants (levels : ℕ) (tokens others : List Token) : Type 0 where
+-- what comes next where types may be defined
+types_next : (a c : List Token) (types : List TypeDefinition) → BeginsTypePart a c types → EndsTypes c → EndsConstants a
+types_next a c [] h ends = no_types (subst EndsTypes (sym h.spelled) ends)
+types_next a c (t ∷ ts) h _ = type_part (begins (word_symbol word.Type) (joined (map type_definition_spelling (t ∷ ts))) a c h.spelled)
+
+-- what stands behind the types of a block
+pub record BlockBehindTypes (levels : ℕ) (tokens others : List Token) : Type 0 where
   pub groups : List VariableGroup
   pub middle : List Token
   pub declared : BeginsVariables tokens middle groups
@@ -266,6 +295,14 @@ pub record BlockBehindConstants (levels : ℕ) (tokens others : List Token) : Ty
   pub less : below < levels
   pub begun : BeginsCompound below middle others (statements, end)
 
+-- what stands behind its constants
+pub record BlockBehindConstants (levels : ℕ) (tokens others : List Token) : Type 0 where
+  pub types : List TypeDefinition
+  pub middle : List Token
+  pub defined : BeginsTypePart tokens middle types
+  pub ends : EndsTypes middle
+  pub behind : BlockBehindTypes levels middle others
+
 -- the parts of a block
 pub record BlockParts (levels : ℕ) (tokens others : List Token) : Type 0 where
   pub definitions : List ConstantDefinition
@@ -274,24 +311,32 @@ pub record BlockParts (levels : ℕ) (tokens others : List Token) : Type 0 where
   pub ends : EndsConstants middle
   pub behind : BlockBehindConstants levels middle others
 
-block_behind_constants : (levels : ℕ) (a c : List Token) (b : Block)
-    → Reads a (variables_spelling b.variables.items
-    ++ word_symbol word.Begin ∷ separated symbol.Semicolon (map stmt_spelling b.statements.items) ++ of_kind_at (kind.Word word.End) b.end ∷ []) c
-    → is_block b ≡ true → 1 + deepest (map stmt_levels b.statements.items) ≤ levels → BlockBehindConstants levels a c
-block_behind_constants levels a c b h formed n =
+-- what a block spells behind its types, and behind its constants
+abbrev pub behind_types : Block → Spelling
+behind_types b =
+    variables_spelling b.variables.items
+    ++ word_symbol word.Begin ∷ separated symbol.Semicolon (map stmt_spelling b.statements.items) ++ of_kind_at (kind.Word word.End) b.end ∷ []
+
+abbrev pub behind_constants : Block → Spelling
+behind_constants b = types_spelling b.types.items ++ behind_types b
+
+-- the variables and the statements of a block are well formed
+abbrev pub is_body : Block → Bool
+is_body b = list_all is_group b.variables.items && (has_items b.statements.items && list_all is_statement b.statements.items)
+
+block_behind_types : (levels : ℕ) (a c : List Token) (b : Block) → Reads a (behind_types b) c → is_body b ≡ true
+    → 1 + deepest (map stmt_levels b.statements.items) ≤ levels → BlockBehindTypes levels a c
+block_behind_types levels a c b h formed n =
     let compound : Spelling = word_symbol word.Begin ∷ separated symbol.Semicolon (map stmt_spelling b.statements.items) in
     let last : Spelling = of_kind_at (kind.Word word.End) b.end ∷ [] in
     let r = parted (variables_spelling b.variables.items) (compound ++ last) a c (subst (λ s. Reads a s c)
     (append_assoc (variables_spelling b.variables.items) compound last) h) in
-    let behind = and_right (list_all is_group b.variables.items) (has_items b.statements.items && list_all is_statement b.statements.items) formed in
+    let statements = has_items b.statements.items && list_all is_statement b.statements.items in
+    let behind = and_right (list_all is_group b.variables.items) statements formed in
     record {
       groups = b.variables.items;
       middle = r.0;
-      declared = record {
-        spelled = r.1;
-        formed = and_left (list_all is_group b.variables.items)
-            (has_items b.statements.items && list_all is_statement b.statements.items) formed;
-      };
+      declared = record { spelled = r.1; formed = and_left (list_all is_group b.variables.items) statements formed };
       begins = begins (word_symbol word.Begin) (separated symbol.Semicolon (map stmt_spelling b.statements.items) ++ last) r.0 c r.2;
       statements = b.statements.items;
       end = b.end;
@@ -305,18 +350,30 @@ block_behind_constants levels a c b h formed n =
       };
     }
 
+block_behind_constants : (levels : ℕ) (a c : List Token) (b : Block) → Reads a (behind_constants b) c → is_block b ≡ true
+    → 1 + deepest (map stmt_levels b.statements.items) ≤ levels → BlockBehindConstants levels a c
+block_behind_constants levels a c b h formed n =
+    let r = parted (types_spelling b.types.items) (behind_types b) a c h in
+    let types = list_all is_type_definition b.types.items in
+    let behind = block_behind_types levels r.0 c b r.2 (and_right types (is_body b) formed) n in
+    record {
+      types = b.types.items;
+      middle = r.0;
+      defined = record { spelled = r.1; formed = and_left types (is_body b) formed };
+      ends = variables_next r.0 behind.middle behind.groups behind.declared behind.begins;
+      behind = behind;
+    }
+
 -- each block has them
 pub block_parts : (levels : ℕ) (a c : List Token) (b : Block) → BeginsBlock levels a c b → BlockParts levels a c
 block_parts levels a c b h =
-    let body : Spelling = variables_spelling b.variables.items
-    ++ word_symbol word.Begin ∷ separated symbol.Semicolon (map stmt_spelling b.statements.items) ++ of_kind_at (kind.Word word.End) b.end ∷ [] in
-    let r = parted (constants_spelling b.constants.items) body a c h.spelled in
+    let r = parted (constants_spelling b.constants.items) (behind_constants b) a c h.spelled in
     let behind = block_behind_constants levels r.0 c b r.2 h.formed h.nests in
     record {
       definitions = b.constants.items;
       middle = r.0;
       defined = r.1;
-      ends = variables_next r.0 behind.middle behind.groups behind.declared behind.begins;
+      ends = types_next r.0 behind.middle behind.types behind.defined behind.ends;
       behind = behind;
     }
 

@@ -21,6 +21,8 @@ use Rattle.syntax_tree.specs.declared.Link.{Link}
 use Rattle.syntax_tree.specs.declared.Actual.{Actual}
 use Rattle.syntax_tree.specs.declared.Stmt.{Stmt}
 use Rattle.syntax_tree.specs.declared.Name.{Name}
+use Rattle.syntax_tree.specs.declared.TypeDefinition.{TypeDefinition}
+use Rattle.syntax_tree.specs.declared.TypeDenoter.{TypeDenoter}
 use Rattle.syntax_tree.specs.declared.VariableGroup.{VariableGroup}
 use Rattle.syntax_tree.specs.declared.Block.{Block}
 use Rattle.syntax_tree.specs.declared.Program.{Program}
@@ -28,9 +30,9 @@ use Rattle.grammar.specs.Spelling.{Spelling, Reads, expr_spelling, link_spelling
 use Rattle.grammar.specs.Spelling.{joined, identifiers, group_spelling, variables_spelling, block_spelling}
 use Rattle.grammar.specs.Spelling.{program_spelling, separated, in_parentheses, word_symbol, identifier, direction_word}
 use Rattle.grammar.specs.Spelling.{constant_spelling, arm_spelling, case_end, of_kind_at, mark, definition_spelling}
-use Rattle.grammar.specs.Spelling.{constants_spelling}
+use Rattle.grammar.specs.Spelling.{constants_spelling, denoter_spelling, type_definition_spelling, types_spelling}
 use Rattle.grammar.specs.WellFormed.{expr_form, link_form, fits, relation_level, is_link, has_items, is_actual}
-use Rattle.grammar.specs.WellFormed.{is_statement, is_group, is_block, is_program}
+use Rattle.grammar.specs.WellFormed.{is_statement, is_denoter, is_type_definition, is_group, is_block, is_program}
 use Rattle.grammar.specs.Following.{NoNext, LeavesNoElse}
 use Rattle.grammar.specs.Nesting.{expr_levels, link_levels, actual_levels, stmt_levels, deepest, nesting}
 
@@ -164,6 +166,27 @@ pub record BeginsDefinitions (tokens others : List Token) (definitions : List Co
 -- a constant definition part, or none
 abbrev pub BeginsConstantPart : List Token → List Token → List ConstantDefinition → Type 0
 BeginsConstantPart tokens others definitions = Reads tokens (constants_spelling definitions) others
+
+-- a type denoter
+pub record BeginsDenoter (tokens others : List Token) (d : TypeDenoter) : Type 0 where
+  pub spelled : Reads tokens (denoter_spelling d) others
+  pub formed : is_denoter d ≡ true
+
+-- a type definition
+pub record BeginsTypeDefinition (tokens others : List Token) (d : TypeDefinition) : Type 0 where
+  pub spelled : Reads tokens (type_definition_spelling d) others
+  pub formed : is_type_definition d ≡ true
+
+-- one or more of these
+pub record BeginsTypeDefinitions (tokens others : List Token) (types : List TypeDefinition) : Type 0 where
+  pub some : 0 < length types
+  pub spelled : Reads tokens (joined (map type_definition_spelling types)) others
+  pub formed : list_all is_type_definition types ≡ true
+
+-- a type definition part, or none
+pub record BeginsTypePart (tokens others : List Token) (types : List TypeDefinition) : Type 0 where
+  pub spelled : Reads tokens (types_spelling types) others
+  pub formed : list_all is_type_definition types ≡ true
 
 -- variables declared together
 pub record BeginsGroup (tokens others : List Token) (g : VariableGroup) : Type 0 where

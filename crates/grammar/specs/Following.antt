@@ -62,10 +62,19 @@ pub data EndsStatements (others : List Token) : Type 0 where
 abbrev pub BeginsStatementPart : List Token → Type 0
 BeginsStatementPart = Next (kind.Word word.Begin)
 
--- what comes next behind the constants of a block: its variables, or its compound statement
+-- what comes next behind the types of a block: its variables, or its compound statement
+pub data EndsTypes (others : List Token) : Type 0 where
+  variable_part : Next (kind.Word word.Var) others → EndsTypes others
+  statement_part : BeginsStatementPart others → EndsTypes others
+
+-- what comes next behind its constants: its types, or what comes next behind these
 pub data EndsConstants (others : List Token) : Type 0 where
-  variable_part : Next (kind.Word word.Var) others → EndsConstants others
-  statement_part : BeginsStatementPart others → EndsConstants others
+  type_part : Next (kind.Word word.Type) others → EndsConstants others
+  no_types : EndsTypes others → EndsConstants others
+
+-- no `..` comes next, with which a name would go on to a subrange
+abbrev pub EndsDenoter : List Token → Type 0
+EndsDenoter = NoNext (kind.Symbol symbol.Range)
 
 -- where this word symbol comes each expression ends
 abbrev pub EndsEach : Word → Type 0

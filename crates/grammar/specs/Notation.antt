@@ -11,6 +11,7 @@ use Rattle.syntax_tree.specs.declared.ConstantDefinition.{ConstantDefinition}
 use Rattle.syntax_tree.specs.declared.Constant.{Constant}
 use Rattle.syntax_tree.specs.Places.{arms_of}
 use Rattle.syntax_tree.specs.declared.Name.{Name}
+use Rattle.syntax_tree.specs.declared.TypeDefinition.{TypeDefinition}
 use Rattle.syntax_tree.specs.declared.TypeDenoter.{TypeDenoter}
 use Rattle.syntax_tree.specs.declared.TypeDenoter.TheVariants as denoter
 use Rattle.syntax_tree.specs.declared.VariableGroup.{VariableGroup}
@@ -50,6 +51,9 @@ pub data Shape : Type 0 where
   case : Shape
   arm : Shape
   definition : Shape
+  type_definition : Shape
+  enumeration : Shape
+  subrange : Shape
   group : Shape
   parameters : Shape
   block : Shape
@@ -163,6 +167,14 @@ definition_notation d = bracketed definition (token (identifier d.name) ∷ cons
 -- a type denoter
 abbrev pub denoter_notation : TypeDenoter → Notation
 denoter_notation (denoter.Name n) = token (identifier n) ∷ []
+denoter_notation (denoter.Enumerated constants) = bracketed enumeration (names_notation constants.items)
+denoter_notation (denoter.Subrange first between last) =
+    bracketed subrange
+    (constant_notation first ++ token (of_kind_at (kind.Symbol symbol.Range) between) ∷ constant_notation last)
+
+-- a type definition
+abbrev pub type_definition_notation : TypeDefinition → Notation
+type_definition_notation d = bracketed type_definition (token (identifier d.name) ∷ denoter_notation d.denoter)
 
 -- variables declared together, their type last
 abbrev pub group_notation : VariableGroup → Notation
@@ -172,8 +184,9 @@ group_notation g = bracketed group (names_notation g.names.items ++ denoter_nota
 abbrev pub block_notation : Block → Notation
 block_notation b =
     bracketed block (row (map definition_notation b.constants.items)
+    ++ (row (map type_definition_notation b.types.items)
     ++ (row (map group_notation b.variables.items) ++ row (map stmt_notation b.statements.items)
-    ++ token (of_kind_at (kind.Word word.End) b.end) ∷ []))
+    ++ token (of_kind_at (kind.Word word.End) b.end) ∷ [])))
 
 -- a program
 abbrev pub notation : Program → Notation

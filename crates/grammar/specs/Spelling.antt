@@ -1,5 +1,6 @@
 -- The tokens that spell a syntax tree: ISO 7185:1990, 6.7.1 (expressions), 6.8 (statements), 6.2.1 (blocks), 6.3
--- (constants), 6.5.1 (variables), 6.10 (programs). A tree keeps its parentheses, so each tree has one spelling.
+-- (constants), 6.4.1 (types), 6.5.1 (variables), 6.10 (programs). A tree keeps its parentheses, so each tree has one
+-- spelling.
 -- This doesn't say which trees there may be: see WellFormed and Nesting.
 use Rattle.std.specs.Prelude.{◌≡◌, ℕ, List, [], ◌∷◌, ◌++◌, map, Option, Some, None, IfSome, Bool, true, false}
 use Rattle.std.specs.declared.alloc.Global.{Global}
@@ -25,6 +26,7 @@ use Rattle.syntax_tree.specs.declared.ConstantValue.{ConstantValue}
 use Rattle.syntax_tree.specs.declared.ConstantValue.TheVariants as constant
 use Rattle.syntax_tree.specs.declared.SignAt.{SignAt}
 use Rattle.syntax_tree.specs.Places.{arms_of}
+use Rattle.syntax_tree.specs.declared.TypeDefinition.{TypeDefinition}
 use Rattle.syntax_tree.specs.declared.TypeDenoter.{TypeDenoter}
 use Rattle.syntax_tree.specs.declared.TypeDenoter.TheVariants as denoter
 use Rattle.syntax_tree.specs.declared.VariableGroup.{VariableGroup}
@@ -235,9 +237,22 @@ abbrev pub constants_spelling : List ConstantDefinition → Spelling
 constants_spelling [] = []
 constants_spelling (one ∷ others) = word_symbol word.Const ∷ joined (map definition_spelling (one ∷ others))
 
--- a type denoter (6.4.1)
+-- a type denoter (6.4.1): a name, an enumerated type (6.4.2.3), or a subrange type (6.4.2.4)
 abbrev pub denoter_spelling : TypeDenoter → Spelling
 denoter_spelling (denoter.Name name) = identifier name ∷ []
+denoter_spelling (denoter.Enumerated constants) = in_parentheses (identifiers constants.items)
+denoter_spelling (denoter.Subrange first between last) =
+    constant_spelling first ++ of_kind_at (kind.Symbol symbol.Range) between ∷ constant_spelling last
+
+-- a type definition, with its semicolon (6.4.1)
+abbrev pub type_definition_spelling : TypeDefinition → Spelling
+type_definition_spelling d =
+    identifier d.name ∷ mark symbol.Equal ∷ denoter_spelling d.denoter ++ mark symbol.Semicolon ∷ []
+
+-- a type definition part, which is left out where no type is defined (6.2.1)
+abbrev pub types_spelling : List TypeDefinition → Spelling
+types_spelling [] = []
+types_spelling (one ∷ others) = word_symbol word.Type ∷ joined (map type_definition_spelling (one ∷ others))
 
 -- variables declared together, with their semicolon (6.5.1)
 abbrev pub group_spelling : VariableGroup → Spelling
@@ -254,9 +269,10 @@ variables_spelling (one ∷ others) = word_symbol word.Var ∷ joined (map group
 abbrev pub block_spelling : Block → Spelling
 block_spelling b =
     constants_spelling b.constants.items
+    ++ (types_spelling b.types.items
     ++ (variables_spelling b.variables.items
     ++ word_symbol word.Begin ∷ separated symbol.Semicolon (map stmt_spelling b.statements.items)
-    ++ of_kind_at (kind.Word word.End) b.end ∷ [])
+    ++ of_kind_at (kind.Word word.End) b.end ∷ []))
 
 -- a program (6.10)
 abbrev pub program_spelling : Program → Spelling

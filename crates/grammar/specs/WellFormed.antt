@@ -9,6 +9,9 @@ use Rattle.std.specs.declared.alloc.Global.{Global}
 use Rattle.std.specs.declared.boxed.Box.{Box}
 use Rattle.std.specs.declared.vec.Vec.{Vec}
 use Rattle.syntax_tree.specs.declared.Constant.{Constant}
+use Rattle.syntax_tree.specs.declared.TypeDefinition.{TypeDefinition}
+use Rattle.syntax_tree.specs.declared.TypeDenoter.{TypeDenoter}
+use Rattle.syntax_tree.specs.declared.TypeDenoter.TheVariants as denoter
 use Rattle.syntax_tree.specs.declared.VariableGroup.{VariableGroup}
 use Rattle.syntax_tree.specs.declared.Block.{Block}
 use Rattle.syntax_tree.specs.declared.Program.{Program}
@@ -185,12 +188,23 @@ is_statement s = (stmt_form s).well
 abbrev pub ends_open : Stmt → Bool
 ends_open s = (stmt_form s).ends_open
 
+-- an enumerated type has one or more constants (6.4.2.3)
+abbrev pub is_denoter : TypeDenoter → Bool
+is_denoter (denoter.Name name) = true
+is_denoter (denoter.Enumerated constants) = has_items constants.items
+is_denoter (denoter.Subrange first between last) = true
+
+abbrev pub is_type_definition : TypeDefinition → Bool
+is_type_definition d = is_denoter d.denoter
+
 abbrev pub is_group : VariableGroup → Bool
-is_group g = has_items g.names.items
+is_group g = has_items g.names.items && is_denoter g.denoter
 
 abbrev pub is_block : Block → Bool
 is_block b =
-    list_all is_group b.variables.items && (has_items b.statements.items && list_all is_statement b.statements.items)
+    list_all is_type_definition b.types.items
+    && (list_all is_group b.variables.items
+    && (has_items b.statements.items && list_all is_statement b.statements.items))
 
 abbrev pub is_program : Program → Bool
 is_program p = is_block p.block

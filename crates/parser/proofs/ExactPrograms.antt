@@ -1,5 +1,5 @@
 -- The rules of declarations, blocks and programs read each spelling of their form.
-use Rattle.std.proofs.Common.{◌≡◌, ℕ, List, [], ◌∷◌, Ok, subst, sym, ap, ◌∙◌, arith}
+use Rattle.std.proofs.Common.{◌≡◌, ℕ, List, [], ◌∷◌, ◌++◌, Ok, subst, sym, ap, ◌∙◌, arith}
 use Rattle.std.specs.declared.alloc.Global.{Global}
 use Rattle.std.specs.declared.vec.Vec.{Vec}
 use Rattle.lexer.specs.declared.token.Kind.TheVariants as kind
@@ -8,22 +8,23 @@ use Rattle.lexer.specs.declared.token.Token.{Token}
 use Rattle.token_cursor.specs.declared.cursor.Cursor.{Cursor}
 use Rattle.syntax_tree.specs.declared.ConstantDefinition.{ConstantDefinition}
 use Rattle.syntax_tree.specs.declared.Name.{Name}
+use Rattle.syntax_tree.specs.declared.TypeDefinition.{TypeDefinition}
 use Rattle.syntax_tree.specs.declared.VariableGroup.{VariableGroup}
 use Rattle.syntax_tree.specs.declared.Block.{Block}
 use Rattle.syntax_tree.specs.declared.Program.{Program}
 use Rattle.token_cursor.specs.declared.fault.ParseFault.{ParseFault}
 use Rattle.token_cursor.specs.declared.fault.ParseFault.TheVariants.{Memory, NoProgram, TooDeep, LeftOut}
-use Rattle.grammar.specs.Spelling.{Reads, mark, identifier}
+use Rattle.grammar.specs.Spelling.{Reads, mark, denoter_spelling}
 use Rattle.grammar.specs.Nesting.{nesting}
-use Rattle.grammar.specs.Begins.{BeginsNames, BeginsParameters, BeginsGroup, BeginsConstantPart, BeginsVariables, BeginsCompound, BeginsBlock}
-use Rattle.grammar.specs.Begins.{BeginsProgram}
-use Rattle.grammar.specs.Following.{Anything, NoNext, EndsConstants, BeginsStatementPart}
+use Rattle.grammar.specs.Begins.{BeginsNames, BeginsParameters, BeginsGroup, BeginsConstantPart, BeginsTypePart, BeginsVariables, BeginsCompound}
+use Rattle.grammar.specs.Begins.{BeginsBlock, BeginsProgram}
+use Rattle.grammar.specs.Following.{Anything, NoNext, EndsConstants, EndsTypes, BeginsStatementPart}
 use Rattle.expression_parser.specs.Reading.{Stops, ReadsEach, ReadsDeep}
 use Rattle.parser.specs.Syntax.{most, IsRefused}
 use Rattle.grammar.proofs.Rows.{begins}
 use Rattle.grammar.proofs.Programs.{group_begins, group_names_end, GroupBehindNames, GroupsLeft, EachGroupsLeft, GroupNext, NamesThenClosed}
-use Rattle.grammar.proofs.Programs.{parameters_names_end, BlockParts, BlockBehindConstants, BlockBehindVariables, ProgramBehindSemicolon}
-use Rattle.grammar.proofs.Programs.{ProgramBehindParameters, ProgramBehindName}
+use Rattle.grammar.proofs.Programs.{parameters_names_end, BlockParts, BlockBehindConstants, BlockBehindTypes, BlockBehindVariables}
+use Rattle.grammar.proofs.Programs.{ProgramBehindSemicolon, ProgramBehindParameters, ProgramBehindName}
 use Rattle.grammar.proofs.Programs.{program_parameters_end}
 
 -- behind the names read
@@ -32,7 +33,11 @@ pub group_behind_names : (a b : Cursor) (names : Vec Name Global) → ReadsEach 
 group_behind_names a b names reads g others h =
     let p = group_begins a.rest.now others g h in
     let same : b.rest.now ≡ p.middle = reads p.names p.middle p.begun (group_names_end a.rest.now others p) in
-    record { type = p.type; spelled = subst (λ x. Reads x (mark symbol.Colon ∷ identifier p.type ∷ mark symbol.Semicolon ∷ []) others) (sym same) p.behind }
+    record {
+      type = p.type;
+      spelled = subst (λ x. Reads x (mark symbol.Colon ∷ denoter_spelling p.type ++ mark symbol.Semicolon ∷ []) others) (sym same) p.behind;
+      formed = p.formed;
+    }
 
 -- behind a group
 pub groups_left : (start : List Token) (a b : Cursor) (g : VariableGroup) → ReadsEach BeginsGroup Anything a b (Ok g) → GroupNext start a.rest.now
@@ -63,10 +68,17 @@ block_behind_constants levels a b others constants reads p =
     let same : b.rest.now ≡ p.middle = reads p.definitions p.middle p.defined p.ends in
     subst (λ x. BlockBehindConstants levels x others) (sym same) p.behind
 
+-- behind the types read
+pub block_behind_types : (levels : ℕ) (a b : Cursor) (others : List Token) (types : Vec TypeDefinition Global)
+    → ReadsEach BeginsTypePart EndsTypes a b (Ok types) → BlockBehindConstants levels a.rest.now others → BlockBehindTypes levels b.rest.now others
+block_behind_types levels a b others types reads p =
+    let same : b.rest.now ≡ p.middle = reads p.types p.middle p.defined p.ends in
+    subst (λ x. BlockBehindTypes levels x others) (sym same) p.behind
+
 -- behind the variables read
 pub block_behind_variables : (levels : ℕ) (a b : Cursor) (others : List Token) (variables : Vec VariableGroup Global)
     → ReadsEach BeginsVariables BeginsStatementPart a b (Ok variables)
-    → BlockBehindConstants levels a.rest.now others → BlockBehindVariables levels b.rest.now others
+    → BlockBehindTypes levels a.rest.now others → BlockBehindVariables levels b.rest.now others
 block_behind_variables levels a b others variables reads p =
     let same : b.rest.now ≡ p.middle = reads p.groups p.middle p.declared p.begins in
     record {

@@ -1,4 +1,6 @@
 pub mod Definitions
+pub mod Denoters
 pub mod ExactPrograms
 pub mod Order
 pub mod Programs
+pub mod TypeDefinitions

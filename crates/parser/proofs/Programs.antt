@@ -12,18 +12,21 @@ use Rattle.token_cursor.specs.declared.cursor.Cursor.{Cursor}
 use Rattle.syntax_tree.specs.declared.ConstantDefinition.{ConstantDefinition}
 use Rattle.syntax_tree.specs.declared.Name.{Name}
 use Rattle.syntax_tree.specs.declared.Stmt.{Stmt}
-use Rattle.syntax_tree.specs.declared.TypeDenoter.TheVariants as denoter
+use Rattle.syntax_tree.specs.declared.TypeDefinition.{TypeDefinition}
+use Rattle.syntax_tree.specs.declared.TypeDenoter.{TypeDenoter}
 use Rattle.syntax_tree.specs.declared.VariableGroup.{VariableGroup}
 use Rattle.syntax_tree.specs.declared.Block.{Block}
 use Rattle.token_cursor.specs.Cursor.{Took}
 use Rattle.grammar.specs.Spelling.{of_kind_at, mark, word_symbol, identifier, identifiers, stmt_spelling, separated, joined, in_parentheses, group_spelling}
-use Rattle.grammar.specs.Spelling.{Spelling, constants_spelling, variables_spelling, block_spelling}
-use Rattle.grammar.specs.WellFormed.{is_group, is_statement, has_items}
+use Rattle.grammar.specs.Spelling.{Spelling, denoter_spelling, constants_spelling, types_spelling, variables_spelling, block_spelling}
+use Rattle.grammar.specs.WellFormed.{is_denoter, is_type_definition, is_group, is_statement, has_items}
 use Rattle.expression_parser.specs.Rules.{Read}
 use Rattle.grammar.specs.Begins.{BeginsList, BeginsGroup, BeginsGroups, BeginsConstantPart, BeginsVariables, BeginsCompound, BeginsBlock, Stop}
+use Rattle.grammar.specs.Begins.{BeginsDenoter, BeginsTypePart}
 use Rattle.parser.specs.Syntax.{most, IsTreeOf}
 use Rattle.grammar.proofs.Lists.{map_push, all_push, and_true, length_map}
 use Rattle.grammar.proofs.Reading.{both, without_place, joined_push}
+use Rattle.grammar.proofs.Programs.{behind_types, behind_constants}
 use Rattle.expression_parser.proofs.Lists.{list_goes_on, some_grown}
 
 has : {A : Type 0} (xs : List A) → 0 < length xs → has_items xs ≡ true
@@ -51,18 +54,19 @@ pub names_grow : (a b c : Cursor) (names : List Name) (p : Place) → Read (Begi
 names_grow a b c names p list comma d n taken = names_go_on a b c d names (names ++ n ∷ []) p n list comma taken refl
 
 -- variables declared together
-pub group_stands : (a b c d e : Cursor) (p q : Place) (names : Vec Name Global) (n : Name)
-    → Read (BeginsList symbol.Comma) a b (identifiers names.items) → Took b c (of_kind_at (kind.Symbol symbol.Colon) p ∷ []) → Took c d (identifier n ∷ [])
+pub group_stands : (a b c d e : Cursor) (p q : Place) (names : Vec Name Global) (denoter : TypeDenoter)
+    → Read (BeginsList symbol.Comma) a b (identifiers names.items) → Took b c (of_kind_at (kind.Symbol symbol.Colon) p ∷ []) → Read BeginsDenoter c d denoter
     → Took d e (of_kind_at (kind.Symbol symbol.Semicolon) q ∷ [])
-    → Read BeginsGroup a e (record { names = names; denoter = denoter.Name n })
-group_stands a b c d e p q names n list colon type semicolon = record {
-  spelled = both (separated symbol.Comma (identifiers names.items) ++ mark symbol.Colon ∷ identifier n ∷ [])
+    → Read BeginsGroup a e (record { names = names; denoter = denoter })
+group_stands a b c d e p q names denoter list colon type semicolon = record {
+  spelled = both (separated symbol.Comma (identifiers names.items) ++ mark symbol.Colon ∷ denoter_spelling denoter)
       (mark symbol.Semicolon ∷ []) a.rest.now d.rest.now e.rest.now
-      (both (separated symbol.Comma (identifiers names.items)) (mark symbol.Colon ∷ identifier n ∷ []) a.rest.now b.rest.now d.rest.now list.spelled
-      (both (mark symbol.Colon ∷ []) (identifier n ∷ []) b.rest.now c.rest.now d.rest.now
-      (without_place (kind.Symbol symbol.Colon) p [] b.rest.now c.rest.now colon) type))
+      (both (separated symbol.Comma (identifiers names.items)) (mark symbol.Colon ∷ denoter_spelling denoter) a.rest.now b.rest.now d.rest.now list.spelled
+      (both (mark symbol.Colon ∷ []) (denoter_spelling denoter) b.rest.now c.rest.now d.rest.now
+      (without_place (kind.Symbol symbol.Colon) p [] b.rest.now c.rest.now colon) type.spelled))
       (without_place (kind.Symbol symbol.Semicolon) q [] d.rest.now e.rest.now semicolon);
-  formed = has names.items (let k = length_map (λ name. identifier name ∷ []) names.items in let h = list.some in omega arith);
+  formed = and_true (has_items names.items) (is_denoter denoter)
+      (has names.items (let k = length_map (λ name. identifier name ∷ []) names.items in let h = list.some in omega arith)) type.formed;
 }
 
 -- one more group
@@ -92,7 +96,7 @@ groups_grow_first a b g given = record {
 pub groups_grow : (a b : Cursor) (groups : List VariableGroup) → Read BeginsGroups a b groups → GroupsGrow a b groups
 groups_grow a b groups list c g given = groups_go_on a b c groups (groups ++ g ∷ []) g list given refl
 
--- what stands behind the constants of a block
+-- what stands behind the types of a block
 block_body : (inner : ℕ) (a b c : Cursor) (variables : List VariableGroup) (statements : List Stmt) (end : Place)
     → Read BeginsVariables a b variables → Read (BeginsCompound inner) b c (statements, end)
     → Took a c (variables_spelling variables
@@ -104,17 +108,20 @@ block_body inner a b c variables statements end declared given =
     (both (variables_spelling variables) (compound ++ last) a.rest.now b.rest.now c.rest.now declared.spelled given.spelled)
 
 -- a block
-pub block_stands : (levels inner : ℕ) (o a b c : Cursor) (constants : Vec ConstantDefinition Global) (variables : Vec VariableGroup Global)
-    (statements : Vec Stmt Global) (end : Place)
-    → inner + 1 ≡ levels → Read BeginsConstantPart o a constants.items → Read BeginsVariables a b variables.items
-    → Read (BeginsCompound inner) b c (statements.items, end)
-    → Read (BeginsBlock levels) o c (record { constants = constants; variables = variables; statements = statements; end = end })
-block_stands levels inner o a b c constants variables statements end less defined declared given = record {
-  spelled = both (constants_spelling constants.items) (variables_spelling variables.items
-      ++ word_symbol word.Begin ∷ separated symbol.Semicolon (map stmt_spelling statements.items) ++ of_kind_at (kind.Word word.End) end ∷ [])
-      o.rest.now a.rest.now c.rest.now defined (block_body inner a b c variables.items statements.items end declared given);
-  formed = and_true (list_all is_group variables.items) (has_items statements.items && list_all is_statement statements.items) declared.formed
-      (and_true (has_items statements.items) (list_all is_statement statements.items) (has statements.items given.some) given.formed);
+pub block_stands : (levels inner : ℕ) (a b c d e : Cursor) (constants : Vec ConstantDefinition Global) (types : Vec TypeDefinition Global)
+    (variables : Vec VariableGroup Global) (statements : Vec Stmt Global) (end : Place)
+    → inner + 1 ≡ levels → Read BeginsConstantPart a b constants.items → Read BeginsTypePart b c types.items → Read BeginsVariables c d variables.items
+    → Read (BeginsCompound inner) d e (statements.items, end)
+    → Read (BeginsBlock levels) a e (record { constants = constants; types = types; variables = variables; statements = statements; end = end })
+block_stands levels inner a b c d e constants types variables statements end less defined typed declared given = record {
+  spelled = let block : Block = record { constants = constants; types = types; variables = variables; statements = statements; end = end } in
+      both (constants_spelling constants.items) (behind_constants block) a.rest.now b.rest.now e.rest.now defined
+      (both (types_spelling types.items) (behind_types block) b.rest.now c.rest.now e.rest.now typed.spelled
+      (block_body inner c d e variables.items statements.items end declared given));
+  formed = and_true (list_all is_type_definition types.items)
+      (list_all is_group variables.items && (has_items statements.items && list_all is_statement statements.items)) typed.formed
+      (and_true (list_all is_group variables.items) (has_items statements.items && list_all is_statement statements.items) declared.formed
+      (and_true (has_items statements.items) (list_all is_statement statements.items) (has statements.items given.some) given.formed));
   nests = let n = given.nests in omega arith;
 }
 

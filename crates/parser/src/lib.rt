@@ -2,6 +2,9 @@
 #![tactic(auto)]
 
 mod constants;
+mod denoter;
+mod names;
 mod program;
+mod types;
 
 pub use program::parse;

@@ -4,7 +4,7 @@ ghost use Rattle.syntax_tree.specs.Places.{program_places};
 ghost use Rattle.grammar.specs.Laws.{HasOneTree};
 ghost use Rattle.token_cursor.specs.Cursor.{IsOfRules};
 ghost use Rattle.expression_parser.specs.Rules.{Read};
-ghost use Rattle.grammar.specs.Begins.{BeginsList, BeginsNames, BeginsParameters, BeginsGroup, BeginsGroups};
+ghost use Rattle.grammar.specs.Begins.{BeginsParameters, BeginsGroup, BeginsGroups};
 ghost use Rattle.grammar.specs.Begins.{BeginsVariables, BeginsBlock};
 ghost use Rattle.expression_parser.specs.Reading.{ReadsEach, ReadsDeep};
 ghost use Rattle.grammar.specs.Following.{NoNext, BeginsStatementPart, Anything};
@@ -14,11 +14,14 @@ ghost use Rattle.expression_parser.specs.Refusing.{IsPlain, Refused};
 ghost use Rattle.parser.specs.Syntax.{most, IsTreeOf, IsRefused, Answers};
 
 use crate::constants::constants;
+use crate::denoter::denoter;
+use crate::names::names;
+use crate::types::types;
 use expression_parser::memory::put;
 use lexer::token::{Kind, Symbol, Token, Word};
 use statement_parser::statement::compound;
 use std::alloc::Global;
-use syntax_tree::{Block, Name, Program, TypeDenoter, VariableGroup};
+use syntax_tree::{Block, Name, Program, VariableGroup};
 use token_cursor::cursor::Cursor;
 use token_cursor::fault::ParseFault;
 use token_cursor::left_out::first_left_out;
@@ -79,21 +82,7 @@ fn parameters<'a>(alloc: Global, cursor: &mut Cursor<'_, 'a>) -> Result<Vec<Name
     Ok(names)
 }
 
-// names = name {"," name}
-fn names<'a>(alloc: Global, cursor: &mut Cursor<'_, 'a>) -> Result<Vec<Name<'a>>, ParseFault>
-    ensures given { MatchResult result (λ found. Read BeginsNames cursor.old cursor.new found.items) IsPlain }
-    ensures exact { ReadsEach BeginsNames (NoNext (Kind.Symbol Symbol.Comma)) cursor.old cursor.new result }
-{
-    let mut names = Vec::new(alloc);
-    loop {
-        put(&mut names, cursor.expect_name())?;
-        let Some(_) = cursor.take_symbol(Symbol::Comma) else {
-            return Ok(names);
-        };
-    }
-}
-
-// block = constants variables compound
+// block = constants types variables compound
 /// A block (6.2.1) in something below which `levels` levels are left.
 fn block<'a>(
     alloc: Global,
@@ -104,11 +93,13 @@ fn block<'a>(
     ensures exact { ReadsDeep levels BeginsBlock Anything cursor.old cursor.new result }
 {
     let constants = constants(alloc, cursor)?;
+    let types = types(alloc, cursor)?;
     let variables = variables(alloc, cursor)?;
     let levels = inside(levels, cursor.place())?;
     let (statements, end) = compound(alloc, cursor, levels)?;
     Ok(Block {
         constants,
+        types,
         variables,
         statements,
         end,
@@ -146,14 +137,14 @@ fn groups<'a>(
     }
 }
 
-// group = names ":" name ";"
+// group = names ":" denoter ";"
 fn group<'a>(alloc: Global, cursor: &mut Cursor<'_, 'a>) -> Result<VariableGroup<'a>, ParseFault>
     ensures given { MatchResult result (Read BeginsGroup cursor.old cursor.new) IsPlain }
     ensures exact { ReadsEach BeginsGroup Anything cursor.old cursor.new result }
 {
     let names = names(alloc, cursor)?;
     cursor.expect_symbol(Symbol::Colon)?;
-    let denoter = TypeDenoter::Name(cursor.expect_name()?);
+    let denoter = denoter(alloc, cursor)?;
     cursor.expect_symbol(Symbol::Semicolon)?;
     Ok(VariableGroup { names, denoter })
 }

@@ -110,6 +110,7 @@ typing_refusal (typing.Threatened place) = at place letter_k 5
 typing_refusal (typing.CaseConstant place) = at place letter_k 6
 typing_refusal (typing.NotProgramParameter place) = at place letter_k 8
 typing_refusal (typing.TooMany place) = at place letter_k 10
+typing_refusal (typing.FirstAboveLast place) = at place letter_y 1
 typing_refusal (typing.TooManyCells place) = at place letter_y 2
 
 abbrev pub certificate_refusal : ReadFault → Refusal

@@ -188,6 +188,7 @@ fn typing_refusal(fault: TypeFault) -> Refusal
         TypeFault::CaseConstant(place) => at(place, b'K', 6),
         TypeFault::NotProgramParameter(place) => at(place, b'K', 8),
         TypeFault::TooMany(place) => at(place, b'K', 10),
+        TypeFault::FirstAboveLast(place) => at(place, b'Y', 1),
         TypeFault::TooManyCells(place) => at(place, b'Y', 2),
     }
 }

@@ -1,5 +1,6 @@
--- The places that a syntax tree keeps, in the order of the text: of names, numbers, operators, signs and `:=`, of the
--- opening parenthesis of an expression, of the words `if`, `while`, `repeat`, `for` and `case`, and of the last `end`.
+-- The places that a syntax tree keeps, in the order of the text: of names, numbers, operators, signs, `:=` and `..`, of
+-- the opening parenthesis of an expression, of the words `if`, `while`, `repeat`, `for` and `case`, and of the last
+-- `end`.
 -- It says nothing of what stands there.
 use Rattle.std.specs.Prelude.{List, [], ◌∷◌, ◌++◌, Option, Some, None, map, flat_map}
 use Rattle.std.specs.declared.alloc.Global.{Global}
@@ -7,6 +8,7 @@ use Rattle.std.specs.declared.boxed.Box.{Box}
 use Rattle.std.specs.declared.vec.Vec.{Vec}
 use Rattle.place.specs.declared.Place.{Place}
 use Rattle.syntax_tree.specs.declared.Name.{Name}
+use Rattle.syntax_tree.specs.declared.TypeDefinition.{TypeDefinition}
 use Rattle.syntax_tree.specs.declared.TypeDenoter.{TypeDenoter}
 use Rattle.syntax_tree.specs.declared.TypeDenoter.TheVariants as denoter
 use Rattle.syntax_tree.specs.declared.VariableGroup.{VariableGroup}
@@ -115,10 +117,16 @@ name_places names = map (λ name. name.place) names
 
 abbrev pub denoter_places : TypeDenoter → Places
 denoter_places (denoter.Name name) = name.place ∷ []
+denoter_places (denoter.Enumerated constants) = name_places constants.items
+denoter_places (denoter.Subrange first between last) = constant_places first ++ between ∷ constant_places last
 
 -- the places of a constant definition
 abbrev pub definition_places : ConstantDefinition → Places
 definition_places d = d.name.place ∷ constant_places d.value
+
+-- the places of a type definition
+abbrev pub type_definition_places : TypeDefinition → Places
+type_definition_places d = d.name.place ∷ denoter_places d.denoter
 
 -- the places of variables that are declared together
 abbrev pub group_places : VariableGroup → Places
@@ -128,8 +136,9 @@ group_places group = name_places group.names.items ++ denoter_places group.denot
 abbrev pub block_places : Block → Places
 block_places block =
     flat_map definition_places block.constants.items
+    ++ (flat_map type_definition_places block.types.items
     ++ (flat_map group_places block.variables.items
-    ++ (flat_map stmt_places block.statements.items ++ (block.end ∷ [])))
+    ++ (flat_map stmt_places block.statements.items ++ (block.end ∷ []))))
 
 -- the places of a program
 abbrev pub program_places : Program → Places

@@ -24,6 +24,8 @@ pub struct Program<'a> {
 pub struct Block<'a> {
     /// The constant definitions, in order; none where no part of them stands.
     pub constants: Vec<ConstantDefinition<'a>>,
+    /// The type definitions, in order; none where no part of them stands.
+    pub types: Vec<TypeDefinition<'a>>,
     pub variables: Vec<VariableGroup<'a>>,
     /// The statements of its compound statement: one or more.
     pub statements: Vec<Stmt<'a>>,
@@ -60,6 +62,13 @@ pub enum ConstantValue<'a> {
     Name(Name<'a>),
 }
 
+/// The definition of a type (6.4.1): `name = denoter`.
+#[derive(Drop)]
+pub struct TypeDefinition<'a> {
+    pub name: Name<'a>,
+    pub denoter: TypeDenoter<'a>,
+}
+
 /// Variables that are declared together (6.5.1): one or more names.
 #[derive(Drop)]
 pub struct VariableGroup<'a> {
@@ -68,9 +77,19 @@ pub struct VariableGroup<'a> {
 }
 
 /// What denotes a type (6.4.1).
-#[derive(Clone, Copy)]
+#[derive(Drop)]
 pub enum TypeDenoter<'a> {
     Name(Name<'a>),
+    /// The constants of an enumerated type (6.4.2.3): one or more.
+    Enumerated {
+        constants: Vec<Name<'a>>,
+    },
+    /// `first..last` (6.4.2.4), with the place of `..`.
+    Subrange {
+        first: Constant<'a>,
+        between: Place,
+        last: Constant<'a>,
+    },
 }
 
 /// A statement (6.8).

@@ -40,6 +40,9 @@ pub enum TypeFault {
     /// K10, over 1,000,000 sites, or over 4,000,000 statements and expressions.
     #[error("{0}: too many sites, statements or expressions")]
     TooMany(Place),
+    /// Y1, at the `..` of a subrange whose first value lies above its last.
+    #[error("{0}: a subrange's first value lies above its last")]
+    FirstAboveLast(Place),
     /// Y2, at the variable with which those of a block take over 65,536 cells.
     #[error("{0}: the variables of a block take too many cells")]
     TooManyCells(Place),

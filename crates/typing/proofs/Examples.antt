@@ -1,17 +1,20 @@
 -- Worked rows of the definitions of names and types.
-use Rattle.std.proofs.Common.{◌≡◌, ◌∷◌, [], List, Some, None, Ok, Err, refl}
+use Rattle.std.proofs.Common.{◌≡◌, ◌∷◌, ◌++◌, [], List, Some, None, Ok, Err, refl}
 use Rattle.std.specs.Prelude.{codes, pos, neg_ℤ}
 use Rattle.place.specs.declared.Place.{Place}
 use Rattle.scopes.specs.declared.denotation.Denotation.TheVariants as denotes
 use Rattle.syntax_tree.specs.declared.Operator.TheVariants as op
 use Rattle.syntax_tree.specs.declared.Sign.TheVariants as sign
 use Rattle.syntax_tree.specs.declared.ConstantValue.TheVariants as constant
-use Rattle.types.specs.Types.{required_forms, integer, boolean, range_of}
+use Rattle.types.specs.declared.form.TypeForm.{TypeForm}
+use Rattle.types.specs.declared.form.TypeForm.TheVariants.{Enumeration, Subrange}
+use Rattle.types.specs.declared.form.TypeId.{TypeId}
+use Rattle.types.specs.Types.{required_forms, integer, boolean, range_of, range}
 use Rattle.typing.specs.Names.{folded, required_region}
 use Rattle.typing.specs.Expressions.{result_type}
 use Rattle.typing.specs.Constants.{as_constant, behind_sign, constant_place}
 use Rattle.typing.specs.Statements.{fitting, own_constant}
-use Rattle.typing.specs.Typing.{named_type}
+use Rattle.typing.specs.Denoters.{named_type, value_of, between}
 use Rattle.syntax_tree.specs.declared.Name.{Name}
 use Rattle.typed_tree.specs.declared.fault.TypeFault.TheVariants as fault
 use Rattle.scopes.specs.declared.fault.ScopeFault.TheVariants as scope
@@ -55,6 +58,33 @@ integer_fits = refl
 pub boolean_does_not_fit : fitting required_forms integer boolean ≡ None
 boolean_does_not_fit = refl
 
+-- the types behind the required ones: an enumerated type, a subrange of it, and -5..-1
+abbrev own_types : List TypeForm
+own_types =
+    required_forms
+    ++ Enumeration (pos 2) ∷ Subrange (record { index = 3 }) (pos 1) (pos 2) ∷ Subrange integer (neg_ℤ (pos 5)) (neg_ℤ (pos 1)) ∷ []
+
+abbrev colour : TypeId
+colour = record { index = 3 }
+
+abbrev warm : TypeId
+warm = record { index = 4 }
+
+abbrev negative : TypeId
+negative = record { index = 5 }
+
+-- a value of an enumerated type may be assigned to a subrange of it, within the range of that
+pub enumeration_fits : fitting own_types warm colour ≡ range (pos 1) (pos 2)
+enumeration_fits = refl
+
+-- an integer may not be assigned to it
+pub integer_does_not_fit : fitting own_types warm integer ≡ None
+integer_does_not_fit = refl
+
+-- an integer may be assigned to a subrange of integer
+pub integer_fits_subrange : fitting own_types negative integer ≡ range (neg_ℤ (pos 5)) (neg_ℤ (pos 1))
+integer_fits_subrange = refl
+
 module _ (names : List Name) (name : Name) where
   -- a name of a type denotes that type
   pub integer_is_type : named_type names name (Ok (denotes.TypeName integer)) ≡ Ok integer
@@ -76,6 +106,19 @@ module _ (place behind : Place) where
   -- a truth value has no sign
   pub sign_of_true : behind_sign (Some (record { sign = sign.Plus; place = place })) (pos 1, boolean) ≡ Err (fault.Mismatch place)
   sign_of_true = refl
+
+  -- a subrange of integer
+  pub between_integers : between required_forms place (neg_ℤ (pos 5), integer) (neg_ℤ (pos 1), integer)
+      ≡ Ok (Subrange integer (neg_ℤ (pos 5)) (neg_ℤ (pos 1)))
+  between_integers = refl
+
+  -- none between an integer and a truth value
+  pub between_both : between required_forms place (pos 0, integer) (pos 1, boolean) ≡ Err (fault.Mismatch place)
+  between_both = refl
+
+  -- maxint is the last value that counts
+  pub value_of_maxint : value_of 2147483647 place ≡ Ok (pos 2147483647)
+  value_of_maxint = refl
 
   -- a variable is no constant
   pub variable_is_none : as_constant place (denotes.Variable 0 integer) ≡ Err (fault.Mismatch place)

@@ -35,7 +35,7 @@ use Rattle.typed_tree.specs.declared.tree.Dyadic.TheVariants as dyadic
 use Rattle.typed_tree.specs.declared.tree.Relation.TheVariants as relation
 use Rattle.typed_tree.specs.Look.{Constant, Variable, Operation, Begins, Operator as OperatorMark, Ends}
 use Rattle.typing.specs.Passing.{Checked, Passing, pure, fail, given, mark, ◌>>=◌, ◌>>◌, ◌>>?◌}
-use Rattle.typing.specs.Steps.{pass, enter_as, site, find}
+use Rattle.typing.specs.Steps.{pass, enter_as, site, find, host_type}
 
 -- the type of an expression, and the id of its leading site
 pub record Typed : Type 0 where
@@ -82,7 +82,7 @@ number value place lead = do
   enter_as (λ n. Constant n (pos value))
   pure t
 
--- a name as an expression: a constant or a variable
+-- a name as an expression: a constant, or a variable, whose value is of the host type (6.7.1)
 unfoldable pub denoted : Denotation → Place → Option SiteKind → Passing Typed
 denoted (denotes.Constant value type_id) place lead = do
   id ← behind lead place
@@ -92,7 +92,8 @@ denoted (denotes.Variable root type_id) place lead = do
   defined ← site kind.UndefinedVariable place
   id ← behind lead place
   enter_as (λ n. Variable n root defined)
-  pure (typed type_id id)
+  host ← host_type type_id
+  pure (typed host id)
 denoted (denotes.Procedure procedure) place lead = fail (fault.WrongParameters place)
 denoted (denotes.Function function) place lead = fail (fault.WrongParameters place)
 denoted (denotes.TypeName type_id) place lead = fail (fault.Mismatch place)

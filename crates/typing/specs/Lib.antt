@@ -2,6 +2,7 @@ pub mod Names
 pub mod Passing
 pub mod Steps
 pub mod Constants
+pub mod Denoters
 pub mod Expressions
 pub mod Statements
 pub mod Typing

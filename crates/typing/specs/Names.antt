@@ -1,6 +1,6 @@
 -- The names of a program (ISO 7185:1990, 6.1.3, 6.2.2, 6.10): small and capital letters are alike; the required
--- identifiers stand in a region round the program, and its block defines its parameters, its constants and its
--- variables.
+-- identifiers stand in a region round the program, and its block defines its parameters, its constants, its types, the
+-- constants of enumerated types, and its variables.
 -- It says nothing of the order in which definitions are passed.
 use Rattle.std.specs.Prelude.{ℕ, pos, ◌+◌, ◌&&◌, ◌++◌, Bool, List, [], ◌∷◌, Some, if◌then◌else◌, nat_le, nat_eq, map}
 use Rattle.std.specs.Prelude.{codes, flat_map}
@@ -9,6 +9,10 @@ use Rattle.std.specs.Cmp.Lexicographic.{pointwise}
 use Rattle.syntax_tree.specs.declared.Block.{Block}
 use Rattle.syntax_tree.specs.declared.Program.{Program}
 use Rattle.syntax_tree.specs.declared.Name.{Name}
+use Rattle.syntax_tree.specs.declared.TypeDefinition.{TypeDefinition}
+use Rattle.syntax_tree.specs.declared.TypeDenoter.{TypeDenoter}
+use Rattle.syntax_tree.specs.declared.TypeDenoter.TheVariants as denoter
+use Rattle.syntax_tree.specs.declared.VariableGroup.{VariableGroup}
 use Rattle.types.specs.Types.{integer, boolean}
 use Rattle.scopes.specs.Scopes.{Region}
 use Rattle.scopes.specs.declared.denotation.Denotation.{Denotation}
@@ -45,11 +49,26 @@ required =
 unfoldable pub required_region : Region
 required_region = map (λ d. (d.0, Some d.1)) required
 
--- the names of a block's constants and variables, in the order of the text
+-- the names that a denoter defines: the constants of an enumerated type
+abbrev pub denoter_names : TypeDenoter → List Name
+denoter_names (denoter.Name name) = []
+denoter_names (denoter.Enumerated constants) = constants.items
+denoter_names (denoter.Subrange first between last) = []
+
+-- those of a type definition, the ones of its denoter first
+abbrev pub type_names : TypeDefinition → List Name
+type_names d = denoter_names d.denoter ++ d.name ∷ []
+
+-- those of variables that are declared together
+abbrev pub group_names : VariableGroup → List Name
+group_names group = denoter_names group.denoter ++ group.names.items
+
+-- the names of a block's constants, types and variables, in the order in which they are defined
 abbrev pub block_names : Block → List Name
 block_names block =
-    map (λ d. d.name) block.constants.items ++ flat_map (λ group. group.names.items) block.variables.items
+    map (λ d. d.name) block.constants.items
+    ++ (flat_map type_names block.types.items ++ flat_map group_names block.variables.items)
 
--- the names that the program's block defines, in the order of the text
+-- the names that the program's block defines
 abbrev pub defined_names : Program → List Name
 defined_names program = program.parameters.items ++ block_names program.block

@@ -1,12 +1,15 @@
 -- The steps of typing: a token that is passed, a form that is entered, a loop, a site, a name that is found, a control
--- variable, a region, a definition, a variable. It says nothing of the forms that take them.
+-- variable, a region, a definition, a type, a variable. It says nothing of the forms that take them.
 use Rattle.std.specs.Prelude.{ℕ, ◌+◌, ◌-◌, ◌++◌, true, false, List, [], ◌∷◌, Result, Ok, Err, if◌then◌else◌, nat_eq}
 use Rattle.std.specs.Prelude.{nat_le, nat_lt, length, take}
 use Rattle.std.specs.List.{list_any}
 use Rattle.place.specs.declared.Place.{Place}
 use Rattle.syntax_tree.specs.declared.Name.{Name}
+use Rattle.types.specs.declared.form.TypeForm.{TypeForm}
 use Rattle.types.specs.declared.form.TypeId.{TypeId}
-use Rattle.types.specs.Types.{cells_of, most_cells, required_forms}
+use Rattle.types.specs.declared.refusal.TypeRefusal.{TypeRefusal}
+use Rattle.types.specs.declared.refusal.TypeRefusal.TheVariants as refusal
+use Rattle.types.specs.Types.{admitted, cells_of, host_of, most_cells, required_forms}
 use Rattle.scopes.specs.Scopes.{found, opened, define}
 use Rattle.scopes.specs.declared.denotation.Denotation.{Denotation}
 use Rattle.scopes.specs.declared.fault.ScopeFault.{ScopeFault}
@@ -118,6 +121,31 @@ unfoldable pub declare : Name → Denotation → Passing (Unit {0})
 declare name denotation = λ s.
     and_then (told name.place (define (folded name.text.now) denotation s.regions))
     (λ regions. Ok (after tt [] (record s { regions = regions })))
+
+-- a rule that the form of a type breaks, at its place
+abbrev pub refused : TypeRefusal → Place → TypeFault
+refused refusal.Memory place = fault.Memory
+refused refusal.FirstAboveLast place = fault.FirstAboveLast place
+refused refusal.TooManyCells place = fault.TooManyCells place
+
+-- what the table answers, at a place
+abbrev pub added : Place → Result TypeId TypeRefusal → Checked TypeId
+added place (Ok id) = Ok id
+added place (Err rule) = Err (refused rule place)
+
+-- a type of its own, by its form; the rule that the form breaks is told at the place
+unfoldable pub add_type : Place → TypeForm → Passing TypeId
+add_type place form = λ s.
+    and_then (added place (admitted s.types form))
+    (λ id. Ok (after id [] (record s { types = s.types ++ form ∷ [] })))
+
+-- the host type of a type
+unfoldable pub host_type : TypeId → Passing TypeId
+host_type id = λ s. Ok (after (host_of s.types id) [] s)
+
+-- the place of the latest token that was passed
+unfoldable pub latest : Passing Place
+latest = λ s. Ok (after s.latest [] s)
 
 -- output is a program parameter
 unfoldable pub give_output : Passing (Unit {0})

@@ -1,27 +1,24 @@
 -- The typing of a program (ISO 7185:1990, 6.2, 6.3, 6.4.1, 6.5.1, 6.10): its declarations in the order of the text, and
 -- then its statements. It answers the first broken rule, with its place, or how the program's typed tree looks and what
 -- the program has: its variables and its sites. It says nothing of what a program does.
-use Rattle.std.specs.Prelude.{List, [], Result, Ok, Err, if◌then◌else◌, map, nat_eq, codes}
+use Rattle.std.specs.Prelude.{List, [], if◌then◌else◌, map, nat_eq, codes}
 use Rattle.std.specs.Cmp.Lexicographic.{pointwise}
 use Rattle.syntax_tree.specs.declared.Program.{Program}
 use Rattle.syntax_tree.specs.declared.Block.{Block}
 use Rattle.syntax_tree.specs.declared.Name.{Name}
-use Rattle.syntax_tree.specs.declared.TypeDenoter.{TypeDenoter}
-use Rattle.syntax_tree.specs.declared.TypeDenoter.TheVariants as denoter
 use Rattle.syntax_tree.specs.declared.ConstantDefinition.{ConstantDefinition}
+use Rattle.syntax_tree.specs.declared.TypeDefinition.{TypeDefinition}
 use Rattle.syntax_tree.specs.declared.VariableGroup.{VariableGroup}
 use Rattle.types.specs.declared.form.TypeId.{TypeId}
-use Rattle.scopes.specs.Scopes.{found}
 use Rattle.scopes.specs.declared.denotation.Denotation.{Denotation}
 use Rattle.scopes.specs.declared.denotation.Denotation.TheVariants as denotes
-use Rattle.scopes.specs.declared.fault.ScopeFault.{ScopeFault}
-use Rattle.scopes.specs.declared.fault.ScopeFault.TheVariants as scope
 use Rattle.typed_tree.specs.declared.fault.TypeFault.TheVariants as fault
 use Rattle.typed_tree.specs.Look.{BlockEnds}
-use Rattle.typing.specs.Names.{folded, all_folded, is_among, defined_names}
-use Rattle.typing.specs.Passing.{Checked, After, Passing, and_then, after, fail, mark, each, ◌>>=◌, ◌>>◌}
+use Rattle.typing.specs.Names.{folded, all_folded, defined_names}
+use Rattle.typing.specs.Passing.{Checked, After, Passing, fail, mark, each, ◌>>=◌, ◌>>◌}
 use Rattle.typing.specs.Steps.{begins, open_required, open_block, declare, give_output, next_root, reserve}
 use Rattle.typing.specs.Constants.{constant}
+use Rattle.typing.specs.Denoters.{denoted_type}
 use Rattle.typing.specs.Statements.{statement, compound}
 
 -- a program parameter: no other than output may be one
@@ -34,25 +31,9 @@ parameter_of_program name =
 unfoldable pub definition : ConstantDefinition → Passing (Unit {0})
 definition d = constant d.value >>= (λ c. declare d.name (denotes.Constant c.0 c.1))
 
--- the type that a name denotes, where variables of these names get it; one of them is no type, wherever it stands
-abbrev pub named_type : List Name → Name → Result Denotation ScopeFault → Checked TypeId
-named_type names name (Ok (denotes.TypeName type_id)) = Ok type_id
-named_type names name (Ok (denotes.Constant value type_id)) = Err (fault.Mismatch name.place)
-named_type names name (Ok (denotes.Variable root type_id)) = Err (fault.Mismatch name.place)
-named_type names name (Ok (denotes.Procedure procedure)) = Err (fault.Mismatch name.place)
-named_type names name (Ok (denotes.Function function)) = Err (fault.Mismatch name.place)
-named_type names name (Ok denotes.Output) = Err (fault.Mismatch name.place)
-named_type names name (Err scope.UsedBeforeDeclared) =
-    Err (if is_among names name then fault.Mismatch name.place else fault.UsedBeforeDeclared name.place)
-named_type names name (Err scope.NotDeclared) = Err (fault.NotDeclared name.place)
-named_type names name (Err scope.DeclaredTwice) = Err (fault.DeclaredTwice name.place)
-named_type names name (Err scope.Memory) = Err fault.Memory
-
--- the type that a denoter denotes
-unfoldable pub denoted_type : List Name → TypeDenoter → Passing TypeId
-denoted_type names (denoter.Name name) = λ s.
-    and_then (named_type names name (found s.regions (folded name.text.now)))
-    (λ type_id. Ok (after type_id [] (record s { latest = name.place })))
+-- a type definition: its denoter, and then its name
+unfoldable pub type_definition : TypeDefinition → Passing (Unit {0})
+type_definition d = denoted_type [] d.denoter >>= (λ type_id. declare d.name (denotes.TypeName type_id))
 
 -- a variable: its definition, and then its cells
 unfoldable pub variable : TypeId → Name → Passing (Unit {0})
@@ -72,6 +53,7 @@ declarations program = do
   open_block (all_folded (defined_names program))
   each parameter_of_program program.parameters.items
   each definition program.block.constants.items
+  each type_definition program.block.types.items
   each group program.block.variables.items
 
 -- the statements of a block, and its last `end`

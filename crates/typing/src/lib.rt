@@ -3,6 +3,7 @@
 #![tactic(auto)]
 
 mod constants;
+mod denoters;
 mod names;
 mod operations;
 pub mod rules;
@@ -11,5 +12,6 @@ mod typer;
 mod variables;
 
 pub use constants::constant_place;
+pub use denoters::value_of;
 pub use names::folded;
 pub use typer::{MOST_ENTRIES, MOST_SITES, Typer};

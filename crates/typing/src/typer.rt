@@ -4,7 +4,7 @@ ghost use Rattle.typed_tree.specs.declared.fault.TypeFault.TheVariants.{Memory};
 ghost use Rattle.typing.specs.Passing.{Passed};
 ghost use Rattle.typing.specs.Sound.{stands};
 ghost use Rattle.typing.specs.declared.typer.TheConstants.{MOST_SITES, MOST_ENTRIES};
-ghost use Rattle.types.specs.Types.{most_cells, required_forms};
+ghost use Rattle.types.specs.Types.{most_cells};
 
 use place::Place;
 use scopes::Scopes;
@@ -29,7 +29,7 @@ pub struct Typer {
     pub(crate) types: TypeTable,
     // By root number.
     pub(crate) variables: Vec<Variable>,
-    // The cells that those of the block take: at least one each.
+    // The cells that those of the block take.
     pub(crate) cells: u32,
     pub(crate) has_output: bool,
     // By id.
@@ -48,8 +48,6 @@ pub struct Typer {
     ghost few_sites: { vec_len sites ≤ MOST_SITES },
     ghost few_entries: { entries ≤ MOST_ENTRIES },
     ghost few_loops: { loops ≤ entries },
-    ghost required: { types ≡ required_forms },
-    ghost room: { vec_len variables ≤ cells },
     ghost few_cells: { cells ≤ most_cells },
 }
 

@@ -1,6 +1,7 @@
 -- What declarations do: they add no site and no entry, each name denotes what is sound, and each variable takes a cell.
-use Rattle.std.proofs.Common.{◌≡◌, ℕ, ◌+◌, ◌≤◌, Bool, true, false, nat_eq, nat_lt, if◌then◌else◌, List, [], ◌∷◌, ◌++◌, length, Option, Some, None, Result, Ok}
-use Rattle.std.proofs.Common.{Err, ℤ, pos, nat_le, codes, length-append, refl, sym, ap, subst, ◌∙◌, arith}
+use Rattle.std.proofs.Common.{ℤ, pos, nat_le}
+use Rattle.std.proofs.Common.{◌≡◌, ℕ, ◌+◌, ◌-◌, ◌≤◌, ◌&&◌, Bool, true, false, nat_eq, nat_lt, if◌then◌else◌, List, [], ◌∷◌, ◌++◌, length, Option, Some, None, Result, Ok}
+use Rattle.std.proofs.Common.{Err, codes, length-append, refl, sym, ap, subst, ◌∙◌, arith}
 use Rattle.std.proofs.lemmas.Bool.Decides.{nat_tests}
 use Rattle.std.proofs.lemmas.List.Folds.{list_all-append}
 use Rattle.std.specs.List.{list_all}
@@ -12,12 +13,14 @@ use Rattle.syntax_tree.specs.declared.Constant.{Constant}
 use Rattle.syntax_tree.specs.declared.ConstantDefinition.{ConstantDefinition}
 use Rattle.syntax_tree.specs.declared.ConstantValue.{ConstantValue}
 use Rattle.syntax_tree.specs.declared.ConstantValue.TheVariants as value
+use Rattle.syntax_tree.specs.declared.TypeDefinition.{TypeDefinition}
 use Rattle.syntax_tree.specs.declared.TypeDenoter.{TypeDenoter}
 use Rattle.syntax_tree.specs.declared.TypeDenoter.TheVariants as denoter
 use Rattle.syntax_tree.specs.declared.VariableGroup.{VariableGroup}
+use Rattle.types.specs.declared.form.TypeForm.{TypeForm}
+use Rattle.types.specs.declared.form.TypeForm.TheVariants.{Enumeration, Subrange}
 use Rattle.types.specs.declared.form.TypeId.{TypeId}
-use Rattle.types.proofs.Counts.{one_cell}
-use Rattle.types.specs.Types.{required_forms, integer, cells_of, most_cells}
+use Rattle.types.specs.Types.{integer, admitted, cells_of, host_of, is_ordinal, is_same, most_cells}
 use Rattle.scopes.specs.Scopes.{Region, found, opened, define}
 use Rattle.scopes.specs.declared.denotation.Denotation.{Denotation}
 use Rattle.scopes.specs.declared.denotation.Denotation.TheVariants as denotes
@@ -25,10 +28,13 @@ use Rattle.scopes.specs.declared.fault.ScopeFault.{ScopeFault}
 use Rattle.typed_tree.specs.declared.fault.TypeFault.TheVariants as fault
 use Rattle.typed_tree.specs.declared.tree.Variable.{Variable}
 use Rattle.typing.specs.Names.{folded, all_folded, defined_names, required_region}
-use Rattle.typing.specs.Passing.{Passed, Checked, After, Passing, after, and_then, behind_marks, pure, fail, each, ◌>>=◌, ◌>>◌, ◌>>?◌}
-use Rattle.typing.specs.Steps.{told, pass, find, open_required, open_block, declare, give_output, next_root, reserve}
+use Rattle.typing.specs.Passing.{Passed, Checked, After, Passing, after, and_then, behind_marks, pure, fail, given, each, ◌>>=◌, ◌>>◌, ◌>>?◌}
+use Rattle.typing.specs.Steps.{told, pass, find, open_required, open_block, declare, added, add_type, latest, give_output, next_root, reserve}
 use Rattle.typing.specs.Constants.{unsigned_constant, constant}
-use Rattle.typing.specs.Typing.{parameter_of_program, definition, named_type, denoted_type, variable, group, declarations}
+use Rattle.typing.specs.Denoters.{named_type, type_of_name, value_of, constants_from, enumeration, between, subrange, denoted_type}
+use Rattle.typing.specs.Typing.{parameter_of_program, definition, type_definition, variable, group, declarations}
+use Rattle.typing_laws.specs.Lawful.{AreScalar}
+use Rattle.typing_laws.proofs.WholeRanges.{HaveWholeRanges, IsScalar, scalar_more, whole_more}
 use Rattle.typing_laws.proofs.Constants.{IsWhole, number_whole, named_whole, behind_whole}
 use Rattle.typing_laws.proofs.Expressions.{fits_is}
 use Rattle.typing_laws.proofs.Grown.{both_true}
@@ -38,7 +44,8 @@ use Rattle.typing_laws.proofs.Steps.{split, split_behind, split_unless}
 -- what is known among declarations, where names denote variables below a bound
 pub record Ready (bound : ℕ) (s : Passed) : Type 0 where
   pub sound : AreSound bound s.regions
-  pub types : s.types ≡ required_forms
+  pub types : AreScalar s.types
+  pub whole : HaveWholeRanges s.types
   pub sites : s.sites ≡ []
   pub entries : s.entries ≡ 0
   pub loops : s.loops ≡ 0
@@ -59,7 +66,8 @@ ready_as : {bound now : ℕ} {s new : Passed} → AreSound now new.regions → R
     → new.loops ≡ s.loops → new.variables ≡ s.variables → new.cells ≡ s.cells → Ready now new
 ready_as sound r types sites entries loops variables cells = record {
   sound = sound;
-  types = types ∙ r.types;
+  types = subst AreScalar (sym types) r.types;
+  whole = subst HaveWholeRanges (sym types) r.whole;
   sites = sites ∙ r.sites;
   entries = entries ∙ r.entries;
   loops = loops ∙ r.loops;
@@ -217,10 +225,11 @@ reserve_keeps place type_id = record {
       let new : Passed = record s { variables = s.variables ++ one ∷ []; cells = taken } in
       let x = split_unless (nat_lt most_cells taken) (fault.TooManyCells place) (after tt [] new) a is in
       let counted : length (s.variables ++ one ∷ []) ≡ length s.variables + 1 = length-append s.variables (one ∷ []) in
-      let cell : cells_of s.types type_id ≡ 1 = ap (λ types. cells_of types type_id) r.types ∙ one_cell type_id in
+      let cell : cells_of s.types type_id ≡ 1 = r.types.one_cell type_id in
       let ready : Ready (length new.variables) new = record {
         sound = subst (λ n. AreSound n s.regions) (sym counted) r.sound;
         types = r.types;
+        whole = r.whole;
         sites = r.sites;
         entries = r.entries;
         loops = r.loops;
@@ -252,9 +261,11 @@ variable_keeps type_id name = keeps_then next_root_keeps λ root. keeps_then (de
           (declare_keeps name (denotes.Variable root type_id) (λ s. length s.variables + 1) (λ s regions. refl)).keeps s a is (next, omega (arith, from.1));
     }
 
-denoted_type_keeps : (names : List Name) (d : TypeDenoter) → Keeps IsReady (denoted_type names d) Readied
-unfolding denoted_type
-denoted_type_keeps names (denoter.Name name) = record {
+-- ---- types
+
+type_of_name_keeps : (names : List Name) (name : Name) → Keeps IsReady (type_of_name names name) Readied
+unfolding type_of_name
+type_of_name_keeps names name = record {
   keeps = λ s a is r.
       let told_type = named_type names name (found s.regions (folded name.text.now)) in
       let x = split told_type (λ type_id. Ok (after type_id [] (record s { latest = name.place }))) a is in
@@ -262,6 +273,109 @@ denoted_type_keeps names (denoter.Name name) = record {
       let ready : IsReady (record s { latest = name.place }) = ready_as r.sound r refl refl refl refl refl refl in
       subst (λ (z : After TypeId). (z.look ≡ []) × IsReady z.passed) same (refl, ready);
 }
+
+-- something else that holds of what an answer says
+given_keeps : {A : Type 0} (checked : Checked A) (Says : A → Type 0) → ((x : A) → checked ≡ Ok x → Says x)
+    → Keeps IsReady (given checked) (λ x s. IsReady s × Says x)
+given_keeps {A} checked Says says = record {
+  keeps = λ s a is r.
+      let x = split checked (λ answer. Ok (after answer [] s)) a is in
+      let same : after x.0 [] s ≡ a = cc in
+      subst (λ (z : After A). (z.look ≡ []) × (IsReady z.passed × Says z.answer)) same (refl, (r, says x.0 x.1));
+}
+
+add_type_keeps : (place : Place) (form : TypeForm) → Keeps (λ s. IsReady s × IsScalar form) (add_type place form) Readied
+unfolding add_type
+add_type_keeps place form = record {
+  keeps = λ s a is from.
+      let r = from.0 in
+      let new : Passed = record s { types = s.types ++ form ∷ [] } in
+      let x = split (added place (admitted s.types form)) (λ id. Ok (after id [] new)) a is in
+      let same : after x.0 [] new ≡ a = cc in
+      let ready : IsReady new = record {
+        sound = r.sound;
+        types = scalar_more s.types form r.types from.1;
+        whole = whole_more s.types form r.whole from.1.whole;
+        sites = r.sites;
+        entries = r.entries;
+        loops = r.loops;
+        by_program = r.by_program;
+        declared = r.declared;
+        room = r.room;
+      } in
+      subst (λ (z : After TypeId). (z.look ≡ []) × IsReady z.passed) same (refl, ready);
+}
+
+value_whole : (number : ℕ) (place : Place) (c : ℤ) → value_of number place ≡ Ok c → IsWhole c
+value_whole number place c is =
+    let fit = fits_is 0 (nat_le number 2147483647) place (pos number) c is in
+    subst IsWhole fit.1 (number_whole number fit.0)
+
+constants_from_keeps : (type_id : TypeId) (number : ℕ) (names : List Name) → Keeps IsReady (constants_from type_id number names) Readied
+constants_from_keeps type_id number [] = always (pure tt) tt (λ s. s) (λ s. refl) (λ s ready. ready)
+constants_from_keeps type_id number (name ∷ names) =
+    keeps_then (given_keeps (value_of number name.place) IsWhole (value_whole number name.place)) λ value.
+    keeps_then (declare_keeps name (denotes.Constant value type_id) (λ s. length s.variables) (λ s regions. refl)) λ _.
+    constants_from_keeps type_id (number + 1) names
+
+latest_keeps : Keeps IsReady latest Readied
+unfolding latest
+latest_keeps = record {
+  keeps = λ s a is r.
+      let same : after s.latest [] s ≡ a = cc in
+      subst (λ (z : After Place). (z.look ≡ []) × IsReady z.passed) same (refl, r);
+}
+
+enumeration_scalar : (last : ℤ) → IsWhole last → IsScalar (Enumeration last)
+enumeration_scalar last whole = record { one = λ before. refl; whole = both_true _ _ refl whole }
+
+enumeration_keeps : (names : List Name) → Keeps IsReady (enumeration names) Readied
+unfolding enumeration
+enumeration_keeps names =
+    keeps_then latest_keeps λ place.
+    keeps_then (given_keeps (value_of (length names - 1) place) (λ last. IsScalar (Enumeration last))
+    (λ last is. enumeration_scalar last (value_whole (length names - 1) place last is))) λ last.
+    keeps_then (add_type_keeps place (Enumeration last)) λ type_id.
+    keeps_then (constants_from_keeps type_id 0 names) λ _.
+    always (pure type_id) type_id (λ s. s) (λ s. refl) (λ s ready. ready)
+
+between_scalar : (types : List TypeForm) (place : Place) (first last : ℤ × TypeId) (form : TypeForm) → between types place first last ≡ Ok form
+    → IsWhole first.0 → IsWhole last.0 → IsScalar form
+between_scalar types place first last form is low high =
+    let host = host_of types first.1 in
+    let fit = fits_is 0 (is_same host (host_of types last.1) && is_ordinal types first.1) place (Subrange host first.0 last.0) form is in
+    subst IsScalar fit.1 (record { one = λ before. refl; whole = both_true _ _ low high })
+
+subrange_keeps : (first : Constant) (place : Place) (last : Constant) → Keeps IsReady (subrange first place last) Readied
+unfolding subrange
+subrange_keeps first place last = keeps_then (constant_keeps first) λ f. keeps_then (form_keeps f) λ form. add_type_keeps place form
+  where
+    last_keeps : (f : ℤ × TypeId) → Keeps (Whole f) (constant last) (λ l s. Whole l s × IsWhole f.0)
+    last_keeps f = record {
+      keeps = λ s a is k.
+          let one = (constant_keeps last).keeps s a is k.0 in
+          (one.0, (one.1, k.1));
+    }
+
+    form_keeps : (f : ℤ × TypeId) → Keeps (Whole f) (constant last >>? (λ types l. between types place f l)) (λ form s. IsReady s × IsScalar form)
+    form_keeps f = keeps_checks (last_keeps f) λ types l form s is k. (k.0.0, between_scalar types place f l form is k.1 k.0.1)
+
+denoted_type_keeps : (names : List Name) (d : TypeDenoter) → Keeps IsReady (denoted_type names d) Readied
+unfolding denoted_type
+denoted_type_keeps names (denoter.Name name) = type_of_name_keeps names name
+denoted_type_keeps names (denoter.Enumerated constants) = enumeration_keeps constants.items
+denoted_type_keeps names (denoter.Subrange first place last) = subrange_keeps first place last
+
+type_definition_keeps : (d : TypeDefinition) → Keeps IsReady (type_definition d) Readied
+unfolding type_definition
+type_definition_keeps d = keeps_then (denoted_type_keeps [] d.denoter) declared
+  where
+    declared : (type_id : TypeId) → Keeps IsReady (declare d.name (denotes.TypeName type_id)) Readied
+    declared type_id =
+        let kept = declare_keeps d.name (denotes.TypeName type_id) (λ s. length s.variables) (λ s regions. refl) in
+        record { keeps = λ s a is r. kept.keeps s a is (r, tt) }
+
+-- ---- groups of variables
 
 group_keeps : (g : VariableGroup) → Keeps IsReady (group g) Readied
 unfolding group
@@ -275,4 +389,5 @@ declarations_keep program =
     keeps_then (open_block_keeps (all_folded (defined_names program))) λ _.
     keeps_then (each_keeps parameter_keeps program.parameters.items) λ _.
     keeps_then (each_keeps definition_keeps program.block.constants.items) λ _.
+    keeps_then (each_keeps type_definition_keeps program.block.types.items) λ _.
     each_keeps group_keeps program.block.variables.items

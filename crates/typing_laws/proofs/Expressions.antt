@@ -21,7 +21,7 @@ use Rattle.typing.specs.Expressions.{Typed, Written, WrittenLink, typed, fits, n
 use Rattle.typing_laws.proofs.Sound.{IsSound}
 use Rattle.typing_laws.proofs.Covers.{AreAbove, Covers, Leads, leads_first, leads_more, leads_covers}
 use Rattle.typing_laws.proofs.Grown.{both_true}
-use Rattle.typing_laws.proofs.Steps.{Does, Anything, joins, quietly, checks, sited, pass_does, pure_does, given_does, fail_does, find_does, enter_does}
+use Rattle.typing_laws.proofs.Steps.{Does, Anything, joins, quietly, checks, sited, pass_does, pure_does, given_does, fail_does, find_does, enter_does, host_type_does}
 use Rattle.typing_laws.proofs.Steps.{site_does, led, IsKnown, behind_does}
 
 -- ---- the leading site
@@ -104,7 +104,8 @@ module _ (variables : ℕ) where
           joins (leads_first 2 place (led lead) []) (behind_does lead place) λ id now later known.
           quietly (enter_does (λ n. Variable n root defined) (λ n. refl) (λ n. refl)
           (λ n m h. both_true _ _ (lt_true root variables sound) (lt_true defined m (omega (arith, test, later, h))))) λ _ _ more _.
-          pure_does (typed type_id id) (λ n h. known_later id now n (omega arith) known)
+          quietly (host_type_does type_id) λ host _ still _.
+          pure_does (typed host id) (λ n h. known_later id now n (omega arith) known)
   denoted_does (denotes.Procedure procedure) place lead is sound = fail_does (fault.WrongParameters place)
   denoted_does (denotes.Function function) place lead is sound = fail_does (fault.WrongParameters place)
   denoted_does (denotes.TypeName type_id) place lead is sound = fail_does (fault.Mismatch place)

@@ -3,17 +3,17 @@ use Rattle.std.proofs.Common.{◌≡◌, ℕ, List, [], ◌∷◌, ◌++◌, len
 use Rattle.std.specs.List.{range_with_len, list_all, flat_map}
 use Rattle.syntax_tree.specs.declared.Program.{Program}
 use Rattle.syntax_tree.specs.declared.Block.{Block}
-use Rattle.syntax_tree.specs.Places.{name_places, definition_places, group_places, stmt_places, program_places}
+use Rattle.syntax_tree.specs.Places.{name_places, definition_places, type_definition_places, group_places, stmt_places, program_places}
 use Rattle.typed_tree.specs.Ids.{Stands, AreByPlace}
 use Rattle.typed_tree.specs.Look.{BlockEnds, entries_of_look, loops_of_look, is_formed_mark}
 use Rattle.typing.specs.Passing.{Passed, After, after, behind_marks}
 use Rattle.typing.specs.Steps.{begins}
 use Rattle.typing.specs.Statements.{statement}
 use Rattle.typing.specs.Typing.{declarations, statement_part, typing}
-use Rattle.typing_laws.specs.Lawful.{Lawful}
+use Rattle.typing_laws.specs.Lawful.{AreScalar, Lawful}
 use Rattle.typing_laws.proofs.Covers.{Covers, covers_more, covers_behind, covers_skip}
 use Rattle.typing_laws.proofs.Ordered.{covers_by_place}
-use Rattle.typing_laws.proofs.WholeRanges.{HaveWholeRanges, required_have}
+use Rattle.typing_laws.proofs.WholeRanges.{required_have, required_scalar}
 use Rattle.typing_laws.proofs.Grown.{Fine, Grown}
 use Rattle.typing_laws.proofs.Steps.{Does, Anything, split, split_behind, last, mark_does}
 use Rattle.typing_laws.proofs.Statements.{compound_does, statements_lawful}
@@ -34,18 +34,20 @@ program_covers : (program : Program) (sites : List Stands) → Covers 0 (flat_ma
 program_covers program sites has =
     let statements = flat_map stmt_places program.block.statements.items in
     let definitions = flat_map definition_places program.block.constants.items in
+    let types = flat_map type_definition_places program.block.types.items in
     let groups = flat_map group_places program.block.variables.items in
     let ends = program.block.end ∷ [] in
-    covers_skip 0 program.name.place (name_places program.parameters.items ++ (definitions ++ (groups ++ (statements ++ ends)))) sites
-    (covers_behind 0 (name_places program.parameters.items) (definitions ++ (groups ++ (statements ++ ends))) sites
-    (covers_behind 0 definitions (groups ++ (statements ++ ends)) sites
-    (covers_behind 0 groups (statements ++ ends) sites (covers_more 0 statements ends sites has))))
+    covers_skip 0 program.name.place (name_places program.parameters.items ++ (definitions ++ (types ++ (groups ++ (statements ++ ends))))) sites
+    (covers_behind 0 (name_places program.parameters.items) (definitions ++ (types ++ (groups ++ (statements ++ ends)))) sites
+    (covers_behind 0 definitions (types ++ (groups ++ (statements ++ ends))) sites
+    (covers_behind 0 types (groups ++ (statements ++ ends)) sites
+    (covers_behind 0 groups (statements ++ ends) sites (covers_more 0 statements ends sites has)))))
 
 -- behind the declarations
 fine_ready : (s : Passed) → IsReady s → Fine (length s.variables) s
 fine_ready s r = record {
   sound = r.sound;
-  whole = subst HaveWholeRanges (sym r.types) required_have;
+  whole = r.whole;
   few_sites = omega (arith, ap length r.sites);
   few_entries = omega (arith, r.entries);
 }
@@ -60,7 +62,7 @@ grown_lawful program s a r g = record {
   few_variables = omega (arith, kept, r.declared, r.room);
   declared = ap (list_all (λ variable. nat_eq variable.block 0)) g.variables_kept ∙ r.by_program;
   few_sites = g.few_sites;
-  types = g.types ∙ r.types;
+  types = subst AreScalar (sym g.types) r.types;
   by_place = λ order.
       subst AreByPlace (sym (g.sites ∙ ap (λ l. l ++ g.added) r.sites))
       (covers_by_place (program_places program) g.added order (program_covers program g.added g.covered));
@@ -78,7 +80,8 @@ typing_is_lawful program a is =
     let y = split_behind x.0.look (statement_part program.block x.0.passed) a x.2 in
     let ready : IsReady start = record {
       sound = tt;
-      types = refl;
+      types = required_scalar;
+      whole = required_have;
       sites = refl;
       entries = refl;
       loops = refl;

@@ -7,6 +7,8 @@ use Rattle.std.proofs.lemmas.Bool.Decides.{nat_tests}
 use Rattle.place.specs.declared.Place.{Place}
 use Rattle.syntax_tree.specs.declared.Name.{Name}
 use Rattle.types.specs.declared.form.TypeForm.{TypeForm}
+use Rattle.types.specs.declared.form.TypeId.{TypeId}
+use Rattle.types.specs.Types.{host_of}
 use Rattle.scopes.specs.Scopes.{found}
 use Rattle.scopes.specs.declared.denotation.Denotation.{Denotation}
 use Rattle.scopes.specs.declared.fault.ScopeFault.{ScopeFault}
@@ -17,7 +19,7 @@ use Rattle.typed_tree.specs.Ids.{Stands}
 use Rattle.typed_tree.specs.Look.{Mark, Look, mark_entries, mark_loops, is_formed_mark}
 use Rattle.typing.specs.Passing.{Passed, Checked, After, Passing, and_then, after, pure, fail, given, mark, behind_marks, ◌>>=◌, ◌>>?◌}
 use Rattle.typing.specs.Steps.{most_sites, most_entries, pass, enter, enter_as, number_loop, begin_loop, enter_loop, site, find, told, may_change}
-use Rattle.typing.specs.Steps.{begin_control, end_control, wants_output}
+use Rattle.typing.specs.Steps.{begin_control, end_control, wants_output, host_type}
 use Rattle.typing.specs.Expressions.{behind}
 use Rattle.typing.specs.Names.{folded}
 use Rattle.typing_laws.proofs.Sound.{IsSound, found_sound}
@@ -346,6 +348,14 @@ end_control_does {variables} = record {
       let new : Passed = record s { controls = take (length s.controls - 1) s.controls } in
       let same : after tt [] new ≡ a = cc in
       subst (Leaves variables Nothing s Anything) same (grown_silent variables s new refl refl refl refl refl refl fine, tt);
+}
+
+pub host_type_does : {variables least : ℕ} (id : TypeId) → Does variables least Nothing (host_type id) Anything
+unfolding host_type
+host_type_does {variables} {least} id = record {
+  does = λ s a is fine h.
+      let answers : Does variables least Nothing (pure (host_of s.types id)) Anything = pure_does (host_of s.types id) (λ n more. tt) in
+      answers.does s a is fine h;
 }
 
 -- ---- sites

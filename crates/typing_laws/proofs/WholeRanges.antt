@@ -1,11 +1,14 @@
 -- Tables of types whose ordinal types go from a number of integer to another.
-use Rattle.std.proofs.Common.{◌≡◌, ℕ, zero, suc, true, ◌&&◌, List, Option, Some, None, slice_get, refl, subst}
+use Rattle.std.proofs.Common.{◌≡◌, ℕ, zero, suc, true, ◌&&◌, List, [], ◌∷◌, ◌++◌, Option, Some, None, slice_get, refl, ap, subst, ◌∙◌, append_assoc}
 use Rattle.std.specs.Option.{option_and_then}
 use Rattle.types.specs.declared.form.TypeForm.{TypeForm}
 use Rattle.types.specs.declared.form.TypeId.{TypeId}
 use Rattle.types.specs.declared.form.OrdinalRange.{OrdinalRange}
-use Rattle.types.specs.Types.{form_range, range_of, required_forms}
+use Rattle.types.specs.declared.table.Entry.{Entry}
+use Rattle.types.specs.Types.{counted, entry_cells, form_cells, form_range, range_of, required_forms}
+use Rattle.types.proofs.Counts.{counted_more, one_cell}
 use Rattle.typed_tree.specs.WellFormed.{is_whole}
+use Rattle.typing_laws.specs.Lawful.{AreScalar}
 
 abbrev pub IsWholeRange : OrdinalRange → Type 0
 IsWholeRange range = (is_whole range.first && is_whole range.last) ≡ true
@@ -13,7 +16,7 @@ IsWholeRange range = (is_whole range.first && is_whole range.last) ≡ true
 abbrev pub HaveWholeRanges : List TypeForm → Type 0
 HaveWholeRanges types = (id : TypeId) (range : OrdinalRange) → range_of types id ≡ Some range → IsWholeRange range
 
-abbrev IfWhole : Option OrdinalRange → Type 0
+abbrev pub IfWhole : Option OrdinalRange → Type 0
 IfWhole None = Unit {0}
 IfWhole (Some range) = IsWholeRange range
 
@@ -26,3 +29,50 @@ required_have id range is = subst IfWhole is (by id.index)
     by (suc zero) = refl
     by (suc (suc zero)) = refl
     by (suc (suc (suc n))) = tt
+
+-- ---- one type more
+
+whole_at : (types : List TypeForm) → HaveWholeRanges types → (n : ℕ) → IfWhole (option_and_then form_range (slice_get types n))
+whole_at types whole n = by (range_of types (record { index = n })) refl
+  where
+    by : (values : Option OrdinalRange) → range_of types (record { index = n }) ≡ values → IfWhole values
+    by None is = tt
+    by (Some range) is = whole (record { index = n }) range is
+
+one_more : (types : List TypeForm) (form : TypeForm) → ((n : ℕ) → IfWhole (option_and_then form_range (slice_get types n))) → IfWhole (form_range form)
+    → (n : ℕ) → IfWhole (option_and_then form_range (slice_get (types ++ form ∷ []) n))
+one_more [] form all one zero = one
+one_more [] form all one (suc n) = tt
+one_more (first ∷ types) form all one zero = all zero
+one_more (first ∷ types) form all one (suc n) = one_more types form (λ k. all (suc k)) one n
+
+pub whole_more : (types : List TypeForm) (form : TypeForm) → HaveWholeRanges types → IfWhole (form_range form) → HaveWholeRanges (types ++ form ∷ [])
+whole_more types form whole one id range is = subst IfWhole is (one_more types form (whole_at types whole) one id.index)
+
+-- ---- types of one cell
+
+cell_more : (entries : List Entry) (entry : Entry) → ((n : ℕ) → entry_cells (slice_get entries n) ≡ 1) → entry.cells ≡ 1
+    → (n : ℕ) → entry_cells (slice_get (entries ++ entry ∷ []) n) ≡ 1
+cell_more [] entry all one zero = one
+cell_more [] entry all one (suc n) = refl
+cell_more (first ∷ entries) entry all one zero = all zero
+cell_more (first ∷ entries) entry all one (suc n) = cell_more entries entry (λ k. all (suc k)) one n
+
+-- the required types take one
+pub required_scalar : AreScalar required_forms
+required_scalar = record { own = []; begins = refl; one_cell = one_cell }
+
+-- a form that takes one cell, and has whole values
+pub record IsScalar (form : TypeForm) : Type 0 where
+  pub one : (before : List Entry) → form_cells before form ≡ 1
+  pub whole : IfWhole (form_range form)
+
+pub scalar_more : (types : List TypeForm) (form : TypeForm) → AreScalar types → IsScalar form → AreScalar (types ++ form ∷ [])
+scalar_more types form are is = record {
+  own = are.own ++ form ∷ [];
+  begins = ap (λ l. l ++ form ∷ []) are.begins ∙ append_assoc required_forms are.own (form ∷ []);
+  one_cell = λ id.
+      ap (λ entries. entry_cells (slice_get entries id.index)) (counted_more types form)
+      ∙ cell_more (counted types) (record { form = form; cells = form_cells (counted types) form }) (λ n. are.one_cell (record { index = n }))
+      (is.one (counted types)) id.index;
+}

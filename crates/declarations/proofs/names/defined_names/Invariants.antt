@@ -1,4 +1,4 @@
-use Rattle.std.proofs.Common.{◌≡◌, ◌++◌, flat_map, map, take}
+use Rattle.std.proofs.Common.{◌≡◌, ◌++◌, map, take}
 use Rattle.typing.specs.Names.{all_folded}
 use Rattle.declarations.specs.Declared.{texts}
 use Rattle.declarations.proofs.names.defined_names.Given as goal
@@ -7,9 +7,3 @@ use Rattle.declarations.proofs.names.defined_names.Given as goal
 abbrev pub invariant-loop-definition : goal.invariant-loop-definition
 invariant-loop-definition l =
     texts l.keys.items ≡ all_folded (l.program.parameters.items ++ map (λ d. d.name) (take l.definition-index l.program.block.constants.items))
-
-abbrev pub invariant-loop-group : goal.invariant-loop-group
-invariant-loop-group l =
-    texts l.keys.items
-    ≡ all_folded (l.program.parameters.items ++ (map (λ d. d.name) l.program.block.constants.items
-    ++ flat_map (λ group. group.names.items) (take l.group-index l.program.block.variables.items)))

@@ -1,10 +1,10 @@
 use Rattle.std.proofs.Common.{[], ◌∙◌, ap, sym, subst}
 use Rattle.typing.specs.Passing.{each}
-use Rattle.typing.specs.Typing.{definition, parameter_of_program}
+use Rattle.typing.specs.Typing.{definition, type_definition, parameter_of_program}
 use Rattle.declarations.specs.Declared.{texts}
-use Rattle.declarations.specs.Known.{AreKnown, AreKnownDefinitions, AreKnownGroups}
-use Rattle.declarations.proofs.Kept.{each_keeps, parameter_keeps, definition_keeps, definitions_stay, groups_stay}
-use Rattle.declarations.proofs.Opened.{parameters_are_known, constants_are_known, variables_are_known}
+use Rattle.declarations.specs.Known.{AreKnown, AreKnownDefinitions, AreKnownTypes, AreKnownGroups}
+use Rattle.declarations.proofs.Kept.{each_keeps, parameter_keeps, definition_keeps, type_definition_keeps, definitions_stay, types_stay, groups_stay}
+use Rattle.declarations.proofs.Opened.{parameters_are_known, constants_are_known, types_are_known, variables_are_known}
 use Rattle.declarations.proofs.program.declare.Goals as goal
 
 -- the region of the block knows its parameters
@@ -27,19 +27,40 @@ declare_constants-requires c =
     c.in_ok-declare_parameters.ensures c.args.program.now.block.constants.items known in
     record { known = subst (λ l. AreKnownDefinitions l new.regions) (sym c.deref-3.ensures.value) still }
 
--- it knows its variables, and still does behind the parameters and the constants
-pub declare_groups-requires : goal.declare_groups-requires
-declare_groups-requires c =
+-- it knows its types, and still does behind the constants
+pub declare_types-requires : goal.declare_types-requires
+declare_types-requires c =
     let parameters = c.deref-2.result.now in
     let constants = c.deref-3.result.now in
-    let groups = c.args.program.now.block.variables.items in
+    let definitions = c.args.program.now.block.types.items in
     let opened = c.open_block.new.self in
     let between = c.declare_parameters.new.typer in
     let new = c.declare_constants.new.typer in
     let names = ap texts c.deref.ensures.value ∙ c.in_ok-names.ensures in
+    let known = types_are_known c.args.program.now c.deref.result.now c.open_required.new.self opened c.in_ok-open_block.ensures names in
+    let still = types_stay (each parameter_of_program parameters) (each_keeps parameter_of_program parameters parameter_keeps) tt [] opened between
+    c.in_ok-declare_parameters.ensures definitions known in
+    let behind = types_stay (each definition constants) (each_keeps definition constants definition_keeps) tt [] between new
+    c.in_ok-declare_constants.ensures definitions still in
+    record { known = subst (λ l. AreKnownTypes l new.regions) (sym c.deref-4.ensures.value) behind }
+
+-- it knows its variables, and still does behind the types
+pub declare_groups-requires : goal.declare_groups-requires
+declare_groups-requires c =
+    let parameters = c.deref-2.result.now in
+    let constants = c.deref-3.result.now in
+    let types = c.deref-4.result.now in
+    let groups = c.args.program.now.block.variables.items in
+    let opened = c.open_block.new.self in
+    let between = c.declare_parameters.new.typer in
+    let later = c.declare_constants.new.typer in
+    let new = c.declare_types.new.typer in
+    let names = ap texts c.deref.ensures.value ∙ c.in_ok-names.ensures in
     let known = variables_are_known c.args.program.now c.deref.result.now c.open_required.new.self opened c.in_ok-open_block.ensures names in
     let still = groups_stay (each parameter_of_program parameters) (each_keeps parameter_of_program parameters parameter_keeps) tt [] opened between
     c.in_ok-declare_parameters.ensures groups known in
-    let behind = groups_stay (each definition constants) (each_keeps definition constants definition_keeps) tt [] between new
+    let behind = groups_stay (each definition constants) (each_keeps definition constants definition_keeps) tt [] between later
     c.in_ok-declare_constants.ensures groups still in
-    record { known = subst (λ l. AreKnownGroups l new.regions) (sym c.deref-4.ensures.value) behind }
+    let last = groups_stay (each type_definition types) (each_keeps type_definition types type_definition_keeps) tt [] later new
+    c.in_ok-declare_types.ensures groups behind in
+    record { known = subst (λ l. AreKnownGroups l new.regions) (sym c.deref-5.ensures.value) last }

@@ -16,7 +16,7 @@ invariant_of-self-inside-2 c =
           c.self.inside.few_entries,
           (
             c.self.inside.few_loops,
-            (c.self.inside.required, (c.self.inside.room, (c.self.inside.few_cells, tt))),
+            (c.self.inside.few_cells, tt),
           ),
         ),
       ),

@@ -10,7 +10,7 @@ use Rattle.grammar.proofs.Reading.{reads_fewer}
 use Rattle.expression_parser.proofs.Reading.{unchanged}
 use Rattle.grammar.proofs.Programs.{names_begin, names_go_on_with, names_left, names_end}
 use Rattle.parser.proofs.Programs.{NamesGrow, names_grow_first, names_grow}
-use Rattle.parser.proofs.program.names.Goals as goal
+use Rattle.parser.proofs.names.names.Goals as goal
 
 pub loop-names-init : goal.loop-names-init
 loop-names-init c = (

@@ -1,7 +1,7 @@
 use Rattle.token_cursor.specs.Cursor.{left}
 use Rattle.grammar.proofs.Programs.{NameNext}
 use Rattle.parser.proofs.Programs.{NamesGrow}
-use Rattle.parser.proofs.program.names.Given as goal
+use Rattle.parser.proofs.names.names.Given as goal
 
 abbrev pub invariant-loop-names : goal.invariant-loop-names
 invariant-loop-names l =

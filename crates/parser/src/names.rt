@@ -1,0 +1,30 @@
+ghost use Rattle.std.specs.Prelude.{MatchResult};
+ghost use Rattle.expression_parser.specs.Reading.{ReadsEach};
+ghost use Rattle.expression_parser.specs.Refusing.{IsPlain};
+ghost use Rattle.expression_parser.specs.Rules.{Read};
+ghost use Rattle.grammar.specs.Begins.{BeginsNames};
+ghost use Rattle.grammar.specs.Following.{NoNext};
+
+use expression_parser::memory::put;
+use lexer::token::{Kind, Symbol};
+use std::alloc::Global;
+use syntax_tree::Name;
+use token_cursor::cursor::Cursor;
+use token_cursor::fault::ParseFault;
+
+// names = name {"," name}
+pub(crate) fn names<'a>(
+    alloc: Global,
+    cursor: &mut Cursor<'_, 'a>,
+) -> Result<Vec<Name<'a>>, ParseFault>
+    ensures given { MatchResult result (λ found. Read BeginsNames cursor.old cursor.new found.items) IsPlain }
+    ensures exact { ReadsEach BeginsNames (NoNext (Kind.Symbol Symbol.Comma)) cursor.old cursor.new result }
+{
+    let mut names = Vec::new(alloc);
+    loop {
+        put(&mut names, cursor.expect_name())?;
+        let Some(_) = cursor.take_symbol(Symbol::Comma) else {
+            return Ok(names);
+        };
+    }
+}

@@ -1,0 +1,112 @@
+ghost use Rattle.std.specs.Prelude.{◌≡◌};
+ghost use Rattle.typing.specs.Steps.{refused};
+ghost use Rattle.typing.specs.Denoters.{named_type, value_of};
+
+use crate::names::{fold_into, is_among};
+use crate::typer::Typer;
+use place::Place;
+use scopes::{Denotation, ScopeFault};
+use syntax_tree::Name;
+use typed_tree::fault::TypeFault;
+use types::{TypeForm, TypeId, TypeRefusal};
+
+impl Typer {
+    ghost use Rattle.types.specs.Types.{host_of};
+    ghost use Rattle.typing.specs.Outcomes.{Takes};
+    ghost use Rattle.typing.specs.Steps as step;
+    ghost use Rattle.typing.specs.Denoters as spec;
+
+    /// The type that a name denotes, where variables of these names get it. One of them is no type (K1), wherever it
+    /// stands.
+    #[tactic(auto, unfolding(crate::specs::Denoters::type_of_name))]
+    pub fn type_of_name(&mut self, names: &[Name], name: &Name) -> Result<TypeId, TypeFault>
+        ensures { Takes (spec.type_of_name names.now name.now self.old) result self.new }
+    {
+        fold_into(&mut self.key, name.text)?;
+        let type_id = named_type(names, name, self.scopes.find(&self.key))?;
+        self.latest = name.place;
+        Ok(type_id)
+    }
+
+    /// A type of its own, by its form; the rule that the form breaks is told at the place (Y1, Y2).
+    #[tactic(auto, unfolding(crate::specs::Steps::add_type))]
+    pub fn add_type(&mut self, place: Place, form: TypeForm) -> Result<TypeId, TypeFault>
+        ensures { Takes (step.add_type place form self.old) result self.new }
+    {
+        self.types.add(form).map_err(|rule| refused(rule, place))
+    }
+
+    /// The host type of a subrange; another type itself (6.4.2.4).
+    pub fn host(&self, id: TypeId) -> TypeId
+        ensures { result ≡ host_of self.now.types id }
+    {
+        self.types.host(id)
+    }
+
+    /// The form of a subrange between constants, which are of one ordinal type: K1 at the place where they aren't.
+    pub fn between(
+        &self,
+        place: Place,
+        first: (i32, TypeId),
+        last: (i32, TypeId),
+    ) -> Result<TypeForm, TypeFault>
+        ensures { result ≡ spec.between self.now.types place first last }
+    {
+        let host = self.types.host(first.1);
+        if !host.same(self.types.host(last.1)) || !self.types.is_ordinal(first.1) {
+            return Err(TypeFault::Mismatch(place));
+        }
+        Ok(TypeForm::Subrange {
+            host,
+            first: first.0,
+            last: last.0,
+        })
+    }
+
+    /// The place of the latest token that was passed.
+    pub fn latest(&self) -> Place
+        ensures { result ≡ self.now.latest }
+    {
+        self.latest
+    }
+}
+
+/// A number as a value, which is at most maxint: K1 at the place where it isn't.
+pub fn value_of(number: usize, place: Place) -> Result<i32, TypeFault>
+    ensures { result ≡ value_of number place }
+{
+    i32::try_from(number).map_err(|_| TypeFault::Mismatch(place))
+}
+
+// A rule that the form of a type breaks, at its place.
+fn refused(rule: TypeRefusal, place: Place) -> TypeFault
+    ensures { result ≡ refused rule place }
+{
+    match rule {
+        TypeRefusal::Memory => TypeFault::Memory,
+        TypeRefusal::FirstAboveLast => TypeFault::FirstAboveLast(place),
+        TypeRefusal::TooManyCells => TypeFault::TooManyCells(place),
+    }
+}
+
+// The type that a name denotes, by what the scopes answer of it.
+fn named_type(
+    names: &[Name],
+    name: &Name,
+    answer: Result<Denotation, ScopeFault>,
+) -> Result<TypeId, TypeFault>
+    ensures { result ≡ named_type names.now name.now answer }
+{
+    match answer {
+        Ok(Denotation::TypeName(type_id)) => Ok(type_id),
+        Ok(_) => Err(TypeFault::Mismatch(name.place)),
+        // One of the variables has this name.
+        Err(ScopeFault::UsedBeforeDeclared) if is_among(names, name) => {
+            Err(TypeFault::Mismatch(name.place))
+        }
+        Err(ScopeFault::UsedBeforeDeclared) => Err(TypeFault::UsedBeforeDeclared(name.place)),
+        Err(ScopeFault::NotDeclared) => Err(TypeFault::NotDeclared(name.place)),
+        Err(ScopeFault::DeclaredTwice) => Err(TypeFault::DeclaredTwice(name.place)),
+        Err(ScopeFault::Memory) => Err(TypeFault::Memory),
+    }
+}
