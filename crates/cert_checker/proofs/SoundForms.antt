@@ -438,7 +438,8 @@ module _ (world : World) (env : Environment) (shows : Shows world.variables env)
       (ended-sound ends_line written walked (parameters-sound parameters.items well))
   statement-layer (Compound number statements) well =
       let inner = map (λ (s : ProvedStmt). s.0) statements.items in
-      entered-sound {A = Unit {0}} {B = Unit {0}} world env shows Any_value number (meaning.all_of (map effect_of inner) env) (walk.all_of (map statement_walk inner))
+      entered-sound {A = Unit {0}} {B = Unit {0}} world env shows Any_value number (meaning.all_of (map effect_of inner) env)
+      (walk.all_of (map statement_walk inner))
       (all-sound statements.items well)
   statement-layer (If number condition consequence None) well =
       let parts = and_parts (well_expr condition) (well_stmt consequence.value.0 && true) well in
@@ -456,7 +457,8 @@ module _ (world : World) (env : Environment) (shows : Shows world.variables env)
       let walked = walk.while_round condition (statement_walk body.value.0) in
       entered-sound {A = Unit {0}} {B = Unit {0}} world env shows Any_value number (effect.looped round tt) (walk.loop_walk loop_number place None walked)
       (sound-loop world env shows loop_number place round tt walked
-      (λ a. sound-while world env condition (effect_of body.value.0) (statement_walk body.value.0) (value-sound world env shows condition parts.0) (body.value.1 parts.1)))
+      (λ a. sound-while world env condition (effect_of body.value.0) (statement_walk body.value.0)
+      (value-sound world env shows condition parts.0) (body.value.1 parts.1)))
   statement-layer (Repeat number loop_number place statements condition) well =
       let inner = map (λ (s : ProvedStmt). s.0) statements.items in
       let parts = and_parts (all_hold (map well_stmt inner)) (well_expr condition) well in

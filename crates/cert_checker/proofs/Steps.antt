@@ -525,7 +525,8 @@ module _ (tree : Tree) (certificate : Certificate) (begun : Walk) (start : IsBeg
     pub program-unbroken : (program_walk tree certificate).broken ≡ []
     program-unbroken = ap (λ w. w.broken) (sym program-same) ∙ walked.flows.unbroken
 
-  pub program-stopped : (fault : CheckFault) → IsBreachOf (all_of (map block_walk begun.tree.now.blocks.items) (context_of begun) (viewed begun.flow.state)) fault
+  pub program-stopped : (fault : CheckFault)
+      → IsBreachOf (all_of (map block_walk begun.tree.now.blocks.items) (context_of begun) (viewed begun.flow.state)) fault
       → IsBreachOf (program_walk tree certificate) fault
   program-stopped fault is =
       breach-same (all_of (map block_walk begun.tree.now.blocks.items) (context_of begun) (viewed begun.flow.state)) (program_walk tree certificate) fault

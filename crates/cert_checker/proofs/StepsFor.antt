@@ -254,7 +254,8 @@ module _ (number : ℕ) (place : SourcePlace) (body : Walking (Unit {0})) (way :
   abbrev from_tests : Way → Walking (Unit {0})
   from_tests tested = assign tested.control tested.first.form (Ordinal tested.first.values) >>= λ _. rounds_of number place body tested
 
-  pub turns-not_tested : (new : Walk) (before after : Visits) (fault : CheckFault) → IsBreachOf (tested_way place way (context_of old) (viewed old.flow.state)) fault
+  pub turns-not_tested : (new : Walk) (before after : Visits) (fault : CheckFault)
+      → IsBreachOf (tested_way place way (context_of old) (viewed old.flow.state)) fault
       → Goes (for_turns number place body way) old before (Err fault) new after
   turns-not_tested new before after fault stopped = goes-stopped (tested_way place way) from_tests old new before after fault stopped
 

@@ -156,7 +156,8 @@ loop_by place at_head round_body facts walking = do
 abbrev pub loop_walk : ℕ → Place → Option ℕ → Walking State → Walking (Unit {0})
 loop_walk number place control walking context =
     let loop = round_of context.tree context.claims number in
-    loop_by place (with_own control loop) (without_own control loop) (claims_at context.claims number).facts walking context
+    loop_by place (with_own control loop) (without_own control loop) (claims_at context.claims number).facts walking
+        context
 
 -- ---- for statements
 

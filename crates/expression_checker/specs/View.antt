@@ -20,4 +20,5 @@ pub record Flows {A : Type 0} (context : Context) (walking : Walking A) (old : F
 -- rule that the piece breaks, or it found no memory
 abbrev pub Goes : {A : Type 0} → Walking A → Flow → Visits → Result A CheckFault → Flow → Visits → Type 0
 Goes walking old before (Ok value) new after = (context : Context) → Flows context walking old before new after value
-Goes walking old before (Err fault) new after = (context : Context) → IsBreachOf (walking context (viewed old.state)) fault
+Goes walking old before (Err fault) new after =
+    (context : Context) → IsBreachOf (walking context (viewed old.state)) fault

@@ -21,7 +21,8 @@ use Rattle.typing.specs.Expressions.{Typed, Written, WrittenLink, typed, fits, n
 use Rattle.typing_laws.proofs.Sound.{IsSound}
 use Rattle.typing_laws.proofs.Covers.{AreAbove, Covers, Leads, leads_first, leads_more, leads_covers}
 use Rattle.typing_laws.proofs.Grown.{both_true}
-use Rattle.typing_laws.proofs.Steps.{Does, Anything, joins, quietly, checks, sited, pass_does, pure_does, given_does, fail_does, find_does, enter_does, host_type_does}
+use Rattle.typing_laws.proofs.Steps.{Does, Anything, joins, quietly, checks, sited, pass_does, pure_does, given_does, fail_does, find_does, enter_does}
+use Rattle.typing_laws.proofs.Steps.{host_type_does}
 use Rattle.typing_laws.proofs.Steps.{site_does, led, IsKnown, behind_does}
 
 -- ---- the leading site

@@ -18,7 +18,8 @@ returns c = λ visits.
     (record old { flow = c.test.new.self }) _ visits
     (c.in_ok-closed.ensures ∙ ap (is_covered range) (c.deref-2.ensures.value ∙ c.in_ok-constants.ensures))
     (c.meet-passed.ensures.answer ∙ ap (common range) (c.hull.ensures.ends ∙ ap hull (c.deref.ensures.value ∙ c.in_ok-constants.ensures)))
-    (lifted (tested c.in_ok-closed.closed c.args.site c.meet-passed.result) old c.test.new.self visits visits (Ok c.in_ok-test.field-0) (c.in_ok-test.ensures visits))
+    (lifted (tested c.in_ok-closed.closed c.args.site c.meet-passed.result) old c.test.new.self visits visits
+    (Ok c.in_ok-test.field-0) (c.in_ok-test.ensures visits))
     c.replace.ensures.value (ap viewed c.replace.ensures.after) refl
 
 pub returns-in_err-test : goal.returns-in_err-test
@@ -27,7 +28,8 @@ returns-in_err-test c = λ visits.
     let range = c.args.range in
     let left = c.from_residual-in_err-test in
     let old = c.args.self.now in
-    index-stopped c.args.site constants range c.in_ok-closed.closed c.meet-passed.result old (record old { flow = c.test.new.self }) visits c.in_err-test.field-0.0
+    index-stopped c.args.site constants range c.in_ok-closed.closed c.meet-passed.result old
+    (record old { flow = c.test.new.self }) visits c.in_err-test.field-0.0
     left.result
     (c.in_ok-closed.ensures ∙ ap (is_covered range) (c.deref-2.ensures.value ∙ c.in_ok-constants.ensures))
     (c.meet-passed.ensures.answer ∙ ap (common range) (c.hull.ensures.ends ∙ ap hull (c.deref.ensures.value ∙ c.in_ok-constants.ensures)))
