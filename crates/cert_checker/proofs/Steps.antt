@@ -6,7 +6,6 @@ use Rattle.std.specs.Prelude.{MatchResult}
 use Rattle.place.specs.declared.Place.{Place as SourcePlace}
 use Rattle.typed_tree.specs.declared.tree.Access.{Access}
 use Rattle.typed_tree.specs.declared.tree.RangeTest.{RangeTest}
-use Rattle.typed_tree.specs.declared.tree.WriteParameter.{WriteParameter}
 use Rattle.typed_tree.specs.declared.tree.Expr.{Expr}
 use Rattle.typed_tree.specs.declared.tree.Stmt.{Stmt}
 use Rattle.typed_tree.specs.declared.tree.Stmt.TheVariants as stmt
@@ -19,21 +18,18 @@ use Rattle.expression_checker.specs.declared.fault.CheckFault.TheVariants.{Broke
 use Rattle.abstract_state.specs.declared.known.Known.{Known}
 use Rattle.expression_checker.specs.Visits.{Visits, all_counted}
 use Rattle.cert_checker.specs.declared.walk.Walk.{Walk}
-use Rattle.domain.specs.Interval.{Interval, is_included}
+use Rattle.domain.specs.Interval.{is_included}
 use Rattle.abstract_state.specs.declared.state.State.{State as Kept}
-use Rattle.abstract_state.specs.declared.known.Known.TheVariants.{Ordinal}
 use Rattle.abstract_state.specs.View.{viewed}
-use Rattle.abstract_state.specs.Changes.{assigned}
 use Rattle.abstract_state.specs.Conditions.{bound_form}
-use Rattle.domain.specs.Facts.{Bound}
 use Rattle.abstract_state.specs.State.{State, joined_states, limits_of}
 use Rattle.expression_checker.specs.Walk.{Context, Walked, Walking, tested, fitting, ◌>>=◌, give}
-use Rattle.expression_checker.specs.Walk.{enter, value_walk, parameter_walk, followed, numbers_of}
+use Rattle.expression_checker.specs.Walk.{enter, value_walk, followed, numbers_of}
 use Rattle.expression_checker.specs.Walk.{first_breach, IsBreachOf}
 use Rattle.cert_checker.specs.Walk.{assign, change, statement_walk, all_of, assignment, block_walk, branches, breach_unless, facts_given, first_context}
 use Rattle.cert_checker.specs.Walk.{program_walk, here, loop_walk, parted, repeat_round, while_round, with_state, where_so}
 use Rattle.structured_states.specs.View.{kept_round}
-use Rattle.cert_checker.specs.View.{at_state, claims_in, context_of, else_walk, AtHead, EntersLoop, IsBegun, IsMoved, LeavesLoop, loop_in, Meets, Parts, Walks}
+use Rattle.cert_checker.specs.View.{at_state, claims_in, context_of, else_walk, AtHead, IsBegun, IsMoved, LeavesLoop, loop_in, Meets, Parts, Walks}
 use Rattle.cert_checker.specs.View.{Goes}
 use Rattle.structured_states.specs.Loops.{Claims, Round, all_list, claims_at, limits_at, touched, with_own, without_own}
 use Rattle.abstract_state.specs.Loops.{gives_all, head, is_among}
@@ -49,21 +45,6 @@ use Rattle.expression_checker.specs.View.{Flows, Goes as FlowGoes}
 use Rattle.expression_checker.proofs.Steps.{breach-first, breach-later, breach-same, breach-stays, counted-both, flows-give, flows-then}
 
 -- ---- the walk, form by form
-
-pub statement-Empty : (number : ℕ) → statement_walk (stmt.Empty number) ≡ enter number
-statement-Empty number = search (rules, stmt_lemmas)
-
-pub statement-Assign : (number : ℕ) (becomes : SourcePlace) (target : Access) (fits : RangeTest) (value : Expr)
-    → statement_walk (stmt.Assign number becomes target fits value) ≡ (enter number >>= λ _. assignment becomes target fits value)
-statement-Assign number becomes target fits value = search (rules, stmt_lemmas)
-
-pub statement-Write : (number : ℕ) (name : SourcePlace) (parameters : Vec WriteParameter Global) (ends_line : Bool)
-    → statement_walk (stmt.Write number name parameters ends_line) ≡ (enter number >>= λ _. all_of (map parameter_walk parameters.items))
-statement-Write number name parameters ends_line = search (rules, stmt_lemmas)
-
-pub statement-Compound : (number : ℕ) (statements : Vec Stmt Global)
-    → statement_walk (stmt.Compound number statements) ≡ (enter number >>= λ _. all_of (map statement_walk statements.items))
-statement-Compound number statements = search (rules, stmt_lemmas)
 
 pub statement-If : (number : ℕ) (condition : Expr) (consequence : Box Stmt Global) (alternative : Option (Box Stmt Global))
     → statement_walk (stmt.If number condition consequence alternative)
@@ -163,17 +144,6 @@ all-end {X} walk items i old visits past =
     subst (λ (ls : List X). Goes (all_of (map walk ls)) old visits (Ok tt) old visits) (sym (drop-past items i past)) (walks-give tt old visits)
 
 -- ---- the assignment to a variable
-
--- an assignment changes nothing but the state
-pub assign-walks : (root : ℕ) (form : Option Bound) (known : Known) (range : Interval) (old : Walk) (state : Kept) (visits : Visits) → known ≡ Ordinal range
-    → viewed state ≡ assigned root range form (viewed old.flow.state)
-    → Walks (assign root form known) old visits (at_state state old) visits tt
-assign-walks root form known range old state visits known_is is =
-    subst (λ k. Walks (assign root form k) old visits (at_state state old) visits tt) (sym known_is)
-    (record {
-      context_is = refl;
-      flows = record { value_is = refl; state_is = is; open_is = sym (append-nil old.flow.open_ids.items); visits_are = refl; unbroken = refl };
-    })
 
 -- an assignment from its target's entry on
 pub assignment-done : (becomes : SourcePlace) (target : Access) (fits : RangeTest) (value : Expr) (old entered valued : Walk) (before entries after : Visits)
@@ -281,22 +251,6 @@ if-begun statement number condition consequence alternative inner old entered va
     (ap (λ s. branches condition (statement_walk s) (else_walk alternative) known) (sym inner_is)) three)))
 
 -- ---- loops
-
--- where no facts are given at the entry, a loop stops there
-pub loop-not_entered : (number : ℕ) (place : SourcePlace) (control : Option ℕ) (walking : Walking State) (old new : Walk) (before after : Visits)
-    (fault : CheckFault)
-    → EntersLoop number place control old (Err fault) new → Goes (loop_walk number place control walking) old before (Err fault) new after
-loop-not_entered number place control walking old new before after fault is =
-    let claims = claims_in number old in
-    let own = with_own control (loop_in number old) in
-    let context = context_of old in
-    let state = viewed old.flow.state in
-    let entry = facts_given LoopEntry place claims.facts context state in
-    let begun = head (limits_at old.limits.items) (touched own) own.controls claims.facts state in
-    let turn = walking (record context { rounds = context.rounds ++ without_own control (loop_in number old) ∷ [] }) begun in
-    let rest : Walked (Unit {0}) = followed turn
-    (followed (facts_given LoopTurn place claims.facts context turn.after) (with_state turn.value context turn.after)) in
-    breach-stays entry rest fault (loop_walk number place control walking context state) refl is
 
 module _ (number : ℕ) (place : SourcePlace) (control : Option ℕ) (walking : Walking State) (old headed : Walk)
     (at_head : AtHead number control old headed) where

@@ -17,16 +17,16 @@ use Rattle.abstract_state.specs.declared.state.State.{State as Kept}
 use Rattle.abstract_state.specs.View.{viewed}
 use Rattle.abstract_state.specs.State.{State, joined_states, limits_of}
 use Rattle.abstract_state.specs.Loops.{with_undefined}
-use Rattle.expression_checker.specs.Walk.{IsBreachOf, Walked, Walking, ◌>>=◌, enter, followed, give, numbers_of, value_walk, within}
+use Rattle.expression_checker.specs.Walk.{IsBreachOf, Walked, Walking, ◌>>=◌, enter, give, numbers_of, value_walk, within}
 use Rattle.std.specs.Result.{IsErr, IsErrAnd}
 use Rattle.domain.specs.Interval.{Interval}
 use Rattle.abstract_state.specs.declared.known.Known.TheVariants.{Ordinal}
 use Rattle.structured_states.specs.declared.ways.Way.{Way as KeptWay}
 use Rattle.structured_states.specs.Ways.{End, Way, end_of, met, turn_begun, turn_ended, way_of, way_out, where_counts, with_values}
 use Rattle.cert_checker.specs.Walk.{assign, changed_by, control_change, for_round, for_turns, for_walk, loop_walk, parted, rounds_of, statement_walk, steady_in}
-use Rattle.cert_checker.specs.Walk.{tested_end, tested_way, with_state}
+use Rattle.cert_checker.specs.Walk.{tested_end, tested_way}
 use Rattle.cert_checker.specs.View.{Goes, IsMoved, Moves, Parts, Walks, context_of, said_tested}
-use Rattle.expression_checker.proofs.Steps.{breach-same, breach-stays}
+use Rattle.expression_checker.proofs.Steps.{breach-same}
 use Rattle.cert_checker.proofs.Steps.{branches-stopped, goes-as, goes-stopped, goes-then, moved-same, walks-give}
 
 pub statement-For : (number loop_number : ℕ) (place : SourcePlace) (control : ℕ) (first : Expr) (first_fits : RangeTest) (direction : Direction) (last : Expr)
@@ -161,14 +161,6 @@ module _ (way : Way) (body : Walking (Unit {0})) (old begun : Walk) (moved : IsM
           unbroken = append-nil was.broken ∙ ap (λ w. w.broken) (sym same) ∙ one.flows.unbroken;
         };
       }
-
-  pub for_round-stopped : (new : Walk) (before after : Visits) (fault : CheckFault) → IsBreachOf (body (context_of begun) (viewed begun.flow.state)) fault
-      → Goes (for_round way body) old before (Err fault) new after
-  for_round-stopped new before after fault is =
-      let ended = with_state (turn_ended way was.after) (context_of old) was.after in
-      let rest : Walked State = followed ended (give (way_out way was.after) (context_of old) ended.after) in
-      breach-stays was rest fault (for_round way body (context_of old) (viewed old.flow.state)) refl
-      (breach-same (body (context_of begun) (viewed begun.flow.state)) was fault (ap (λ w. w.broken) same) is)
 
 -- the tests of both bounds
 module _ (place : SourcePlace) (way : Way) (old : Walk) where

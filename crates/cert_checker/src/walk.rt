@@ -48,6 +48,7 @@ pub(crate) struct Walk<'a> {
     claims: Vec<Option<&'a LoopClaims>>,
     /// The loops round the walk, the outermost first.
     rounds: Vec<Round<'a>>,
+    /// What is known where the walk is, and which sites it left open.
     flow: Flow,
 }
 
@@ -617,7 +618,8 @@ impl<'a> Walk<'a> {
             → Goes (assign way.now.control (said_form way.now.first.form) (Ordinal way.now.first.values))
             self.old visits result self.new visits }
     {
-        self.flow.state
+        self.flow
+            .state
             .assign(way.control, way.first.values, way.first.form)?;
         Ok(())
     }

@@ -34,9 +34,6 @@ pub value-Constant : (number : ℕ) (value : ℤ)
     → value_walk (expr.Constant number value) ≡ (enter number >>= λ _. ordinal (record { first = value; last = value }))
 value-Constant number value = search (rules, the_lemmas)
 
-pub value-Variable : (access : Access) (defined : ℕ) → value_walk (expr.Variable access defined) ≡ variable_walk access defined
-value-Variable access defined = search (rules, the_lemmas)
-
 pub value-Monadic : (number : ℕ) (operation : Monadic) (operand : Box Expr Global)
     → value_walk (expr.Monadic number operation operand) ≡ (enter number >>= λ _. (value_walk operand.value >>= operated operation))
 value-Monadic number operation operand = search (rules, the_lemmas)

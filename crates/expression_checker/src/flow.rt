@@ -40,7 +40,11 @@ impl Flow {
     /// # Errors
     /// `Memory`; an expression breaks no rule of certificates.
     #[cycle(expression)]
-    pub fn expression(&mut self, expression: &Expr, visits: &mut Visits) -> Result<Known, CheckFault>
+    pub fn expression(
+        &mut self,
+        expression: &Expr,
+        visits: &mut Visits,
+    ) -> Result<Known, CheckFault>
         ensures { Goes (value_walk expression.now) self.old visits.old result self.new visits.new }
     {
         match expression {
@@ -217,7 +221,12 @@ impl Flow {
     }
 
     /// The test of a value at a site: what passes lies in a range, and it is closed where the value surely passes.
-    pub fn test(&mut self, closed: bool, site: u32, passed: Interval) -> Result<Interval, CheckFault>
+    pub fn test(
+        &mut self,
+        closed: bool,
+        site: u32,
+        passed: Interval,
+    ) -> Result<Interval, CheckFault>
         ensures { (visits : Visits) → Goes (tested closed site passed) self.old visits result self.new visits }
     {
         if !self.state.is_dead() && !closed {

@@ -10,7 +10,6 @@ use Rattle.std.specs.Prelude.{slice_get}
 use Rattle.place.specs.Place.{ArePlacesInOrder}
 use Rattle.syntax_tree.specs.declared.Program.{Program}
 use Rattle.syntax_tree.specs.Places.{program_places}
-use Rattle.types.specs.Types.{required_forms}
 use Rattle.typed_tree.specs.declared.fault.TypeFault.{TypeFault}
 use Rattle.typed_tree.specs.declared.tree.Tree.{Tree}
 use Rattle.typed_tree.specs.declared.tree.Block.{Block}
@@ -27,7 +26,7 @@ use Rattle.typing.specs.Outcomes.{IsFault}
 use Rattle.typing.specs.Statements.{statement, compound}
 use Rattle.typing.specs.Typing.{typing, statement_part}
 use Rattle.typing.specs.Sound.{IsTyped, IsLeft, stands}
-use Rattle.typing_laws.specs.Lawful.{Lawful}
+use Rattle.typing_laws.specs.Lawful.{AreScalar, Lawful}
 use Rattle.typing_laws.proofs.Programs.{typing_is_lawful}
 use Rattle.declarations.specs.Declared.{declared}
 use Rattle.resolver.specs.Made.{IsResolved}
@@ -148,8 +147,8 @@ module _ (program : Program) (tree : Tree) (resolved : IsResolved program tree) 
   pub has_no_points : tree.points.items ≡ []
   has_no_points = is_left.points
 
-  pub has_required_types : tree.types ≡ required_forms
-  has_required_types = is_left.types ∙ lawful.types
+  pub has_scalars : AreScalar tree.types
+  has_scalars = subst AreScalar (sym is_left.types) lawful.types
 
   pub has_one_block : length tree.blocks.items ≡ 1
   has_one_block = ap length resolved.blocks
@@ -192,4 +191,4 @@ module _ (program : Program) (tree : Tree) (resolved : IsResolved program tree) 
 
 -- all of these
 pub ruleset has_it_all =
-    (is_typed, ids_in_order, has_no_points, has_required_types, has_one_block, has_few_sites, is_numbered, loops_are_numbered, sites_by_place, is_well_formed)
+    (is_typed, ids_in_order, has_no_points, has_scalars, has_one_block, has_few_sites, is_numbered, loops_are_numbered, sites_by_place, is_well_formed)

@@ -2,7 +2,6 @@ ghost use Rattle.std.specs.Prelude.{◌≡◌, ◌≤◌, [], IfOk, IfErr, Match
 ghost use Rattle.std.specs.List.{range_with_len};
 ghost use Rattle.place.specs.Place.{ArePlacesInOrder};
 ghost use Rattle.syntax_tree.specs.Places.{program_places};
-ghost use Rattle.types.specs.Types.{required_forms};
 ghost use Rattle.typed_tree.specs.Entries.{entries_of};
 ghost use Rattle.typed_tree.specs.Ids.{AreInOrder, AreByPlace};
 ghost use Rattle.typed_tree.specs.Loops.{loops_of};
@@ -11,6 +10,7 @@ ghost use Rattle.typing.specs.Outcomes.{IsFault};
 ghost use Rattle.typing.specs.Sound.{IsTyped, stands};
 ghost use Rattle.typing.specs.Typing.{typing};
 ghost use Rattle.typing.specs.declared.typer.TheConstants.{MOST_SITES};
+ghost use Rattle.typing_laws.specs.Lawful.{AreScalar};
 ghost use Rattle.resolver.specs.Made.{IsResolved};
 
 use crate::statements::compound;
@@ -46,7 +46,9 @@ pub fn resolve(alloc: Global, program: &Program) -> Result<Tree, TypeFault>
     // Each variable and each site that the tree names is in its table.
     ensures well_formed { IfOk result IsWellFormed }
     ensures points { IfOk result (λ tree. tree.points.items ≡ []) }
-    ensures types { IfOk result (λ tree. tree.types ≡ required_forms) }
+
+    // Its types are the required ones, and then the program's own, which take one cell each.
+    ensures types { IfOk result (λ tree. AreScalar tree.types) }
     ensures one_block { IfOk result (λ tree. vec_len tree.blocks ≡ 1) }
 {
     typed_program(alloc, program)
