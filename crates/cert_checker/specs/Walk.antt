@@ -157,7 +157,7 @@ abbrev pub loop_walk : ℕ → Place → Option ℕ → Walking State → Walkin
 loop_walk number place control walking context =
     let loop = round_of context.tree context.claims number in
     loop_by place (with_own control loop) (without_own control loop) (claims_at context.claims number).facts walking
-        context
+    context
 
 -- ---- for statements
 
