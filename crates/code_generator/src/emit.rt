@@ -1,10 +1,9 @@
 ghost use Rattle.std.specs.Prelude.{◌≡◌, ◌≤◌, ◌+◌, ◌*◌, ℕ, List, [], ◌∷◌, ◌++◌, OnOk, length, map, vec_len};
-ghost use Rattle.code_generator.specs.Code.{arms_code, assign_code, check_positive, default_width, dyadic_code};
-ghost use Rattle.code_generator.specs.Code.{expr_code, for_begin, for_end, for_entry, for_next};
-ghost use Rattle.code_generator.specs.Code.{held_offset as offset_of_held, holding, line_end_code, next_instr};
-ghost use Rattle.code_generator.specs.Code.{order_instr, range_check, link_code, monadic_code, parameter_code};
-ghost use Rattle.code_generator.specs.Code.{relation_instr, row_code, stmt_code, variable_code, variable_offset};
-ghost use Rattle.code_generator.specs.Code.{width_code, write_code, write_instr};
+ghost use Rattle.code_generator.specs.Code.{arms_code, expr_code, for_begin, width_code, write_code, write_instr};
+ghost use Rattle.code_generator.specs.Code.{assign_code, dyadic_code, for_end, order_instr, range_check, variable_code};
+ghost use Rattle.code_generator.specs.Code.{check_positive, held_offset as offset_of_held, next_instr, variable_offset};
+ghost use Rattle.code_generator.specs.Code.{default_width, line_end_code, monadic_code, parameter_code, relation_instr};
+ghost use Rattle.code_generator.specs.Code.{for_entry, for_next, holding, link_code, row_code, stmt_code};
 ghost use Rattle.code_generator.specs.Emitted.{Emits, statements_code, statements_table};
 ghost use Rattle.pcode_assembler.specs.declared.instr.Instr.TheVariants.{Fail, Jump, JumpIfFalse};
 ghost use Rattle.code_generator.specs.Sizes.{arms_table, capped, measured, table_of};
