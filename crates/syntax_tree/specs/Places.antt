@@ -1,6 +1,6 @@
--- The places that a syntax tree keeps, in the order of the text: of names, numbers, operators, signs, `:=` and `..`, of
--- the opening parenthesis of an expression, of the words `if`, `while`, `repeat`, `for` and `case`, and of the last
--- `end`.
+-- The places that a syntax tree keeps, in the order of the text: of names, numbers, strings, operators, signs, `:=` and
+-- `..`, of the opening parenthesis of an expression, of the words `if`, `while`, `repeat`, `for` and `case`, and of the
+-- last `end`.
 -- It says nothing of what stands there.
 use Rattle.std.specs.Prelude.{List, [], ◌∷◌, ◌++◌, Option, Some, None, map, flat_map}
 use Rattle.std.specs.declared.alloc.Global.{Global}
@@ -24,7 +24,7 @@ use Rattle.syntax_tree.specs.declared.Actual.{Actual}
 use Rattle.syntax_tree.specs.declared.Link.{Link}
 use Rattle.syntax_tree.specs.declared.Expr.TheOpen.{Expr-F, Actual-F, Link-F}
 use Rattle.syntax_tree.specs.declared.Expr.TheOpen.Expr-F.{Number, Name as NameOf, Call as CallOf, Parenthesized, Not}
-use Rattle.syntax_tree.specs.declared.Expr.TheOpen.Expr-F.{Signed, Chain}
+use Rattle.syntax_tree.specs.declared.Expr.TheOpen.Expr-F.{Signed, Chain, String as StringOf}
 use Rattle.syntax_tree.specs.declared.Expr.TheFolds.{fold-Expr, fold-Actual, fold-Link}
 use Rattle.syntax_tree.specs.declared.Stmt.{Stmt}
 use Rattle.syntax_tree.specs.declared.Stmt.TheOpen.{Stmt-F}
@@ -51,6 +51,7 @@ actual_step actual = actual.value ++ width_places actual.width
 abbrev pub expression_step : Expr-F Places Places Places → Places
 expression_step (Number value place) = place ∷ []
 expression_step (NameOf name) = name.place ∷ []
+expression_step (StringOf text place) = place ∷ []
 expression_step (CallOf name actuals) = name.place ∷ joined_places actuals.items
 expression_step (Parenthesized bracket inner) = bracket ∷ inner.value
 expression_step (Not place operand) = place ∷ operand.value
@@ -80,6 +81,7 @@ sign_places (Some sign) = sign.place ∷ []
 abbrev pub value_place : ConstantValue → Place
 value_place (constant.Number value place) = place
 value_place (constant.Name name) = name.place
+value_place (constant.String text place) = place
 
 -- the places of a constant
 abbrev pub constant_places : Constant → Places

@@ -60,6 +60,8 @@ pub enum ConstantValue<'a> {
     /// A number up to 2147483647.
     Number { value: u32, place: Place },
     Name(Name<'a>),
+    /// A string with its apostrophes (6.1.7); no sign stands before it.
+    String { text: &'a [u8], place: Place },
 }
 
 /// The definition of a type (6.4.1): `name = denoter`.
@@ -193,6 +195,11 @@ pub enum Expr<'a> {
     },
     /// A variable, a constant or a call without actuals.
     Name(Name<'a>),
+    /// A string with its apostrophes (6.1.7).
+    String {
+        text: &'a [u8],
+        place: Place,
+    },
     /// The call of a function with its actuals: one or more.
     Call {
         name: Name<'a>,

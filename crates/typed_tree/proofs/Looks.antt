@@ -10,7 +10,10 @@ use Rattle.typed_tree.specs.declared.tree.Access.{Access}
 use Rattle.typed_tree.specs.declared.tree.Monadic.{Monadic as MonadicOperation}
 use Rattle.typed_tree.specs.declared.tree.RangeTest.{RangeTest}
 use Rattle.typed_tree.specs.declared.tree.Direction.{Direction}
+use Rattle.typed_tree.specs.declared.tree.Relation.{Relation}
+use Rattle.typed_tree.specs.declared.tree.Dyadic.TheVariants as dyadic
 use Rattle.typed_tree.specs.declared.tree.WriteParameter.{WriteParameter}
+use Rattle.typed_tree.specs.declared.tree.Whole.{Whole}
 use Rattle.typed_tree.specs.declared.tree.Expr.{Expr}
 use Rattle.typed_tree.specs.declared.tree.Link.{Link}
 use Rattle.typed_tree.specs.declared.tree.Expr.TheVariants as tree
@@ -23,7 +26,8 @@ use Rattle.typed_tree.specs.declared.tree.Stmt.TheOpen as stmt_layer
 use Rattle.typed_tree.specs.declared.tree.Stmt.TheFolds.{fold-roll-Stmt}
 use Rattle.typed_tree.specs.Look.{Look, link_look, expression_look, look_expr, look_link, look_parameter, statement_look, look_stmt, Constant, Variable}
 use Rattle.typed_tree.specs.Look.{Operation, Begins, Operator, Ends, Empty, Assign, Target, Fits, Write, Compound, If, Then, Else, While, Do, Repeat, Until}
-use Rattle.typed_tree.specs.Look.{For, Case, arms_look}
+use Rattle.typed_tree.specs.Look.{For, Case, arms_look, look_whole, Compared}
+use Rattle.typed_tree.specs.WellFormed.{length_of}
 pub use Rattle.typed_tree.proofs.Measured.{entries_are, formed_are}
 
 -- ---- expressions
@@ -47,6 +51,15 @@ pub look_chain : (first : Box Expr Global) (rest : Vec Link Global)
 look_chain first rest =
     ap look_expr (sym (tree.rolls-Chain first rest)) ∙ fold-roll-Expr Look Look expression_look link_look (layer.Chain first rest)
     ∙ ap (λ links. Begins ∷ (look_expr first.value ++ (links ++ (Ends ∷ [])))) (flat_map-map (λ (row : Look). row) look_link rest.items)
+
+pub look_compare : (number : ℕ) (relation : Relation) (left right : Whole)
+    → look_expr (tree.Compare number relation left right)
+    ≡ Begins
+    ∷ (look_whole left
+    ++ (Operator number (dyadic.Relation relation) ∷ (look_whole right ++ (Compared (length_of left) (length_of right) ∷ Ends ∷ []))))
+look_compare number relation left right =
+    ap look_expr (sym (tree.rolls-Compare number relation left right))
+    ∙ fold-roll-Expr Look Look expression_look link_look (layer.Compare number relation left right)
 
 -- an operator and its right operand, as they are made
 pub look_linked : (link : layer.Link-F Expr Link) → look_link (roll-Link link) ≡ Operator link.number link.operation ∷ look_expr link.operand

@@ -8,10 +8,13 @@ use Rattle.typed_tree.specs.declared.tree.Tree.{Tree}
 use Rattle.typed_tree.specs.declared.tree.Block.{Block}
 use Rattle.typed_tree.specs.declared.tree.Width.{Width as TotalWidth}
 use Rattle.typed_tree.specs.declared.tree.WriteParameter.{WriteParameter}
+use Rattle.typed_tree.specs.declared.tree.Written.{Written as WrittenValue}
+use Rattle.typed_tree.specs.declared.tree.Written.TheVariants.{Ordinal, String}
+use Rattle.typed_tree.specs.declared.tree.Whole.TheVariants.{Text as TextOf}
 use Rattle.typed_tree.specs.declared.tree.Expr.{Expr}
 use Rattle.typed_tree.specs.declared.tree.Link.{Link}
 use Rattle.typed_tree.specs.declared.tree.Expr.TheOpen.{Expr-F, Link-F}
-use Rattle.typed_tree.specs.declared.tree.Expr.TheOpen.Expr-F.{Constant, Variable, Monadic as MonadicOf, Chain}
+use Rattle.typed_tree.specs.declared.tree.Expr.TheOpen.Expr-F.{Constant, Variable, Monadic as MonadicOf, Chain, Compare}
 use Rattle.typed_tree.specs.declared.tree.Expr.TheFolds.{map-Expr, map-Link, fold-roll-Expr, fold-roll-Link, ind-Expr}
 use Rattle.typed_tree.specs.declared.tree.Stmt.{Stmt}
 use Rattle.typed_tree.specs.declared.tree.Stmt.TheOpen.{Stmt-F}
@@ -20,7 +23,7 @@ use Rattle.typed_tree.specs.declared.tree.Stmt.TheFolds.{map-Stmt, fold-roll-Stm
 use Rattle.typed_tree.specs.Entries.{joined}
 use Rattle.typed_tree.specs.Loops.{Inside, statement_inside, inside_of, loops_of}
 use Rattle.typed_tree.specs.Look.{Mark, Look, link_look, expression_look, look_expr, look_link, look_width, look_parameter, arms_look, statement_look}
-use Rattle.typed_tree.specs.Look.{look_stmt, look_block}
+use Rattle.typed_tree.specs.Look.{look_stmt, look_block, look_written}
 use Rattle.typed_tree.specs.Look.{tree_look, mark_loops, loops_of_look, Ends, Then, Else, Do, Until, Fits as FitsMark, Written as WrittenMark}
 use Rattle.typed_tree.specs.Look.{Width as WidthMark, BlockEnds}
 
@@ -61,6 +64,7 @@ silent_layer (MonadicOf number operation operand) = operand.value.1
 silent_layer (Chain first rest) =
     let links = joined (map look_link (map (λ l. l.0) rest.items)) in
     behind (look_expr first.value.0) (links ++ (Ends ∷ [])) first.value.1 ∙ ended links Ends refl ∙ silent_joined look_link rest.items
+silent_layer (Compare number relation (TextOf left a) (TextOf right b)) = refl
 
 silent_link : (y : Link-F (Silent look_expr) (Silent look_link))
     → loops_of_look (link_look (map-Link Expr Link Look Look look_expr look_link (bare_link y))) ≡ []
@@ -82,10 +86,13 @@ silent_width : (width : Option TotalWidth) → loops_of_look (look_width width) 
 silent_width None = refl
 silent_width (Some width) = ended (look_expr width.value) (WidthMark width.site) refl ∙ silent_expr width.value
 
+silent_written : (value : WrittenValue) → loops_of_look (look_written value) ≡ []
+silent_written (Ordinal value representation) = ended (look_expr value) (WrittenMark representation) refl ∙ silent_expr value
+silent_written (String (TextOf number characters)) = refl
+
 silent_parameter : (parameter : WriteParameter) → loops_of_look (look_parameter parameter) ≡ []
 silent_parameter parameter =
-    behind (look_expr parameter.value) (WrittenMark parameter.representation ∷ look_width parameter.width) (silent_expr parameter.value)
-    ∙ silent_width parameter.width
+    behind (look_written parameter.value) (look_width parameter.width) (silent_written parameter.value) ∙ silent_width parameter.width
 
 -- ---- statements
 

@@ -1,6 +1,6 @@
 -- What the look of a tree tells of it: the numbers of its entries, and whether its blocks are well formed.
 use Rattle.std.specs.declared.alloc.Global.{Global}
-use Rattle.std.proofs.Common.{Vec, ℤ, ◌≡◌, ℕ, Bool, true, false, ◌&&◌, nat_lt, List, [], ◌∷◌, ◌++◌, map, Option, Some, None, refl, sym, ap, ap₂, ◌∙◌}
+use Rattle.std.proofs.Common.{Vec, ℤ, ◌≡◌, ℕ, Bool, true, false, ◌&&◌, nat_lt, nat_eq, List, [], ◌∷◌, ◌++◌, length, map, Option, Some, None, refl, sym, ap, ap₂, ◌∙◌}
 use Rattle.std.proofs.Common.{append-nil}
 use Rattle.std.proofs.Math.Bool.{and-true}
 use Rattle.std.specs.Prelude.{flat_map}
@@ -11,23 +11,28 @@ use Rattle.typed_tree.specs.declared.tree.Tree.{Tree}
 use Rattle.typed_tree.specs.declared.tree.Block.{Block}
 use Rattle.typed_tree.specs.declared.tree.Width.{Width as TotalWidth}
 use Rattle.typed_tree.specs.declared.tree.WriteParameter.{WriteParameter}
+use Rattle.typed_tree.specs.declared.tree.Written.{Written as WrittenValue}
+use Rattle.typed_tree.specs.declared.tree.Written.TheVariants.{Ordinal, String}
+use Rattle.typed_tree.specs.declared.tree.Whole.{Whole}
+use Rattle.typed_tree.specs.declared.tree.Whole.TheVariants.{Text as TextOf}
 use Rattle.typed_tree.specs.declared.tree.Expr.{Expr}
 use Rattle.typed_tree.specs.declared.tree.Link.{Link}
 use Rattle.typed_tree.specs.declared.tree.Expr.TheOpen.{Expr-F, Link-F}
-use Rattle.typed_tree.specs.declared.tree.Expr.TheOpen.Expr-F.{Constant, Variable, Monadic as MonadicOf, Chain}
+use Rattle.typed_tree.specs.declared.tree.Expr.TheOpen.Expr-F.{Constant, Variable, Monadic as MonadicOf, Chain, Compare}
 use Rattle.typed_tree.specs.declared.tree.Expr.TheFolds.{fold-Expr, fold-Link, map-Expr, map-Link, fold-roll-Expr, fold-roll-Link, ind-Expr}
 use Rattle.typed_tree.specs.declared.tree.Stmt.{Stmt}
 use Rattle.typed_tree.specs.declared.tree.Stmt.TheOpen.{Stmt-F}
 use Rattle.typed_tree.specs.declared.tree.Stmt.TheOpen.Stmt-F.{Empty, Assign, Write, Compound, If, While, Repeat, For, Case}
 use Rattle.typed_tree.specs.declared.tree.Stmt.TheFolds.{fold-Stmt, map-Stmt, fold-roll-Stmt, ind-Stmt}
 use Rattle.typed_tree.specs.Entries.{joined, expression_entries, link_entries, entries_of_expression, entries_of_width, entries_of_parameter, statement_entries}
-use Rattle.typed_tree.specs.Entries.{entries_of_statement, entries_of}
+use Rattle.typed_tree.specs.Entries.{entries_of_statement, entries_of, entries_of_whole, entries_of_written}
 use Rattle.typed_tree.specs.WellFormed.{all_hold, is_whole, monadic_is_well_formed, dyadic_is_well_formed, link_is_well_formed, expr_is_well_formed}
 use Rattle.typed_tree.specs.WellFormed.{is_well_formed_expr, is_well_formed_link, is_well_formed_width, is_well_formed_parameter, is_well_formed_test}
+use Rattle.typed_tree.specs.WellFormed.{are_characters, length_of, is_well_formed_whole, is_well_formed_written}
 use Rattle.typed_tree.specs.WellFormed.{are_whole, stmt_is_well_formed, is_well_formed_stmt, is_well_formed_block}
 use Rattle.typed_tree.specs.Look.{Mark, Look, link_look, expression_look, look_expr, look_link, look_width, look_parameter, arms_look, statement_look}
 use Rattle.typed_tree.specs.Look.{look_stmt, look_block, tree_look, mark_entries, entries_of_look, is_formed_mark, Ends, If as IfMark, Then, Else, Do, Until}
-use Rattle.typed_tree.specs.Look.{Fits as FitsMark, Written as WrittenMark, Width as WidthMark, BlockEnds}
+use Rattle.typed_tree.specs.Look.{Fits as FitsMark, Written as WrittenMark, Width as WidthMark, BlockEnds, Compared, WrittenString, look_whole, look_written}
 
 -- ---- a measure of looks that is a fold over trees
 
@@ -129,6 +134,7 @@ entries_layer (Chain first rest) =
     flat_map-append mark_entries (look_expr first.value.0) (links ++ (Ends ∷ []))
     ∙ ap₂ (λ a b. a ++ b) first.value.1
     (entries_ended links Ends refl ∙ entries_joined look_link (of_link entries_of_look expression_entries link_entries) rest.items)
+entries_layer (Compare number relation (TextOf left a) (TextOf right b)) = refl
 
 entries_link : LinkLayers entries_of_look expression_entries link_entries
 entries_link y = ap (λ entries. y.number ∷ entries) y.operand.1
@@ -140,10 +146,14 @@ entries_width : (width : Option TotalWidth) → entries_of_look (look_width widt
 entries_width None = refl
 entries_width (Some width) = entries_ended (look_expr width.value) (WidthMark width.site) refl ∙ entries_expr width.value
 
+entries_written : (value : WrittenValue) → entries_of_look (look_written value) ≡ entries_of_written value
+entries_written (Ordinal value representation) = entries_ended (look_expr value) (WrittenMark representation) refl ∙ entries_expr value
+entries_written (String (TextOf number characters)) = refl
+
 entries_parameter : (parameter : WriteParameter) → entries_of_look (look_parameter parameter) ≡ entries_of_parameter parameter
 entries_parameter parameter =
-    flat_map-append mark_entries (look_expr parameter.value) (WrittenMark parameter.representation ∷ look_width parameter.width)
-    ∙ ap₂ (λ a b. a ++ b) (entries_expr parameter.value) (entries_width parameter.width)
+    flat_map-append mark_entries (look_written parameter.value) (look_width parameter.width)
+    ∙ ap₂ (λ a b. a ++ b) (entries_written parameter.value) (entries_width parameter.width)
 
 -- what an if enters, by what its two statements do
 entries_chosen : (number : ℕ) (condition : Expr) (look rest : Look)
@@ -225,6 +235,10 @@ and_turned true false = refl
 and_turned false true = refl
 and_turned false false = refl
 
+and_compared : (a b c : Bool) → (a && (b && (c && true))) ≡ (a && (b && c))
+and_compared a b true = refl
+and_compared a b false = refl
+
 and_shifted : (a b c d : Bool) → (a && (b && (c && d))) ≡ ((a && c) && (b && d))
 and_shifted true true c d = refl
 and_shifted true false true d = refl
@@ -260,6 +274,8 @@ module _ (variables sites : ℕ) where
       let links = joined (map look_link (map (λ l. l.0) rest.items)) in
       formed_cut (look_expr first.value.0) (links ++ (Ends ∷ []))
       ∙ ap₂ (λ a b. a && b) first.value.1 (formed_ended links Ends refl ∙ formed_joined look_link (is_well_formed_link variables sites) rest.items)
+  formed_layer (Compare number relation (TextOf left a) (TextOf right b)) =
+      and_compared (are_characters a.items) (are_characters b.items) (nat_eq (length a.items) (length b.items))
 
   formed_link : LinkLayers is_formed (expr_is_well_formed variables sites) (link_is_well_formed variables sites)
   formed_link y = ap (λ b. dyadic_is_well_formed variables sites y.operation && b) y.operand.1
@@ -273,10 +289,15 @@ module _ (variables sites : ℕ) where
       formed_cut (look_expr width.value) (WidthMark width.site ∷ []) ∙ ap (λ b. b && (nat_lt width.site sites && true)) (formed_expr width.value)
       ∙ and_turned (is_well_formed_expr variables sites width.value) (nat_lt width.site sites)
 
+  formed_written : (value : WrittenValue) → is_formed (look_written value) ≡ is_well_formed_written variables sites value
+  formed_written (Ordinal value representation) =
+      formed_ended (look_expr value) (WrittenMark representation) refl ∙ formed_expr value
+  formed_written (String (TextOf number characters)) = and-true (are_characters characters.items)
+
   formed_parameter : (parameter : WriteParameter) → is_formed (look_parameter parameter) ≡ is_well_formed_parameter variables sites parameter
   formed_parameter parameter =
-      formed_cut (look_expr parameter.value) (WrittenMark parameter.representation ∷ look_width parameter.width)
-      ∙ ap₂ (λ a b. a && b) (formed_expr parameter.value) (formed_width parameter.width)
+      formed_cut (look_written parameter.value) (look_width parameter.width)
+      ∙ ap₂ (λ a b. a && b) (formed_written parameter.value) (formed_width parameter.width)
 
   abbrev opened_stmt : Stmt-F (ToldStmt is_formed (stmt_is_well_formed variables sites)) → Stmt-F Stmt
   opened_stmt = stmt_opened is_formed (stmt_is_well_formed variables sites)

@@ -7,9 +7,14 @@ use Rattle.std.specs.declared.boxed.Box.{Box}
 use Rattle.typed_tree.specs.declared.tree.Tree.{Tree}
 use Rattle.typed_tree.specs.declared.tree.Width.{Width}
 use Rattle.typed_tree.specs.declared.tree.WriteParameter.{WriteParameter}
+use Rattle.typed_tree.specs.declared.tree.Written.{Written}
+use Rattle.typed_tree.specs.declared.tree.Written.TheVariants.{Ordinal, String}
+use Rattle.typed_tree.specs.declared.tree.Whole.{Whole}
+use Rattle.typed_tree.specs.declared.tree.Whole.TheVariants.{Text}
 use Rattle.typed_tree.specs.declared.tree.Expr.{Expr}
 use Rattle.typed_tree.specs.declared.tree.Expr.TheOpen.{Expr-F, Link-F}
 use Rattle.typed_tree.specs.declared.tree.Expr.TheOpen.Expr-F.{Constant, Variable, Monadic as MonadicOf, Chain}
+use Rattle.typed_tree.specs.declared.tree.Expr.TheOpen.Expr-F.{Compare}
 use Rattle.typed_tree.specs.declared.tree.Expr.TheFolds.{fold-Expr}
 use Rattle.typed_tree.specs.declared.tree.Stmt.{Stmt}
 use Rattle.typed_tree.specs.declared.tree.Stmt.TheOpen.{Stmt-F}
@@ -21,6 +26,10 @@ use Rattle.typed_tree.specs.declared.tree.Stmt.TheFolds.{fold-Stmt}
 abbrev pub joined : {A : Type 0} → List (List A) → List A
 joined rows = flat_map (λ row. row) rows
 
+-- the number of a whole value's entry
+abbrev pub entries_of_whole : Whole → List ℕ
+entries_of_whole (Text number characters) = number ∷ []
+
 -- an operator is entered before its right operand
 abbrev pub link_entries : Link-F (List ℕ) (List ℕ) → List ℕ
 link_entries link = link.number ∷ link.operand
@@ -30,6 +39,7 @@ expression_entries (Constant number value) = number ∷ []
 expression_entries (Variable access defined) = access.number ∷ []
 expression_entries (MonadicOf number operation operand) = number ∷ operand.value
 expression_entries (Chain first rest) = first.value ++ joined rest.items
+expression_entries (Compare number relation left right) = entries_of_whole left ++ (number ∷ entries_of_whole right)
 
 -- the numbers of an expression's entries
 abbrev pub entries_of_expression : Expr → List ℕ
@@ -39,9 +49,14 @@ abbrev pub entries_of_width : Option Width → List ℕ
 entries_of_width None = []
 entries_of_width (Some width) = entries_of_expression width.value
 
--- the numbers of the entries of a value that is written, and of its width
+-- the numbers of the entries of a value that is written
+abbrev pub entries_of_written : Written → List ℕ
+entries_of_written (Ordinal value representation) = entries_of_expression value
+entries_of_written (String value) = entries_of_whole value
+
+-- the same, and of its width
 abbrev pub entries_of_parameter : WriteParameter → List ℕ
-entries_of_parameter parameter = entries_of_expression parameter.value ++ entries_of_width parameter.width
+entries_of_parameter parameter = entries_of_written parameter.value ++ entries_of_width parameter.width
 
 -- the numbers of the entries of the statement behind `else`, where there is one
 abbrev pub alternative_entries : Option (Box (List ℕ) Global) → List ℕ

@@ -2,6 +2,7 @@
 -- order of entry, the variable, the operation, its sites and places. What encloses others tells where it ends, so two
 -- trees that look alike are alike. It says nothing of which tree a program has.
 use Rattle.std.specs.Prelude.{ℕ, ℤ, ◌++◌, ◌&&◌, Bool, true, List, [], ◌∷◌, Option, Some, None, Vec, flat_map, nat_lt}
+use Rattle.std.specs.Prelude.{nat_eq}
 use Rattle.std.specs.List.{list_all}
 use Rattle.std.specs.declared.alloc.Global.{Global}
 use Rattle.std.specs.declared.boxed.Box.{Box}
@@ -10,16 +11,21 @@ use Rattle.typed_tree.specs.declared.tree.Tree.{Tree}
 use Rattle.typed_tree.specs.declared.tree.Block.{Block}
 use Rattle.typed_tree.specs.declared.tree.Monadic.{Monadic}
 use Rattle.typed_tree.specs.declared.tree.Dyadic.{Dyadic}
+use Rattle.typed_tree.specs.declared.tree.Dyadic.TheVariants as dyadic
 use Rattle.typed_tree.specs.declared.tree.RangeTest.{RangeTest}
 use Rattle.typed_tree.specs.declared.tree.Direction.{Direction}
 use Rattle.typed_tree.specs.declared.tree.Representation.{Representation}
 use Rattle.typed_tree.specs.declared.tree.Width.{Width as TotalWidth}
 use Rattle.typed_tree.specs.declared.tree.WriteParameter.{WriteParameter}
+use Rattle.typed_tree.specs.declared.tree.Written.{Written as WrittenValue}
+use Rattle.typed_tree.specs.declared.tree.Written.TheVariants.{Ordinal, String}
+use Rattle.typed_tree.specs.declared.tree.Whole.{Whole}
+use Rattle.typed_tree.specs.declared.tree.Whole.TheVariants.{Text as TextOf}
 use Rattle.typed_tree.specs.declared.tree.Expr.{Expr}
 use Rattle.typed_tree.specs.declared.tree.Link.{Link}
 use Rattle.typed_tree.specs.declared.tree.Expr.TheOpen.{Expr-F, Link-F}
 use Rattle.typed_tree.specs.declared.tree.Expr.TheOpen.Expr-F.{Constant as ConstantOf, Variable as VariableOf}
-use Rattle.typed_tree.specs.declared.tree.Expr.TheOpen.Expr-F.{Monadic as MonadicOf, Chain as ChainOf}
+use Rattle.typed_tree.specs.declared.tree.Expr.TheOpen.Expr-F.{Monadic as MonadicOf, Chain as ChainOf, Compare as CompareOf}
 use Rattle.typed_tree.specs.declared.tree.Expr.TheFolds.{fold-Expr, fold-Link}
 use Rattle.typed_tree.specs.declared.tree.Stmt.{Stmt}
 use Rattle.typed_tree.specs.declared.tree.Stmt.TheOpen.{Stmt-F}
@@ -28,7 +34,8 @@ use Rattle.typed_tree.specs.declared.tree.Stmt.TheOpen.Stmt-F.{Compound as Compo
 use Rattle.typed_tree.specs.declared.tree.Stmt.TheOpen.Stmt-F.{Repeat as RepeatOf, For as ForOf, Case as CaseOf}
 use Rattle.typed_tree.specs.declared.tree.Stmt.TheFolds.{fold-Stmt}
 use Rattle.typed_tree.specs.Entries.{joined}
-use Rattle.typed_tree.specs.WellFormed.{is_whole, monadic_is_well_formed, dyadic_is_well_formed, is_well_formed_test}
+use Rattle.typed_tree.specs.WellFormed.{is_whole, are_characters, length_of, monadic_is_well_formed, dyadic_is_well_formed}
+use Rattle.typed_tree.specs.WellFormed.{is_well_formed_test}
 
 -- a form, or where one ends; numbers are those of entries, roots those of variables
 pub data Mark : Type 0 where
@@ -53,8 +60,14 @@ pub data Mark : Type 0 where
   Fits : RangeTest → Mark
   -- a write, with the place of its name; or a writeln, which ends the line
   Write : ℕ → Place → Bool → Mark
-  -- how the value before it is written
+  -- a string: its number and its characters
+  Text : ℕ → List ℕ → Mark
+  -- how many components the two strings have that are compared before it
+  Compared : ℕ → ℕ → Mark
+  -- how the ordinal before it is written
   Written : Representation → Mark
+  -- the string before it is written
+  WrittenString : Mark
   -- the site of the width before it
   Width : ℕ → Mark
   Compound : ℕ → Mark
@@ -79,6 +92,9 @@ pub data Mark : Type 0 where
 abbrev pub Look : Type 0
 Look = List Mark
 
+abbrev pub look_whole : Whole → Look
+look_whole (TextOf number characters) = Text number characters.items ∷ []
+
 abbrev pub link_look : Link-F Look Look → Look
 link_look link = Operator link.number link.operation ∷ link.operand
 
@@ -87,6 +103,11 @@ expression_look (ConstantOf number value) = Constant number value ∷ []
 expression_look (VariableOf access defined) = Variable access.number access.root defined ∷ []
 expression_look (MonadicOf number operation operand) = Operation number operation ∷ operand.value
 expression_look (ChainOf first rest) = Begins ∷ (first.value ++ (joined rest.items ++ (Ends ∷ [])))
+expression_look (CompareOf number relation left right) =
+    Begins
+    ∷ (look_whole left
+    ++ (Operator number (dyadic.Relation relation)
+    ∷ (look_whole right ++ (Compared (length_of left) (length_of right) ∷ Ends ∷ []))))
 
 -- how an expression looks
 abbrev pub look_expr : Expr → Look
@@ -100,10 +121,14 @@ abbrev pub look_width : Option TotalWidth → Look
 look_width None = []
 look_width (Some width) = look_expr width.value ++ (Width width.site ∷ [])
 
--- how a value that is written looks, with its width
+-- how a value that is written looks
+abbrev pub look_written : WrittenValue → Look
+look_written (Ordinal value representation) = look_expr value ++ (Written representation ∷ [])
+look_written (String value) = look_whole value ++ (WrittenString ∷ [])
+
+-- the same with its width
 abbrev pub look_parameter : WriteParameter → Look
-look_parameter parameter =
-    look_expr parameter.value ++ (Written parameter.representation ∷ look_width parameter.width)
+look_parameter parameter = look_written parameter.value ++ look_width parameter.width
 
 -- how the statement behind `else` looks, where there is one
 abbrev pub look_alternative : Option (Box Look Global) → Look
@@ -161,7 +186,10 @@ mark_entries (Assign number becomes) = number ∷ []
 mark_entries (Target number root) = number ∷ []
 mark_entries (Fits fits) = []
 mark_entries (Write number name ends_line) = number ∷ []
+mark_entries (Text number characters) = number ∷ []
+mark_entries (Compared left right) = []
 mark_entries (Written representation) = []
+mark_entries WrittenString = []
 mark_entries (Width site) = []
 mark_entries (Compound number) = number ∷ []
 mark_entries (If number) = number ∷ []
@@ -204,7 +232,10 @@ is_formed_mark variables sites (Assign number becomes) = true
 is_formed_mark variables sites (Target number root) = nat_lt root variables
 is_formed_mark variables sites (Fits fits) = is_well_formed_test variables sites fits
 is_formed_mark variables sites (Write number name ends_line) = true
+is_formed_mark variables sites (Text number characters) = are_characters characters
+is_formed_mark variables sites (Compared left right) = nat_eq left right
 is_formed_mark variables sites (Written representation) = true
+is_formed_mark variables sites WrittenString = true
 is_formed_mark variables sites (Width site) = nat_lt site sites
 is_formed_mark variables sites (Compound number) = true
 is_formed_mark variables sites (If number) = true

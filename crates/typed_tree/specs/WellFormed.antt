@@ -3,7 +3,7 @@
 -- stands in the table of loops, there is a block, and the program has no more variables than a block has cells. It does
 -- not say that a tree is that of a program.
 use Rattle.std.specs.Prelude.{◌≡◌, ℕ, ℤ, ◌<◌, ◌≤◌, pos, neg_ℤ, ◌&&◌, Bool, true, List, Option, Some, None, Vec, int_le}
-use Rattle.std.specs.Prelude.{nat_lt, nat_eq, length, map}
+use Rattle.std.specs.Prelude.{nat_lt, nat_le, nat_eq, length, map}
 use Rattle.std.specs.List.{list_all}
 use Rattle.std.specs.declared.alloc.Global.{Global}
 use Rattle.std.specs.declared.boxed.Box.{Box}
@@ -16,10 +16,15 @@ use Rattle.typed_tree.specs.declared.tree.Dyadic.TheVariants as dyadic
 use Rattle.typed_tree.specs.declared.tree.RangeTest.{RangeTest}
 use Rattle.typed_tree.specs.declared.tree.Width.{Width}
 use Rattle.typed_tree.specs.declared.tree.WriteParameter.{WriteParameter}
+use Rattle.typed_tree.specs.declared.tree.Written.{Written}
+use Rattle.typed_tree.specs.declared.tree.Written.TheVariants.{Ordinal, String}
+use Rattle.typed_tree.specs.declared.tree.Whole.{Whole}
+use Rattle.typed_tree.specs.declared.tree.Whole.TheVariants.{Text}
 use Rattle.typed_tree.specs.declared.tree.Expr.{Expr}
 use Rattle.typed_tree.specs.declared.tree.Link.{Link}
 use Rattle.typed_tree.specs.declared.tree.Expr.TheOpen.{Expr-F, Link-F}
 use Rattle.typed_tree.specs.declared.tree.Expr.TheOpen.Expr-F.{Constant, Variable, Monadic as MonadicOf, Chain}
+use Rattle.typed_tree.specs.declared.tree.Expr.TheOpen.Expr-F.{Compare}
 use Rattle.typed_tree.specs.declared.tree.Expr.TheFolds.{fold-Expr, fold-Link}
 use Rattle.typed_tree.specs.declared.tree.Stmt.{Stmt}
 use Rattle.typed_tree.specs.declared.tree.Stmt.TheOpen.{Stmt-F}
@@ -36,6 +41,21 @@ all_hold tests = list_all (λ b. b) tests
 abbrev pub is_whole : ℤ → Bool
 is_whole value = int_le (neg_ℤ (pos 2147483647)) value && int_le value (pos 2147483647)
 
+-- a value of type char (6.4.2.2)
+abbrev pub is_character : ℕ → Bool
+is_character c = nat_lt c 128
+
+-- the characters of a string, no more than a type has cells
+abbrev pub are_characters : List ℕ → Bool
+are_characters characters = nat_le (length characters) 65536 && list_all is_character characters
+
+abbrev pub is_well_formed_whole : Whole → Bool
+is_well_formed_whole (Text number characters) = are_characters characters.items
+
+-- how many components a whole value has
+abbrev pub length_of : Whole → ℕ
+length_of (Text number characters) = length characters.items
+
 -- the constants before an arm
 abbrev pub are_whole : Vec ℤ Global → Bool
 are_whole constants = list_all is_whole constants.items
@@ -44,6 +64,9 @@ are_whole constants = list_all is_whole constants.items
 module _ (variables sites : ℕ) where
   abbrev pub monadic_is_well_formed : Monadic → Bool
   monadic_is_well_formed (monadic.Sqr overflow) = nat_lt overflow sites
+  monadic_is_well_formed (monadic.Chr no_char) = nat_lt no_char sites
+  monadic_is_well_formed (monadic.Succ no_successor last) = nat_lt no_successor sites && is_whole last
+  monadic_is_well_formed (monadic.Pred no_predecessor first) = nat_lt no_predecessor sites && is_whole first
   monadic_is_well_formed other = true
 
   abbrev pub dyadic_is_well_formed : Dyadic → Bool
@@ -64,6 +87,8 @@ module _ (variables sites : ℕ) where
   expr_is_well_formed (Variable access defined) = nat_lt access.root variables && nat_lt defined sites
   expr_is_well_formed (MonadicOf number operation operand) = monadic_is_well_formed operation && operand.value
   expr_is_well_formed (Chain first rest) = first.value && all_hold rest.items
+  expr_is_well_formed (Compare number relation left right) =
+      is_well_formed_whole left && (is_well_formed_whole right && nat_eq (length_of left) (length_of right))
 
   -- an expression is well formed
   abbrev pub is_well_formed_expr : Expr → Bool
@@ -77,9 +102,14 @@ module _ (variables sites : ℕ) where
   is_well_formed_width None = true
   is_well_formed_width (Some width) = nat_lt width.site sites && is_well_formed_expr width.value
 
-  -- a value that is written, and its width
+  -- a value that is written
+  abbrev pub is_well_formed_written : Written → Bool
+  is_well_formed_written (Ordinal value representation) = is_well_formed_expr value
+  is_well_formed_written (String value) = is_well_formed_whole value
+
+  -- the same, and its width
   abbrev pub is_well_formed_parameter : WriteParameter → Bool
-  is_well_formed_parameter parameter = is_well_formed_expr parameter.value && is_well_formed_width parameter.width
+  is_well_formed_parameter parameter = is_well_formed_written parameter.value && is_well_formed_width parameter.width
 
   -- the test of a value
   abbrev pub is_well_formed_test : RangeTest → Bool

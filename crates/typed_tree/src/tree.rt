@@ -148,15 +148,27 @@ pub enum Direction {
 /// A value that is written (ISO 7185:1990, 6.9.3), before its width is evaluated.
 #[derive(Drop)]
 pub struct WriteParameter {
-    pub value: Expr,
-    pub representation: Representation,
+    pub value: Written,
     /// The default width where there is none.
     pub width: Option<Width>,
 }
 
-/// How a value is written, by its type (6.9.3.3, 6.9.3.5).
+/// What is written: an ordinal, or a string (6.9.3.6).
+#[derive(Drop)]
+pub enum Written {
+    Ordinal {
+        value: Expr,
+        representation: Representation,
+    },
+    String {
+        value: Whole,
+    },
+}
+
+/// How an ordinal is written, by its type (6.9.3.2, 6.9.3.3, 6.9.3.5).
 #[derive(Clone, Copy)]
 pub enum Representation {
+    Char,
     Integer,
     Boolean,
 }
@@ -178,6 +190,16 @@ pub enum Monadic {
     /// The square, tested at the site `overflow`.
     Sqr { overflow: u32 },
     Odd,
+    /// The number of an ordinal (6.6.6.4).
+    Ord,
+    /// The char of a number, which has to be 0 to 127: it is tested at the site `no_char`.
+    Chr { no_char: u32 },
+    /// The next value of an ordinal, which has to lie below `last`, the last value of its host type: it is tested at
+    /// the site `no_successor`.
+    Succ { no_successor: u32, last: i32 },
+    /// The value before an ordinal, which has to lie above `first`, the first value of its host type: it is tested at
+    /// the site `no_predecessor`.
+    Pred { no_predecessor: u32, first: i32 },
 }
 
 /// An operation on two operands (6.7.2.1).
@@ -196,7 +218,7 @@ pub enum Dyadic {
     Relation(Relation),
 }
 
-/// A relation of two ordinals (6.7.2.5).
+/// A relation of two ordinals, or of two strings (6.7.2.5).
 #[derive(Clone, Copy)]
 pub enum Relation {
     Equal,
@@ -231,6 +253,24 @@ pub enum Expr {
     Chain {
         first: Box<Expr>,
         rest: Vec<Link>,
+    },
+    /// A relation of two strings of equal length, character by character. The operator is entered after `left` and
+    /// before `right`.
+    Compare {
+        number: u32,
+        relation: Relation,
+        left: Whole,
+        right: Whole,
+    },
+}
+
+/// A value of a string type (6.4.3.2), an entry of its own.
+#[derive(Drop)]
+pub enum Whole {
+    /// Two or more characters, 65,536 at most, each of 0 to 127.
+    Text {
+        number: u32,
+        characters: Vec<u8>,
     },
 }
 
