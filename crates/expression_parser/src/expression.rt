@@ -133,7 +133,7 @@ fn signed<'a>(
     }
 }
 
-// factor = number | named | "not" factor | parenthesized
+// factor = number | string | named | "not" factor | parenthesized
 #[cycle(expression)]
 fn factor<'a>(
     alloc: Global,
@@ -147,6 +147,9 @@ fn factor<'a>(
 {
     if let Some((value, place)) = cursor.take_number() {
         return Ok(Expr::Number { value, place });
+    }
+    if let Some((text, place)) = cursor.take_string() {
+        return Ok(Expr::String { text, place });
     }
     if let Some(Kind::Identifier) = cursor.peek() {
         return named(alloc, cursor, levels);

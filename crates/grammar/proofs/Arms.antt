@@ -15,8 +15,8 @@ use Rattle.syntax_tree.specs.declared.Sign.TheVariants.{Plus, Minus}
 use Rattle.syntax_tree.specs.declared.SignAt.{SignAt}
 use Rattle.syntax_tree.specs.declared.Stmt.{Stmt}
 use Rattle.grammar.specs.Spelling.{Reads, of_kind_at, mark, word_symbol, sign, sign_spelling, value_lexeme, constant_spelling, stmt_spelling}
-use Rattle.grammar.specs.Spelling.{case_end, separated}
-use Rattle.grammar.specs.WellFormed.{is_statement, has_items}
+use Rattle.grammar.specs.Spelling.{case_end, separated, character_string}
+use Rattle.grammar.specs.WellFormed.{takes_sign, may_stand, is_constant, is_row, is_statement, has_items}
 use Rattle.grammar.specs.Nesting.{stmt_levels, deepest}
 use Rattle.grammar.specs.Following.{NoNext, NoSign, EndsStmt, semicolon, end}
 use Rattle.grammar.specs.Begins.{BeginsStmt, BeginsConstants, BeginsRow, Arm, arm_spelled, arm_well, BeginsArms}
@@ -32,8 +32,10 @@ use Rattle.grammar.proofs.Cases.{constant_kind, row_first}
 sign_no_value : (s : Sign) (p : Place) (v : ConstantValue) → (sign s p).kind ≡ (value_lexeme v).kind → ⊥
 sign_no_value Plus p (constant.Number m q) e = let no : kind.Symbol symbol.Plus ≡ kind.Number m = e in cc
 sign_no_value Plus p (constant.Name n) e = let no : kind.Symbol symbol.Plus ≡ kind.Identifier = e in cc
+sign_no_value Plus p (constant.String t q) e = let no : kind.Symbol symbol.Plus ≡ kind.Text = e in cc
 sign_no_value Minus p (constant.Number m q) e = let no : kind.Symbol symbol.Minus ≡ kind.Number m = e in cc
 sign_no_value Minus p (constant.Name n) e = let no : kind.Symbol symbol.Minus ≡ kind.Identifier = e in cc
+sign_no_value Minus p (constant.String t q) e = let no : kind.Symbol symbol.Minus ≡ kind.Text = e in cc
 
 -- behind the sign, where one came, the value stands
 pub behind_sign : (o q : Option SignAt) (v : ConstantValue) (a b c : List Token) → Reads a (sign_spelling o) b → IfNone o (NoSign a)
@@ -45,13 +47,35 @@ behind_sign (Some g) None v a b c k none h =
     absurd (sign_no_value g.sign g.place v cc)
 behind_sign (Some g) (Some s) v a b c k none h = (same_first (sign g.sign g.place) (sign s.sign s.place) (value_lexeme v ∷ []) a b c k h).1
 
+-- a value that takes a sign stands behind each, or behind none
+pub stands_behind : (o : Option SignAt) (v : ConstantValue) → takes_sign v ≡ true → may_stand o v ≡ true
+stands_behind None v h = refl
+stands_behind (Some s) v h = h
+
+-- where no string comes a constant's value takes a sign
+pub value_takes : (o : Option SignAt) (v : ConstantValue) (a c : List Token) → NoNext kind.Text a → Reads a (sign_spelling o ++ value_lexeme v ∷ []) c
+    → may_stand o v ≡ true → takes_sign v ≡ true
+value_takes None (constant.Number m p) a c none h f = refl
+value_takes None (constant.Name n) a c none h f = refl
+value_takes None (constant.String t p) a c none h f = absurd (none (begins (character_string t.now p) [] a c h))
+value_takes (Some s) v a c none h f = f
+
+sign_no_string : (s : Sign) (p : Place) → (sign s p).kind ≡ kind.Text → ⊥
+sign_no_string Plus p e = let no : kind.Symbol symbol.Plus ≡ kind.Text = e in cc
+sign_no_string Minus p e = let no : kind.Symbol symbol.Minus ≡ kind.Text = e in cc
+
+-- a string where a constant stands
+pub string_alone : (t : List ℕ) (p : Place) (o : Option SignAt) (v : ConstantValue) (a b c : List Token) → Reads a (character_string t p ∷ []) b
+    → Reads a (sign_spelling o ++ value_lexeme v ∷ []) c → b ≡ c
+string_alone t p None v a b c k h = (same_first (character_string t p) (value_lexeme v) [] a b c k h).1
+string_alone t p (Some s) v a b c k h =
+    let same : Some (sign s.sign s.place).kind ≡ Some kind.Text =
+    sym (begins (sign s.sign s.place) (value_lexeme v ∷ []) a c h) ∙ begins (character_string t p) [] a b k in
+    absurd (sign_no_string s.sign s.place cc)
+
 -- the parts of a row of constants
 abbrev pub constant_list_parts : Parts Constant
-constant_list_parts = record { symbol = symbol.Comma; spelling = constant_spelling; well = λ _. true; levels = λ _. 0 }
-
-all_well : (cs : List Constant) → list_all (λ _. true) cs ≡ true
-all_well [] = refl
-all_well (c ∷ cs) = all_well cs
+constant_list_parts = record { symbol = symbol.Comma; spelling = constant_spelling; well = is_constant; levels = λ _. 0 }
 
 none_deep : (cs : List Constant) → deepest (map (λ _. 0) cs) ≤ 0
 none_deep [] = omega arith
@@ -68,7 +92,7 @@ ConstantNext start now = (constants : List Constant) (others : List Token) → B
 
 pub constant_list_begins : (start : List Token) → ConstantNext start start
 constant_list_begins start constants others h ends =
-    parts_begin Constant constant_list_parts 0 start others constants h.some h.spelled (all_well constants) (none_deep constants)
+    parts_begin Constant constant_list_parts 0 start others constants h.list.some h.list.spelled h.formed (none_deep constants)
 
 pub constant_list_goes_on : (p : Place) (start a b : List Token) → Reads a (of_kind_at (kind.Symbol symbol.Comma) p ∷ []) b → ConstantsLeft start a
     → ConstantNext start b
@@ -129,17 +153,22 @@ arm_then levels a c arm arms b h f n =
     let t = parted constants (mark symbol.Colon ∷ stmt_spelling arm.1) a r.0 r.1 in
     let u = parted (mark symbol.Colon ∷ []) (stmt_spelling arm.1) t.0 r.0 t.2 in
     let well = and_left (arm_well arm) (list_all arm_well arms) f in
-    let some = some_items arm.0 (and_left (has_items arm.0) (is_statement arm.1) well) in
+    let row = and_left (is_row arm.0) (is_statement arm.1) well in
+    let some = some_items arm.0 (and_left (has_items arm.0) (list_all is_constant arm.0) row) in
     let size = length_map constant_spelling arm.0 in
     let next = left_next arms b r.0 c r.2 in
     let m = start_below levels (max 0 (stmt_levels arm.1)) (map (λ (arm : Arm). stmt_levels arm.1) arms) n in
     record {
       constants = arm.0;
       middle = u.0;
-      headed = record { middle = t.0; list = record { some = omega arith; spelled = t.1 }; closed = u.1 };
+      headed = record {
+        middle = t.0;
+        list = record { list = record { some = omega arith; spelled = t.1 }; formed = and_right (has_items arm.0) (list_all is_constant arm.0) row };
+        closed = u.1;
+      };
       statement = arm.1;
       behind = r.0;
-      begun = record { spelled = u.2; formed = and_right (has_items arm.0) (is_statement arm.1) well; nests = omega arith; whole = λ _. next.1 };
+      begun = record { spelled = u.2; formed = and_right (is_row arm.0) (is_statement arm.1) well; nests = omega arith; whole = λ _. next.1 };
       ends = next.0;
       left = record {
         arms = arms;
@@ -187,7 +216,7 @@ pub data BehindSemicolon (levels : ℕ) (a c : List Token) : Type 0 where
 arm_no_end : (levels : ℕ) (a c : List Token) → ArmThenOthers levels a c → NoNext (kind.Word word.End) a
 arm_no_end levels a c h e =
     let size = length_map constant_spelling h.constants in
-    let f = row_first h.constants a h.headed.middle (let some = h.headed.list.some in omega arith) h.headed.list.spelled in
+    let f = row_first h.constants a h.headed.middle (let some = h.headed.list.list.some in omega arith) h.headed.list.list.spelled in
     let same : f.0 ≡ kind.Word word.End = let both : Some f.0 ≡ Some (kind.Word word.End) = sym f.1 ∙ e in cc in
     let no : true ≡ false = sym f.2 ∙ ap constant_kind same in cc
 

@@ -24,8 +24,8 @@ use Rattle.syntax_tree.specs.declared.Stmt.TheOpen as stmt
 use Rattle.syntax_tree.specs.declared.Stmt.TheViews.{out-Stmt}
 use Rattle.syntax_tree.specs.Places.{arms_of}
 use Rattle.grammar.specs.Spelling.{Spelling, Reads, identifier, sign, sign_spelling, value_lexeme, constant_spelling, expr_spelling, stmt_spelling, of_kind_at}
-use Rattle.grammar.specs.Spelling.{word_symbol, arm_spelling, case_end, separated}
-use Rattle.grammar.specs.WellFormed.{StmtForm, stmt_form, is_expression, is_statement, has_items, are_rows}
+use Rattle.grammar.specs.Spelling.{character_string, word_symbol, arm_spelling, case_end, separated}
+use Rattle.grammar.specs.WellFormed.{StmtForm, stmt_form, is_expression, is_statement, has_items, is_row, are_rows}
 use Rattle.grammar.specs.Nesting.{expr_levels, stmt_levels, deepest}
 use Rattle.grammar.specs.Following.{next_kind, EndsStmt}
 use Rattle.grammar.specs.Begins.{BeginsGuard, BeginsStmt, Arm, arm_well, BeginsArms}
@@ -71,18 +71,19 @@ four false b c d = refl
 
 -- each arm is well formed where its row and its statement are
 pub arms_formed : (rows : List (Vec Constant Global)) (arms : List Stmt) → length rows ≡ length arms
-    → list_all arm_well (arms_of rows arms) ≡ list_all (λ (r : Vec Constant Global). has_items r.items) rows && list_all is_statement arms
+    → list_all arm_well (arms_of rows arms) ≡ list_all (λ (r : Vec Constant Global). is_row r.items) rows && list_all is_statement arms
 arms_formed [] [] e = refl
 arms_formed [] (s ∷ arms) e = absurd (omega arith)
 arms_formed (r ∷ rows) [] e = absurd (omega arith)
 arms_formed (r ∷ rows) (s ∷ arms) e =
-    ap (λ b. (has_items r.items && is_statement s) && b) (arms_formed rows arms (rows_left r rows s arms e))
-    ∙ four (has_items r.items) (is_statement s) (list_all (λ (r : Vec Constant Global). has_items r.items) rows) (list_all is_statement arms)
+    ap (λ b. (is_row r.items && is_statement s) && b) (arms_formed rows arms (rows_left r rows s arms e))
+    ∙ four (is_row r.items) (is_statement s) (list_all (λ (r : Vec Constant Global). is_row r.items) rows) (list_all is_statement arms)
 
 -- an arm begins with a constant
 abbrev pub constant_kind : Kind → Bool
 constant_kind kind.Identifier = true
 constant_kind (kind.Number v) = true
+constant_kind kind.Text = true
 constant_kind (kind.Symbol symbol.Plus) = true
 constant_kind (kind.Symbol symbol.Minus) = true
 constant_kind _ = false
@@ -96,6 +97,7 @@ constant_first : (o : Option SignAt) (v : ConstantValue) (s : Spelling) (a c : L
     → (k : Kind) × (next_kind a ≡ Some k) × (constant_kind k ≡ true)
 constant_first None (constant.Number m p) s a c h = (kind.Number m, begins (of_kind_at (kind.Number m) p) s a c h, refl)
 constant_first None (constant.Name n) s a c h = (kind.Identifier, begins (identifier n) s a c h, refl)
+constant_first None (constant.String t p) s a c h = (kind.Text, begins (character_string t.now p) s a c h, refl)
 constant_first (Some g) v s a c h = sign_first g.sign g.place (value_lexeme v ∷ s) a c h
 
 pub row_first : (cs : List Constant) (a c : List Token) → 0 < length cs → Reads a (separated symbol.Comma (map constant_spelling cs)) c
@@ -133,7 +135,7 @@ case_parts levels a b c p e rows v semicolon h k =
     let others = and_right (is_expression e) (in_rows && (some && all)) h.formed in
     let paired = and_left in_rows (some && all) others in
     let formed = and_right in_rows (some && all) others in
-    let filled = list_all (λ (r : Vec Constant Global). has_items r.items) rows.items in
+    let filled = list_all (λ (r : Vec Constant Global). is_row r.items) rows.items in
     let size = nat_eq (length rows.items) (length (map stmt_form v.items)) in
     let same : length rows.items ≡ length v.items =
     eqb-true (length rows.items) (length (map stmt_form v.items)) (and_left size filled paired) ∙ length_map stmt_form v.items in

@@ -290,6 +290,7 @@ chained_of : (level levels : ℕ) (a c : List Token) (d : expr.Expr-F Expr Actua
     → nest.expr_step (map-Expr Expr Actual Link ℕ ℕ ℕ expr_levels actual_levels link_levels d) ≤ levels → IsChained level levels a c
 chained_of level levels a c (expr.Number v p) is e w s n = let b = level_below level is in absurd (omega arith)
 chained_of level levels a c (expr.Name m) is e w s n = let b = level_below level is in absurd (omega arith)
+chained_of level levels a c (expr.String t p) is e w s n = let b = level_below level is in absurd (omega arith)
 chained_of level levels a c (expr.Call m v) is e w s n = let b = level_below level is in absurd (omega arith)
 chained_of level levels a c (expr.Parenthesized p b) is e w s n = let b = level_below level is in absurd (omega arith)
 chained_of level levels a c (expr.Not p b) is e w s n = let b = level_below level is in absurd (omega arith)

@@ -15,10 +15,11 @@ use Rattle.syntax_tree.specs.declared.SignAt.{SignAt}
 use Rattle.syntax_tree.specs.declared.TypeDenoter.{TypeDenoter}
 use Rattle.syntax_tree.specs.declared.TypeDenoter.TheVariants as denoter
 use Rattle.grammar.specs.Spelling.{Reads, of_kind_at, mark, identifier, identifiers, separated, sign, sign_spelling, value_lexeme, constant_spelling}
-use Rattle.grammar.specs.Spelling.{in_parentheses}
-use Rattle.grammar.specs.WellFormed.{has_items}
+use Rattle.grammar.specs.Spelling.{in_parentheses, character_string}
+use Rattle.grammar.specs.WellFormed.{has_items, is_constant}
 use Rattle.grammar.specs.Begins.{BeginsConstant, BeginsDenoter}
 use Rattle.grammar.specs.Following.{Next, NoNext}
+use Rattle.grammar.proofs.Lists.{and_left, and_right}
 use Rattle.grammar.proofs.Rows.{parted, begins}
 use Rattle.grammar.proofs.Programs.{NamesThenClosed, names_opened, some_items, other_kind}
 
@@ -29,6 +30,8 @@ value_first (constant.Number m p) a c h e =
     let no : Some (kind.Number m) ≡ Some (kind.Symbol symbol.OpenParenthesis) = sym (begins (of_kind_at (kind.Number m) p) [] a c h) ∙ e in cc
 value_first (constant.Name n) a c h e =
     other_kind kind.Identifier (kind.Symbol symbol.OpenParenthesis) a (begins (identifier n) [] a c h) (λ same. cc) e
+value_first (constant.String t p) a c h e =
+    other_kind kind.Text (kind.Symbol symbol.OpenParenthesis) a (begins (character_string t.now p) [] a c h) (λ same. cc) e
 
 -- a sign is none, nor a name
 sign_other : (s : Sign) (p : Place) (k : Kind) (v : ConstantValue) (a c : List Token) → ¬ (Some (kind.Symbol symbol.Plus) ≡ Some k)
@@ -41,7 +44,7 @@ signed_first : (o : Option SignAt) (v : ConstantValue) (a c : List Token) → Re
 signed_first None v a c h = value_first v a c h
 signed_first (Some s) v a c h = sign_other s.sign s.place (kind.Symbol symbol.OpenParenthesis) v a c (λ e. cc) (λ e. cc) h
 
-pub constant_opens_none : (x : Constant) (a c : List Token) → BeginsConstant a c x → NoNext (kind.Symbol symbol.OpenParenthesis) a
+pub constant_opens_none : (x : Constant) (a c : List Token) → Reads a (constant_spelling x) c → NoNext (kind.Symbol symbol.OpenParenthesis) a
 constant_opens_none x a c h = signed_first x.sign x.value a c h
 
 -- where a name stands a constant is a name without a sign
@@ -50,13 +53,15 @@ value_named : (v : ConstantValue) (a c : List Token) → Reads a (value_lexeme v
 value_named (constant.Number m p) a c h e =
     let no : Some (kind.Number m) ≡ Some kind.Identifier = sym (begins (of_kind_at (kind.Number m) p) [] a c h) ∙ e in cc
 value_named (constant.Name n) a c h e = (n, refl)
+value_named (constant.String t p) a c h e =
+    let no : Some kind.Text ≡ Some kind.Identifier = sym (begins (character_string t.now p) [] a c h) ∙ e in cc
 
 parts_named : (o : Option SignAt) (v : ConstantValue) (a c : List Token) → Reads a (sign_spelling o ++ value_lexeme v ∷ []) c → Next kind.Identifier a
     → (n : Name) × (o ≡ None) × (v ≡ constant.Name n)
 parts_named None v a c h e = let r = value_named v a c h e in (r.0, refl, r.1)
 parts_named (Some s) v a c h e = absurd (sign_other s.sign s.place kind.Identifier v a c (λ e. cc) (λ e. cc) h e)
 
-pub constant_named : (x : Constant) (a c : List Token) → BeginsConstant a c x → Next kind.Identifier a
+pub constant_named : (x : Constant) (a c : List Token) → Reads a (constant_spelling x) c → Next kind.Identifier a
     → (n : Name) × (x ≡ record { sign = None; value = constant.Name n })
 constant_named x a c h e = let r = parts_named x.sign x.value a c h e in (r.0, (λ i. record { sign = r.1 i; value = r.2 i }))
 
@@ -64,7 +69,7 @@ constant_named x a c h e = let r = parts_named x.sign x.value a c h e in (r.0, (
 pub data NameOrSubrange (a c : List Token) : Type 0 where
   named : (n : Name) → Reads a (identifier n ∷ []) c → NameOrSubrange a c
   ranged : (first last : Constant) (p : Place) (b : List Token) → BeginsConstant a b first
-      → Reads b (of_kind_at (kind.Symbol symbol.Range) p ∷ constant_spelling last) c → NameOrSubrange a c
+      → Reads b (of_kind_at (kind.Symbol symbol.Range) p ∷ constant_spelling last) c → is_constant last ≡ true → NameOrSubrange a c
 
 -- names in parentheses, of which there are some
 pub names_closed : (a c : List Token) (names : List Name) → has_items names ≡ true → Reads a (in_parentheses (identifiers names)) c
@@ -83,7 +88,8 @@ name_or_subrange a c (denoter.Name n) h none = named n h.spelled
 name_or_subrange a c (denoter.Enumerated constants) h none = absurd (none (enumerated_first a c constants.items h.formed h.spelled))
 name_or_subrange a c (denoter.Subrange first p last) h none =
     let r = parted (constant_spelling first) (of_kind_at (kind.Symbol symbol.Range) p ∷ constant_spelling last) a c h.spelled in
-    ranged first last p r.0 r.1 r.2
+    ranged first last p r.0 (record { spelled = r.1; formed = and_left (is_constant first) (is_constant last) h.formed }) r.2
+    (and_right (is_constant first) (is_constant last) h.formed)
 
 -- a denoter behind its opening parenthesis
 pub enumerated_opened : (p : Place) (a b c : List Token) (d : TypeDenoter) → Reads a (of_kind_at (kind.Symbol symbol.OpenParenthesis) p ∷ []) b

@@ -1,5 +1,7 @@
 -- The spelling, the form and the levels of a tree, one equation a form: the folds computed.
-use Rattle.std.proofs.Common.{◌≡◌, ℕ, ◌+◌, max, Bool, true, false, not, ◌&&◌, [], ◌∷◌, ◌++◌, map, length, Some, None, sym, ap, ◌∙◌}
+use Rattle.std.proofs.Common.{◌≡◌, ℕ, ◌+◌, max, Bool, true, false, not, ◌&&◌, List, [], ◌∷◌, ◌++◌, map, length, Some, None, sym, ap}
+use Rattle.std.proofs.Common.{◌∙◌}
+use Rattle.std.specs.Borrow.{Bor}
 use Rattle.std.specs.List.{list_all}
 use Rattle.std.specs.declared.alloc.Global.{Global}
 use Rattle.std.specs.declared.boxed.Box.{Box}
@@ -53,6 +55,15 @@ form-Name n = ap form.expr_form (sym (tree.rolls-Name n)) ∙ form_of (expr.Name
 
 pub levels-Name : (n : Name) → nest.expr_levels (tree.Name n) ≡ 0
 levels-Name n = ap nest.expr_levels (sym (tree.rolls-Name n)) ∙ levels_of (expr.Name n)
+
+pub spelling-String : (t : Bor (List ℕ)) (p : Place) → spell.expr_spelling (tree.String t p) ≡ spell.character_string t.now p ∷ []
+spelling-String t p = ap spell.expr_spelling (sym (tree.rolls-String t p)) ∙ spelling_of (expr.String t p)
+
+pub form-String : (t : Bor (List ℕ)) (p : Place) → form.expr_form (tree.String t p) ≡ record { level = form.factor_level; well = true }
+form-String t p = ap form.expr_form (sym (tree.rolls-String t p)) ∙ form_of (expr.String t p)
+
+pub levels-String : (t : Bor (List ℕ)) (p : Place) → nest.expr_levels (tree.String t p) ≡ 0
+levels-String t p = ap nest.expr_levels (sym (tree.rolls-String t p)) ∙ levels_of (expr.String t p)
 
 pub spelling-Function : (n : Name) (v : Vec Actual Global)
     → spell.expr_spelling (tree.Call n v) ≡ spell.identifier n ∷ spell.in_parentheses (map spell.actual_spelling v.items)

@@ -16,7 +16,8 @@ use Rattle.syntax_tree.specs.declared.Link.{Link}
 use Rattle.syntax_tree.specs.declared.Expr.TheOpen as expr
 use Rattle.syntax_tree.specs.declared.Expr.TheViews.{out-Expr, roll-Expr, roll-out-Expr}
 use Rattle.syntax_tree.specs.declared.Expr.TheFolds.{map-Expr}
-use Rattle.grammar.specs.Spelling.{Spelling, Reads, expr_spelling, actual_spelling, link_spelling, of_kind_at, mark, identifier, sign, in_parentheses}
+use Rattle.grammar.specs.Spelling.{Spelling, Reads, expr_spelling, actual_spelling, link_spelling, of_kind_at, mark, identifier, character_string, sign}
+use Rattle.grammar.specs.Spelling.{in_parentheses}
 use Rattle.grammar.specs.Spelling as spell
 use Rattle.grammar.specs.WellFormed.{Form, LinkForm, expr_form, is_actual, link_form, chain_form, fits, has_items, relation_level, signed_level, product_level}
 use Rattle.grammar.specs.WellFormed.{factor_level}
@@ -35,6 +36,7 @@ use Rattle.grammar.proofs.Chains.{product, chain_parts, level_below, level_unsig
 -- the ways to spell a factor
 pub data IsFactor (levels : ℕ) (tokens others : List Token) : Type 0 where
   number : (v : ℕ) (p : Place) → Reads tokens (of_kind_at (kind.Number v) p ∷ []) others → IsFactor levels tokens others
+  quoted : (t : List ℕ) (p : Place) → Reads tokens (character_string t p ∷ []) others → IsFactor levels tokens others
   named : (n : Name) (actuals : List Actual) → Reads tokens (identifier n ∷ in_parentheses (map actual_spelling actuals)) others
       → list_all is_actual actuals ≡ true → deepest (map actual_levels actuals) ≤ levels → IsFactor levels tokens others
   negated : (p : Place) (e : Expr) → Reads tokens (of_kind_at (kind.Word word.Not) p ∷ expr_spelling e) others
@@ -53,6 +55,7 @@ chain_no_factor first (l ∷ ls) h =
 factor_of : (levels : ℕ) (a c : List Token) (d : expr.Expr-F Expr Actual Link) → BeginsExpr factor_level levels a c (roll-Expr d) → IsFactor levels a c
 factor_of levels a c (expr.Number v p) h = number v p (subst (λ s. Reads a s c) (spelling_of (expr.Number v p)) h.spelled)
 factor_of levels a c (expr.Name n) h = named n [] (subst (λ s. Reads a s c) (spelling_of (expr.Name n)) h.spelled) refl (omega arith)
+factor_of levels a c (expr.String t p) h = quoted t.now p (subst (λ s. Reads a s c) (spelling_of (expr.String t p)) h.spelled)
 factor_of levels a c (expr.Call n v) h =
     let f = fits_well factor_level (form.expr_step (map-Expr Expr Actual Link Form Bool LinkForm expr_form is_actual link_form (expr.Call n v)))
     (subst (λ f. fits factor_level f ≡ true) (form_of (expr.Call n v)) h.formed) in
@@ -76,6 +79,7 @@ factor_parts levels a c e h = factor_of levels a c (out-Expr e) (subst (λ x. Be
 -- a number where a factor stands
 pub number_read : (levels v : ℕ) (p : Place) (a b c : List Token) → Reads a (of_kind_at (kind.Number v) p ∷ []) b → IsFactor levels a c → b ≡ c
 number_read levels v p a b c k (number w q h) = (same_first _ (of_kind_at (kind.Number w) q) [] a b c k h).1
+number_read levels v p a b c k (quoted t q h) = let no : Some kind.Text ≡ Some (kind.Number v) = (same_first _ (character_string t q) [] a b c k h).0 in cc
 number_read levels v p a b c k (named n xs h f m) = let no : Some kind.Identifier ≡ Some (kind.Number v) = (same_first _ (identifier n) _ a b c k h).0 in cc
 number_read levels v p a b c k (negated q e h f n) = let no : Some (kind.Word word.Not) ≡ Some
     (kind.Number v) = (same_first _ (of_kind_at (kind.Word word.Not) q) _ a b c k h).0 in cc
@@ -83,13 +87,27 @@ number_read levels v p a b c k (parenthesized q e h f n) =
     let no : Some (kind.Symbol symbol.OpenParenthesis) ≡ Some (kind.Number v) = (same_first _
     (of_kind_at (kind.Symbol symbol.OpenParenthesis) q) _ a b c k h).0 in cc
 
+-- a string there
+pub string_read : (levels : ℕ) (t : List ℕ) (p : Place) (a b c : List Token) → Reads a (character_string t p ∷ []) b → IsFactor levels a c → b ≡ c
+string_read levels t p a b c k (number v q h) = let no : Some (kind.Number v) ≡ Some kind.Text = (same_first _ (of_kind_at (kind.Number v) q) [] a b c k h).0
+    in cc
+string_read levels t p a b c k (quoted u q h) = (same_first _ (character_string u q) [] a b c k h).1
+string_read levels t p a b c k (named n xs h f m) = let no : Some kind.Identifier ≡ Some kind.Text = (same_first _ (identifier n) _ a b c k h).0 in cc
+string_read levels t p a b c k (negated q e h f n) = let no : Some (kind.Word word.Not) ≡ Some
+    kind.Text = (same_first _ (of_kind_at (kind.Word word.Not) q) _ a b c k h).0 in cc
+string_read levels t p a b c k (parenthesized q e h f n) =
+    let no : Some (kind.Symbol symbol.OpenParenthesis) ≡ Some kind.Text = (same_first _
+    (of_kind_at (kind.Symbol symbol.OpenParenthesis) q) _ a b c k h).0 in cc
+
 -- a parenthesis comes where a factor begins with nothing else
-pub begins_parenthesized : (levels : ℕ) (a c : List Token) → ((v : ℕ) → ¬ (next_kind a ≡ Some (kind.Number v))) → ¬ (next_kind a ≡ Some kind.Identifier)
-    → ¬ (next_kind a ≡ Some (kind.Word word.Not)) → IsFactor levels a c → next_kind a ≡ Some (kind.Symbol symbol.OpenParenthesis)
-begins_parenthesized levels a c x y z (number v p h) = absurd (x v (begins _ [] a c h))
-begins_parenthesized levels a c x y z (named n xs h f m) = absurd (y (begins _ _ a c h))
-begins_parenthesized levels a c x y z (negated p e h f n) = absurd (z (begins _ _ a c h))
-begins_parenthesized levels a c x y z (parenthesized p e h f n) = begins _ _ a c h
+pub begins_parenthesized : (levels : ℕ) (a c : List Token) → ((v : ℕ) → ¬ (next_kind a ≡ Some (kind.Number v))) → ¬ (next_kind a ≡ Some kind.Text)
+    → ¬ (next_kind a ≡ Some kind.Identifier) → ¬ (next_kind a ≡ Some (kind.Word word.Not)) → IsFactor levels a c
+    → next_kind a ≡ Some (kind.Symbol symbol.OpenParenthesis)
+begins_parenthesized levels a c x w y z (number v p h) = absurd (x v (begins _ [] a c h))
+begins_parenthesized levels a c x w y z (quoted t p h) = absurd (w (begins (character_string t p) [] a c h))
+begins_parenthesized levels a c x w y z (named n xs h f m) = absurd (y (begins _ _ a c h))
+begins_parenthesized levels a c x w y z (negated p e h f n) = absurd (z (begins _ _ a c h))
+begins_parenthesized levels a c x w y z (parenthesized p e h f n) = begins _ _ a c h
 
 -- what stands behind the name of a factor
 pub record IsNamed (levels : ℕ) (a c : List Token) : Type 0 where
@@ -99,6 +117,7 @@ pub record IsNamed (levels : ℕ) (a c : List Token) : Type 0 where
 pub name_taken : (levels : ℕ) (m : Name) (a b c : List Token) → Reads a (identifier m ∷ []) b → IsFactor levels a c → IsNamed levels b c
 name_taken levels m a b c k (number w q h) = let no : Some (kind.Number w) ≡ Some
     kind.Identifier = (same_first _ (of_kind_at (kind.Number w) q) [] a b c k h).0 in cc
+name_taken levels m a b c k (quoted t q h) = let no : Some kind.Text ≡ Some kind.Identifier = (same_first _ (character_string t q) [] a b c k h).0 in cc
 name_taken levels m a b c k (named n xs h f l) = record {
   actuals = xs;
   begun = record {
@@ -124,6 +143,8 @@ pub not_taken_word : (levels : ℕ) (p : Place) (a b c : List Token) → Reads a
     → IsNegated levels b c
 not_taken_word levels p a b c k (number w q h) = let no : Some (kind.Number w) ≡ Some
     (kind.Word word.Not) = (same_first _ (of_kind_at (kind.Number w) q) [] a b c k h).0 in cc
+not_taken_word levels p a b c k (quoted t q h) = let no : Some kind.Text ≡ Some
+    (kind.Word word.Not) = (same_first _ (character_string t q) [] a b c k h).0 in cc
 not_taken_word levels p a b c k (named n xs h f l) = let no : Some kind.Identifier ≡ Some
     (kind.Word word.Not) = (same_first _ (identifier n) _ a b c k h).0 in cc
 not_taken_word levels p a b c k (negated q e h f n) = record {
@@ -149,6 +170,8 @@ pub opened : (levels : ℕ) (p : Place) (a b c : List Token) → Reads a (of_kin
     → Opened levels b c
 opened levels p a b c k (number w q h) = let no : Some (kind.Number w) ≡ Some (kind.Symbol symbol.OpenParenthesis) = (same_first _
     (of_kind_at (kind.Number w) q) [] a b c k h).0 in cc
+opened levels p a b c k (quoted t q h) = let no : Some kind.Text ≡ Some (kind.Symbol symbol.OpenParenthesis) = (same_first _
+    (character_string t q) [] a b c k h).0 in cc
 opened levels p a b c k (named n xs h f l) = let no : Some kind.Identifier ≡ Some
     (kind.Symbol symbol.OpenParenthesis) = (same_first _ (identifier n) _ a b c k h).0 in cc
 opened levels p a b c k (negated q e h f n) = let no : Some (kind.Word word.Not) ≡ Some
@@ -176,6 +199,7 @@ signed_of : (levels : ℕ) (a c : List Token) (d : expr.Expr-F Expr Actual Link)
     → nest.expr_step (map-Expr Expr Actual Link ℕ ℕ ℕ expr_levels actual_levels link_levels d) ≤ levels → IsSigned levels a c
 signed_of levels a c (expr.Number v p) e w s n = absurd (omega arith)
 signed_of levels a c (expr.Name m) e w s n = absurd (omega arith)
+signed_of levels a c (expr.String t p) e w s n = absurd (omega arith)
 signed_of levels a c (expr.Call m v) e w s n = absurd (omega arith)
 signed_of levels a c (expr.Parenthesized p b) e w s n = absurd (omega arith)
 signed_of levels a c (expr.Not p b) e w s n = absurd (omega arith)
@@ -211,6 +235,8 @@ signed_parts levels a c e h = signed_if levels a c e (nat_le product_level (expr
 factor_unsigned : (levels : ℕ) (s : Sign) (p : Place) (a b c : List Token) → Reads a (sign s p ∷ []) b → IsFactor levels a c → ⊥
 factor_unsigned levels Plus p a b c k (number v q h) = let no : Some (kind.Number v) ≡ Some (kind.Symbol symbol.Plus) = sym (begins _ [] a c h)
     ∙ begins _ [] a b k in cc
+factor_unsigned levels Plus p a b c k (quoted t q h) = let no : Some kind.Text ≡ Some (kind.Symbol symbol.Plus) = sym
+    (begins (character_string t q) [] a c h) ∙ begins _ [] a b k in cc
 factor_unsigned levels Plus p a b c k (named n xs h f m) = let no : Some kind.Identifier ≡ Some (kind.Symbol symbol.Plus) = sym (begins _ _ a c h)
     ∙ begins _ [] a b k in cc
 factor_unsigned levels Plus p a b c k (negated q e h f n) = let no : Some (kind.Word word.Not) ≡ Some (kind.Symbol symbol.Plus) = sym (begins _ _ a c h)
@@ -219,6 +245,8 @@ factor_unsigned levels Plus p a b c k (parenthesized q e h f n) = let no : Some 
     (begins _ _ a c h) ∙ begins _ [] a b k in cc
 factor_unsigned levels Minus p a b c k (number v q h) = let no : Some (kind.Number v) ≡ Some (kind.Symbol symbol.Minus) = sym (begins _ [] a c h)
     ∙ begins _ [] a b k in cc
+factor_unsigned levels Minus p a b c k (quoted t q h) = let no : Some kind.Text ≡ Some (kind.Symbol symbol.Minus) = sym
+    (begins (character_string t q) [] a c h) ∙ begins _ [] a b k in cc
 factor_unsigned levels Minus p a b c k (named n xs h f m) = let no : Some kind.Identifier ≡ Some (kind.Symbol symbol.Minus) = sym (begins _ _ a c h)
     ∙ begins _ [] a b k in cc
 factor_unsigned levels Minus p a b c k (negated q e h f n) = let no : Some (kind.Word word.Not) ≡ Some (kind.Symbol symbol.Minus) = sym (begins _ _ a c h)

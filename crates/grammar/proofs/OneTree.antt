@@ -1,10 +1,10 @@
 -- What is read of two spellings from the same tokens: each token that both begin with is one.
-use Rattle.std.proofs.Common.{◌≡◌, ◌<◌, List, [], ◌∷◌, length, subst, sym, ap, ◌∙◌, arith}
+use Rattle.std.proofs.Common.{◌≡◌, ℕ, ◌<◌, List, [], ◌∷◌, length, subst, sym, ap, ◌∙◌, arith}
 use Rattle.place.specs.declared.Place.{Place}
 use Rattle.lexer.specs.declared.token.Kind.{Kind}
 use Rattle.lexer.specs.declared.token.Token.{Token}
 use Rattle.syntax_tree.specs.declared.Name.{Name}
-use Rattle.grammar.specs.Spelling.{Lexeme, Spelling, IsSpelledBy, Reads, of_kind_at, identifier}
+use Rattle.grammar.specs.Spelling.{Lexeme, Spelling, IsSpelledBy, Reads, of_kind_at, identifier, character_string}
 
 -- two spellings from the same tokens: their first token is one, and the others stand behind it
 pub record FirstIsOne (l m : Lexeme) (s t : Spelling) (a c d : List Token) : Type 0 where
@@ -46,6 +46,14 @@ pub name_is_one : (m n : Name) (x : Token) → IsSpelledBy (identifier m) x → 
 name_is_one m n x h i =
     let texts : m.text.now ≡ n.text.now = sym h.text ∙ i.text in
     let places : m.place ≡ n.place = sym h.place ∙ i.place in
+    cc
+
+-- and a string
+pub string_is_one : (s t : List ℕ) (p q : Place) (x : Token) → IsSpelledBy (character_string s p) x → IsSpelledBy (character_string t q) x
+    → character_string s p ≡ character_string t q
+string_is_one s t p q x h i =
+    let texts : s ≡ t = sym h.text ∙ i.text in
+    let places : p ≡ q = sym h.place ∙ i.place in
     cc
 
 -- what stands behind a spelling's last token is one

@@ -13,7 +13,7 @@ use Rattle.syntax_tree.specs.declared.Sign.TheVariants.{Plus, Minus}
 use Rattle.syntax_tree.specs.declared.SignAt.{SignAt}
 use Rattle.grammar.specs.Spelling.{Lexeme, Spelling, IsSpelledBy, Reads, sign, sign_spelling, value_lexeme, constant_spelling}
 use Rattle.grammar.specs.Notation.{token, constant_notation}
-use Rattle.grammar.proofs.OneTree.{Alike, first_is_one, at_is_one, name_is_one}
+use Rattle.grammar.proofs.OneTree.{Alike, first_is_one, at_is_one, name_is_one, string_is_one}
 use Rattle.grammar.proofs.OneTreeLists.{Parts, OnePart}
 use Rattle.grammar.proofs.OneTreeExpressions.{sign_is_one}
 
@@ -33,15 +33,22 @@ constant_parts = record {
 value_is_one : (v w : ConstantValue) (t : Token) → IsSpelledBy (value_lexeme v) t → IsSpelledBy (value_lexeme w) t → value_lexeme v ≡ value_lexeme w
 value_is_one (constant.Number m p) (constant.Number n q) t h i = at_is_one (kind.Number m) (kind.Number n) p q t h i
 value_is_one (constant.Number m p) (constant.Name n) t h i = let no : kind.Number m ≡ kind.Identifier = sym h.kind ∙ i.kind in cc
+value_is_one (constant.Number m p) (constant.String s q) t h i = let no : kind.Number m ≡ kind.Text = sym h.kind ∙ i.kind in cc
 value_is_one (constant.Name m) (constant.Number n q) t h i = let no : kind.Identifier ≡ kind.Number n = sym h.kind ∙ i.kind in cc
 value_is_one (constant.Name m) (constant.Name n) t h i = name_is_one m n t h i
+value_is_one (constant.Name m) (constant.String s q) t h i = let no : kind.Identifier ≡ kind.Text = sym h.kind ∙ i.kind in cc
+value_is_one (constant.String r p) (constant.Number n q) t h i = let no : kind.Text ≡ kind.Number n = sym h.kind ∙ i.kind in cc
+value_is_one (constant.String r p) (constant.Name n) t h i = let no : kind.Text ≡ kind.Identifier = sym h.kind ∙ i.kind in cc
+value_is_one (constant.String r p) (constant.String s q) t h i = string_is_one r.now s.now p q t h i
 
 -- a sign is no value
 signed_value : (s : Sign) (p : Place) (v : ConstantValue) (t : Token) → IsSpelledBy (sign s p) t → IsSpelledBy (value_lexeme v) t → ⊥
 signed_value Plus p (constant.Number m q) t h i = let no : kind.Symbol symbol.Plus ≡ kind.Number m = sym h.kind ∙ i.kind in cc
 signed_value Plus p (constant.Name n) t h i = let no : kind.Symbol symbol.Plus ≡ kind.Identifier = sym h.kind ∙ i.kind in cc
+signed_value Plus p (constant.String s q) t h i = let no : kind.Symbol symbol.Plus ≡ kind.Text = sym h.kind ∙ i.kind in cc
 signed_value Minus p (constant.Number m q) t h i = let no : kind.Symbol symbol.Minus ≡ kind.Number m = sym h.kind ∙ i.kind in cc
 signed_value Minus p (constant.Name n) t h i = let no : kind.Symbol symbol.Minus ≡ kind.Identifier = sym h.kind ∙ i.kind in cc
+signed_value Minus p (constant.String s q) t h i = let no : kind.Symbol symbol.Minus ≡ kind.Text = sym h.kind ∙ i.kind in cc
 
 values_alike : (a c d : List Token) (v w : ConstantValue) → Reads a (value_lexeme v ∷ []) c → Reads a (value_lexeme w ∷ []) d
     → Alike Lexeme (value_lexeme v) (value_lexeme w) c d

@@ -21,7 +21,7 @@ use Rattle.syntax_tree.specs.declared.Expr.TheOpen as expr
 use Rattle.syntax_tree.specs.declared.Expr.TheViews.{out-Expr, roll-Expr, roll-out-Expr, out-Link, roll-out-Link, out-Actual, roll-Actual, roll-out-Actual}
 use Rattle.syntax_tree.specs.declared.Expr.TheFolds.{map-Expr, fold-roll-Expr, fold-roll-Link, fold-roll-Actual}
 use Rattle.grammar.specs.Spelling.{Lexeme, Spelling, IsSpelledBy, Reads, expr_spelling, actual_spelling, link_spelling, of_kind_at, mark, identifier, sign}
-use Rattle.grammar.specs.Spelling.{operator, operator_kind, in_parentheses, joined}
+use Rattle.grammar.specs.Spelling.{operator, operator_kind, in_parentheses, joined, character_string}
 use Rattle.grammar.specs.Spelling as spell
 use Rattle.grammar.specs.WellFormed.{Form, LinkForm, expr_form, is_actual, is_expression, link_form, chain_form, fits, has_items, is_link, first_level}
 use Rattle.grammar.specs.WellFormed.{operand_level, relation_level, sum_level, signed_level, product_level, factor_level}
@@ -37,7 +37,7 @@ use Rattle.grammar.proofs.Rows.{parted, begins}
 use Rattle.grammar.proofs.Chains.{IsLevel, relation, sum, product, level_below, level_unsigned, operand_above, operand_below, fits_level, fits_well, fits_if}
 use Rattle.grammar.proofs.Chains.{ends_above, close_ends, comma_ends, colon_ends, link_spelled, operator_of_link, operand_of_link, parts_of, behind_with}
 use Rattle.grammar.proofs.Expressions.{chain_no_factor, chain_unsigned, term_unsigned}
-use Rattle.grammar.proofs.OneTree.{Alike, first_is_one, last_is_one, at_is_one, name_is_one}
+use Rattle.grammar.proofs.OneTree.{Alike, first_is_one, last_is_one, at_is_one, name_is_one, string_is_one}
 use Rattle.grammar.proofs.OneTreeLists.{Parts, EndsPart, more, last, Part, OnePart, InParentheses, in_commas, parenthesized_alike}
 
 -- the form, the spelling and the notation of one layer
@@ -102,6 +102,7 @@ chain_of : (level : ℕ) (a c : List Token) (d : expr.Expr-F Expr Actual Link) �
     → Reads a (spelling_layer d) c → ChainAs level a c (notation_layer d)
 chain_of level a c (expr.Number v p) is e w s = let b = level_below level is in absurd (omega arith)
 chain_of level a c (expr.Name m) is e w s = let b = level_below level is in absurd (omega arith)
+chain_of level a c (expr.String t p) is e w s = let b = level_below level is in absurd (omega arith)
 chain_of level a c (expr.Call m v) is e w s = let b = level_below level is in absurd (omega arith)
 chain_of level a c (expr.Parenthesized p b) is e w s = let b = level_below level is in absurd (omega arith)
 chain_of level a c (expr.Not p b) is e w s = let b = level_below level is in absurd (omega arith)
@@ -246,6 +247,7 @@ signed_of : (a c : List Token) (d : expr.Expr-F Expr Actual Link) → (form_laye
     → Reads a (spelling_layer d) c → SignedAs a c (notation_layer d)
 signed_of a c (expr.Number v p) e w s = absurd (omega arith)
 signed_of a c (expr.Name m) e w s = absurd (omega arith)
+signed_of a c (expr.String t p) e w s = absurd (omega arith)
 signed_of a c (expr.Call m v) e w s = absurd (omega arith)
 signed_of a c (expr.Parenthesized p b) e w s = absurd (omega arith)
 signed_of a c (expr.Not p b) e w s = absurd (omega arith)
@@ -419,6 +421,7 @@ named_notation name (one ∷ others) = bracketed note.function_call (token name 
 data FactorAs (a c : List Token) (w : Notation) : Type 0 where
   number : (v : ℕ) (p : Place) → Reads a (of_kind_at (kind.Number v) p ∷ []) c → w ≡ bracketed note.number
       (token (of_kind_at (kind.Number v) p) ∷ []) → FactorAs a c w
+  quoted : (t : List ℕ) (p : Place) → Reads a (character_string t p ∷ []) c → w ≡ bracketed note.string (token (character_string t p) ∷ []) → FactorAs a c w
   named : (n : Name) (actuals : List Actual) → Reads a (identifier n ∷ in_parentheses (map actual_spelling actuals)) c → list_all is_actual actuals ≡ true
       → w ≡ named_notation (identifier n) (map actual_notation actuals) → FactorAs a c w
   negated : (p : Place) (e : Expr) → Reads a (of_kind_at (kind.Word word.Not) p ∷ expr_spelling e) c → fits factor_level (expr_form e) ≡ true
@@ -441,6 +444,7 @@ factor_of : (a c : List Token) (d : expr.Expr-F Expr Actual Link) → fits facto
 unfolding named_notation
 factor_of a c (expr.Number v p) f s = number v p s refl
 factor_of a c (expr.Name n) f s = named n [] s refl refl
+factor_of a c (expr.String t p) f s = quoted t.now p s refl
 factor_of a c (expr.Call n v) f s = call_as a c n v.items s f
 factor_of a c (expr.Parenthesized p b) f s = parenthesized p b.value s f refl
 factor_of a c (expr.Not p b) f s = negated p b.value s f refl
@@ -458,12 +462,14 @@ factor_as a c e h =
 -- the token that a factor begins with
 abbrev first_kind : {a c : List Token} {w : Notation} → FactorAs a c w → Kind
 first_kind (number v p h x) = kind.Number v
+first_kind (quoted t p h x) = kind.Text
 first_kind (named n xs h f x) = kind.Identifier
 first_kind (negated p e h f x) = kind.Word word.Not
 first_kind (parenthesized p e h f x) = kind.Symbol symbol.OpenParenthesis
 
 begins_so : (a c : List Token) (w : Notation) (x : FactorAs a c w) → next_kind a ≡ Some (first_kind x)
 begins_so a c w (number v p h x) = begins _ [] a c h
+begins_so a c w (quoted t p h x) = begins (character_string t p) [] a c h
 begins_so a c w (named n xs h f x) = begins _ _ a c h
 begins_so a c w (negated p e h f x) = begins _ _ a c h
 begins_so a c w (parenthesized p e h f x) = begins _ _ a c h
@@ -474,6 +480,12 @@ factors_alike n a c d v w inner factor few (number i p h x) (number j q k y) sam
     let b = first_is_one (of_kind_at (kind.Number i) p) (of_kind_at (kind.Number j) q) [] [] a c d h k in
     record {
       written = x ∙ ap (λ l. bracketed note.number (token l ∷ [])) (at_is_one (kind.Number i) (kind.Number j) p q b.first b.one b.two) ∙ sym y;
+      left = sym b.one_behind ∙ b.two_behind;
+    }
+factors_alike n a c d v w inner factor few (quoted s p h x) (quoted t q k y) same ends_one ends_two =
+    let b = first_is_one (character_string s p) (character_string t q) [] [] a c d h k in
+    record {
+      written = x ∙ ap (λ l. bracketed note.string (token l ∷ [])) (string_is_one s t p q b.first b.one b.two) ∙ sym y;
       left = sym b.one_behind ∙ b.two_behind;
     }
 factors_alike n a c d v w inner factor few (named m xs h f x) (named o ys k g y) same ends_one ends_two =

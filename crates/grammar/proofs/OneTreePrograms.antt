@@ -15,7 +15,7 @@ use Rattle.syntax_tree.specs.declared.Program.{Program}
 use Rattle.grammar.specs.Spelling.{Lexeme, Spelling, Reads, Spells, of_kind_at, mark, word_symbol, identifier, identifiers, separated, joined, in_parentheses}
 use Rattle.grammar.specs.Spelling.{denoter_spelling, type_definition_spelling, group_spelling, constants_spelling, types_spelling, variables_spelling}
 use Rattle.grammar.specs.Spelling.{stmt_spelling, block_spelling, program_spelling}
-use Rattle.grammar.specs.WellFormed.{is_denoter, is_type_definition, is_group, is_statement, is_block, is_program, has_items}
+use Rattle.grammar.specs.WellFormed.{is_definition, is_denoter, is_type_definition, is_group, is_statement, is_block, is_program, has_items}
 use Rattle.grammar.specs.Following.{next_kind, NoNext, Next, EndsConstants, type_part, no_types, EndsTypes, variable_part, statement_part}
 use Rattle.grammar.specs.Notation.{Notation, bracketed, token, row, names_notation, type_definition_notation, group_notation, stmt_notation, block_notation}
 use Rattle.grammar.specs.Notation.{notation}
@@ -23,7 +23,7 @@ use Rattle.grammar.specs.Notation as note
 use Rattle.grammar.specs.Laws.{HasOneTree}
 use Rattle.grammar.proofs.Lists.{and_left, and_right}
 use Rattle.grammar.proofs.Rows.{parted, begins}
-use Rattle.grammar.proofs.Programs.{some_items, other_kind, behind_types, behind_constants, is_body}
+use Rattle.grammar.proofs.Programs.{some_items, other_kind, behind_types, behind_constants, is_body, is_typed_body}
 use Rattle.grammar.proofs.OneTree.{Alike, first_is_one, last_is_one, at_is_one, name_is_one}
 use Rattle.grammar.proofs.OneTreeLists.{Listed, list_alike, InParentheses, parenthesized_alike}
 use Rattle.grammar.proofs.OneTreeNames.{name_spelling, name_written, any_name, name_parts, all_names, names_row, one_name, names_first}
@@ -190,7 +190,7 @@ record TypedAs (a c : List Token) (b : Block) : Type 0 where
   pub types : Types a middle b.types.items
   pub behind : BodyAs middle c b
 
-typed_as : (a c : List Token) (b : Block) → Reads a (behind_constants b) c → is_block b ≡ true → TypedAs a c b
+typed_as : (a c : List Token) (b : Block) → Reads a (behind_constants b) c → is_typed_body b ≡ true → TypedAs a c b
 typed_as a c b h f =
     let r = parted (types_spelling b.types.items) (behind_types b) a c h in
     let types = list_all is_type_definition b.types.items in
@@ -218,7 +218,7 @@ record BlockAs (a c : List Token) (b : Block) : Type 0 where
 block_as : (a c : List Token) (b : Block) → Reads a (block_spelling b) c → is_block b ≡ true → BlockAs a c b
 block_as a c b h f =
     let r = parted (constants_spelling b.constants.items) (behind_constants b) a c h in
-    let behind = typed_as r.0 c b r.2 f in
+    let behind = typed_as r.0 c b r.2 (and_right (list_all is_definition b.constants.items) (is_typed_body b) f) in
     record {
       middle = r.0;
       constants = record { spelled = r.1; closed = types_follow r.0 behind.middle b.types.items behind.types };

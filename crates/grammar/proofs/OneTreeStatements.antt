@@ -26,7 +26,7 @@ use Rattle.syntax_tree.specs.declared.Stmt.TheFolds.{map-Stmt, fold-roll-Stmt}
 use Rattle.grammar.specs.Spelling.{Spelling, Reads, expr_spelling, actual_spelling, stmt_spelling, of_kind_at, word_symbol, identifier, separated}
 use Rattle.grammar.specs.Spelling.{in_parentheses, Lexeme, IsSpelledBy, of_kind, mark, direction_word, constant_spelling}
 use Rattle.grammar.specs.Spelling.{case_end}
-use Rattle.grammar.specs.WellFormed.{StmtForm, stmt_form, is_statement, has_items}
+use Rattle.grammar.specs.WellFormed.{StmtForm, stmt_form, is_constant, is_row, is_statement, has_items}
 use Rattle.grammar.specs.Nesting.{stmt_levels}
 use Rattle.grammar.specs.Following.{next_kind, NoNext, Next, EndsEach, EndsStatements, compound, repeated, EndsStmt, semicolon, end, until}
 use Rattle.grammar.specs.Begins.{BeginsGuard, BeginsStmt, BeginsAlternative, BeginsInitial, Arm, arm_spelled, arm_well, BeginsArms}
@@ -367,7 +367,7 @@ arm_parts a c arm h f ends =
     record {
       middle = r.0;
       list = record {
-        some = some_items arm.0 (and_left (has_items arm.0) (is_statement arm.1) f);
+        some = some_items arm.0 (and_left (has_items arm.0) (list_all is_constant arm.0) (and_left (is_row arm.0) (is_statement arm.1) f));
         spelled = r.1;
         formed = all_constants arm.0;
         closed = begins (mark symbol.Colon) (stmt_spelling arm.1) r.0 c r.2;
@@ -376,7 +376,7 @@ arm_parts a c arm h f ends =
       closed = t.1;
       begun = record {
         spelled = t.2;
-        formed = and_right (has_items arm.0) (is_statement arm.1) f;
+        formed = and_right (is_row arm.0) (is_statement arm.1) f;
         nests = omega arith;
         whole = λ _. no_else word.End c end_closes ends;
       };

@@ -65,6 +65,7 @@ sign_kept (Some s) = one_sign_kept s.sign s.place
 value_kept : (v : ConstantValue) → place.value_place v ∷ [] ≡ kept_places (value_lexeme v ∷ [])
 value_kept (constant.Number n p) = refl
 value_kept (constant.Name n) = refl
+value_kept (constant.String t p) = refl
 
 constant_kept : (c : Constant) → place.constant_places c ≡ kept_places (constant_spelling c)
 constant_kept c =

@@ -19,7 +19,7 @@ use Rattle.syntax_tree.specs.declared.Program.{Program}
 use Rattle.grammar.specs.Spelling.{Spelling, Reads, of_kind_at, mark, word_symbol, identifier, identifiers, separated, joined, in_parentheses, group_spelling}
 use Rattle.grammar.specs.Spelling.{denoter_spelling, type_definition_spelling, constants_spelling, types_spelling, variables_spelling, stmt_spelling}
 use Rattle.grammar.specs.Spelling.{block_spelling}
-use Rattle.grammar.specs.WellFormed.{is_denoter, is_type_definition, is_group, is_statement, is_block, has_items}
+use Rattle.grammar.specs.WellFormed.{is_definition, is_denoter, is_type_definition, is_group, is_statement, has_items}
 use Rattle.grammar.specs.Nesting.{stmt_levels, deepest}
 use Rattle.grammar.specs.Begins.{BeginsNames, BeginsParameters, BeginsGroup, BeginsGroups, BeginsConstantPart, BeginsVariables, BeginsCompound, BeginsBlock}
 use Rattle.grammar.specs.Begins.{BeginsDenoter, BeginsTypePart, BeginsProgram}
@@ -350,7 +350,11 @@ block_behind_types levels a c b h formed n =
       };
     }
 
-block_behind_constants : (levels : ℕ) (a c : List Token) (b : Block) → Reads a (behind_constants b) c → is_block b ≡ true
+-- the types of a block too
+abbrev pub is_typed_body : Block → Bool
+is_typed_body b = list_all is_type_definition b.types.items && is_body b
+
+block_behind_constants : (levels : ℕ) (a c : List Token) (b : Block) → Reads a (behind_constants b) c → is_typed_body b ≡ true
     → 1 + deepest (map stmt_levels b.statements.items) ≤ levels → BlockBehindConstants levels a c
 block_behind_constants levels a c b h formed n =
     let r = parted (types_spelling b.types.items) (behind_types b) a c h in
@@ -368,11 +372,12 @@ block_behind_constants levels a c b h formed n =
 pub block_parts : (levels : ℕ) (a c : List Token) (b : Block) → BeginsBlock levels a c b → BlockParts levels a c
 block_parts levels a c b h =
     let r = parted (constants_spelling b.constants.items) (behind_constants b) a c h.spelled in
-    let behind = block_behind_constants levels r.0 c b r.2 h.formed h.nests in
+    let constants = list_all is_definition b.constants.items in
+    let behind = block_behind_constants levels r.0 c b r.2 (and_right constants (is_typed_body b) h.formed) h.nests in
     record {
       definitions = b.constants.items;
       middle = r.0;
-      defined = r.1;
+      defined = record { spelled = r.1; formed = and_left constants (is_typed_body b) h.formed };
       ends = types_next r.0 behind.middle behind.types behind.defined behind.ends;
       behind = behind;
     }

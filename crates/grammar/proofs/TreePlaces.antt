@@ -111,6 +111,7 @@ expr_layer : (y : expr.Expr-F KeptExpr KeptActual KeptLink)
     ≡ kept_places (spell.expr_step (map-Expr Expr Actual Link Spelling Spelling Spelling expr_spelling actual_spelling link_spelling (expr_parts y)))
 expr_layer (expr.Number v p) = refl
 expr_layer (expr.Name n) = refl
+expr_layer (expr.String t p) = refl
 expr_layer (expr.Call n v) =
     let actuals = map (λ a. a.0) v.items in
     ap (λ ps. n.place ∷ ps)

@@ -31,8 +31,9 @@ use Rattle.grammar.specs.Spelling.{joined, identifiers, group_spelling, variable
 use Rattle.grammar.specs.Spelling.{program_spelling, separated, in_parentheses, word_symbol, identifier, direction_word}
 use Rattle.grammar.specs.Spelling.{constant_spelling, arm_spelling, case_end, of_kind_at, mark, definition_spelling}
 use Rattle.grammar.specs.Spelling.{constants_spelling, denoter_spelling, type_definition_spelling, types_spelling}
-use Rattle.grammar.specs.WellFormed.{expr_form, link_form, fits, relation_level, is_link, has_items, is_actual}
-use Rattle.grammar.specs.WellFormed.{is_statement, is_denoter, is_type_definition, is_group, is_block, is_program}
+use Rattle.grammar.specs.WellFormed.{expr_form, link_form, fits, relation_level, is_link, is_actual, is_constant}
+use Rattle.grammar.specs.WellFormed.{is_row, is_statement, is_definition, is_denoter, is_type_definition, is_group}
+use Rattle.grammar.specs.WellFormed.{is_block, is_program}
 use Rattle.grammar.specs.Following.{NoNext, LeavesNoElse}
 use Rattle.grammar.specs.Nesting.{expr_levels, link_levels, actual_levels, stmt_levels, deepest, nesting}
 
@@ -101,12 +102,14 @@ abbrev pub BeginsInitial : ℕ → List Token → List Token → Expr × Directi
 BeginsInitial levels tokens others found = BeginsGuard (direction_word found.1) levels tokens others found.0
 
 -- a constant
-abbrev pub BeginsConstant : List Token → List Token → Constant → Type 0
-BeginsConstant tokens others c = Reads tokens (constant_spelling c) others
+pub record BeginsConstant (tokens others : List Token) (c : Constant) : Type 0 where
+  pub spelled : Reads tokens (constant_spelling c) others
+  pub formed : is_constant c ≡ true
 
 -- one or more constants with a comma between each two
-abbrev pub BeginsConstants : List Token → List Token → List Constant → Type 0
-BeginsConstants tokens others constants = BeginsList symbol.Comma tokens others (map constant_spelling constants)
+pub record BeginsConstants (tokens others : List Token) (constants : List Constant) : Type 0 where
+  pub list : BeginsList symbol.Comma tokens others (map constant_spelling constants)
+  pub formed : list_all is_constant constants ≡ true
 
 -- constants with the colon behind them
 pub record BeginsRow (tokens others : List Token) (constants : List Constant) : Type 0 where
@@ -122,7 +125,7 @@ abbrev pub arm_spelled : Arm → Spelling
 arm_spelled arm = arm_spelling (arm.0, stmt_spelling arm.1)
 
 abbrev pub arm_well : Arm → Bool
-arm_well arm = has_items arm.0 && is_statement arm.1
+arm_well arm = is_row arm.0 && is_statement arm.1
 
 -- one or more arms, and the `end` of the case, with a semicolon before it or none
 pub record BeginsArms (levels : ℕ) (tokens others : List Token) (found : List Arm × Bool) : Type 0 where
@@ -155,17 +158,20 @@ abbrev pub BeginsParameters : List Token → List Token → List Name → Type 0
 BeginsParameters tokens others names = Reads tokens (in_parentheses (identifiers names)) others
 
 -- a constant definition
-abbrev pub BeginsDefinition : List Token → List Token → ConstantDefinition → Type 0
-BeginsDefinition tokens others d = Reads tokens (definition_spelling d) others
+pub record BeginsDefinition (tokens others : List Token) (d : ConstantDefinition) : Type 0 where
+  pub spelled : Reads tokens (definition_spelling d) others
+  pub formed : is_definition d ≡ true
 
 -- one or more of these
 pub record BeginsDefinitions (tokens others : List Token) (definitions : List ConstantDefinition) : Type 0 where
   pub some : 0 < length definitions
   pub spelled : Reads tokens (joined (map definition_spelling definitions)) others
+  pub formed : list_all is_definition definitions ≡ true
 
 -- a constant definition part, or none
-abbrev pub BeginsConstantPart : List Token → List Token → List ConstantDefinition → Type 0
-BeginsConstantPart tokens others definitions = Reads tokens (constants_spelling definitions) others
+pub record BeginsConstantPart (tokens others : List Token) (definitions : List ConstantDefinition) : Type 0 where
+  pub spelled : Reads tokens (constants_spelling definitions) others
+  pub formed : list_all is_definition definitions ≡ true
 
 -- a type denoter
 pub record BeginsDenoter (tokens others : List Token) (d : TypeDenoter) : Type 0 where

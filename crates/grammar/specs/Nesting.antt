@@ -30,6 +30,7 @@ width_levels (Some width) = width
 abbrev pub expr_step : Expr-F ℕ ℕ ℕ → ℕ
 expr_step (expr.Number value place) = 0
 expr_step (expr.Name name) = 0
+expr_step (expr.String text place) = 0
 expr_step (expr.Call name actuals) = deepest actuals.items
 expr_step (expr.Parenthesized place inner) = 1 + inner.value
 expr_step (expr.Not place operand) = 1 + operand.value

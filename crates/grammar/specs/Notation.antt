@@ -27,13 +27,14 @@ use Rattle.syntax_tree.specs.declared.Stmt.{Stmt}
 use Rattle.syntax_tree.specs.declared.Stmt.TheOpen.{Stmt-F}
 use Rattle.syntax_tree.specs.declared.Stmt.TheOpen as stmt
 use Rattle.syntax_tree.specs.declared.Stmt.TheFolds.{fold-Stmt}
-use Rattle.grammar.specs.Spelling.{Lexeme, of_kind_at, word_symbol, identifier, sign, operator, direction_word}
-use Rattle.grammar.specs.Spelling.{constant_spelling, case_end}
+use Rattle.grammar.specs.Spelling.{Lexeme, of_kind_at, word_symbol, identifier, character_string, sign, operator}
+use Rattle.grammar.specs.Spelling.{direction_word, constant_spelling, case_end}
 
 -- the forms of expressions, of statements and of declarations
 pub data Shape : Type 0 where
   number : Shape
   name : Shape
+  string : Shape
   function_call : Shape
   parenthesized : Shape
   negated : Shape
@@ -90,6 +91,7 @@ width_notation (Some width) = width
 abbrev pub expr_step : Expr-F Notation Notation Notation → Notation
 expr_step (expr.Number value place) = bracketed number (token (of_kind_at (kind.Number value) place) ∷ [])
 expr_step (expr.Name n) = bracketed name (token (identifier n) ∷ [])
+expr_step (expr.String text place) = bracketed string (token (character_string text.now place) ∷ [])
 expr_step (expr.Call n actuals) = bracketed function_call (token (identifier n) ∷ row actuals.items)
 expr_step (expr.Parenthesized place inner) =
     bracketed parenthesized (token (of_kind_at (kind.Symbol symbol.OpenParenthesis) place) ∷ inner.value)

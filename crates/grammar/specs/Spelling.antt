@@ -86,6 +86,10 @@ mark s = of_kind (kind.Symbol s)
 abbrev pub identifier : Name → Lexeme
 identifier name = record { kind = kind.Identifier; text = Some name.text.now; place = Some name.place }
 
+-- a character string with its apostrophes (6.1.7)
+abbrev pub character_string : List ℕ → Place → Lexeme
+character_string text place = record { kind = kind.Text; text = Some text; place = Some place }
+
 -- a sign
 abbrev pub sign : Sign → Place → Lexeme
 sign Plus place = of_kind_at (kind.Symbol symbol.Plus) place
@@ -140,6 +144,7 @@ width_spelling (Some width) = mark symbol.Colon ∷ width
 abbrev pub expr_step : Expr-F Spelling Spelling Spelling → Spelling
 expr_step (expr.Number value place) = of_kind_at (kind.Number value) place ∷ []
 expr_step (expr.Name name) = identifier name ∷ []
+expr_step (expr.String text place) = character_string text.now place ∷ []
 expr_step (expr.Call name actuals) = identifier name ∷ in_parentheses actuals.items
 expr_step (expr.Parenthesized place inner) =
     of_kind_at (kind.Symbol symbol.OpenParenthesis) place ∷ inner.value ++ mark symbol.CloseParenthesis ∷ []
@@ -185,6 +190,7 @@ sign_spelling (Some s) = sign s.sign s.place ∷ []
 abbrev pub value_lexeme : ConstantValue → Lexeme
 value_lexeme (constant.Number value place) = of_kind_at (kind.Number value) place
 value_lexeme (constant.Name name) = identifier name
+value_lexeme (constant.String text place) = character_string text.now place
 
 -- a constant (6.3)
 abbrev pub constant_spelling : Constant → Spelling

@@ -1,6 +1,6 @@
 -- Which trees there may be: operators nest by precedence (ISO 7185:1990, 6.7.1, 6.7.2.1), a sign stands at the first
 -- term of a sum or alone, a relation has one operator, an `else` belongs to the nearest `if` that has none (6.8.3.4),
--- and lists that the grammar wants nonempty are nonempty.
+-- no sign stands before a string (6.3), and lists that the grammar wants nonempty are nonempty.
 -- This says nothing of names and types.
 use Rattle.std.specs.Prelude.{ℕ, ◌+◌, if◌then◌else◌, List, [], ◌∷◌, length, Bool, true, false, not, ◌&&◌, ◌||◌, Option}
 use Rattle.std.specs.Prelude.{Some, None, nat_eq, nat_lt, nat_le}
@@ -8,7 +8,11 @@ use Rattle.std.specs.List.{list_all}
 use Rattle.std.specs.declared.alloc.Global.{Global}
 use Rattle.std.specs.declared.boxed.Box.{Box}
 use Rattle.std.specs.declared.vec.Vec.{Vec}
+use Rattle.syntax_tree.specs.declared.ConstantDefinition.{ConstantDefinition}
 use Rattle.syntax_tree.specs.declared.Constant.{Constant}
+use Rattle.syntax_tree.specs.declared.ConstantValue.{ConstantValue}
+use Rattle.syntax_tree.specs.declared.ConstantValue.TheVariants as constant
+use Rattle.syntax_tree.specs.declared.SignAt.{SignAt}
 use Rattle.syntax_tree.specs.declared.TypeDefinition.{TypeDefinition}
 use Rattle.syntax_tree.specs.declared.TypeDenoter.{TypeDenoter}
 use Rattle.syntax_tree.specs.declared.TypeDenoter.TheVariants as denoter
@@ -109,6 +113,7 @@ is_width (Some width) = fits relation_level width
 abbrev pub expr_step : Expr-F Form Bool LinkForm → Form
 expr_step (expr.Number value place) = record { level = factor_level; well = true }
 expr_step (expr.Name name) = record { level = factor_level; well = true }
+expr_step (expr.String text place) = record { level = factor_level; well = true }
 expr_step (expr.Call name actuals) =
     record { level = factor_level; well = has_items actuals.items && list_all (λ well. well) actuals.items }
 expr_step (expr.Parenthesized place inner) = record { level = factor_level; well = fits relation_level inner.value }
@@ -136,6 +141,27 @@ is_actual = fold-Actual Form Bool LinkForm expr_step actual_step link_step
 abbrev pub is_expression : Expr → Bool
 is_expression e = fits relation_level (expr_form e)
 
+-- a sign may stand before a number or a name, and before no string (6.3)
+abbrev pub takes_sign : ConstantValue → Bool
+takes_sign (constant.Number value place) = true
+takes_sign (constant.Name name) = true
+takes_sign (constant.String text place) = false
+
+-- the sign may stand before the value, or there is none
+abbrev pub may_stand : Option SignAt → ConstantValue → Bool
+may_stand None value = true
+may_stand (Some sign) value = takes_sign value
+
+abbrev pub is_constant : Constant → Bool
+is_constant c = may_stand c.sign c.value
+
+abbrev pub is_definition : ConstantDefinition → Bool
+is_definition d = is_constant d.value
+
+-- the constants before an arm of a case: one or more
+abbrev pub is_row : List Constant → Bool
+is_row constants = has_items constants && list_all is_constant constants
+
 -- whether a statement is well formed, and whether it ends in an if without else
 pub record StmtForm : Type 0 where
   pub well : Bool
@@ -153,9 +179,9 @@ if_form condition consequence (Some alternative) = record {
   ends_open = alternative.value.ends_open;
 }
 
--- a row of one or more constants stands before each arm of a case
+-- a row of constants stands before each arm of a case
 abbrev pub are_rows : List (Vec Constant Global) → ℕ → Bool
-are_rows rows arms = nat_eq (length rows) arms && list_all (λ row. has_items row.items) rows
+are_rows rows arms = nat_eq (length rows) arms && list_all (λ row. is_row row.items) rows
 
 -- one layer of a statement
 abbrev pub stmt_step : Stmt-F StmtForm → StmtForm
@@ -192,7 +218,7 @@ ends_open s = (stmt_form s).ends_open
 abbrev pub is_denoter : TypeDenoter → Bool
 is_denoter (denoter.Name name) = true
 is_denoter (denoter.Enumerated constants) = has_items constants.items
-is_denoter (denoter.Subrange first between last) = true
+is_denoter (denoter.Subrange first between last) = is_constant first && is_constant last
 
 abbrev pub is_type_definition : TypeDefinition → Bool
 is_type_definition d = is_denoter d.denoter
@@ -202,9 +228,10 @@ is_group g = has_items g.names.items && is_denoter g.denoter
 
 abbrev pub is_block : Block → Bool
 is_block b =
-    list_all is_type_definition b.types.items
+    list_all is_definition b.constants.items
+    && (list_all is_type_definition b.types.items
     && (list_all is_group b.variables.items
-    && (has_items b.statements.items && list_all is_statement b.statements.items))
+    && (has_items b.statements.items && list_all is_statement b.statements.items)))
 
 abbrev pub is_program : Program → Bool
 is_program p = is_block p.block

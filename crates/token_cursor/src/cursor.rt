@@ -16,7 +16,8 @@ pub struct Cursor<'t, 'a> {
 }
 
 impl<'t, 'a> Cursor<'t, 'a> {
-    ghost use Rattle.grammar.specs.Spelling.{of_kind_at, word_symbol, identifier, sign, operator, direction_word};
+    ghost use Rattle.grammar.specs.Spelling.{of_kind_at, word_symbol, identifier, character_string, sign, operator};
+    ghost use Rattle.grammar.specs.Spelling.{direction_word};
     ghost use Rattle.grammar.specs.WellFormed.{operator_level};
     ghost use Rattle.token_cursor.specs.Level.{level_number};
     ghost use Rattle.token_cursor.specs.Cursor.{place_of_next, Took};
@@ -164,6 +165,29 @@ impl<'t, 'a> Cursor<'t, 'a> {
                 }
                 _ => None,
             },
+            _ => None,
+        }
+    }
+
+    /// Takes a string, if one is next: its text with the apostrophes, and its place.
+    pub fn take_string(&mut self) -> Option<(&'a [u8], Place)>
+        ensures kept { IfNone result (self.new ≡ self.old) }
+        ensures missed { IfNone result (¬ (next_kind self.old.rest.now ≡ Some Kind.Text)) }
+        ensures spelled { IfSome result
+            (λ string. Took self.old self.new (character_string string.0.now string.1 ∷ [])) }
+    {
+        match self.rest {
+            [
+                Token {
+                    kind: Kind::Text,
+                    text,
+                    place,
+                },
+                rest @ ..,
+            ] => {
+                self.rest = rest;
+                Some((text, *place))
+            }
             _ => None,
         }
     }
