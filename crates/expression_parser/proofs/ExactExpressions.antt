@@ -8,7 +8,7 @@ use Rattle.lexer.specs.declared.token.Token.{Token}
 use Rattle.token_cursor.specs.declared.fault.ParseFault.{ParseFault}
 use Rattle.token_cursor.specs.declared.cursor.Cursor.{Cursor}
 use Rattle.syntax_tree.specs.declared.Expr.{Expr}
-use Rattle.grammar.specs.Spelling.{Reads, of_kind_at}
+use Rattle.grammar.specs.Spelling.{Reads, of_kind_at, character_string}
 use Rattle.grammar.specs.WellFormed.{relation_level, signed_level, product_level, factor_level}
 use Rattle.grammar.specs.Nesting.{expr_levels}
 use Rattle.token_cursor.specs.Cursor.{Took}
@@ -18,20 +18,28 @@ use Rattle.expression_parser.specs.Reading.{ReadWithin, ReadsDeep}
 use Rattle.grammar.proofs.Rows.{begins}
 use Rattle.expression_parser.proofs.Exact.{within_above}
 use Rattle.grammar.proofs.Chains.{ends_above, close_ends}
-use Rattle.grammar.proofs.Expressions.{factor_parts, begins_parenthesized, IsNegated, not_taken_word, Opened, signed_parts, IsBehindSign, sign_missed}
+use Rattle.grammar.proofs.Expressions.{factor_parts, string_read, begins_parenthesized, IsNegated, not_taken_word, Opened, signed_parts, IsBehindSign, sign_missed}
 
 -- what the rule of parentheses answers there
 pub parenthesized_answer : (levels depth : ℕ) (a b c d : Cursor) (e : Expr) (others : List Token) (answer : Result Expr ParseFault) → b ≡ a → c ≡ b
-    → ((v : ℕ) → ¬ (next_kind a.rest.now ≡ Some (kind.Number v))) → NoNext kind.Identifier b.rest.now → NoNext (kind.Word word.Not) b.rest.now
+    → ((v : ℕ) → ¬ (next_kind a.rest.now ≡ Some (kind.Number v))) → NoNext kind.Text b.rest.now → NoNext kind.Identifier b.rest.now
+    → NoNext (kind.Word word.Not) b.rest.now
     → BeginsExpr factor_level depth a.rest.now others e → Ends factor_level others
     → (next_kind c.rest.now ≡ Some (kind.Symbol symbol.OpenParenthesis) → ReadsDeep levels (BeginsExpr factor_level) (Ends factor_level) c d answer)
     → ReadWithin levels depth others d answer
-parenthesized_answer levels depth a b c d e others answer ba cb no_number no_name no_word h ends reads =
+parenthesized_answer levels depth a b c d e others answer ba cb no_number no_string no_name no_word h ends reads =
     let at = subst (λ (k : Cursor). BeginsExpr factor_level depth k.rest.now others e) (sym ba) h in
     let first = begins_parenthesized depth b.rest.now others (subst (λ (k : Cursor). (v : ℕ) → ¬ (next_kind k.rest.now ≡ Some (kind.Number v)))
-    (sym ba) no_number) no_name no_word (factor_parts depth b.rest.now others e at) in
+    (sym ba) no_number) no_string no_name no_word (factor_parts depth b.rest.now others e at) in
     reads (subst (λ (k : Cursor). next_kind k.rest.now ≡ Some (kind.Symbol symbol.OpenParenthesis)) (sym cb) first) depth e others
     (subst (λ (k : Cursor). BeginsExpr factor_level depth k.rest.now others e) (sym cb) at) ends
+
+-- what the rule of factors answers where a string comes
+pub string_behind : (levels : ℕ) (t : List ℕ) (p : Place) (a b c : Cursor) (others : List Token) (e : Expr) → b ≡ a → Took b c (character_string t p ∷ [])
+    → BeginsExpr factor_level levels a.rest.now others e → c.rest.now ≡ others
+string_behind levels t p a b c others e same taken h =
+    string_read levels t p a.rest.now c.rest.now others (subst (λ (k : Cursor). Reads k.rest.now (character_string t p ∷ []) c.rest.now) same taken)
+    (factor_parts levels a.rest.now others e h)
 
 pub negated_behind : (levels : ℕ) (p : Place) (a b c : Cursor) (others : List Token) (e : Expr) → b ≡ a → Took b c (of_kind_at (kind.Word word.Not) p ∷ [])
     → BeginsExpr factor_level levels a.rest.now others e → IsNegated levels c.rest.now others

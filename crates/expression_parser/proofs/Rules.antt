@@ -3,6 +3,7 @@ use Rattle.std.proofs.Common.{◌≡◌, ℕ, ◌+◌, ◌≤◌, max, true, nat
 use Rattle.std.proofs.Common.{None, MatchResult}
 use Rattle.std.proofs.lemmas.Bool.{eq-eqb}
 use Rattle.std.proofs.lemmas.List.{append-nil}
+use Rattle.std.specs.Borrow.{Bor}
 use Rattle.std.specs.List.{list_all}
 use Rattle.std.specs.declared.alloc.Global.{Global}
 use Rattle.std.specs.declared.boxed.Box.{Box}
@@ -24,6 +25,7 @@ use Rattle.syntax_tree.specs.declared.Expr.TheViews.{roll-Link, roll-Actual}
 use Rattle.token_cursor.specs.Cursor.{Took}
 use Rattle.expression_parser.specs.Refusing.{Refused}
 use Rattle.grammar.specs.Spelling.{expr_spelling, link_spelling, actual_spelling, joined, in_parentheses, of_kind_at, mark, identifier, operator, sign}
+use Rattle.grammar.specs.Spelling.{character_string}
 use Rattle.grammar.specs.WellFormed.{LinkForm, expr_form, link_form, chain_form, is_actual, is_expression, has_items, is_link, fits, operator_level}
 use Rattle.grammar.specs.WellFormed.{first_level, operand_level, relation_level, signed_level, product_level, factor_level}
 use Rattle.grammar.specs.Nesting.{expr_levels, link_levels, deepest}
@@ -32,7 +34,7 @@ use Rattle.grammar.specs.Begins.{BeginsExpr, BeginsActual, BeginsActuals, Begins
 use Rattle.grammar.proofs.Equations.{spelling-Number, form-Number, levels-Number, spelling-Not, form-Not, levels-Not, spelling-Signed, form-Signed}
 use Rattle.grammar.proofs.Equations.{levels-Signed, spelling-Alone, form-Alone, levels-Alone, spelling-Name, form-Name, levels-Name, spelling-Function}
 use Rattle.grammar.proofs.Equations.{form-Function, levels-Function, spelling-Parenthesized, form-Parenthesized, levels-Parenthesized, spelling-Chain}
-use Rattle.grammar.proofs.Equations.{form-Chain, levels-Chain, spelling-Link, form-Link, levels-Link, spelling-Wide, form-Wide, levels-Wide}
+use Rattle.grammar.proofs.Equations.{spelling-String, form-String, levels-String, form-Chain, levels-Chain, spelling-Link, form-Link, levels-Link, spelling-Wide, form-Wide, levels-Wide}
 use Rattle.grammar.proofs.Lists.{map_push, all_push, deepest_push, all_mapped, and_true}
 use Rattle.grammar.proofs.Reading.{both, without_place, joined_push}
 use Rattle.grammar.proofs.Chains.{fits_if, fits_level, fits_well}
@@ -63,6 +65,15 @@ gives-Number levels v p a b taken = record {
   spelled = subst (λ s. Took a b s) (sym (spelling-Number v p)) taken;
   formed = subst (λ f. fits factor_level f ≡ true) (sym (form-Number v p)) refl;
   nests = let e = levels-Number v p in omega arith;
+}
+
+-- a string
+pub gives-String : (levels : ℕ) (t : Bor (List ℕ)) (p : Place) (a b c : Cursor) → b ≡ a → Took b c (character_string t.now p ∷ [])
+    → Read (BeginsExpr factor_level levels) a c (tree.String t p)
+gives-String levels t p a b c same taken = record {
+  spelled = subst (λ s. Took a c s) (sym (spelling-String t p)) (subst (λ k. Took k c (character_string t.now p ∷ [])) same taken);
+  formed = subst (λ f. fits factor_level f ≡ true) (sym (form-String t p)) refl;
+  nests = let e = levels-String t p in omega arith;
 }
 
 -- a factor behind `not`

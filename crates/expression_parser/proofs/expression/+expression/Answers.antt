@@ -25,12 +25,12 @@ use Rattle.expression_parser.proofs.ExactChains.{level_is, first_answer}
 use Rattle.grammar.proofs.Chains.{chain_parts, links_of}
 use Rattle.expression_parser.proofs.Chains.{links_first, links_more, operand_stops, links_end, links_given, alone_given, alone_exact, chain_from}
 use Rattle.grammar.proofs.Expressions.{factor_parts, number_read, name_taken, opened, signed_parts, sign_taken}
-use Rattle.expression_parser.proofs.ExactExpressions.{negated_behind, negated_answer, parenthesized_answer, inner_answer, sign_missed_at, term_answer}
+use Rattle.expression_parser.proofs.ExactExpressions.{string_behind, negated_behind, negated_answer, parenthesized_answer, inner_answer, sign_missed_at, term_answer}
 use Rattle.grammar.proofs.Actuals.{actual_parts, width_absent, width_taken, actual_list_parts, actual_list_begins, actual_list_goes_on, opened_actuals}
 use Rattle.expression_parser.proofs.ExactActuals.{value_answer, width_left, width_answer, actual_answer, actual_list_left, no_actuals}
 use Rattle.expression_parser.proofs.Actuals.{ActualsGrow, actuals_grow_first, actuals_grow, actuals_closed}
 use Rattle.expression_parser.proofs.Rules.{gives-Number, gives-Not, gives-Signed, gives-Unsigned, gives-None, gives-Narrow, gives-Parenthesized, gives-Name}
-use Rattle.expression_parser.proofs.Rules.{gives-Call, gives-Wide, gives-Chain}
+use Rattle.expression_parser.proofs.Rules.{gives-String, gives-Call, gives-Wide, gives-Chain}
 use Rattle.grammar.proofs.Reading.{reads_fewer, reads_no_more}
 use Rattle.expression_parser.proofs.Reading.{unchanged}
 use Rattle.expression_parser.proofs.expression.+expression.Goals as goal
@@ -274,40 +274,52 @@ factor-returns-in-Some-clause-exact t c = λ depth e others h ends.
     number_read depth c.in-Some.value c.in-Some.place c.args.cursor.now.rest.now c.take_number.new.self.rest.now others c.in-Some.ensures.spelled
     (factor_parts depth c.args.cursor.now.rest.now others e h)
 
+pub factor-returns-in-Some-take_string-clause-given : goal.factor-returns-in-Some-take_string-clause-given
+factor-returns-in-Some-take_string-clause-given t c =
+    gives-String c.args.levels c.in-Some-take_string.text c.in-Some-take_string.place c.args.cursor.now c.take_number.new.self c.take_string.new.self
+    c.in_default.ensures.kept c.in-Some-take_string.ensures.spelled
+
+pub factor-returns-in-Some-take_string-clause-exact : goal.factor-returns-in-Some-take_string-clause-exact
+factor-returns-in-Some-take_string-clause-exact t c = λ depth e others h ends.
+    string_behind depth c.in-Some-take_string.text.now c.in-Some-take_string.place c.args.cursor.now c.take_number.new.self c.take_string.new.self others e
+    c.in_default.ensures.kept c.in-Some-take_string.ensures.spelled h
+
 pub factor-returns-in-Some-Identifier-clause-given : goal.factor-returns-in-Some-Identifier-clause-given
 factor-returns-in-Some-Identifier-clause-given t c =
     subst (λ k. MatchResult c.named.result (Read (BeginsExpr factor_level c.args.levels) k c.named.new.cursor) (Refused (c.args.levels + 1) k))
-    c.in_default.ensures.kept
+    (c.in_default-take_string.ensures.kept ∙ c.in_default.ensures.kept)
     c.named.ensures.given
 
 pub factor-returns-in-Some-Identifier-clause-exact : goal.factor-returns-in-Some-Identifier-clause-exact
 factor-returns-in-Some-Identifier-clause-exact t c = λ depth e others h ends.
-    let same : c.take_number.new.self ≡ c.args.cursor.now = c.in_default.ensures.kept in
-    let first : next_kind c.take_number.new.self.rest.now ≡ Some kind.Identifier = search rules in
+    let same : c.take_string.new.self ≡ c.args.cursor.now = c.in_default-take_string.ensures.kept ∙ c.in_default.ensures.kept in
+    let first : next_kind c.take_string.new.self.rest.now ≡ Some kind.Identifier = search rules in
     c.named.ensures.exact first depth e others (subst (λ (k : Cursor). BeginsExpr factor_level depth k.rest.now others e) (sym same) h) ends
 
 pub factor-returns-in_default-take_word-clause-given : goal.factor-returns-in_default-take_word-clause-given
 factor-returns-in_default-take_word-clause-given t c =
     subst (λ k. MatchResult c.parenthesized.result (Read (BeginsExpr factor_level c.args.levels) k c.parenthesized.new.cursor) (Refused (c.args.levels + 1) k))
-    (c.in_default-take_word.ensures.kept ∙ c.in_default.ensures.kept) c.parenthesized.ensures.given
+    (c.in_default-take_word.ensures.kept ∙ c.in_default-take_string.ensures.kept ∙ c.in_default.ensures.kept) c.parenthesized.ensures.given
 
 pub factor-returns-in_default-take_word-clause-exact : goal.factor-returns-in_default-take_word-clause-exact
 factor-returns-in_default-take_word-clause-exact t c = λ depth e others h ends.
-    let same : c.take_number.new.self ≡ c.args.cursor.now = c.in_default.ensures.kept in
-    let again : c.take_word.new.self ≡ c.take_number.new.self = c.in_default-take_word.ensures.kept in
-    let name : NoNext kind.Identifier c.take_number.new.self.rest.now = elim c.match-peek.branch [
+    let same : c.take_string.new.self ≡ c.args.cursor.now = c.in_default-take_string.ensures.kept ∙ c.in_default.ensures.kept in
+    let again : c.take_word.new.self ≡ c.take_string.new.self = c.in_default-take_word.ensures.kept in
+    let string : NoNext kind.Text c.take_string.new.self.rest.now =
+    subst (λ (k : Cursor). NoNext kind.Text k.rest.now) (sym c.in_default-take_string.ensures.kept) c.in_default-take_string.ensures.missed in
+    let name : NoNext kind.Identifier c.take_string.new.self.rest.now = elim c.match-peek.branch [
       | factor-in-Some+in-Word-1 w ↦ search rules
       | factor-in-None-1
           w ↦ search rules
     ] in
-    parenthesized_answer c.args.levels depth c.args.cursor.now c.take_number.new.self c.take_word.new.self c.parenthesized.new.cursor e others
-    c.parenthesized.result same again c.in_default.ensures.missed name c.in_default-take_word.ensures.missed h ends
+    parenthesized_answer c.args.levels depth c.args.cursor.now c.take_string.new.self c.take_word.new.self c.parenthesized.new.cursor e others
+    c.parenthesized.result same again c.in_default.ensures.missed string name c.in_default-take_word.ensures.missed h ends
     c.parenthesized.ensures.exact
 
 pub factor-returns-in_err-levels-clause-exact : goal.factor-returns-in_err-levels-clause-exact
 factor-returns-in_err-levels-clause-exact t c = λ depth e others h ends.
-    let same : c.take_number.new.self ≡ c.args.cursor.now = c.in_default.ensures.kept in
-    let b = negated_behind depth c.in-Some-take_word.place c.args.cursor.now c.take_number.new.self c.take_word.new.self others e same
+    let same : c.take_string.new.self ≡ c.args.cursor.now = c.in_default-take_string.ensures.kept ∙ c.in_default.ensures.kept in
+    let b = negated_behind depth c.in-Some-take_word.place c.args.cursor.now c.take_string.new.self c.take_word.new.self others e same
     c.in-Some-take_word.ensures.spelled h in
     let n = b.nests in
     handed_on _ _ c.from_residual.result c.in_err-levels.field-0.0 c.from_residual.ensures
@@ -321,24 +333,24 @@ factor-returns-in_err-operand-clause-given t c =
     let left = c.in_ok-levels.ensures.left in
     let refused : Refused n behind fault = not_kept (Read (BeginsExpr factor_level c.in_ok-levels.levels) behind c.factor.new.cursor) (Refused n behind)
     c.factor.result fault (memory_refused n behind) c.factor.ensures.given c.in_err-operand.ensures.given in
-    let opening : Refused (c.args.levels + 1) c.take_number.new.self fault = refused_behind_opening n (c.args.levels + 1) c.take_number.new.self behind
+    let opening : Refused (c.args.levels + 1) c.take_string.new.self fault = refused_behind_opening n (c.args.levels + 1) c.take_string.new.self behind
     (kind.Word word.Not) c.in-Some-take_word.place fault refl (omega arith) c.in-Some-take_word.ensures.spelled refused in
     handed_on _ _ c.from_residual-in_err-operand.result fault c.from_residual-in_err-operand.ensures
-    (subst (λ k. Refused (c.args.levels + 1) k fault) c.in_default.ensures.kept opening)
+    (subst (λ k. Refused (c.args.levels + 1) k fault) (c.in_default-take_string.ensures.kept ∙ c.in_default.ensures.kept) opening)
 
 pub factor-returns-in_err-levels-clause-given : goal.factor-returns-in_err-levels-clause-given
 factor-returns-in_err-levels-clause-given t c =
     let fault = c.in_err-levels.field-0.0 in
     let here : Refused c.args.levels c.take_word.new.self fault = refused_spent c.args.levels c.take_word.new.self fault
     (c.in_err-levels.ensures.spent.0, c.in_err-levels.ensures.spent.1 ∙ ap TooDeep c.place.ensures) in
-    let opening : Refused (c.args.levels + 1) c.take_number.new.self fault = refused_behind_opening c.args.levels (c.args.levels + 1) c.take_number.new.self
+    let opening : Refused (c.args.levels + 1) c.take_string.new.self fault = refused_behind_opening c.args.levels (c.args.levels + 1) c.take_string.new.self
     c.take_word.new.self (kind.Word word.Not) c.in-Some-take_word.place fault refl refl c.in-Some-take_word.ensures.spelled here in
-    handed_on _ _ c.from_residual.result fault c.from_residual.ensures (subst (λ k. Refused (c.args.levels + 1) k fault) c.in_default.ensures.kept opening)
+    handed_on _ _ c.from_residual.result fault c.from_residual.ensures (subst (λ k. Refused (c.args.levels + 1) k fault) (c.in_default-take_string.ensures.kept ∙ c.in_default.ensures.kept) opening)
 
 pub factor-returns-in_err-operand-clause-exact : goal.factor-returns-in_err-operand-clause-exact
 factor-returns-in_err-operand-clause-exact t c = λ depth e others h ends.
-    let same : c.take_number.new.self ≡ c.args.cursor.now = c.in_default.ensures.kept in
-    let b = negated_behind depth c.in-Some-take_word.place c.args.cursor.now c.take_number.new.self c.take_word.new.self others e same
+    let same : c.take_string.new.self ≡ c.args.cursor.now = c.in_default-take_string.ensures.kept ∙ c.in_default.ensures.kept in
+    let b = negated_behind depth c.in-Some-take_word.place c.args.cursor.now c.take_string.new.self c.take_word.new.self others e same
     c.in-Some-take_word.ensures.spelled h in
     handed_on _ _ c.from_residual-in_err-operand.result c.in_err-operand.field-0.0 c.from_residual-in_err-operand.ensures
     (not_kept (λ _. c.factor.new.cursor.rest.now ≡ others) (Stops c.args.levels depth) c.factor.result c.in_err-operand.field-0.0 tt
@@ -350,15 +362,15 @@ factor-returns-clause-given t c =
     let operand = c.in_ok-operand.operand in
     gives-Not c.args.levels c.in_ok-levels.levels c.args.cursor.now c.take_word.new.self c.factor.new.cursor c.in-Some-take_word.place operand operand.value
     c.in_ok-levels.ensures.left (subst (λ k. Took k c.take_word.new.self (of_kind_at (kind.Word word.Not) c.in-Some-take_word.place ∷ []))
-    c.in_default.ensures.kept c.in-Some-take_word.ensures.spelled)
+    (c.in_default-take_string.ensures.kept ∙ c.in_default.ensures.kept) c.in-Some-take_word.ensures.spelled)
     (was_read (Read (BeginsExpr factor_level c.in_ok-levels.levels) c.take_word.new.self c.factor.new.cursor)
     (Refused (c.in_ok-levels.levels + 1) c.take_word.new.self) c.factor.result operand.value
     c.in_ok-operand.ensures.given c.factor.ensures.given) refl
 
 pub factor-returns-clause-exact : goal.factor-returns-clause-exact
 factor-returns-clause-exact t c = λ depth e others h ends.
-    let same : c.take_number.new.self ≡ c.args.cursor.now = c.in_default.ensures.kept in
-    let b = negated_behind depth c.in-Some-take_word.place c.args.cursor.now c.take_number.new.self c.take_word.new.self others e same
+    let same : c.take_string.new.self ≡ c.args.cursor.now = c.in_default-take_string.ensures.kept ∙ c.in_default.ensures.kept in
+    let b = negated_behind depth c.in-Some-take_word.place c.args.cursor.now c.take_string.new.self c.take_word.new.self others e same
     c.in-Some-take_word.ensures.spelled h in
     was_read (λ _. c.factor.new.cursor.rest.now ≡ others) (Stops c.args.levels depth) c.factor.result c.in_ok-operand.operand.value
     c.in_ok-operand.ensures.given
