@@ -18,7 +18,8 @@ use Rattle.expression_parser.specs.Reading.{ReadWithin, ReadsDeep}
 use Rattle.grammar.proofs.Rows.{begins}
 use Rattle.expression_parser.proofs.Exact.{within_above}
 use Rattle.grammar.proofs.Chains.{ends_above, close_ends}
-use Rattle.grammar.proofs.Expressions.{factor_parts, string_read, begins_parenthesized, IsNegated, not_taken_word, Opened, signed_parts, IsBehindSign, sign_missed}
+use Rattle.grammar.proofs.Expressions.{factor_parts, string_read, begins_parenthesized, IsNegated, not_taken_word, Opened, signed_parts, IsBehindSign}
+use Rattle.grammar.proofs.Expressions.{sign_missed}
 
 -- what the rule of parentheses answers there
 pub parenthesized_answer : (levels depth : ℕ) (a b c d : Cursor) (e : Expr) (others : List Token) (answer : Result Expr ParseFault) → b ≡ a → c ≡ b

@@ -34,7 +34,8 @@ use Rattle.grammar.specs.Begins.{BeginsExpr, BeginsActual, BeginsActuals, Begins
 use Rattle.grammar.proofs.Equations.{spelling-Number, form-Number, levels-Number, spelling-Not, form-Not, levels-Not, spelling-Signed, form-Signed}
 use Rattle.grammar.proofs.Equations.{levels-Signed, spelling-Alone, form-Alone, levels-Alone, spelling-Name, form-Name, levels-Name, spelling-Function}
 use Rattle.grammar.proofs.Equations.{form-Function, levels-Function, spelling-Parenthesized, form-Parenthesized, levels-Parenthesized, spelling-Chain}
-use Rattle.grammar.proofs.Equations.{spelling-String, form-String, levels-String, form-Chain, levels-Chain, spelling-Link, form-Link, levels-Link, spelling-Wide, form-Wide, levels-Wide}
+use Rattle.grammar.proofs.Equations.{spelling-String, form-String, levels-String}
+use Rattle.grammar.proofs.Equations.{form-Chain, levels-Chain, spelling-Link, form-Link, levels-Link, spelling-Wide, form-Wide, levels-Wide}
 use Rattle.grammar.proofs.Lists.{map_push, all_push, deepest_push, all_mapped, and_true}
 use Rattle.grammar.proofs.Reading.{both, without_place, joined_push}
 use Rattle.grammar.proofs.Chains.{fits_if, fits_level, fits_well}

@@ -15,8 +15,9 @@ use Rattle.token_cursor.specs.declared.cursor.Cursor.{Cursor}
 use Rattle.token_cursor.specs.Cursor.{Took}
 use Rattle.grammar.specs.Following.{next_kind, NoNext, EndsDenoter, Anything}
 use Rattle.grammar.specs.Spelling.{Reads, of_kind_at, identifier, identifiers, constant_spelling}
+use Rattle.grammar.specs.WellFormed.{is_constant}
 use Rattle.grammar.specs.Begins.{BeginsNames, BeginsConstant, BeginsDenoter}
-use Rattle.grammar.proofs.Lists.{length_map}
+use Rattle.grammar.proofs.Lists.{length_map, and_true}
 use Rattle.grammar.proofs.Reading.{both}
 use Rattle.grammar.proofs.Rows.{begins, same_first}
 use Rattle.grammar.proofs.Denoters.{NameOrSubrange, named, ranged, constant_named}
@@ -38,9 +39,9 @@ enumerated_stands a b c d p q names opened list closed = record {
 pub subrange_stands : (a b c d : Cursor) (p : Place) (first last : Constant) → Read BeginsConstant a b first
     → Took b c (of_kind_at (kind.Symbol symbol.Range) p ∷ []) → Read BeginsConstant c d last → Read BeginsDenoter a d (denoter.Subrange first p last)
 subrange_stands a b c d p first last one between two = record {
-  spelled = both (constant_spelling first) (of_kind_at (kind.Symbol symbol.Range) p ∷ constant_spelling last) a.rest.now b.rest.now d.rest.now one
-      (both (of_kind_at (kind.Symbol symbol.Range) p ∷ []) (constant_spelling last) b.rest.now c.rest.now d.rest.now between two);
-  formed = refl;
+  spelled = both (constant_spelling first) (of_kind_at (kind.Symbol symbol.Range) p ∷ constant_spelling last) a.rest.now b.rest.now d.rest.now one.spelled
+      (both (of_kind_at (kind.Symbol symbol.Range) p ∷ []) (constant_spelling last) b.rest.now c.rest.now d.rest.now between two.spelled);
+  formed = and_true (is_constant first) (is_constant last) one.formed two.formed;
 }
 
 -- a name alone
@@ -48,27 +49,33 @@ pub name_stands : (a b c : Cursor) (n : Name) (read : Constant) → Read BeginsC
     → c ≡ b → Read BeginsDenoter a c (denoter.Name n)
 name_stands a b c n read given is kept =
     let same : read ≡ record { sign = None; value = constant.Name n } = (λ i. record { sign = is.0 i; value = is.1 i }) in
-    let named : Took a b (identifier n ∷ []) = subst (λ x. Read BeginsConstant a b x) same given in
-    record { spelled = subst (λ x. Took a x (identifier n ∷ [])) (sym kept) named; formed = refl }
+    let named = subst (λ x. Read BeginsConstant a b x) same given in
+    record { spelled = subst (λ x. Took a x (identifier n ∷ [])) (sym kept) named.spelled; formed = refl }
+
+-- a name is a constant without a sign
+constant_named_so : (n : Name) (a c : List Token) → Reads a (identifier n ∷ []) c
+    → BeginsConstant a c (record { sign = None; value = constant.Name n })
+constant_named_so n a c h = record { spelled = h; formed = refl }
 
 -- the constant that such a denoter begins with
 pub first_begins : (a c : List Token) → NameOrSubrange a c → (x : Constant) × (b : List Token) × BeginsConstant a b x
-first_begins a c (named n h) = (record { sign = None; value = constant.Name n }, c, h)
-first_begins a c (ranged first last p b h k) = (first, b, h)
+first_begins a c (named n h) = (record { sign = None; value = constant.Name n }, c, constant_named_so n a c h)
+first_begins a c (ranged first last p b h k f) = (first, b, h)
 
 -- where no `..` comes behind the constant read a name stands alone
 pub no_range : (a b : Cursor) (c : List Token) (read : Constant) → ReadsEach BeginsConstant Anything a b (Ok read)
     → NoNext (kind.Symbol symbol.Range) b.rest.now → NameOrSubrange a.rest.now c
     → (n : Name) × Reads a.rest.now (identifier n ∷ []) c × (b.rest.now ≡ c)
-no_range a b c read reads missed (named n h) = (n, h, reads (record { sign = None; value = constant.Name n }) c h tt)
-no_range a b c read reads missed (ranged first last p m h k) =
+no_range a b c read reads missed (named n h) =
+    (n, h, reads (record { sign = None; value = constant.Name n }) c (constant_named_so n a.rest.now c h) tt)
+no_range a b c read reads missed (ranged first last p m h k f) =
     absurd (missed (ap next_kind (reads first m h tt) ∙ begins (of_kind_at (kind.Symbol symbol.Range) p) (constant_spelling last) m c k))
 
 -- and what was read is this name
 pub named_read : (a b : Cursor) (c : List Token) (n : Name) (read : Constant) → Read BeginsConstant a b read → Reads a.rest.now (identifier n ∷ []) c
     → (m : Name) × (read.sign ≡ None) × (read.value ≡ constant.Name m)
 named_read a b c n read given h =
-    let r = constant_named read a.rest.now b.rest.now given (begins (identifier n) [] a.rest.now c h) in
+    let r = constant_named read a.rest.now b.rest.now given.spelled (begins (identifier n) [] a.rest.now c h) in
     (r.0, ap (λ (x : Constant). x.sign) r.1, ap (λ (x : Constant). x.value) r.1)
 
 -- behind `..` the last constant stands
@@ -76,12 +83,15 @@ pub range_taken : (p : Place) (a b c : Cursor) (d : List Token) (read : Constant
     → Took b c (of_kind_at (kind.Symbol symbol.Range) p ∷ []) → NameOrSubrange a.rest.now d → EndsDenoter d
     → (last : Constant) × BeginsConstant c.rest.now d last
 range_taken p a b c d read reads taken (named n h) ends =
-    let same : b.rest.now ≡ d = reads (record { sign = None; value = constant.Name n }) d h tt in
+    let same : b.rest.now ≡ d = reads (record { sign = None; value = constant.Name n }) d (constant_named_so n a.rest.now d h) tt in
     absurd (ends (ap next_kind (sym same) ∙ begins (of_kind_at (kind.Symbol symbol.Range) p) [] b.rest.now c.rest.now taken))
-range_taken p a b c d read reads taken (ranged first last q m h k) ends =
+range_taken p a b c d read reads taken (ranged first last q m h k f) ends =
     let same : b.rest.now ≡ m = reads first m h tt in
     let behind = subst (λ x. Reads x (of_kind_at (kind.Symbol symbol.Range) q ∷ constant_spelling last) d) (sym same) k in (
       last,
-      (same_first (of_kind_at (kind.Symbol symbol.Range) p) (of_kind_at (kind.Symbol symbol.Range) q) (constant_spelling last) b.rest.now c.rest.now d
-          taken behind).1,
+      record {
+        spelled = (same_first (of_kind_at (kind.Symbol symbol.Range) p) (of_kind_at (kind.Symbol symbol.Range) q) (constant_spelling last) b.rest.now
+            c.rest.now d taken behind).1;
+        formed = f;
+      },
     )

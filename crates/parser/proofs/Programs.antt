@@ -19,7 +19,7 @@ use Rattle.syntax_tree.specs.declared.Block.{Block}
 use Rattle.token_cursor.specs.Cursor.{Took}
 use Rattle.grammar.specs.Spelling.{of_kind_at, mark, word_symbol, identifier, identifiers, stmt_spelling, separated, joined, in_parentheses, group_spelling}
 use Rattle.grammar.specs.Spelling.{Spelling, denoter_spelling, constants_spelling, types_spelling, variables_spelling, block_spelling}
-use Rattle.grammar.specs.WellFormed.{is_denoter, is_type_definition, is_group, is_statement, has_items}
+use Rattle.grammar.specs.WellFormed.{is_definition, is_denoter, is_type_definition, is_group, is_statement, has_items}
 use Rattle.expression_parser.specs.Rules.{Read}
 use Rattle.grammar.specs.Begins.{BeginsList, BeginsGroup, BeginsGroups, BeginsConstantPart, BeginsVariables, BeginsCompound, BeginsBlock, Stop}
 use Rattle.grammar.specs.Begins.{BeginsDenoter, BeginsTypePart}
@@ -115,13 +115,15 @@ pub block_stands : (levels inner : ℕ) (a b c d e : Cursor) (constants : Vec Co
     → Read (BeginsBlock levels) a e (record { constants = constants; types = types; variables = variables; statements = statements; end = end })
 block_stands levels inner a b c d e constants types variables statements end less defined typed declared given = record {
   spelled = let block : Block = record { constants = constants; types = types; variables = variables; statements = statements; end = end } in
-      both (constants_spelling constants.items) (behind_constants block) a.rest.now b.rest.now e.rest.now defined
+      both (constants_spelling constants.items) (behind_constants block) a.rest.now b.rest.now e.rest.now defined.spelled
       (both (types_spelling types.items) (behind_types block) b.rest.now c.rest.now e.rest.now typed.spelled
       (block_body inner c d e variables.items statements.items end declared given));
-  formed = and_true (list_all is_type_definition types.items)
-      (list_all is_group variables.items && (has_items statements.items && list_all is_statement statements.items)) typed.formed
-      (and_true (list_all is_group variables.items) (has_items statements.items && list_all is_statement statements.items) declared.formed
-      (and_true (has_items statements.items) (list_all is_statement statements.items) (has statements.items given.some) given.formed));
+  formed = let last = has_items statements.items && list_all is_statement statements.items in
+      and_true (list_all is_definition constants.items) (list_all is_type_definition types.items && (list_all is_group variables.items && last))
+      defined.formed
+      (and_true (list_all is_type_definition types.items) (list_all is_group variables.items && last) typed.formed
+      (and_true (list_all is_group variables.items) last declared.formed
+      (and_true (has_items statements.items) (list_all is_statement statements.items) (has statements.items given.some) given.formed)));
   nests = let n = given.nests in omega arith;
 }
 

@@ -31,7 +31,7 @@ use Rattle.std.proofs.lemmas.Bool.{lt-ltb, eq-eqb}
 use Rattle.syntax_tree.specs.declared.Stmt.{Stmt}
 use Rattle.syntax_tree.specs.declared.Expr.{Expr}
 use Rattle.syntax_tree.specs.Places.{arms_of}
-use Rattle.grammar.specs.WellFormed.{is_expression, is_statement, stmt_form, has_items, are_rows}
+use Rattle.grammar.specs.WellFormed.{is_expression, is_statement, stmt_form, has_items, is_constant, is_row, are_rows}
 use Rattle.grammar.specs.Nesting.{stmt_levels, deepest}
 use Rattle.grammar.proofs.Rows.{begins, same_first}
 use Rattle.grammar.proofs.Equations.{spelling-Case, form-Case, closed-Case, levels-Case}
@@ -42,20 +42,25 @@ abbrev pub ConstantsGrow : Cursor → Cursor → List Constant → Type 0
 ConstantsGrow old now constants = (new : Cursor) (c : Constant) → Read BeginsConstant now new c → Read BeginsConstants old new (constants ++ c ∷ [])
 
 pub constants_grow_first : (a : Cursor) → ConstantsGrow a a []
-constants_grow_first a b c given = record { some = omega arith; spelled = given }
+constants_grow_first a b c given = record {
+  list = record { some = omega arith; spelled = given.spelled };
+  formed = and_true (is_constant c) true given.formed refl;
+}
 
 pub constants_grow : (a b c : Cursor) (constants : List Constant) (p : Place) → Read BeginsConstants a b constants
     → Took b c (of_kind_at (kind.Symbol symbol.Comma) p ∷ []) → ConstantsGrow a c constants
-constants_grow a b c constants p list comma d x given =
-    list_goes_on symbol.Comma a b c d (map constant_spelling constants) (map constant_spelling (constants ++ x ∷ [])) p (constant_spelling x) list comma given
-    (map_push constant_spelling constants x)
+constants_grow a b c constants p list comma d x given = record {
+  list = list_goes_on symbol.Comma a b c d (map constant_spelling constants) (map constant_spelling (constants ++ x ∷ [])) p (constant_spelling x) list.list
+      comma given.spelled (map_push constant_spelling constants x);
+  formed = all_push is_constant constants x list.formed given.formed;
+}
 
 -- behind a constant
 pub constants_left : (start : List Token) (a b : Cursor) (c : Constant) → ReadsEach BeginsConstant Anything a b (Ok c) → ConstantNext start a.rest.now
     → ConstantsLeft start b.rest.now
 constants_left start a b c reads next constants others h ends =
     let p = next constants others h ends in
-    let same : b.rest.now ≡ p.middle = reads p.first p.middle p.spelled tt in
+    let same : b.rest.now ≡ p.middle = reads p.first p.middle (record { spelled = p.spelled; formed = p.formed }) tt in
     subst (λ x. PartsLeft Constant constant_list_parts 0 x others) (sym same) p.left
 
 -- a row with its colon
@@ -68,7 +73,7 @@ row_closed a b c p constants list colon =
 pub row_spelled : (a b : Cursor) (constants : List Constant) → Read BeginsRow a b constants
     → Took a b (separated symbol.Comma (map constant_spelling constants) ++ mark symbol.Colon ∷ [])
 row_spelled a b constants h =
-    both (separated symbol.Comma (map constant_spelling constants)) (mark symbol.Colon ∷ []) a.rest.now h.middle b.rest.now h.list.spelled h.closed
+    both (separated symbol.Comma (map constant_spelling constants)) (mark symbol.Colon ∷ []) a.rest.now h.middle b.rest.now h.list.list.spelled h.closed
 
 -- ---- arms
 
@@ -97,14 +102,15 @@ arm_read : (levels : ℕ) (a b c : Cursor) (constants : List Constant) (s : Stmt
     → Took a c (arm_spelled (constants, s))
 arm_read levels a b c constants s headed given =
     both (separated symbol.Comma (map constant_spelling constants)) (mark symbol.Colon ∷ stmt_spelling s) a.rest.now headed.middle c.rest.now
-    headed.list.spelled (both (mark symbol.Colon ∷ []) (stmt_spelling s) headed.middle b.rest.now c.rest.now headed.closed given.spelled)
+    headed.list.list.spelled (both (mark symbol.Colon ∷ []) (stmt_spelling s) headed.middle b.rest.now c.rest.now headed.closed given.spelled)
 
 arm_formed : (levels : ℕ) (a b c : Cursor) (constants : List Constant) (s : Stmt) → Read BeginsRow a b constants → Read (BeginsStmt levels) b c s
     → arm_well (constants, s) ≡ true
 arm_formed levels a b c constants s headed given =
     let n = length_map constant_spelling constants in
-    let some = headed.list.some in
-    and_true (has_items constants) (is_statement s) (lt-ltb 0 (length constants) (omega arith)) given.formed
+    let some = headed.list.list.some in
+    and_true (is_row constants) (is_statement s)
+    (and_true (has_items constants) (list_all is_constant constants) (lt-ltb 0 (length constants) (omega arith)) headed.list.formed) given.formed
 
 -- with one more arm there is a list
 abbrev pub ArmsGrow : ℕ → Cursor → Cursor → List (Vec Constant Global) → List Stmt → Type 0
@@ -171,7 +177,7 @@ pub gives-Case : (levels : ℕ) (a b c d : Cursor) (p : Place) (index : Expr) (r
     → Read (BeginsStmt (levels + 1)) a d (statement.Case p index rows v last)
 gives-Case levels a b c d p index rows v last taken guarded given =
     let arms = separated symbol.Semicolon (map arm_spelling (arms_of rows.items (map stmt_spelling v.items))) in
-    let filled = list_all (λ (r : Vec Constant Global). has_items r.items) rows.items in
+    let filled = list_all (λ (r : Vec Constant Global). is_row r.items) rows.items in
     let statements = list_all is_statement v.items in
     let well = sym (arms_formed rows.items v.items given.each) ∙ given.begun.formed in
     let size = length_map stmt_form v.items in

@@ -25,7 +25,8 @@ use Rattle.expression_parser.proofs.ExactChains.{level_is, first_answer}
 use Rattle.grammar.proofs.Chains.{chain_parts, links_of}
 use Rattle.expression_parser.proofs.Chains.{links_first, links_more, operand_stops, links_end, links_given, alone_given, alone_exact, chain_from}
 use Rattle.grammar.proofs.Expressions.{factor_parts, number_read, name_taken, opened, signed_parts, sign_taken}
-use Rattle.expression_parser.proofs.ExactExpressions.{string_behind, negated_behind, negated_answer, parenthesized_answer, inner_answer, sign_missed_at, term_answer}
+use Rattle.expression_parser.proofs.ExactExpressions.{string_behind, negated_behind, negated_answer, parenthesized_answer, inner_answer, sign_missed_at}
+use Rattle.expression_parser.proofs.ExactExpressions.{term_answer}
 use Rattle.grammar.proofs.Actuals.{actual_parts, width_absent, width_taken, actual_list_parts, actual_list_begins, actual_list_goes_on, opened_actuals}
 use Rattle.expression_parser.proofs.ExactActuals.{value_answer, width_left, width_answer, actual_answer, actual_list_left, no_actuals}
 use Rattle.expression_parser.proofs.Actuals.{ActualsGrow, actuals_grow_first, actuals_grow, actuals_closed}
@@ -345,7 +346,8 @@ factor-returns-in_err-levels-clause-given t c =
     (c.in_err-levels.ensures.spent.0, c.in_err-levels.ensures.spent.1 ∙ ap TooDeep c.place.ensures) in
     let opening : Refused (c.args.levels + 1) c.take_string.new.self fault = refused_behind_opening c.args.levels (c.args.levels + 1) c.take_string.new.self
     c.take_word.new.self (kind.Word word.Not) c.in-Some-take_word.place fault refl refl c.in-Some-take_word.ensures.spelled here in
-    handed_on _ _ c.from_residual.result fault c.from_residual.ensures (subst (λ k. Refused (c.args.levels + 1) k fault) (c.in_default-take_string.ensures.kept ∙ c.in_default.ensures.kept) opening)
+    handed_on _ _ c.from_residual.result fault c.from_residual.ensures
+    (subst (λ k. Refused (c.args.levels + 1) k fault) (c.in_default-take_string.ensures.kept ∙ c.in_default.ensures.kept) opening)
 
 pub factor-returns-in_err-operand-clause-exact : goal.factor-returns-in_err-operand-clause-exact
 factor-returns-in_err-operand-clause-exact t c = λ depth e others h ends.

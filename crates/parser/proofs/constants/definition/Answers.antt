@@ -24,7 +24,7 @@ pub returns-in_err-value-clause-exact : goal.returns-in_err-value-clause-exact
 returns-in_err-value-clause-exact c = λ d others h _.
     let b = definition_behind_name c.in_ok-name.name c.args.cursor.now.rest.now c.expect_name.new.self.rest.now others d c.in_ok-name.ensures.spelled h in
     let e = definition_behind_equal c.in_ok-expect_symbol.field-0 c.expect_name.new.self.rest.now c.expect_symbol.new.self.rest.now others d.value
-    c.in_ok-expect_symbol.ensures.spelled b in
+    c.in_ok-expect_symbol.ensures.spelled b h.formed in
     handed_on _ _ c.from_residual-in_err-value.result c.in_err-value.field-0.0 c.from_residual-in_err-value.ensures
     (c.in_err-value.ensures.exact d.value e.middle e.begun tt)
 
@@ -32,7 +32,7 @@ pub returns-in_err-expect_symbol-2-clause-exact : goal.returns-in_err-expect_sym
 returns-in_err-expect_symbol-2-clause-exact c = λ d others h _.
     let b = definition_behind_name c.in_ok-name.name c.args.cursor.now.rest.now c.expect_name.new.self.rest.now others d c.in_ok-name.ensures.spelled h in
     let e = definition_behind_equal c.in_ok-expect_symbol.field-0 c.expect_name.new.self.rest.now c.expect_symbol.new.self.rest.now others d.value
-    c.in_ok-expect_symbol.ensures.spelled b in
+    c.in_ok-expect_symbol.ensures.spelled b h.formed in
     absurd (c.in_err-expect_symbol-2.ensures.missed (begins (mark symbol.Semicolon) [] c.constant.new.cursor.rest.now others
     (definition_behind_constant c.expect_symbol.new.self c.constant.new.cursor others c.in_ok-value.value d.value c.in_ok-value.ensures.exact e)))
 
@@ -40,7 +40,7 @@ pub returns-clause-exact : goal.returns-clause-exact
 returns-clause-exact c = λ d others h _.
     let b = definition_behind_name c.in_ok-name.name c.args.cursor.now.rest.now c.expect_name.new.self.rest.now others d c.in_ok-name.ensures.spelled h in
     let e = definition_behind_equal c.in_ok-expect_symbol.field-0 c.expect_name.new.self.rest.now c.expect_symbol.new.self.rest.now others d.value
-    c.in_ok-expect_symbol.ensures.spelled b in
+    c.in_ok-expect_symbol.ensures.spelled b h.formed in
     (same_first (of_kind_at (kind.Symbol symbol.Semicolon) c.in_ok-expect_symbol-2.field-0) (mark symbol.Semicolon) [] c.constant.new.cursor.rest.now
     c.expect_symbol-2.new.self.rest.now others c.in_ok-expect_symbol-2.ensures.spelled
     (definition_behind_constant c.expect_symbol.new.self c.constant.new.cursor others c.in_ok-value.value d.value c.in_ok-value.ensures.exact e)).1

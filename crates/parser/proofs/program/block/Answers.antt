@@ -49,7 +49,7 @@ returns-in_err-levels-clause-given c =
     let typed : Refused n c.constants.new.cursor fault = refused_behind n c.constants.new.cursor c.types.new.cursor
     (types_spelling c.in_ok-types.types.items) fault c.in_ok-types.ensures.given.spelled declared in
     let refused : Refused n c.args.cursor.now fault = refused_behind n c.args.cursor.now c.constants.new.cursor
-    (constants_spelling c.in_ok-constants.constants.items) fault c.in_ok-constants.ensures.given typed in
+    (constants_spelling c.in_ok-constants.constants.items) fault c.in_ok-constants.ensures.given.spelled typed in
     search rules
 
 pub returns-in_err-statements-clause-given : goal.returns-in_err-statements-clause-given
@@ -63,7 +63,7 @@ returns-in_err-statements-clause-given c =
     let typed : Refused n c.constants.new.cursor fault = refused_behind n c.constants.new.cursor c.types.new.cursor
     (types_spelling c.in_ok-types.types.items) fault c.in_ok-types.ensures.given.spelled declared in
     let refused : Refused n c.args.cursor.now fault = refused_behind n c.args.cursor.now c.constants.new.cursor
-    (constants_spelling c.in_ok-constants.constants.items) fault c.in_ok-constants.ensures.given typed in
+    (constants_spelling c.in_ok-constants.constants.items) fault c.in_ok-constants.ensures.given.spelled typed in
     search rules
 
 pub returns-in_err-statements-clause-exact : goal.returns-in_err-statements-clause-exact

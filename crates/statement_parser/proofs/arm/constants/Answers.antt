@@ -39,7 +39,8 @@ pub loop-constants-smaller : goal.loop-constants-smaller
 loop-constants-smaller c =
     let now = last c.loop-constants.constants.items c.put.new.list.items c.constant.result c.in_ok-put.ensures.given in
     let one = reads_no_more _ c.loop-constants.cursor.rest.now c.constant.new.cursor.rest.now
-    (was_read (Read BeginsConstant c.loop-constants.cursor c.constant.new.cursor) IsPlain c.constant.result now.item now.is c.constant.ensures.given) in
+    (was_read (Read BeginsConstant c.loop-constants.cursor c.constant.new.cursor) IsPlain c.constant.result now.item now.is
+    c.constant.ensures.given).spelled in
     let comma = reads_fewer _ [] c.constant.new.cursor.rest.now c.take_symbol.new.self.rest.now c.in-Some.ensures.spelled in
     omega arith
 
@@ -54,7 +55,7 @@ returns-in_err-put-clause-exact c = λ constants others h ends.
     let p = c.loop-constants.invariant.1 constants others h ends in
     handed_on _ _ c.from_residual-in_err-put.result c.in_err-put.field-0.0 c.from_residual-in_err-put.ensures
     (not_kept (λ _. c.constant.new.cursor.rest.now ≡ p.middle) (λ fault. fault ≡ Memory) c.constant.result c.in_err-put.field-0.0 refl
-    (c.constant.ensures.exact p.first p.middle p.spelled tt) c.in_err-put.ensures.given)
+    (c.constant.ensures.exact p.first p.middle (record { spelled = p.spelled; formed = p.formed }) tt) c.in_err-put.ensures.given)
 
 pub returns-in_default-clause-given : goal.returns-in_default-clause-given
 returns-in_default-clause-given c =
