@@ -53,13 +53,13 @@ name_stands a b c n read given is kept =
     record { spelled = subst (λ x. Took a x (identifier n ∷ [])) (sym kept) named.spelled; formed = refl }
 
 -- a name is a constant without a sign
-constant_named_so : (n : Name) (a c : List Token) → Reads a (identifier n ∷ []) c
+name_is_constant : (n : Name) (a c : List Token) → Reads a (identifier n ∷ []) c
     → BeginsConstant a c (record { sign = None; value = constant.Name n })
-constant_named_so n a c h = record { spelled = h; formed = refl }
+name_is_constant n a c h = record { spelled = h; formed = refl }
 
 -- the constant that such a denoter begins with
 pub first_begins : (a c : List Token) → NameOrSubrange a c → (x : Constant) × (b : List Token) × BeginsConstant a b x
-first_begins a c (named n h) = (record { sign = None; value = constant.Name n }, c, constant_named_so n a c h)
+first_begins a c (named n h) = (record { sign = None; value = constant.Name n }, c, name_is_constant n a c h)
 first_begins a c (ranged first last p b h k f) = (first, b, h)
 
 -- where no `..` comes behind the constant read a name stands alone
@@ -67,7 +67,7 @@ pub no_range : (a b : Cursor) (c : List Token) (read : Constant) → ReadsEach B
     → NoNext (kind.Symbol symbol.Range) b.rest.now → NameOrSubrange a.rest.now c
     → (n : Name) × Reads a.rest.now (identifier n ∷ []) c × (b.rest.now ≡ c)
 no_range a b c read reads missed (named n h) =
-    (n, h, reads (record { sign = None; value = constant.Name n }) c (constant_named_so n a.rest.now c h) tt)
+    (n, h, reads (record { sign = None; value = constant.Name n }) c (name_is_constant n a.rest.now c h) tt)
 no_range a b c read reads missed (ranged first last p m h k f) =
     absurd (missed (ap next_kind (reads first m h tt) ∙ begins (of_kind_at (kind.Symbol symbol.Range) p) (constant_spelling last) m c k))
 
@@ -83,7 +83,7 @@ pub range_taken : (p : Place) (a b c : Cursor) (d : List Token) (read : Constant
     → Took b c (of_kind_at (kind.Symbol symbol.Range) p ∷ []) → NameOrSubrange a.rest.now d → EndsDenoter d
     → (last : Constant) × BeginsConstant c.rest.now d last
 range_taken p a b c d read reads taken (named n h) ends =
-    let same : b.rest.now ≡ d = reads (record { sign = None; value = constant.Name n }) d (constant_named_so n a.rest.now d h) tt in
+    let same : b.rest.now ≡ d = reads (record { sign = None; value = constant.Name n }) d (name_is_constant n a.rest.now d h) tt in
     absurd (ends (ap next_kind (sym same) ∙ begins (of_kind_at (kind.Symbol symbol.Range) p) [] b.rest.now c.rest.now taken))
 range_taken p a b c d read reads taken (ranged first last q m h k f) ends =
     let same : b.rest.now ≡ m = reads first m h tt in
