@@ -4,7 +4,7 @@ use crate::numbers::Numbers;
 use std::alloc::{AllocError, Global};
 
 // What may stand for a letter. The capital letters in it stand for further texts.
-static CHOICES: [(u8, &[&str]); 23] = [
+static CHOICES: [(u8, &[&str]); 26] = [
     // At most seven statements.
     (
         b'P',
@@ -22,6 +22,10 @@ static CHOICES: [(u8, &[&str]); 23] = [
             "V := I; ",
             "V := V + 1; ",
             "V := V - 1; ",
+            "F := Y; ",
+            "h := E; ",
+            "k := N; ",
+            "write(YW, 'it''s'W); ",
             "if C then X; ",
             "if C then X else X; ",
             "while C do X; ",
@@ -32,6 +36,8 @@ static CHOICES: [(u8, &[&str]); 23] = [
             "case V of A end; ",
             "case I of A end; ",
             "case B of true: X; false: X end; ",
+            "case Y of 'a', 'm': X; 'b', '''': X end; ",
+            "case E of red: X; green, blue: X end; ",
         ],
     ),
     // A statement in a branch or a loop, and at most two more behind the first of a loop.
@@ -94,12 +100,28 @@ static CHOICES: [(u8, &[&str]); 23] = [
     ),
     (
         b'N',
-        &["maxint", "1", "(2 - 3)", "46341", "a", "i", "V", "V"],
+        &[
+            "maxint", "1", "(2 - 3)", "46341", "a", "i", "V", "V", "k", "succ(k)", "pred(V)", "ord(Y)", "ord(E)",
+        ],
     ),
     (b'V', &["a", "b", "c"]),
+    // Of type char, and of an enumerated type.
+    (b'F', &["f", "g"]),
+    (
+        b'Y',
+        &[
+            "F", "F", "F", "'a'", "''''", "chr(V)", "chr(ord(F) + 1)", "succ(F)", "pred(F)",
+        ],
+    ),
+    (b'E', &["h", "h", "red", "blue", "succ(h)", "pred(h)"]),
     (b'O', &[" + ", " - ", " * ", " div ", " mod ", " - "]),
     // An expression of type Boolean, of one or two operators, and one of one operator at most.
-    (b'B', &["T", "not U", "(ULU)", "odd(J)", "(JRJ)", "(JRJ)"]),
+    (
+        b'B',
+        &[
+            "T", "not U", "(ULU)", "odd(J)", "(JRJ)", "(JRJ)", "(YRY)", "(ERE)", "('ab' R 'ac')",
+        ],
+    ),
     (b'U', &["T", "not T", "(TLT)", "odd(J)", "(JRJ)", "(JRJ)"]),
     (b'T', &["false", "e", "d", "d"]),
     (b'D', &["d", "e"]),
@@ -125,9 +147,10 @@ fn choice(numbers: &mut Numbers, letter: u8) -> &'static str {
 }
 
 const BEGIN: &[u8] = b"program p(output); var a, b, c: integer; d, e: Boolean; i, j: integer;
-begin a := 3; b := 7; d := true; e := odd(a); ";
+f, g: char; h: (red, green, blue); k: 1..9;
+begin a := 3; b := 7; d := true; e := odd(a); f := 'a'; g := 'm'; h := red; k := 1; ";
 
-// A program of a few statements over five integers and two Booleans.
+// A program of a few statements over five integers and two Booleans, two characters, a colour and a digit.
 pub(crate) fn program(alloc: Global, numbers: &mut Numbers) -> Result<Vec<u8>, AllocError> {
     let mut text = Vec::from_slice(alloc, BEGIN)?;
     // What is still to be written, its end first.
@@ -192,8 +215,9 @@ pub(crate) fn certificate(
 
 fn push_changes(alloc: Global, numbers: &mut Numbers, text: &mut String) -> Result<(), AllocError> {
     let forgotten = numbers.below(100);
-    for root in 0..5usize {
-        if root != forgotten {
+    for root in 0..11usize {
+        // The sixth and the seventh are control variables.
+        if root != forgotten && root != 5 && root != 6 {
             text.push_str(format!(in alloc; "change v{root}\n")?.as_str())?;
         }
     }
@@ -207,7 +231,7 @@ fn push_facts(alloc: Global, numbers: &mut Numbers, text: &mut String) -> Result
             text.push_str(format!(in alloc; "fact range v{root} {least} {greatest}\n")?.as_str())?;
         }
     }
-    for root in 0..5usize {
+    for root in 0..11usize {
         if numbers.below(12) == 0 {
             text.push_str(format!(in alloc; "fact defined v{root}\n")?.as_str())?;
         }

@@ -2,7 +2,8 @@ use crate::programs::{Told, run};
 use std::test::Fail;
 
 // A program of every form, in small, and its certificate.
-const EVERY_FORM: &str = "program p(output); var x, y: integer; b: boolean;
+const EVERY_FORM: &str = "program p(output); const s = 'it''s'; type t = (one, two); u = 'a'..'z';
+    var x, y: integer; b: boolean; c: char; d: t; e: u;
     begin
       x := 7 div 2; y := -x + sqr(x) * abs(3) mod 5;
       b := not (x < y) or odd(x) and true;
@@ -11,7 +12,9 @@ const EVERY_FORM: &str = "program p(output); var x, y: integer; b: boolean;
       while x < 3 do x := x + 1;
       repeat y := x until true;
       for y := 1 to 2 do case y of 1: x := 4; 2: x := y + 3 end;
-      write(x:2)
+      write(x:2);
+      c := chr(ord('a') + 1); d := pred(succ(one)); e := succ(c);
+      if (s > 'is a') or ('ab' < 'ac') then write(s:6, e, c:2, ord(d):2)
     end.";
 
 const CLAIMS: &str = "pcert 1
@@ -27,8 +30,8 @@ fact defined v0
 ";
 
 // By hand: x is 3; sqr(3) * abs(3) is 27 and mod 5 gives 2, so y is -1; 3 < -1 is false, so b is true. Then x is 2, and
-// 3 behind the while; the for makes it 4 and then 5.
-const WRITTEN: &str = "  3 true -1tr\n 5";
+// 3 behind the while; the for makes it 4 and then 5. At last c is 'b', d is one, whose number is 0, and e is 'c'.
+const WRITTEN: &str = "  3 true -1tr\n 5  it'sc b 0";
 
 // Whether a run that had ample memory did what it should, and one that had not said so and wrote nothing else.
 fn is_as_it_should(told: &Told) -> bool {
