@@ -29,7 +29,7 @@ parameter_of_program name =
 
 -- a constant definition: its value, and then its name
 unfoldable pub definition : ConstantDefinition → Passing (Unit {0})
-definition d = constant d.value >>= (λ c. declare d.name (denotes.Constant c.0 c.1))
+definition d = constant d.value >>= declare d.name
 
 -- a type definition: its denoter, and then its name
 unfoldable pub type_definition : TypeDefinition → Passing (Unit {0})
