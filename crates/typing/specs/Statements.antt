@@ -40,8 +40,8 @@ use Rattle.typed_tree.specs.declared.tree.Direction.{Direction}
 use Rattle.typed_tree.specs.declared.tree.Direction.TheVariants as direction
 use Rattle.typed_tree.specs.declared.tree.Representation.{Representation}
 use Rattle.typed_tree.specs.declared.tree.Representation.TheVariants as representation
-use Rattle.typed_tree.specs.Look.{Mark, Assign, Target, Fits, Write, Written as WrittenMark, WrittenString, Width, Empty}
-use Rattle.typed_tree.specs.Look.{Compound, If, Then, Else, While, Do, Repeat, Until, For, Case, Arm, Ends}
+use Rattle.typed_tree.specs.Look.{Mark, Assign, Target, Fits, Write, Written as WrittenMark, WrittenString, Width}
+use Rattle.typed_tree.specs.Look.{Empty, Compound, If, Then, Else, While, Do, Repeat, Until, For, Case, Arm, Ends}
 use Rattle.typing.specs.Passing.{Checked, Passing, and_then, pure, given, mark, each, ◌>>=◌, ◌>>◌, ◌>>?◌}
 use Rattle.typing.specs.Steps.{fits, or_mismatch, pass, enter_as, enter_loop, site, find, may_change, begin_control}
 use Rattle.typing.specs.Steps.{end_control, wants_output}

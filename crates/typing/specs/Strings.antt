@@ -1,7 +1,7 @@
 -- Strings (ISO 7185:1990, 6.1.7): their characters, the type of a string, and what a constant is that a string stands
 -- for. They say nothing of where a string stands.
-use Rattle.std.specs.Prelude.{ℕ, pos, ◌&&◌, List, [], ◌∷◌, Option, Some, None, option_map, if◌then◌else◌, ◌==◌, nat_lt}
-use Rattle.std.specs.Prelude.{true, length}
+use Rattle.std.specs.Prelude.{ℕ, ◌==◌, pos, true, not, ◌&&◌, List, [], ◌∷◌, length, Option, Some, None, option_map}
+use Rattle.std.specs.Prelude.{if◌then◌else◌}
 use Rattle.std.specs.List.{list_all}
 use Rattle.place.specs.declared.Place.{Place}
 use Rattle.types.specs.declared.form.TypeForm.TheVariants.{Subrange, Array}
@@ -27,11 +27,11 @@ abbrev pub characters : List ℕ → Option (List ℕ)
 characters [] = None
 characters (b ∷ bs) = if b == 39 then characters_behind bs else None
 
--- the same, which are one or more, each of type char
+-- the same, which are one or more, each of type char; K1 at the place where these bytes are no such string
 abbrev pub string_characters : Place → List ℕ → Checked (List ℕ)
 string_characters place bytes =
     and_then (or_mismatch place (characters bytes))
-    (λ cs. fits (nat_lt 0 (length cs) && list_all is_character cs) place cs)
+    (λ cs. fits (not (length cs == 0) && list_all is_character cs) place cs)
 
 -- the type of a string of so many characters, of its own: packed array [1..length] of char (6.4.3.2)
 unfoldable pub string_type : Place → ℕ → Passing TypeId

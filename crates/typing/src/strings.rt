@@ -1,6 +1,8 @@
 ghost use Rattle.std.specs.Prelude.{◌≡◌, ◌⊎◌, [], Ok, Err, IfOk, MatchResult, option_map};
 ghost use Rattle.typed_tree.specs.declared.fault.TypeFault.TheVariants.{Memory};
-ghost use Rattle.typing.specs.Strings.{string_characters, characters};
+ghost use Rattle.std.specs.List.{list_all};
+ghost use Rattle.typed_tree.specs.WellFormed.{is_character};
+ghost use Rattle.typing.specs.Strings.{characters, string_characters};
 
 use crate::denoters::value_of;
 use crate::typer::Typer;
@@ -90,10 +92,17 @@ pub fn characters(alloc: Global, place: Place, text: &[u8]) -> Result<Vec<u8>, T
         (λ why. (why ≡ Memory) ⊎ (string_characters place text.now ≡ Err why)) }
 {
     let characters = undoubled(alloc, text)?.ok_or(TypeFault::Mismatch(place))?;
-    if characters.is_empty() || !characters.is_ascii() {
+    if characters.is_empty() || !are_of_char(&characters) {
         return Err(TypeFault::Mismatch(place));
     }
     Ok(characters)
+}
+
+// Whether each is of type char.
+fn are_of_char(characters: &[u8]) -> bool
+    ensures { result ≡ list_all is_character characters.now }
+{
+    characters.iter().all(|character| *character < 128)
 }
 
 // Those of any bytes, if they stand between apostrophes.
