@@ -5,6 +5,8 @@ use types::TypeId;
 pub enum Denotation {
     TypeName(TypeId),
     Constant { value: i32, type_id: TypeId },
+    /// A string of two or more characters (6.3), by its number among those that constants are.
+    Text { number: usize, type_id: TypeId },
     /// The variable with this root number.
     Variable { root: u32, type_id: TypeId },
     Procedure(RequiredProcedure),
@@ -20,10 +22,14 @@ pub enum RequiredProcedure {
     Writeln,
 }
 
-/// A required function of one ordinal (6.6.6.2, 6.6.6.5).
+/// A required function of one ordinal (6.6.6.2, 6.6.6.4, 6.6.6.5).
 #[derive(Clone, Copy)]
 pub enum RequiredFunction {
     Abs,
     Sqr,
     Odd,
+    Ord,
+    Chr,
+    Succ,
+    Pred,
 }

@@ -25,8 +25,8 @@ use Rattle.typed_tree.specs.declared.tree.Stmt.TheVariants as stmt
 use Rattle.typed_tree.specs.declared.tree.Stmt.TheOpen as stmt_layer
 use Rattle.typed_tree.specs.declared.tree.Stmt.TheFolds.{fold-roll-Stmt}
 use Rattle.typed_tree.specs.Look.{Look, link_look, expression_look, look_expr, look_link, look_parameter, statement_look, look_stmt, Constant, Variable}
-use Rattle.typed_tree.specs.Look.{Operation, Begins, Operator, Ends, Empty, Assign, Target, Fits, Write, Compound, If, Then, Else, While, Do, Repeat, Until}
-use Rattle.typed_tree.specs.Look.{For, Case, arms_look, look_whole, Compared}
+use Rattle.typed_tree.specs.Look.{Operation, Applied, Begins, Operator, Ends, Empty, Assign, Target, Fits, Write, Compound, If, Then, Else, While, Do, Repeat}
+use Rattle.typed_tree.specs.Look.{Until, For, Case, arms_look, look_whole, Compared}
 use Rattle.typed_tree.specs.WellFormed.{length_of}
 pub use Rattle.typed_tree.proofs.Measured.{entries_are, formed_are}
 
@@ -41,7 +41,7 @@ look_variable access defined =
     ap look_expr (sym (tree.rolls-Variable access defined)) ∙ fold-roll-Expr Look Look expression_look link_look (layer.Variable access defined)
 
 pub look_monadic : (number : ℕ) (operation : MonadicOperation) (operand : Box Expr Global)
-    → look_expr (tree.Monadic number operation operand) ≡ Operation number operation ∷ look_expr operand.value
+    → look_expr (tree.Monadic number operation operand) ≡ Operation number ∷ (look_expr operand.value ++ (Applied operation ∷ []))
 look_monadic number operation operand =
     ap look_expr (sym (tree.rolls-Monadic number operation operand))
     ∙ fold-roll-Expr Look Look expression_look link_look (layer.Monadic number operation operand)

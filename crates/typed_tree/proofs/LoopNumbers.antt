@@ -25,7 +25,7 @@ use Rattle.typed_tree.specs.Loops.{Inside, statement_inside, inside_of, loops_of
 use Rattle.typed_tree.specs.Look.{Mark, Look, link_look, expression_look, look_expr, look_link, look_width, look_parameter, arms_look, statement_look}
 use Rattle.typed_tree.specs.Look.{look_stmt, look_block, look_written}
 use Rattle.typed_tree.specs.Look.{tree_look, mark_loops, loops_of_look, Ends, Then, Else, Do, Until, Fits as FitsMark, Written as WrittenMark}
-use Rattle.typed_tree.specs.Look.{Width as WidthMark, BlockEnds}
+use Rattle.typed_tree.specs.Look.{Width as WidthMark, BlockEnds, Applied}
 
 -- a form, and then one that is no loop
 ended : (look : Look) (end : Mark) → mark_loops end ≡ [] → loops_of_look (look ++ (end ∷ [])) ≡ loops_of_look look
@@ -60,7 +60,7 @@ silent_layer : (y : Expr-F (Silent look_expr) (Silent look_link))
     → loops_of_look (expression_look (map-Expr Expr Link Look Look look_expr look_link (bare y))) ≡ []
 silent_layer (Constant number value) = refl
 silent_layer (Variable access defined) = refl
-silent_layer (MonadicOf number operation operand) = operand.value.1
+silent_layer (MonadicOf number operation operand) = ended (look_expr operand.value.0) (Applied operation) refl ∙ operand.value.1
 silent_layer (Chain first rest) =
     let links = joined (map look_link (map (λ l. l.0) rest.items)) in
     behind (look_expr first.value.0) (links ++ (Ends ∷ [])) first.value.1 ∙ ended links Ends refl ∙ silent_joined look_link rest.items

@@ -33,6 +33,7 @@ use Rattle.typed_tree.specs.WellFormed.{are_whole, stmt_is_well_formed, is_well_
 use Rattle.typed_tree.specs.Look.{Mark, Look, link_look, expression_look, look_expr, look_link, look_width, look_parameter, arms_look, statement_look}
 use Rattle.typed_tree.specs.Look.{look_stmt, look_block, tree_look, mark_entries, entries_of_look, is_formed_mark, Ends, If as IfMark, Then, Else, Do, Until}
 use Rattle.typed_tree.specs.Look.{Fits as FitsMark, Written as WrittenMark, Width as WidthMark, BlockEnds, Compared, WrittenString, look_whole, look_written}
+use Rattle.typed_tree.specs.Look.{Applied}
 
 -- ---- a measure of looks that is a fold over trees
 
@@ -128,7 +129,8 @@ entries_mapped look entries each (x ∷ xs) =
 entries_layer : Layers entries_of_look expression_entries link_entries
 entries_layer (Constant number value) = refl
 entries_layer (Variable access defined) = refl
-entries_layer (MonadicOf number operation operand) = ap (λ entries. number ∷ entries) operand.value.1
+entries_layer (MonadicOf number operation operand) =
+    ap (λ entries. number ∷ entries) (entries_ended (look_expr operand.value.0) (Applied operation) refl ∙ operand.value.1)
 entries_layer (Chain first rest) =
     let links = joined (map look_link (map (λ l. l.0) rest.items)) in
     flat_map-append mark_entries (look_expr first.value.0) (links ++ (Ends ∷ []))
@@ -269,7 +271,10 @@ module _ (variables sites : ℕ) where
   formed_layer : Layers is_formed (expr_is_well_formed variables sites) (link_is_well_formed variables sites)
   formed_layer (Constant number value) = and-true (is_whole value)
   formed_layer (Variable access defined) = and-true (nat_lt access.root variables && nat_lt defined sites)
-  formed_layer (MonadicOf number operation operand) = ap (λ b. monadic_is_well_formed variables sites operation && b) operand.value.1
+  formed_layer (MonadicOf number operation operand) =
+      let test = monadic_is_well_formed variables sites operation in
+      formed_cut (look_expr operand.value.0) (Applied operation ∷ []) ∙ ap (λ b. b && (test && true)) operand.value.1
+      ∙ and_turned (is_well_formed_expr variables sites operand.value.0) test
   formed_layer (Chain first rest) =
       let links = joined (map look_link (map (λ l. l.0) rest.items)) in
       formed_cut (look_expr first.value.0) (links ++ (Ends ∷ []))

@@ -25,7 +25,8 @@ use Rattle.typed_tree.specs.declared.tree.Expr.{Expr}
 use Rattle.typed_tree.specs.declared.tree.Link.{Link}
 use Rattle.typed_tree.specs.declared.tree.Expr.TheOpen.{Expr-F, Link-F}
 use Rattle.typed_tree.specs.declared.tree.Expr.TheOpen.Expr-F.{Constant as ConstantOf, Variable as VariableOf}
-use Rattle.typed_tree.specs.declared.tree.Expr.TheOpen.Expr-F.{Monadic as MonadicOf, Chain as ChainOf, Compare as CompareOf}
+use Rattle.typed_tree.specs.declared.tree.Expr.TheOpen.Expr-F.{Monadic as MonadicOf, Chain as ChainOf}
+use Rattle.typed_tree.specs.declared.tree.Expr.TheOpen.Expr-F.{Compare as CompareOf}
 use Rattle.typed_tree.specs.declared.tree.Expr.TheFolds.{fold-Expr, fold-Link}
 use Rattle.typed_tree.specs.declared.tree.Stmt.{Stmt}
 use Rattle.typed_tree.specs.declared.tree.Stmt.TheOpen.{Stmt-F}
@@ -34,8 +35,8 @@ use Rattle.typed_tree.specs.declared.tree.Stmt.TheOpen.Stmt-F.{Compound as Compo
 use Rattle.typed_tree.specs.declared.tree.Stmt.TheOpen.Stmt-F.{Repeat as RepeatOf, For as ForOf, Case as CaseOf}
 use Rattle.typed_tree.specs.declared.tree.Stmt.TheFolds.{fold-Stmt}
 use Rattle.typed_tree.specs.Entries.{joined}
-use Rattle.typed_tree.specs.WellFormed.{is_whole, are_characters, length_of, monadic_is_well_formed, dyadic_is_well_formed}
-use Rattle.typed_tree.specs.WellFormed.{is_well_formed_test}
+use Rattle.typed_tree.specs.WellFormed.{is_whole, are_characters, length_of, monadic_is_well_formed}
+use Rattle.typed_tree.specs.WellFormed.{dyadic_is_well_formed, is_well_formed_test}
 
 -- a form, or where one ends; numbers are those of entries, roots those of variables
 pub data Mark : Type 0 where
@@ -43,8 +44,10 @@ pub data Mark : Type 0 where
   Constant : ℕ → ℤ → Mark
   -- its number, its root, and the site of its test
   Variable : ℕ → ℕ → ℕ → Mark
-  -- an operation on the operand behind it
-  Operation : ℕ → Monadic → Mark
+  -- the number of an operation on the operand behind it
+  Operation : ℕ → Mark
+  -- the operation on the operand before it
+  Applied : Monadic → Mark
   -- a chain of operators begins
   Begins : Mark
   -- an operator between operands
@@ -101,7 +104,7 @@ link_look link = Operator link.number link.operation ∷ link.operand
 abbrev pub expression_look : Expr-F Look Look → Look
 expression_look (ConstantOf number value) = Constant number value ∷ []
 expression_look (VariableOf access defined) = Variable access.number access.root defined ∷ []
-expression_look (MonadicOf number operation operand) = Operation number operation ∷ operand.value
+expression_look (MonadicOf number operation operand) = Operation number ∷ (operand.value ++ (Applied operation ∷ []))
 expression_look (ChainOf first rest) = Begins ∷ (first.value ++ (joined rest.items ++ (Ends ∷ [])))
 expression_look (CompareOf number relation left right) =
     Begins
@@ -177,7 +180,8 @@ tree_look tree = flat_map look_block tree.blocks.items
 abbrev pub mark_entries : Mark → List ℕ
 mark_entries (Constant number value) = number ∷ []
 mark_entries (Variable number root defined) = number ∷ []
-mark_entries (Operation number operation) = number ∷ []
+mark_entries (Operation number) = number ∷ []
+mark_entries (Applied operation) = []
 mark_entries Begins = []
 mark_entries (Operator number operation) = number ∷ []
 mark_entries Ends = []
@@ -223,7 +227,8 @@ loops_of_look = flat_map mark_loops
 abbrev pub is_formed_mark : ℕ → ℕ → Mark → Bool
 is_formed_mark variables sites (Constant number value) = is_whole value
 is_formed_mark variables sites (Variable number root defined) = nat_lt root variables && nat_lt defined sites
-is_formed_mark variables sites (Operation number operation) = monadic_is_well_formed variables sites operation
+is_formed_mark variables sites (Operation number) = true
+is_formed_mark variables sites (Applied operation) = monadic_is_well_formed variables sites operation
 is_formed_mark variables sites Begins = true
 is_formed_mark variables sites (Operator number operation) = dyadic_is_well_formed variables sites operation
 is_formed_mark variables sites Ends = true

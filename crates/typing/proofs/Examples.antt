@@ -1,20 +1,25 @@
 -- Worked rows of the definitions of names and types.
 use Rattle.std.proofs.Common.{◌≡◌, ◌∷◌, ◌++◌, [], List, Some, None, Ok, Err, refl}
-use Rattle.std.specs.Prelude.{codes, pos, neg_ℤ}
+use Rattle.std.specs.Prelude.{codes, pos, neg_ℤ, true}
 use Rattle.place.specs.declared.Place.{Place}
 use Rattle.scopes.specs.declared.denotation.Denotation.TheVariants as denotes
+use Rattle.scopes.specs.declared.denotation.RequiredFunction.TheVariants as function
+use Rattle.typed_tree.specs.declared.tree.Monadic.TheVariants as monadic
 use Rattle.syntax_tree.specs.declared.Operator.TheVariants as op
 use Rattle.syntax_tree.specs.declared.Sign.TheVariants as sign
 use Rattle.syntax_tree.specs.declared.ConstantValue.TheVariants as constant
 use Rattle.types.specs.declared.form.TypeForm.{TypeForm}
-use Rattle.types.specs.declared.form.TypeForm.TheVariants.{Enumeration, Subrange}
+use Rattle.types.specs.declared.form.TypeForm.TheVariants.{Enumeration, Subrange, Array}
 use Rattle.types.specs.declared.form.TypeId.{TypeId}
-use Rattle.types.specs.Types.{required_forms, integer, boolean, range_of, range}
+use Rattle.types.specs.Types.{required_forms, integer, boolean, char, range_of, range}
 use Rattle.typing.specs.Names.{folded, required_region}
-use Rattle.typing.specs.Expressions.{result_type}
+use Rattle.typing.specs.Expressions.{typed, typed_string, result_type, applied}
+use Rattle.typing.specs.declared.typed.Typed.{Typed}
 use Rattle.typing.specs.Constants.{as_constant, behind_sign, constant_place}
 use Rattle.typing.specs.Statements.{fitting, own_constant}
-use Rattle.typing.specs.Denoters.{named_type, value_of, between}
+use Rattle.typing.specs.Denoters.{named_type, between}
+use Rattle.typing.specs.Steps.{value_of}
+use Rattle.typing.specs.Strings.{string_characters}
 use Rattle.syntax_tree.specs.declared.Name.{Name}
 use Rattle.typed_tree.specs.declared.fault.TypeFault.TheVariants as fault
 use Rattle.scopes.specs.declared.fault.ScopeFault.TheVariants as scope
@@ -24,20 +29,24 @@ use Rattle.scopes.specs.Scopes.{found}
 pub small_letters : folded (codes "WriteLn2") ≡ codes "writeln2"
 small_letters = refl
 
+-- an ordinal of a type
+abbrev of : TypeId → Typed
+of type_id = typed type_id None
+
 -- a sum of integers is an integer
-pub sum_of_integers : result_type required_forms op.Plus integer integer ≡ Some integer
+pub sum_of_integers : result_type required_forms op.Plus (of integer) (of integer) ≡ Some integer
 sum_of_integers = refl
 
 -- a truth value can't be added
-pub sum_with_boolean : result_type required_forms op.Plus integer boolean ≡ None
+pub sum_with_boolean : result_type required_forms op.Plus (of integer) (of boolean) ≡ None
 sum_with_boolean = refl
 
 -- truth values are compared with each other
-pub less_of_booleans : result_type required_forms op.Less boolean boolean ≡ Some boolean
+pub less_of_booleans : result_type required_forms op.Less (of boolean) (of boolean) ≡ Some boolean
 less_of_booleans = refl
 
 -- an integer is not compared with a truth value
-pub equal_of_both : result_type required_forms op.Equal integer boolean ≡ None
+pub equal_of_both : result_type required_forms op.Equal (of integer) (of boolean) ≡ None
 equal_of_both = refl
 
 -- maxint is a constant of type integer
@@ -51,11 +60,11 @@ unfolding required_region
 output_is_none = refl
 
 -- an integer may be assigned an integer, within the range of the type
-pub integer_fits : fitting required_forms integer integer ≡ range_of required_forms integer
+pub integer_fits : fitting required_forms integer (of integer) ≡ range_of required_forms integer
 integer_fits = refl
 
 -- an integer may not be assigned a truth value
-pub boolean_does_not_fit : fitting required_forms integer boolean ≡ None
+pub boolean_does_not_fit : fitting required_forms integer (of boolean) ≡ None
 boolean_does_not_fit = refl
 
 -- the types behind the required ones: an enumerated type, a subrange of it, and -5..-1
@@ -74,16 +83,32 @@ abbrev negative : TypeId
 negative = record { index = 5 }
 
 -- a value of an enumerated type may be assigned to a subrange of it, within the range of that
-pub enumeration_fits : fitting own_types warm colour ≡ range (pos 1) (pos 2)
+pub enumeration_fits : fitting own_types warm (of colour) ≡ range (pos 1) (pos 2)
 enumeration_fits = refl
 
 -- an integer may not be assigned to it
-pub integer_does_not_fit : fitting own_types warm integer ≡ None
+pub integer_does_not_fit : fitting own_types warm (of integer) ≡ None
 integer_does_not_fit = refl
 
 -- an integer may be assigned to a subrange of integer
-pub integer_fits_subrange : fitting own_types negative integer ≡ range (neg_ℤ (pos 5)) (neg_ℤ (pos 1))
+pub integer_fits_subrange : fitting own_types negative (of integer) ≡ range (neg_ℤ (pos 5)) (neg_ℤ (pos 1))
 integer_fits_subrange = refl
+
+-- strings of two, two and three characters
+abbrev strings : List TypeForm
+strings =
+    required_forms
+    ++ Subrange integer (pos 1) (pos 2) ∷ Array true (record { index = 3 }) char ∷ Subrange integer (pos 1) (pos 2) ∷ Array true (record { index = 5 }) char
+    ∷ Subrange integer (pos 1) (pos 3) ∷ Array true (record { index = 7 }) char ∷ []
+
+abbrev first : TypeId
+first = record { index = 4 }
+
+abbrev second : TypeId
+second = record { index = 6 }
+
+abbrev third : TypeId
+third = record { index = 8 }
 
 module _ (names : List Name) (name : Name) where
   -- a name of a type denotes that type
@@ -100,20 +125,21 @@ module _ (names : List Name) (name : Name) where
 
 module _ (place behind : Place) where
   -- a sign turns an integer
-  pub sign_of_maxint : behind_sign (Some (record { sign = sign.Minus; place = place })) (pos 2147483647, integer) ≡ Ok (neg_ℤ (pos 2147483647), integer)
+  pub sign_of_maxint : behind_sign (Some (record { sign = sign.Minus; place = place })) (denotes.Constant (pos 2147483647) integer)
+      ≡ Ok (denotes.Constant (neg_ℤ (pos 2147483647)) integer)
   sign_of_maxint = refl
 
   -- a truth value has no sign
-  pub sign_of_true : behind_sign (Some (record { sign = sign.Plus; place = place })) (pos 1, boolean) ≡ Err (fault.Mismatch place)
+  pub sign_of_true : behind_sign (Some (record { sign = sign.Plus; place = place })) (denotes.Constant (pos 1) boolean) ≡ Err (fault.Mismatch place)
   sign_of_true = refl
 
   -- a subrange of integer
-  pub between_integers : between required_forms place (neg_ℤ (pos 5), integer) (neg_ℤ (pos 1), integer)
+  pub between_integers : between required_forms place (Some (neg_ℤ (pos 5), integer)) (Some (neg_ℤ (pos 1), integer))
       ≡ Ok (Subrange integer (neg_ℤ (pos 5)) (neg_ℤ (pos 1)))
   between_integers = refl
 
   -- none between an integer and a truth value
-  pub between_both : between required_forms place (pos 0, integer) (pos 1, boolean) ≡ Err (fault.Mismatch place)
+  pub between_both : between required_forms place (Some (pos 0, integer)) (Some (pos 1, boolean)) ≡ Err (fault.Mismatch place)
   between_both = refl
 
   -- maxint is the last value that counts
@@ -125,16 +151,67 @@ module _ (place behind : Place) where
   variable_is_none = refl
 
   -- a constant that stands before an arm already
-  pub repeated_constant : own_constant required_forms integer (pos 2 ∷ neg_ℤ (pos 1) ∷ []) place (neg_ℤ (pos 1), integer) ≡ Err (fault.CaseConstant place)
+  pub repeated_constant : own_constant required_forms integer (pos 2 ∷ neg_ℤ (pos 1) ∷ []) place (Some (neg_ℤ (pos 1), integer))
+      ≡ Err (fault.CaseConstant place)
   repeated_constant = refl
 
   -- one of another type
-  pub other_constant : own_constant required_forms boolean [] place (pos 1, integer) ≡ Err (fault.CaseConstant place)
+  pub other_constant : own_constant required_forms boolean [] place (Some (pos 1, integer)) ≡ Err (fault.CaseConstant place)
   other_constant = refl
 
+  -- a string
+  pub string_constant : own_constant required_forms char [] place None ≡ Err (fault.CaseConstant place)
+  string_constant = refl
+
   -- one that is new
-  pub new_constant : own_constant required_forms integer (pos 1 ∷ []) place (neg_ℤ (pos 1), integer) ≡ Ok (neg_ℤ (pos 1))
+  pub new_constant : own_constant required_forms integer (pos 1 ∷ []) place (Some (neg_ℤ (pos 1), integer)) ≡ Ok (neg_ℤ (pos 1))
   new_constant = refl
+
+  -- two apostrophes stand for one
+  pub doubled : string_characters place (codes "'it''s'") ≡ Ok (codes "it's")
+  doubled = refl
+
+  -- one apostrophe
+  pub apostrophe : string_characters place (codes "''''") ≡ Ok (codes "'")
+  apostrophe = refl
+
+  -- a string has a character
+  pub empty : string_characters place (codes "''") ≡ Err (fault.Mismatch place)
+  empty = refl
+
+  -- and ends where it closes
+  pub closes : string_characters place (codes "'a'b'") ≡ Err (fault.Mismatch place)
+  closes = refl
+
+  -- two strings of the same length are compared, and others aren't
+  pub equally_long : result_type strings op.Less (typed_string first 2 None) (typed_string second 2 None) ≡ Some boolean
+  equally_long = refl
+
+  pub longer : result_type strings op.Less (typed_string first 2 None) (typed_string third 3 None) ≡ None
+  longer = refl
+
+  -- no string is compared with a char, or added
+  pub string_and_char : result_type strings op.Equal (typed_string first 2 None) (of char) ≡ None
+  string_and_char = refl
+
+  pub sum_of_strings : result_type strings op.Plus (typed_string first 2 None) (typed_string second 2 None) ≡ None
+  sum_of_strings = refl
+
+  -- the successor of an enumerated type is below its last value, and its host type's decides
+  pub successor : applied own_types function.Succ (monadic.Succ 7 (pos 2147483647)) place (of colour) ≡ Ok (monadic.Succ 7 (pos 2), colour)
+  successor = refl
+
+  -- the predecessor of an integer
+  pub predecessor : applied own_types function.Pred (monadic.Pred 7 (neg_ℤ (pos 2147483647))) place (of integer)
+      ≡ Ok (monadic.Pred 7 (neg_ℤ (pos 2147483647)), integer)
+  predecessor = refl
+
+  -- the number of a char; no char of a char
+  pub number_of_char : applied required_forms function.Ord monadic.Ord place (of char) ≡ Ok (monadic.Ord, integer)
+  number_of_char = refl
+
+  pub char_of_char : applied required_forms function.Chr (monadic.Chr 7) place (of char) ≡ Err (fault.Mismatch place)
+  char_of_char = refl
 
   -- a signed constant begins at its sign
   pub begins_at_sign : constant_place (record {

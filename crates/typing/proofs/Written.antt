@@ -1,5 +1,6 @@
 -- The folds of typing over syntax trees, form by form.
-use Rattle.std.proofs.Common.{◌≡◌, ℕ, Bool, map, Option, None, Some, option_map, refl, Box, Vec, sym, ap, ◌∙◌}
+use denote.Ref.{Bor}
+use Rattle.std.proofs.Common.{◌≡◌, ℕ, Bool, List, map, Option, None, Some, option_map, refl, Box, Vec, sym, ap, ◌∙◌}
 use Rattle.std.specs.declared.alloc.Global.{Global}
 use Rattle.place.specs.declared.Place.{Place}
 use Rattle.syntax_tree.specs.declared.Name.{Name}
@@ -20,7 +21,7 @@ use Rattle.syntax_tree.specs.declared.Stmt.TheOpen as stmt_layer
 use Rattle.syntax_tree.specs.declared.Stmt.TheFolds.{map-Stmt, fold-roll-Stmt}
 use Rattle.typing.specs.Passing.{Passing}
 use Rattle.typing.specs.Expressions.{Written, WrittenActual, WrittenLink, written, expression_step, actual_step, link_step, expression, written_link}
-use Rattle.typing.specs.Expressions.{written_actual, number, named, call, parenthesized, negation, signed, chain, link}
+use Rattle.typing.specs.Expressions.{written_actual, number, string, named, call, parenthesized, negation, signed, chain, link}
 use Rattle.typing.specs.Statements.{statement, statement_step, assignment, procedure_call, compound, choice, while_loop, repeat_loop, for_loop, case_statement}
 use Rattle.typing.specs.Steps.{enter_as}
 use Rattle.typed_tree.specs.Look as Look
@@ -36,6 +37,9 @@ typing_number value place = rolled (syntax.Number value place) (layer.Number val
 
 pub typing_name : (name : Name) → expression (syntax.Name name) ≡ written name.place (named name)
 typing_name name = rolled (syntax.Name name) (layer.Name name) (syntax.rolls-Name name)
+
+pub typing_string : (text : Bor (List ℕ)) (place : Place) → expression (syntax.String text place) ≡ written place (string text.now place)
+typing_string text place = rolled (syntax.String text place) (layer.String text place) (syntax.rolls-String text place)
 
 pub typing_call : (name : Name) (actuals : Vec Actual Global)
     → expression (syntax.Call name actuals) ≡ written name.place (call name (map written_actual actuals.items))
@@ -75,7 +79,7 @@ typing_actual a =
 
 -- those of all expressions
 pub ruleset written_expressions =
-    (typing_number, typing_name, typing_call, typing_parenthesized, typing_not, typing_signed, typing_chain)
+    (typing_number, typing_name, typing_string, typing_call, typing_parenthesized, typing_not, typing_signed, typing_chain)
 
 -- ---- statements
 

@@ -1,7 +1,8 @@
 -- The typing of type denoters (ISO 7185:1990, 6.4.1, 6.4.2.3, 6.4.2.4): of each the first rule that it breaks, or the
 -- type that it denotes. A name denotes the type that it names, and every other denoter a type of its own.
 -- It says nothing of where they stand.
-use Rattle.std.specs.Prelude.{ℕ, ◌+◌, ◌-◌, ◌&&◌, ℤ, pos, List, [], ◌∷◌, length, Result, Ok, Err, if◌then◌else◌, nat_le}
+use Rattle.std.specs.Prelude.{ℕ, ◌+◌, ◌-◌, ◌&&◌, ℤ, List, [], ◌∷◌, length, Option, Some, Result, Ok, Err}
+use Rattle.std.specs.Prelude.{if◌then◌else◌}
 use Rattle.place.specs.declared.Place.{Place}
 use Rattle.syntax_tree.specs.declared.Constant.{Constant}
 use Rattle.syntax_tree.specs.declared.Name.{Name}
@@ -17,16 +18,16 @@ use Rattle.scopes.specs.declared.denotation.Denotation.TheVariants as denotes
 use Rattle.scopes.specs.declared.fault.ScopeFault.{ScopeFault}
 use Rattle.scopes.specs.declared.fault.ScopeFault.TheVariants as scope
 use Rattle.typed_tree.specs.declared.fault.TypeFault.TheVariants as fault
-use Rattle.typing.specs.Constants.{constant}
-use Rattle.typing.specs.Expressions.{fits}
+use Rattle.typing.specs.Constants.{ordinal_constant}
 use Rattle.typing.specs.Names.{folded, is_among}
 use Rattle.typing.specs.Passing.{Checked, Passing, and_then, after, pure, given, ◌>>=◌, ◌>>◌, ◌>>?◌}
-use Rattle.typing.specs.Steps.{add_type, declare, latest}
+use Rattle.typing.specs.Steps.{fits, value_of, add_type, declare, latest}
 
 -- the type that a name denotes, where variables of these names get it; one of them is no type, wherever it stands
 abbrev pub named_type : List Name → Name → Result Denotation ScopeFault → Checked TypeId
 named_type names name (Ok (denotes.TypeName type_id)) = Ok type_id
 named_type names name (Ok (denotes.Constant value type_id)) = Err (fault.Mismatch name.place)
+named_type names name (Ok (denotes.Text number type_id)) = Err (fault.Mismatch name.place)
 named_type names name (Ok (denotes.Variable root type_id)) = Err (fault.Mismatch name.place)
 named_type names name (Ok (denotes.Procedure procedure)) = Err (fault.Mismatch name.place)
 named_type names name (Ok (denotes.Function function)) = Err (fault.Mismatch name.place)
@@ -42,10 +43,6 @@ unfoldable pub type_of_name : List Name → Name → Passing TypeId
 type_of_name names name = λ s.
     and_then (named_type names name (found s.regions (folded name.text.now)))
     (λ type_id. Ok (after type_id [] (record s { latest = name.place })))
-
--- a number as a value, which is at most maxint
-abbrev pub value_of : ℕ → Place → Checked ℤ
-value_of number place = fits (nat_le number 2147483647) place (pos number)
 
 -- the constants of an enumerated type, of which the first has this number
 abbrev pub constants_from : TypeId → ℕ → List Name → Passing (Unit {0})
@@ -65,16 +62,17 @@ enumeration names = do
   pure type_id
 
 -- the form of a subrange, whose constants are of one ordinal type
-abbrev pub between : List TypeForm → Place → ℤ × TypeId → ℤ × TypeId → Checked TypeForm
-between types place first last =
+abbrev pub between : List TypeForm → Place → Option (ℤ × TypeId) → Option (ℤ × TypeId) → Checked TypeForm
+between types place (Some first) (Some last) =
     fits (is_same (host_of types first.1) (host_of types last.1) && is_ordinal types first.1) place
     (Subrange (host_of types first.1) first.0 last.0)
+between types place first last = Err (fault.Mismatch place)
 
 -- a subrange: what it breaks of its own is told at its `..`
 unfoldable pub subrange : Constant → Place → Constant → Passing TypeId
 subrange first place last = do
-  f ← constant first
-  form ← constant last >>? (λ types l. between types place f l)
+  f ← ordinal_constant first
+  form ← ordinal_constant last >>? (λ types l. between types place f l)
   add_type place form
 
 -- the type that a denoter denotes, where variables of these names get it

@@ -2,8 +2,8 @@
 -- typed form looks, and its sites. What asks for a site of its own at an expression's first token (a width) hands its
 -- kind in, as the leading kind: that site stands behind the token's own, and before all others. It says nothing of what
 -- a program does.
-use Rattle.std.specs.Prelude.{ℕ, ◌&&◌, Bool, true, false, List, [], ◌∷◌, Option, Some, None, Ok, Err, pos}
-use Rattle.std.specs.Prelude.{if◌then◌else◌, nat_le}
+use Rattle.std.specs.Prelude.{ℕ, ◌&&◌, ◌||◌, Bool, true, false, List, [], ◌∷◌, Option, Some, None, is_none, Ok, Err}
+use Rattle.std.specs.Prelude.{pos, neg_ℤ, if◌then◌else◌, nat_eq, nat_le, length}
 use Rattle.place.specs.declared.Place.{Place}
 use Rattle.syntax_tree.specs.declared.Name.{Name}
 use Rattle.syntax_tree.specs.declared.Sign.{Sign}
@@ -16,11 +16,12 @@ use Rattle.syntax_tree.specs.declared.Actual.{Actual}
 use Rattle.syntax_tree.specs.declared.Expr.TheOpen.{Expr-F, Link-F, Actual-F}
 use Rattle.syntax_tree.specs.declared.Expr.TheOpen.Expr-F.{Number as NumberOf, Name as NameOf, Call as CallOf}
 use Rattle.syntax_tree.specs.declared.Expr.TheOpen.Expr-F.{Parenthesized as ParenthesizedOf, Not as NotOf}
-use Rattle.syntax_tree.specs.declared.Expr.TheOpen.Expr-F.{Signed as SignedOf, Chain as ChainOf}
+use Rattle.syntax_tree.specs.declared.Expr.TheOpen.Expr-F.{Signed as SignedOf, Chain as ChainOf, String as StringOf}
 use Rattle.syntax_tree.specs.declared.Expr.TheFolds.{fold-Expr, fold-Link, fold-Actual}
 use Rattle.types.specs.declared.form.TypeForm.{TypeForm}
 use Rattle.types.specs.declared.form.TypeId.{TypeId}
-use Rattle.types.specs.Types.{integer, boolean, is_same, is_compatible}
+use Rattle.types.specs.declared.form.OrdinalRange.{OrdinalRange}
+use Rattle.types.specs.Types.{integer, boolean, char, is_same, is_compatible, is_ordinal, is_string, range_of}
 use Rattle.scopes.specs.declared.denotation.Denotation.{Denotation}
 use Rattle.scopes.specs.declared.denotation.Denotation.TheVariants as denotes
 use Rattle.scopes.specs.declared.denotation.RequiredFunction.{RequiredFunction}
@@ -33,17 +34,24 @@ use Rattle.typed_tree.specs.declared.tree.Monadic.TheVariants as monadic
 use Rattle.typed_tree.specs.declared.tree.Dyadic.{Dyadic}
 use Rattle.typed_tree.specs.declared.tree.Dyadic.TheVariants as dyadic
 use Rattle.typed_tree.specs.declared.tree.Relation.TheVariants as relation
-use Rattle.typed_tree.specs.Look.{Constant, Variable, Operation, Begins, Operator as OperatorMark, Ends}
-use Rattle.typing.specs.Passing.{Checked, Passing, pure, fail, given, mark, ◌>>=◌, ◌>>◌, ◌>>?◌}
-use Rattle.typing.specs.Steps.{pass, enter_as, site, find, host_type}
+use Rattle.typed_tree.specs.Look.{Constant, Text, Variable, Operation, Applied, Begins, Operator as OperatorMark}
+use Rattle.typed_tree.specs.Look.{Compared, Ends}
+use Rattle.typing.specs.declared.typed.Typed.{Typed}
+use Rattle.typing.specs.Passing.{Checked, Passing, pure, fail, given, by_types, mark, ◌>>=◌, ◌>>◌, ◌>>?◌}
+use Rattle.typing.specs.Steps.{fits, or_mismatch, pass, enter_as, site, find, host_type, text_at}
+use Rattle.typing.specs.Strings.{string_characters, string_type}
 
--- the type of an expression, and the id of its leading site
-pub record Typed : Type 0 where
-  pub type_id : TypeId
-  pub site : Option ℕ
-
+-- an ordinal of a type, and the id of its leading site
 abbrev pub typed : TypeId → Option ℕ → Typed
-typed type_id site = record { type_id = type_id; site = site }
+typed type_id site = record { type_id = type_id; length = None; site = site }
+
+-- the same of a string of so many characters
+abbrev pub typed_string : TypeId → ℕ → Option ℕ → Typed
+typed_string type_id length site = record { type_id = type_id; length = Some length; site = site }
+
+-- it is an ordinal of this type
+abbrev pub is_of : TypeId → Typed → Bool
+is_of type_id t = is_none t.length && is_same t.type_id type_id
 
 -- an expression as it is typed: its first token, and by the leading kind what it is
 pub record Written : Type 0 where
@@ -55,23 +63,14 @@ pub record WrittenActual : Type 0 where
   pub value : Written
   pub width : Option Written
 
--- an operator and its right operand: from the type to its left to that of the result
+-- an operator and its right operand: from what stands to its left to the result, which has the same leading site
 abbrev pub WrittenLink : Type 0
-WrittenLink = TypeId → Passing TypeId
+WrittenLink = Typed → Passing Typed
 
 -- the leading site at an expression's first token, if there is one
 unfoldable pub behind : Option SiteKind → Place → Passing (Option ℕ)
 behind None place = pure None
 behind (Some kind) place = site kind place >>= (λ id. pure (Some id))
-
--- an answer where types fit, and else K1 at the place
-abbrev pub fits : {A : Type 0} → Bool → Place → A → Checked A
-fits true place answer = Ok answer
-fits false place answer = Err (fault.Mismatch place)
-
-abbrev pub or_mismatch : {A : Type 0} → Place → Option A → Checked A
-or_mismatch place (Some answer) = Ok answer
-or_mismatch place None = Err (fault.Mismatch place)
 
 -- a number, which is at most maxint
 unfoldable pub number : ℕ → Place → Option SiteKind → Passing Typed
@@ -82,12 +81,35 @@ number value place lead = do
   enter_as (λ n. Constant n (pos value))
   pure t
 
+-- the value of a string: one character is a constant of type char, more are a string of a type of its own
+unfoldable pub spelled : Place → Option ℕ → List ℕ → Passing Typed
+spelled place id (c ∷ []) = do
+  enter_as (λ n. Constant n (pos c))
+  pure (typed char id)
+spelled place id characters = do
+  type_id ← string_type place (length characters)
+  enter_as (λ n. Text n characters)
+  pure (typed_string type_id (length characters) id)
+
+-- a string (6.1.7)
+unfoldable pub string : List ℕ → Place → Option SiteKind → Passing Typed
+string text place lead = do
+  pass place
+  id ← behind lead place
+  characters ← given (string_characters place text)
+  spelled place id characters
+
 -- a name as an expression: a constant, or a variable, whose value is of the host type (6.7.1)
 unfoldable pub denoted : Denotation → Place → Option SiteKind → Passing Typed
 denoted (denotes.Constant value type_id) place lead = do
   id ← behind lead place
   enter_as (λ n. Constant n value)
   pure (typed type_id id)
+denoted (denotes.Text number type_id) place lead = do
+  id ← behind lead place
+  characters ← text_at number
+  enter_as (λ n. Text n characters)
+  pure (typed_string type_id (length characters) id)
 denoted (denotes.Variable root type_id) place lead = do
   defined ← site kind.UndefinedVariable place
   id ← behind lead place
@@ -107,15 +129,17 @@ unfoldable pub parenthesized : Place → Written → Option SiteKind → Passing
 parenthesized place inner lead = do
   pass place
   id ← behind lead place
-  inner.typing None >>? (λ types t. Ok (typed t.type_id id))
+  inner.typing None >>? (λ types t. Ok (record t { site = id }))
 
 -- `not` and its operand
 unfoldable pub negation : Place → Written → Option SiteKind → Passing Typed
 negation place operand lead = do
   pass place
   id ← behind lead place
-  enter_as (λ n. Operation n monadic.Not)
-  operand.typing None >>? (λ types t. fits (is_same t.type_id boolean) place (typed boolean id))
+  enter_as Operation
+  operand.typing None >>? (λ types t. fits (is_of boolean t) place t)
+  mark (Applied monadic.Not)
+  pure (typed boolean id)
 
 abbrev pub sign_operation : Sign → Monadic
 sign_operation sign.Plus = monadic.Plus
@@ -126,19 +150,30 @@ unfoldable pub signed : Sign → Place → Written → Option SiteKind → Passi
 signed sign place operand lead = do
   pass place
   id ← behind lead place
-  enter_as (λ n. Operation n (sign_operation sign))
-  operand.typing None >>? (λ types t. fits (is_same t.type_id integer) place (typed integer id))
+  enter_as Operation
+  operand.typing None >>? (λ types t. fits (is_of integer t) place t)
+  mark (Applied (sign_operation sign))
+  pure (typed integer id)
 
 -- a type, if both operands are of it
-abbrev pub both_of : TypeId → TypeId → TypeId → Option TypeId
-both_of type_id left right = if is_same left type_id && is_same right type_id then Some type_id else None
+abbrev pub both_of : TypeId → Typed → Typed → Option TypeId
+both_of type_id left right = if is_of type_id left && is_of type_id right then Some type_id else None
 
--- relations hold between values of compatible types
-abbrev pub compared : List TypeForm → TypeId → TypeId → Option TypeId
-compared types left right = if is_compatible types left right then Some boolean else None
+-- both are ordinals, or both are strings and equally long
+abbrev pub are_alike : Option ℕ → Option ℕ → Bool
+are_alike None None = true
+are_alike (Some left) (Some right) = nat_eq left right
+are_alike left right = false
+
+-- relations hold between ordinals of compatible types, and between strings of them (6.7.2.5)
+abbrev pub compared : List TypeForm → Typed → Typed → Option TypeId
+compared types left right =
+    if are_alike left.length right.length
+    && (is_compatible types left.type_id right.type_id && (is_none left.length || is_string types left.type_id))
+    then Some boolean else None
 
 -- the type of an operator's result, if its operands fit it (6.7.2)
-abbrev pub result_type : List TypeForm → Operator → TypeId → TypeId → Option TypeId
+abbrev pub result_type : List TypeForm → Operator → Typed → Typed → Option TypeId
 result_type types op.Plus left right = both_of integer left right
 result_type types op.Minus left right = both_of integer left right
 result_type types op.Or left right = both_of boolean left right
@@ -173,47 +208,89 @@ operation op.Greater place = pure (dyadic.Relation relation.Greater)
 operation op.LessOrEqual place = pure (dyadic.Relation relation.LessOrEqual)
 operation op.GreaterOrEqual place = pure (dyadic.Relation relation.GreaterOrEqual)
 
+-- two strings are compared, of these lengths
+unfoldable pub compares : Option ℕ → Option ℕ → Passing (Unit {0})
+compares (Some left) (Some right) = mark (Compared left right)
+compares left right = pure tt
+
 -- an operator and its right operand; its site stands before those of the operand
 unfoldable pub link : Operator → Place → Written → WrittenLink
 link operator place operand left = do
   tests ← operation operator place
   enter_as (λ n. OperatorMark n tests)
-  operand.typing None >>? (λ types t. or_mismatch place (result_type types operator left t.type_id))
+  right ← operand.typing None
+  type_id ← by_types (λ types. or_mismatch place (result_type types operator left right))
+  compares left.length right.length
+  pure (typed type_id left.site)
 
 -- operators of one precedence, from left to right
-abbrev pub links : TypeId → List WrittenLink → Passing TypeId
+abbrev pub links : Typed → List WrittenLink → Passing Typed
 links left [] = pure left
-links left (l ∷ ls) = l left >>= (λ type_id. links type_id ls)
+links left (l ∷ ls) = l left >>= (λ t. links t ls)
 
--- a chain of operators behind a first operand
+-- a chain of operators behind a first operand; a string is an operand of one operator alone, which is a relation
 unfoldable pub chain : Written → List WrittenLink → Option SiteKind → Passing Typed
 chain first rest lead = do
   mark Begins
   f ← first.typing lead
-  type_id ← links f.type_id rest
+  given (fits (is_none f.length || nat_eq (length rest) 1) first.first f)
+  t ← links f rest
   mark Ends
-  pure (typed type_id f.site)
+  pure t
 
 -- the function that a name denotes
 abbrev pub as_function : Place → Denotation → Checked RequiredFunction
 as_function place (denotes.Function function) = Ok function
 as_function place (denotes.Procedure procedure) = Err (fault.WrongParameters place)
 as_function place (denotes.Constant value type_id) = Err (fault.Mismatch place)
+as_function place (denotes.Text number type_id) = Err (fault.Mismatch place)
 as_function place (denotes.Variable root type_id) = Err (fault.Mismatch place)
 as_function place (denotes.TypeName type_id) = Err (fault.Mismatch place)
 as_function place denotes.Output = Err (fault.Mismatch place)
 
--- the type of a required function's result
-abbrev pub function_type : RequiredFunction → TypeId
-function_type function.Abs = integer
-function_type function.Sqr = integer
-function_type function.Odd = boolean
+-- whether a function takes a value of a type: an integer, or any ordinal (6.6.6.2, 6.6.6.4, 6.6.6.5)
+abbrev pub takes : List TypeForm → RequiredFunction → TypeId → Bool
+takes types function.Abs argument = is_same argument integer
+takes types function.Sqr argument = is_same argument integer
+takes types function.Odd argument = is_same argument integer
+takes types function.Ord argument = is_ordinal types argument
+takes types function.Chr argument = is_same argument integer
+takes types function.Succ argument = is_ordinal types argument
+takes types function.Pred argument = is_ordinal types argument
 
--- the operation of a function; the square has a site at the function's name
+-- the type of a required function's result, by that of its argument
+abbrev pub function_type : RequiredFunction → TypeId → TypeId
+function_type function.Abs argument = integer
+function_type function.Sqr argument = integer
+function_type function.Odd argument = boolean
+function_type function.Ord argument = integer
+function_type function.Chr argument = char
+function_type function.Succ argument = argument
+function_type function.Pred argument = argument
+
+-- the operation of a function on integers; its site stands at the function's name
 unfoldable pub function_operation : RequiredFunction → Place → Passing Monadic
 function_operation function.Abs place = pure monadic.Abs
 function_operation function.Sqr place = site kind.Overflow place >>= (λ id. pure (monadic.Sqr id))
 function_operation function.Odd place = pure monadic.Odd
+function_operation function.Ord place = pure monadic.Ord
+function_operation function.Chr place = site kind.Chr place >>= (λ id. pure (monadic.Chr id))
+function_operation function.Succ place =
+    site kind.Succ place >>= (λ id. pure (monadic.Succ id (pos 2147483647)))
+function_operation function.Pred place =
+    site kind.Pred place >>= (λ id. pure (monadic.Pred id (neg_ℤ (pos 2147483647))))
+
+-- the same operation on the values of a range
+abbrev pub on_range : Option OrdinalRange → Monadic → Monadic
+on_range (Some range) (monadic.Succ id last) = monadic.Succ id range.last
+on_range (Some range) (monadic.Pred id first) = monadic.Pred id range.first
+on_range range other = other
+
+-- what a function does to its argument, and the type of its result; K1 at the place where it doesn't take the argument
+abbrev pub applied : List TypeForm → RequiredFunction → Monadic → Place → Typed → Checked (Monadic × TypeId)
+applied types function operation place argument =
+    fits (is_none argument.length && takes types function argument.type_id) place
+    (on_range (range_of types argument.type_id) operation, function_type function argument.type_id)
 
 abbrev pub without_width : Place → Written → Option Written → Checked Written
 without_width place value None = Ok value
@@ -225,16 +302,18 @@ only place [] = Err (fault.WrongParameters place)
 only place (actual ∷ []) = without_width place actual.value actual.width
 only place (actual ∷ another ∷ others) = Err (fault.WrongParameters place)
 
--- the call of a function, whose argument is an integer
+-- the call of a function; what it does depends on its argument's type, and is told behind that
 unfoldable pub call : Name → List WrittenActual → Option SiteKind → Passing Typed
 call name actuals lead = do
   d ← find name
   f ← given (as_function name.place d)
-  tests ← function_operation f name.place
+  operation ← function_operation f name.place
   id ← behind lead name.place
-  enter_as (λ n. Operation n tests)
+  enter_as Operation
   actual ← given (only name.place actuals)
-  actual.typing None >>? (λ types t. fits (is_same t.type_id integer) actual.first (typed (function_type f) id))
+  does ← actual.typing None >>? (λ types t. applied types f operation actual.first t)
+  mark (Applied does.0)
+  pure (typed does.1 id)
 
 abbrev pub written : Place → (Option SiteKind → Passing Typed) → Written
 written first typing = record { first = first; typing = typing }
@@ -248,6 +327,7 @@ link_step l = link l.operator l.place l.operand
 abbrev pub expression_step : Expr-F Written WrittenActual WrittenLink → Written
 expression_step (NumberOf value place) = written place (number value place)
 expression_step (NameOf name) = written name.place (named name)
+expression_step (StringOf text place) = written place (string text.now place)
 expression_step (CallOf name actuals) = written name.place (call name actuals.items)
 expression_step (ParenthesizedOf place inner) = written place (parenthesized place inner.value)
 expression_step (NotOf place operand) = written place (negation place operand.value)

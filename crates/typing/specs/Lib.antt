@@ -1,6 +1,7 @@
 pub mod Names
 pub mod Passing
 pub mod Steps
+pub mod Strings
 pub mod Constants
 pub mod Denoters
 pub mod Expressions

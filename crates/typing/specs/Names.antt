@@ -13,12 +13,12 @@ use Rattle.syntax_tree.specs.declared.TypeDefinition.{TypeDefinition}
 use Rattle.syntax_tree.specs.declared.TypeDenoter.{TypeDenoter}
 use Rattle.syntax_tree.specs.declared.TypeDenoter.TheVariants as denoter
 use Rattle.syntax_tree.specs.declared.VariableGroup.{VariableGroup}
-use Rattle.types.specs.Types.{integer, boolean}
+use Rattle.types.specs.Types.{integer, boolean, char}
 use Rattle.scopes.specs.Scopes.{Region}
 use Rattle.scopes.specs.declared.denotation.Denotation.{Denotation}
 use Rattle.scopes.specs.declared.denotation.Denotation.TheVariants.{TypeName, Constant, Procedure, Function}
 use Rattle.scopes.specs.declared.denotation.RequiredProcedure.TheVariants.{Write, Writeln}
-use Rattle.scopes.specs.declared.denotation.RequiredFunction.TheVariants.{Abs, Sqr, Odd}
+use Rattle.scopes.specs.declared.denotation.RequiredFunction.TheVariants.{Abs, Sqr, Odd, Ord, Chr, Succ, Pred}
 
 -- a small letter for a capital one
 abbrev pub small : ℕ → ℕ
@@ -39,10 +39,12 @@ is_among names name = list_any (λ other. pointwise nat_eq (folded other.text.no
 -- the required identifiers
 abbrev pub required : List (List ℕ × Denotation)
 required =
-    (codes "integer", TypeName integer) ∷ (codes "boolean", TypeName boolean)
+    (codes "integer", TypeName integer) ∷ (codes "boolean", TypeName boolean) ∷ (codes "char", TypeName char)
     ∷ (codes "maxint", Constant (pos 2147483647) integer)
     ∷ (codes "false", Constant (pos 0) boolean) ∷ (codes "true", Constant (pos 1) boolean)
     ∷ (codes "abs", Function Abs) ∷ (codes "sqr", Function Sqr) ∷ (codes "odd", Function Odd)
+    ∷ (codes "ord", Function Ord) ∷ (codes "chr", Function Chr)
+    ∷ (codes "succ", Function Succ) ∷ (codes "pred", Function Pred)
     ∷ (codes "write", Procedure Write) ∷ (codes "writeln", Procedure Writeln) ∷ []
 
 -- their region: all of them are defined

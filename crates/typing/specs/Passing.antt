@@ -16,6 +16,8 @@ pub record Passed : Type 0 where
   pub regions : List Region
   -- the types, by number
   pub types : List TypeForm
+  -- the characters of the strings that constants are, by number
+  pub texts : List (List ℕ)
   -- the variables that are declared, by root number
   pub variables : List Variable
   -- the cells that those of the block take
@@ -77,6 +79,10 @@ pure a = λ s. Ok (after a [] s)
 
 abbrev pub fail : {A : Type 0} → TypeFault → Passing A
 fail fault = λ s. Err fault
+
+-- a test by the table of types, which passes nothing
+abbrev pub by_types : {A : Type 0} → (List TypeForm → Checked A) → Passing A
+by_types test = λ s. and_then (test s.types) (λ a. Ok (after a [] s))
 
 -- a test that needs nothing of what is known
 abbrev pub given : {A : Type 0} → Checked A → Passing A

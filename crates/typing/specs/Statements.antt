@@ -4,7 +4,7 @@ use Rattle.std.specs.List.{list_any}
 use Rattle.std.specs.Ordering.{int_eq}
 use Rattle.std.specs.Prelude.{ℕ, ℤ, Bool, true, false, not, ◌&&◌, ◌++◌, List, [], ◌∷◌, Option, Some, None, Ok}
 use Rattle.std.specs.Prelude.{Err, if◌then◌else◌, map}
-use Rattle.std.specs.Prelude.{option_map}
+use Rattle.std.specs.Prelude.{is_none, option_map}
 use Rattle.place.specs.declared.Place.{Place}
 use Rattle.syntax_tree.specs.declared.Name.{Name}
 use Rattle.syntax_tree.specs.declared.Expr.{Expr}
@@ -12,7 +12,7 @@ use Rattle.syntax_tree.specs.declared.Actual.{Actual}
 use Rattle.syntax_tree.specs.declared.Expr.TheOpen.{Expr-F}
 use Rattle.syntax_tree.specs.declared.Expr.TheOpen.Expr-F.{Number as NumberOf, Name as NameOf, Call as FunctionOf}
 use Rattle.syntax_tree.specs.declared.Expr.TheOpen.Expr-F.{Parenthesized as ParenthesizedOf, Not as NotOf}
-use Rattle.syntax_tree.specs.declared.Expr.TheOpen.Expr-F.{Signed as SignedOf, Chain as ChainOf}
+use Rattle.syntax_tree.specs.declared.Expr.TheOpen.Expr-F.{Signed as SignedOf, Chain as ChainOf, String as StringOf}
 use Rattle.syntax_tree.specs.declared.Expr.TheViews.{out-Expr, out-Actual}
 use Rattle.syntax_tree.specs.declared.Link.{Link}
 use Rattle.syntax_tree.specs.declared.Constant.{Constant}
@@ -29,7 +29,7 @@ use Rattle.types.specs.declared.form.TypeForm.{TypeForm}
 use Rattle.types.specs.declared.form.TypeForm.TheVariants as form
 use Rattle.types.specs.declared.form.TypeId.{TypeId}
 use Rattle.types.specs.declared.form.OrdinalRange.{OrdinalRange}
-use Rattle.types.specs.Types.{integer, boolean, is_same, is_compatible, is_assignable, is_ordinal, form_at, range_of}
+use Rattle.types.specs.Types.{integer, boolean, is_compatible, is_assignable, is_ordinal, is_string, form_at, range_of}
 use Rattle.scopes.specs.declared.denotation.Denotation.{Denotation}
 use Rattle.scopes.specs.declared.denotation.Denotation.TheVariants as denotes
 use Rattle.scopes.specs.declared.denotation.RequiredProcedure.{RequiredProcedure}
@@ -40,26 +40,29 @@ use Rattle.typed_tree.specs.declared.tree.Direction.{Direction}
 use Rattle.typed_tree.specs.declared.tree.Direction.TheVariants as direction
 use Rattle.typed_tree.specs.declared.tree.Representation.{Representation}
 use Rattle.typed_tree.specs.declared.tree.Representation.TheVariants as representation
-use Rattle.typed_tree.specs.Look.{Assign, Target, Fits, Write, Written as WrittenMark, Width, Empty, Compound, If, Then}
-use Rattle.typed_tree.specs.Look.{Else, While, Do, Repeat, Until, For, Case, Arm, Ends}
+use Rattle.typed_tree.specs.Look.{Mark, Assign, Target, Fits, Write, Written as WrittenMark, WrittenString, Width}
+use Rattle.typed_tree.specs.Look.{Empty, Compound, If, Then, Else, While, Do, Repeat, Until, For, Case, Arm, Ends}
 use Rattle.typing.specs.Passing.{Checked, Passing, and_then, pure, given, mark, each, ◌>>=◌, ◌>>◌, ◌>>?◌}
-use Rattle.typing.specs.Steps.{pass, enter_as, enter_loop, site, find, may_change, begin_control, end_control}
-use Rattle.typing.specs.Steps.{wants_output}
-use Rattle.typing.specs.Constants.{constant, constant_place}
-use Rattle.typing.specs.Expressions.{Typed, Written, WrittenActual, fits, or_mismatch, expression, written_actual}
+use Rattle.typing.specs.Steps.{fits, or_mismatch, pass, enter_as, enter_loop, site, find, may_change, begin_control}
+use Rattle.typing.specs.Steps.{end_control, wants_output}
+use Rattle.typing.specs.Constants.{ordinal_constant, constant_place}
+use Rattle.typing.specs.declared.typed.Typed.{Typed}
+use Rattle.typing.specs.Expressions.{Written, WrittenActual, is_of, expression, written_actual}
 
 -- the variable that a name denotes: its root and its type
 abbrev pub as_variable : Place → Denotation → Checked (ℕ × TypeId)
 as_variable place (denotes.Variable root type_id) = Ok (root, type_id)
 as_variable place (denotes.Constant value type_id) = Err (fault.NotVariable place)
+as_variable place (denotes.Text number type_id) = Err (fault.NotVariable place)
 as_variable place (denotes.TypeName type_id) = Err (fault.NotVariable place)
 as_variable place (denotes.Procedure procedure) = Err (fault.NotVariable place)
 as_variable place (denotes.Function function) = Err (fault.NotVariable place)
 as_variable place denotes.Output = Err (fault.NotVariable place)
 
--- the values of a target's type, if a value of the other type may be assigned to it (6.4.6)
-abbrev pub fitting : List TypeForm → TypeId → TypeId → Option OrdinalRange
-fitting types target value = if is_assignable types target value then range_of types target else None
+-- the values of a target's type, if an ordinal value may be assigned to it (6.4.6)
+abbrev pub fitting : List TypeForm → TypeId → Typed → Option OrdinalRange
+fitting types target value =
+    if is_none value.length && is_assignable types target value.type_id then range_of types target else None
 
 -- the variable is accessed first, then comes the value, then its test (6.8.2.2)
 unfoldable pub assignment : Name → Place → Written → Passing (Unit {0})
@@ -70,7 +73,7 @@ assignment name becomes value = do
   may_change name.place target.0
   enter_as (λ n. Target n target.0)
   id ← site kind.Subrange becomes
-  range ← value.typing None >>? (λ types t. or_mismatch becomes (fitting types target.1 t.type_id))
+  range ← value.typing None >>? (λ types t. or_mismatch becomes (fitting types target.1 t))
   mark (Fits (record { site = id; range = range }))
 
 -- the procedure that a name denotes
@@ -78,6 +81,7 @@ abbrev pub as_procedure : Place → Denotation → Checked RequiredProcedure
 as_procedure place (denotes.Procedure procedure) = Ok procedure
 as_procedure place (denotes.Function function) = Err (fault.WrongParameters place)
 as_procedure place (denotes.Constant value type_id) = Err (fault.Mismatch place)
+as_procedure place (denotes.Text number type_id) = Err (fault.Mismatch place)
 as_procedure place (denotes.Variable root type_id) = Err (fault.Mismatch place)
 as_procedure place (denotes.TypeName type_id) = Err (fault.Mismatch place)
 as_procedure place denotes.Output = Err (fault.Mismatch place)
@@ -90,6 +94,7 @@ abbrev pub is_output : Denotation → Bool
 is_output denotes.Output = true
 is_output (denotes.TypeName type_id) = false
 is_output (denotes.Constant value type_id) = false
+is_output (denotes.Text number type_id) = false
 is_output (denotes.Variable root type_id) = false
 is_output (denotes.Procedure procedure) = false
 is_output (denotes.Function function) = false
@@ -98,6 +103,7 @@ is_output (denotes.Function function) = false
 abbrev pub names_file : Expr-F Expr Actual Link → Passing Bool
 names_file (NameOf name) = find name >>= (λ d. pure (is_output d))
 names_file (NumberOf value place) = pure false
+names_file (StringOf text place) = pure false
 names_file (FunctionOf name actuals) = pure false
 names_file (ParenthesizedOf place inner) = pure false
 names_file (NotOf place operand) = pure false
@@ -126,15 +132,22 @@ has_values place procedure (value ∷ values) = Ok tt
 abbrev pub form_representation : Option TypeForm → Option Representation
 form_representation (Some form.Integer) = Some representation.Integer
 form_representation (Some form.Boolean) = Some representation.Boolean
+form_representation (Some form.Char) = Some representation.Char
 form_representation other = None
 
--- how a value of a type is written (6.9.3)
+-- how an ordinal of a type is written (6.9.3)
 abbrev pub representation_of : List TypeForm → TypeId → Option Representation
 representation_of types id = form_representation (form_at types id)
 
+-- how a value is written: an ordinal by its type, or a string
+abbrev pub written_as : List TypeForm → Typed → Option Mark
+written_as types t =
+    if is_none t.length then option_map WrittenMark (representation_of types t.type_id)
+    else (if is_string types t.type_id then Some WrittenString else None)
+
 -- a width is an integer; its site is the leading one
 abbrev pub measured : Place → Typed → Checked ℕ
-measured place t = and_then (fits (is_same t.type_id integer) place t.site) (or_mismatch place)
+measured place t = and_then (fits (is_of integer t) place t.site) (or_mismatch place)
 
 unfoldable pub width : Option Written → Passing (Unit {0})
 width None = pure tt
@@ -145,8 +158,8 @@ width (Some w) = do
 -- a value that is written, and then its width
 unfoldable pub parameter : WrittenActual → Passing (Unit {0})
 parameter p = do
-  form ← p.value.typing None >>? (λ types t. or_mismatch p.value.first (representation_of types t.type_id))
-  mark (WrittenMark form)
+  form ← p.value.typing None >>? (λ types t. or_mismatch p.value.first (written_as types t))
+  mark form
   width p.width
 
 -- a write or writeln
@@ -175,7 +188,7 @@ compound statements = do
 
 -- a condition is Boolean; K1 at its first token where it isn't
 unfoldable pub condition : Written → Passing (Unit {0})
-condition w = w.typing None >>? (λ types t. fits (is_same t.type_id boolean) w.first tt)
+condition w = w.typing None >>? (λ types t. fits (is_of boolean t) w.first tt)
 
 -- the statement behind `else`, if there is one
 unfoldable pub alternative : Option (Passing (Unit {0})) → Passing (Unit {0})
@@ -226,7 +239,7 @@ way written.DownTo = direction.DownTo
 unfoldable pub bound : TypeId → Written → Passing (Unit {0})
 bound type_id w = do
   id ← site kind.Subrange w.first
-  range ← w.typing None >>? (λ types t. or_mismatch w.first (fitting types type_id t.type_id))
+  range ← w.typing None >>? (λ types t. or_mismatch w.first (fitting types type_id t))
   mark (Fits (record { site = id; range = range }))
 
 -- a for as far as its `do`, by the root of its control variable
@@ -256,13 +269,15 @@ for_loop place variable first direction last body =
     for_head place variable first direction last >>= (λ control. for_body control body)
 
 -- a constant of a case is of the index's type, and none of those that stand before it; else it is K6 where it begins
-abbrev pub own_constant : List TypeForm → TypeId → List ℤ → Place → ℤ × TypeId → Checked ℤ
-own_constant types type_id before place c =
+abbrev pub own_constant : List TypeForm → TypeId → List ℤ → Place → Option (ℤ × TypeId) → Checked ℤ
+own_constant types type_id before place None = Err (fault.CaseConstant place)
+own_constant types type_id before place (Some c) =
     if is_compatible types type_id c.1 && not (list_any (int_eq c.0) before) then Ok c.0
     else Err (fault.CaseConstant place)
 
 unfoldable pub case_constant : TypeId → List ℤ → Constant → Passing ℤ
-case_constant type_id before c = constant c >>? (λ types one. own_constant types type_id before (constant_place c) one)
+case_constant type_id before c =
+    ordinal_constant c >>? (λ types one. own_constant types type_id before (constant_place c) one)
 
 -- the constants before an arm: behind those of the arms before it, and these of its row
 abbrev pub constant_row : TypeId → List ℤ → List ℤ → List Constant → Passing (List ℤ)
@@ -284,7 +299,7 @@ unfoldable pub case_head : Place → Written → Passing TypeId
 case_head place index = do
   id ← site kind.Case place
   enter_as (λ n. Case n id)
-  index.typing None >>? (λ types t. fits (is_ordinal types t.type_id) index.first t.type_id)
+  index.typing None >>? (λ types t. fits (is_none t.length && is_ordinal types t.type_id) index.first t.type_id)
 
 unfoldable pub case_body : List (List Constant × Passing (Unit {0})) → TypeId → Passing (Unit {0})
 case_body arms type_id = case_arms type_id [] arms >> mark Ends

@@ -1,7 +1,7 @@
 -- The steps of typing: a token that is passed, a form that is entered, a loop, a site, a name that is found, a control
 -- variable, a region, a definition, a type, a variable. It says nothing of the forms that take them.
-use Rattle.std.specs.Prelude.{ℕ, ◌+◌, ◌-◌, ◌++◌, true, false, List, [], ◌∷◌, Result, Ok, Err, if◌then◌else◌, nat_eq}
-use Rattle.std.specs.Prelude.{nat_le, nat_lt, length, take}
+use Rattle.std.specs.Prelude.{ℕ, ℤ, pos, ◌+◌, ◌-◌, ◌++◌, Bool, true, false, List, [], ◌∷◌, Option, Some, None}
+use Rattle.std.specs.Prelude.{Result, Ok, Err, if◌then◌else◌, nat_eq, nat_le, nat_lt, length, take, get_or}
 use Rattle.std.specs.List.{list_any}
 use Rattle.place.specs.declared.Place.{Place}
 use Rattle.syntax_tree.specs.declared.Name.{Name}
@@ -34,6 +34,7 @@ abbrev pub begins : Place → Passed
 begins start = record {
   regions = [];
   types = required_forms;
+  texts = [];
   variables = [];
   cells = 0;
   has_output = false;
@@ -43,6 +44,19 @@ begins start = record {
   controls = [];
   latest = start;
 }
+
+-- an answer where types fit, and else K1 at the place
+abbrev pub fits : {A : Type 0} → Bool → Place → A → Checked A
+fits true place answer = Ok answer
+fits false place answer = Err (fault.Mismatch place)
+
+abbrev pub or_mismatch : {A : Type 0} → Place → Option A → Checked A
+or_mismatch place (Some answer) = Ok answer
+or_mismatch place None = Err (fault.Mismatch place)
+
+-- a number as a value, which is at most maxint
+abbrev pub value_of : ℕ → Place → Checked ℤ
+value_of number place = fits (nat_le number 2147483647) place (pos number)
 
 -- a token is passed
 unfoldable pub pass : Place → Passing (Unit {0})
@@ -142,6 +156,14 @@ add_type place form = λ s.
 -- the host type of a type
 unfoldable pub host_type : TypeId → Passing TypeId
 host_type id = λ s. Ok (after (host_of s.types id) [] s)
+
+-- the characters of a string that a constant is, by the number that they get
+unfoldable pub keep_text : List ℕ → Passing ℕ
+keep_text characters = λ s. Ok (after (length s.texts) [] (record s { texts = s.texts ++ characters ∷ [] }))
+
+-- the characters that have a number
+unfoldable pub text_at : ℕ → Passing (List ℕ)
+text_at number = λ s. Ok (after (get_or s.texts number []) [] s)
 
 -- the place of the latest token that was passed
 unfoldable pub latest : Passing Place

@@ -1,7 +1,7 @@
 -- The typing of a program (ISO 7185:1990, 6.2, 6.3, 6.4.1, 6.5.1, 6.10): its declarations in the order of the text, and
 -- then its statements. It answers the first broken rule, with its place, or how the program's typed tree looks and what
 -- the program has: its variables and its sites. It says nothing of what a program does.
-use Rattle.std.specs.Prelude.{List, [], if◌then◌else◌, map, nat_eq, codes}
+use Rattle.std.specs.Prelude.{[], if◌then◌else◌, map, nat_eq, codes}
 use Rattle.std.specs.Cmp.Lexicographic.{pointwise}
 use Rattle.syntax_tree.specs.declared.Program.{Program}
 use Rattle.syntax_tree.specs.declared.Block.{Block}
@@ -10,7 +10,6 @@ use Rattle.syntax_tree.specs.declared.ConstantDefinition.{ConstantDefinition}
 use Rattle.syntax_tree.specs.declared.TypeDefinition.{TypeDefinition}
 use Rattle.syntax_tree.specs.declared.VariableGroup.{VariableGroup}
 use Rattle.types.specs.declared.form.TypeId.{TypeId}
-use Rattle.scopes.specs.declared.denotation.Denotation.{Denotation}
 use Rattle.scopes.specs.declared.denotation.Denotation.TheVariants as denotes
 use Rattle.typed_tree.specs.declared.fault.TypeFault.TheVariants as fault
 use Rattle.typed_tree.specs.Look.{BlockEnds}
@@ -29,7 +28,7 @@ parameter_of_program name =
 
 -- a constant definition: its value, and then its name
 unfoldable pub definition : ConstantDefinition → Passing (Unit {0})
-definition d = constant d.value >>= (λ c. declare d.name (denotes.Constant c.0 c.1))
+definition d = constant d.value >>= declare d.name
 
 -- a type definition: its denoter, and then its name
 unfoldable pub type_definition : TypeDefinition → Passing (Unit {0})

@@ -1,6 +1,8 @@
-ghost use Rattle.std.specs.Prelude.{◌≡◌};
-ghost use Rattle.typing.specs.Constants.{as_constant, behind_sign, constant_place};
+ghost use Rattle.std.specs.Prelude.{◌≡◌, true};
+ghost use Rattle.typed_tree.specs.WellFormed.{is_whole};
+ghost use Rattle.typing.specs.Constants.{as_constant, as_ordinal, behind_sign, signed_value, constant_place};
 
+use crate::strings::characters;
 use crate::typer::Typer;
 use place::Place;
 use scopes::Denotation;
@@ -12,18 +14,29 @@ impl Typer {
     ghost use Rattle.typing.specs.Outcomes.{Takes};
     ghost use Rattle.typing.specs.Constants as spec;
 
-    /// The value and the type of a constant (6.3).
+    /// What a name denotes that is defined by a constant (6.3).
     #[tactic(auto, unfolding(crate::specs::Constants::constant))]
-    pub fn constant(&mut self, written: &Constant) -> Result<(i32, TypeId), TypeFault>
+    pub fn constant(&mut self, written: &Constant) -> Result<Denotation, TypeFault>
         ensures { Takes (spec.constant written.now self.old) result self.new }
     {
-        let (value, type_id) = self.unsigned_constant(&written.value)?;
-        behind_sign(written.sign, value, type_id)
+        let denotation = self.unsigned_constant(&written.value)?;
+        behind_sign(written.sign, denotation)
     }
 
-    // Those of a number, which is at most maxint, or of a name.
+    /// The value and the type of an ordinal constant; none of a string.
+    #[tactic(auto, unfolding(crate::specs::Constants::ordinal_constant))]
+    pub fn ordinal_constant(
+        &mut self,
+        written: &Constant,
+    ) -> Result<Option<(i32, TypeId)>, TypeFault>
+        ensures { Takes (spec.ordinal_constant written.now self.old) result self.new }
+    {
+        Ok(as_ordinal(self.constant(written)?))
+    }
+
+    // A constant without its sign: a number, which is at most maxint, a string, or a name.
     #[tactic(auto, unfolding(crate::specs::Constants::unsigned_constant))]
-    fn unsigned_constant(&mut self, written: &ConstantValue) -> Result<(i32, TypeId), TypeFault>
+    fn unsigned_constant(&mut self, written: &ConstantValue) -> Result<Denotation, TypeFault>
         ensures { Takes (spec.unsigned_constant written.now self.old) result self.new }
     {
         match written {
@@ -32,7 +45,15 @@ impl Typer {
                 let Ok(value) = i32::try_from(*value) else {
                     return Err(TypeFault::Mismatch(*place));
                 };
-                Ok((value, TypeTable::INTEGER))
+                Ok(Denotation::Constant {
+                    value,
+                    type_id: TypeTable::INTEGER,
+                })
+            }
+            ConstantValue::String { text, place } => {
+                self.pass(*place);
+                let characters = characters(self.alloc, *place, text)?;
+                self.string_constant(*place, characters)
             }
             ConstantValue::Name(name) => {
                 let denotation = self.find(name)?;
@@ -43,33 +64,53 @@ impl Typer {
 }
 
 // The constant that a name at a place denotes: K1 where it denotes none.
-fn as_constant(place: Place, denotation: Denotation) -> Result<(i32, TypeId), TypeFault>
+fn as_constant(place: Place, denotation: Denotation) -> Result<Denotation, TypeFault>
     ensures { result ≡ as_constant place denotation }
 {
     match denotation {
-        Denotation::Constant { value, type_id } => Ok((value, type_id)),
+        Denotation::Constant { .. } | Denotation::Text { .. } => Ok(denotation),
         _ => Err(TypeFault::Mismatch(place)),
     }
 }
 
+// The value and the type of an ordinal constant.
+fn as_ordinal(constant: Denotation) -> Option<(i32, TypeId)>
+    ensures { result ≡ as_ordinal constant }
+{
+    match constant {
+        Denotation::Constant { value, type_id } => Some((value, type_id)),
+        _ => None,
+    }
+}
+
 // A sign stands before an integer: K1 at the sign where it doesn't.
-fn behind_sign(
-    sign: Option<SignAt>,
-    value: i32,
-    type_id: TypeId,
-) -> Result<(i32, TypeId), TypeFault>
-    ensures { result ≡ behind_sign sign (value, type_id) }
+fn behind_sign(sign: Option<SignAt>, constant: Denotation) -> Result<Denotation, TypeFault>
+    ensures { result ≡ behind_sign sign constant }
 {
     let Some(SignAt { sign, place }) = sign else {
-        return Ok((value, type_id));
+        return Ok(constant);
     };
-    if !type_id.same(TypeTable::INTEGER) || value < -MAXINT {
-        return Err(TypeFault::Mismatch(place));
+    match constant {
+        Denotation::Constant { value, type_id }
+            if type_id.same(TypeTable::INTEGER) && value >= -MAXINT => {
+            Ok(Denotation::Constant {
+                value: signed_value(sign, value),
+                type_id: TypeTable::INTEGER,
+            })
+        }
+        _ => Err(TypeFault::Mismatch(place)),
     }
-    Ok(match sign {
-        Sign::Plus => (value, TypeTable::INTEGER),
-        Sign::Minus => (-value, TypeTable::INTEGER),
-    })
+}
+
+// The value behind a sign.
+fn signed_value(sign: Sign, value: i32) -> i32
+    requires whole { is_whole value ≡ true }
+    ensures { result ≡ signed_value sign value }
+{
+    match sign {
+        Sign::Plus => value,
+        Sign::Minus => -value,
+    }
 }
 
 /// Where a constant begins.
@@ -78,7 +119,7 @@ pub fn constant_place(written: &Constant) -> Place
 {
     match (written.sign, written.value) {
         (Some(sign), _) => sign.place,
-        (None, ConstantValue::Number { place, .. }) => place,
+        (None, ConstantValue::Number { place, .. } | ConstantValue::String { place, .. }) => place,
         (None, ConstantValue::Name(name)) => name.place,
     }
 }

@@ -1,6 +1,6 @@
 ghost use Rattle.std.specs.Prelude.{◌≡◌};
-ghost use Rattle.typing.specs.Steps.{refused};
-ghost use Rattle.typing.specs.Denoters.{named_type, value_of};
+ghost use Rattle.typing.specs.Steps.{refused, value_of};
+ghost use Rattle.typing.specs.Denoters.{named_type};
 
 use crate::names::{fold_into, is_among};
 use crate::typer::Typer;
@@ -47,11 +47,14 @@ impl Typer {
     pub fn between(
         &self,
         place: Place,
-        first: (i32, TypeId),
-        last: (i32, TypeId),
+        first: Option<(i32, TypeId)>,
+        last: Option<(i32, TypeId)>,
     ) -> Result<TypeForm, TypeFault>
         ensures { result ≡ spec.between self.now.types place first last }
     {
+        let (Some(first), Some(last)) = (first, last) else {
+            return Err(TypeFault::Mismatch(place));
+        };
         let host = self.types.host(first.1);
         if !host.same(self.types.host(last.1)) || !self.types.is_ordinal(first.1) {
             return Err(TypeFault::Mismatch(place));

@@ -8,10 +8,14 @@ mod names;
 mod operations;
 pub mod rules;
 mod steps;
+mod strings;
+mod typed;
 mod typer;
 mod variables;
 
 pub use constants::constant_place;
 pub use denoters::value_of;
 pub use names::folded;
+pub use strings::characters;
+pub use typed::Typed;
 pub use typer::{MOST_ENTRIES, MOST_SITES, Typer};

@@ -35,9 +35,10 @@ pub(crate) fn is_among(names: &[Name], name: &Name) -> bool
 }
 
 /// The required identifiers (6.2.2.10).
-pub const REQUIRED: [(&[u8], Denotation); 10] = [
+pub const REQUIRED: [(&[u8], Denotation); 15] = [
     (b"integer", Denotation::TypeName(TypeTable::INTEGER)),
     (b"boolean", Denotation::TypeName(TypeTable::BOOLEAN)),
+    (b"char", Denotation::TypeName(TypeTable::CHAR)),
     (
         b"maxint",
         Denotation::Constant {
@@ -62,6 +63,10 @@ pub const REQUIRED: [(&[u8], Denotation); 10] = [
     (b"abs", Denotation::Function(RequiredFunction::Abs)),
     (b"sqr", Denotation::Function(RequiredFunction::Sqr)),
     (b"odd", Denotation::Function(RequiredFunction::Odd)),
+    (b"ord", Denotation::Function(RequiredFunction::Ord)),
+    (b"chr", Denotation::Function(RequiredFunction::Chr)),
+    (b"succ", Denotation::Function(RequiredFunction::Succ)),
+    (b"pred", Denotation::Function(RequiredFunction::Pred)),
     (b"write", Denotation::Procedure(RequiredProcedure::Write)),
     (
         b"writeln",

@@ -1,4 +1,5 @@
-use crate::rules::{fitting, representation, result_type};
+use crate::rules::{applied, fitting, representation, result_type};
+use crate::typed::Typed;
 use crate::typer::Typer;
 use place::Place;
 use scopes::RequiredFunction;
@@ -6,11 +7,11 @@ use syntax_tree::Operator;
 use typed_tree::fault::TypeFault;
 use typed_tree::site::SiteKind;
 use typed_tree::tree::{Dyadic, Monadic, Relation, Representation};
-use types::{OrdinalRange, TypeId};
+use types::{MAXINT, OrdinalRange, TypeId};
 
 impl Typer {
-    ghost use Rattle.std.specs.Prelude.{◌≡◌};
-    ghost use Rattle.types.specs.Types.{is_compatible, is_ordinal};
+    ghost use Rattle.std.specs.Prelude.{◌≡◌, ◌&&◌, is_none};
+    ghost use Rattle.types.specs.Types.{is_compatible, is_ordinal, is_string};
     ghost use Rattle.typing.specs.Outcomes.{Takes};
     ghost use Rattle.typing.specs.Expressions as spec;
     ghost use Rattle.typing.specs.Statements as statements;
@@ -58,7 +59,7 @@ impl Typer {
         })
     }
 
-    /// The operation of a function; the square has a site at the function's name (6.6.6.2).
+    /// The operation of a function on integers; its site stands at the function's name (6.6.6.2, 6.6.6.4, 6.6.6.5).
     #[tactic(auto, unfolding(crate::specs::Expressions::function_operation))]
     pub fn function_operation(
         &mut self,
@@ -73,28 +74,61 @@ impl Typer {
                 overflow: self.site(SiteKind::Overflow, place)?,
             }),
             RequiredFunction::Odd => Ok(Monadic::Odd),
+            RequiredFunction::Ord => Ok(Monadic::Ord),
+            RequiredFunction::Chr => Ok(Monadic::Chr {
+                no_char: self.site(SiteKind::Chr, place)?,
+            }),
+            RequiredFunction::Succ => Ok(Monadic::Succ {
+                no_successor: self.site(SiteKind::Succ, place)?,
+                last: MAXINT,
+            }),
+            RequiredFunction::Pred => Ok(Monadic::Pred {
+                no_predecessor: self.site(SiteKind::Pred, place)?,
+                first: -MAXINT,
+            }),
         }
     }
 
     /// The type of an operator's result, if its operands fit it (6.7.2).
-    pub fn result_type(&self, operator: Operator, left: TypeId, right: TypeId) -> Option<TypeId>
+    pub fn result_type(&self, operator: Operator, left: Typed, right: Typed) -> Option<TypeId>
         ensures { result ≡ spec.result_type self.now.types operator left right }
     {
         result_type(&self.types, operator, left, right)
     }
 
-    /// The values of a target's type, if a value of the other type may be assigned to it (6.4.6).
-    pub fn fitting(&self, target: TypeId, value: TypeId) -> Option<OrdinalRange>
+    /// What a function does to its argument, by its operation on integers, and the type of its result: K1 at the
+    /// place where it doesn't take the argument.
+    pub fn applied(
+        &self,
+        function: RequiredFunction,
+        operation: Monadic,
+        place: Place,
+        argument: Typed,
+    ) -> Result<(Monadic, TypeId), TypeFault>
+        ensures { result ≡ spec.applied self.now.types function operation place argument }
+    {
+        applied(&self.types, function, operation, place, argument)
+    }
+
+    /// The values of a target's type, if an ordinal value may be assigned to it (6.4.6).
+    pub fn fitting(&self, target: TypeId, value: Typed) -> Option<OrdinalRange>
         ensures { result ≡ statements.fitting self.now.types target value }
     {
         fitting(&self.types, target, value)
     }
 
-    /// Whether a type is ordinal (6.4.2).
-    pub fn is_ordinal(&self, id: TypeId) -> bool
-        ensures { result ≡ is_ordinal self.now.types id }
+    /// Whether a value is an ordinal, of an ordinal type (6.4.2).
+    pub fn is_ordinal(&self, value: Typed) -> bool
+        ensures { result ≡ (is_none value.length && is_ordinal self.now.types value.type_id) }
     {
-        self.types.is_ordinal(id)
+        value.length.is_none() && self.types.is_ordinal(value.type_id)
+    }
+
+    /// Whether a type is a string type (6.4.3.2).
+    pub fn is_string(&self, id: TypeId) -> bool
+        ensures { result ≡ is_string self.now.types id }
+    {
+        self.types.is_string(id)
     }
 
     /// Whether two types are compatible (6.4.5).
@@ -104,7 +138,7 @@ impl Typer {
         self.types.compatible(first, second)
     }
 
-    /// How a value of a type is written (6.9.3).
+    /// How an ordinal of a type is written (6.9.3).
     pub fn representation(&self, id: TypeId) -> Option<Representation>
         ensures { result ≡ statements.representation_of self.now.types id }
     {

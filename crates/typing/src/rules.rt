@@ -1,10 +1,12 @@
 //! The rules of types, of operators and of calls, which need nothing else of a program.
 ghost use Rattle.std.specs.Prelude.{◌≡◌, nat_eq};
 ghost use Rattle.typing.specs.Steps.{told};
-ghost use Rattle.typing.specs.Expressions.{sign_operation, both_of, result_type, function_type, as_function};
+ghost use Rattle.typing.specs.Expressions.{sign_operation, both_of, compared, result_type, function_type, as_function};
+ghost use Rattle.typing.specs.Expressions.{takes, on_range, applied};
 ghost use Rattle.typing.specs.Statements.{as_variable, as_procedure, fitting, ends_line, is_output};
 ghost use Rattle.typing.specs.Statements.{representation_of, way};
 
+use crate::typed::Typed;
 use place::Place;
 use scopes::{Denotation, RequiredFunction, RequiredProcedure, ScopeFault};
 use syntax_tree::{Operator, Sign};
@@ -36,18 +38,31 @@ pub fn sign_operation(sign: Sign) -> Monadic
 }
 
 // A type, if both operands are of it.
-fn both_of(wanted: TypeId, left: TypeId, right: TypeId) -> Option<TypeId>
+fn both_of(wanted: TypeId, left: Typed, right: Typed) -> Option<TypeId>
     ensures { result ≡ both_of wanted left right }
 {
-    (left.same(wanted) && right.same(wanted)).then_some(wanted)
+    (left.is_of(wanted) && right.is_of(wanted)).then_some(wanted)
+}
+
+// The type of a relation, if its operands may be compared (6.7.2.5).
+fn compared(types: &TypeTable, left: Typed, right: Typed) -> Option<TypeId>
+    ensures { result ≡ compared types.now left right }
+{
+    if left.length != right.length || !types.compatible(left.type_id, right.type_id) {
+        return None;
+    }
+    if left.length.is_some() && !types.is_string(left.type_id) {
+        return None;
+    }
+    Some(TypeTable::BOOLEAN)
 }
 
 /// The type of an operator's result, if its operands fit it (6.7.2).
 pub fn result_type(
     types: &TypeTable,
     operator: Operator,
-    left: TypeId,
-    right: TypeId,
+    left: Typed,
+    right: Typed,
 ) -> Option<TypeId>
     ensures { result ≡ result_type types.now operator left right }
 {
@@ -56,18 +71,70 @@ pub fn result_type(
             both_of(TypeTable::INTEGER, left, right)
         }
         Operator::And | Operator::Or => both_of(TypeTable::BOOLEAN, left, right),
-        _ => types.compatible(left, right).then_some(TypeTable::BOOLEAN),
+        _ => compared(types, left, right),
     }
 }
 
-/// The type of a required function's result (6.6.6.2, 6.6.6.5).
-pub fn function_type(function: RequiredFunction) -> TypeId
-    ensures { result ≡ function_type function }
+// The type of a required function's result, by that of its argument (6.6.6.2, 6.6.6.4, 6.6.6.5).
+fn function_type(function: RequiredFunction, argument: TypeId) -> TypeId
+    ensures { result ≡ function_type function argument }
 {
     match function {
-        RequiredFunction::Abs | RequiredFunction::Sqr => TypeTable::INTEGER,
+        RequiredFunction::Abs | RequiredFunction::Sqr | RequiredFunction::Ord => TypeTable::INTEGER,
         RequiredFunction::Odd => TypeTable::BOOLEAN,
+        RequiredFunction::Chr => TypeTable::CHAR,
+        RequiredFunction::Succ | RequiredFunction::Pred => argument,
     }
+}
+
+// Whether a function takes a value of a type: an integer, or any ordinal.
+fn takes(types: &TypeTable, function: RequiredFunction, argument: TypeId) -> bool
+    ensures { result ≡ takes types.now function argument }
+{
+    match function {
+        RequiredFunction::Abs
+        | RequiredFunction::Sqr
+        | RequiredFunction::Odd
+        | RequiredFunction::Chr => argument.same(TypeTable::INTEGER),
+        RequiredFunction::Ord | RequiredFunction::Succ | RequiredFunction::Pred => {
+            types.is_ordinal(argument)
+        }
+    }
+}
+
+// An operation on the values of a range.
+fn on_range(range: Option<OrdinalRange>, operation: Monadic) -> Monadic
+    ensures { result ≡ on_range range operation }
+{
+    match (range, operation) {
+        (Some(range), Monadic::Succ { no_successor, .. }) => Monadic::Succ {
+            no_successor,
+            last: range.last,
+        },
+        (Some(range), Monadic::Pred { no_predecessor, .. }) => Monadic::Pred {
+            no_predecessor,
+            first: range.first,
+        },
+        _ => operation,
+    }
+}
+
+/// What a function does to its argument, by its operation on integers, and the type of its result: K1 at the place
+/// where it doesn't take the argument.
+pub fn applied(
+    types: &TypeTable,
+    function: RequiredFunction,
+    operation: Monadic,
+    place: Place,
+    argument: Typed,
+) -> Result<(Monadic, TypeId), TypeFault>
+    ensures { result ≡ applied types.now function operation place argument }
+{
+    if argument.length.is_some() || !takes(types, function, argument.type_id) {
+        return Err(TypeFault::Mismatch(place));
+    }
+    let operation = on_range(types.range(argument.type_id), operation);
+    Ok((operation, function_type(function, argument.type_id)))
 }
 
 /// The function that a name at a place denotes: K3 where it is a procedure, K1 where it is no routine.
@@ -119,11 +186,11 @@ pub fn ends_line(procedure: RequiredProcedure) -> bool
     }
 }
 
-/// The values of a target's type, if a value of the other type may be assigned to it (6.4.6).
-pub fn fitting(types: &TypeTable, target: TypeId, value: TypeId) -> Option<OrdinalRange>
+/// The values of a target's type, if an ordinal value may be assigned to it (6.4.6).
+pub fn fitting(types: &TypeTable, target: TypeId, value: Typed) -> Option<OrdinalRange>
     ensures { result ≡ fitting types.now target value }
 {
-    if !types.assignable(target, value) {
+    if value.length.is_some() || !types.assignable(target, value.type_id) {
         return None;
     }
     types.range(target)
@@ -139,13 +206,14 @@ pub fn way(direction: syntax_tree::Direction) -> Direction
     }
 }
 
-/// How a value of a type is written (6.9.3).
+/// How an ordinal of a type is written (6.9.3).
 pub fn representation(types: &TypeTable, id: TypeId) -> Option<Representation>
     ensures { result ≡ representation_of types.now id }
 {
     match types.form(id)? {
         TypeForm::Integer => Some(Representation::Integer),
         TypeForm::Boolean => Some(Representation::Boolean),
+        TypeForm::Char => Some(Representation::Char),
         _ => None,
     }
 }

@@ -27,6 +27,8 @@ pub struct Typer {
     pub alloc: Global,
     pub(crate) scopes: Scopes,
     pub(crate) types: TypeTable,
+    // The characters of the strings that constants are, by number.
+    pub(crate) texts: Vec<Vec<u8>>,
     // By root number.
     pub(crate) variables: Vec<Variable>,
     // The cells that those of the block take.
@@ -57,6 +59,7 @@ impl Model for Typer {
     ghost view = { λ t. record {
       regions = t.scopes;
       types = t.types;
+      texts = map (λ text. text.items) t.texts.items;
       variables = t.variables.items;
       cells = t.cells;
       has_output = t.has_output;
@@ -80,6 +83,7 @@ impl Typer {
             alloc,
             scopes: Scopes::new(alloc),
             types: TypeTable::required(alloc)?,
+            texts: Vec::new(alloc),
             variables: Vec::new(alloc),
             cells: 0,
             has_output: false,

@@ -19,12 +19,15 @@ use Rattle.scopes.specs.declared.denotation.Denotation.{Denotation}
 use Rattle.scopes.specs.declared.denotation.Denotation.TheVariants as denotes
 use Rattle.typed_tree.specs.declared.fault.TypeFault.TheVariants as fault
 use Rattle.typed_tree.specs.WellFormed.{is_whole}
-use Rattle.typing.specs.Constants.{as_constant, unsigned_constant, signed_value, behind_sign, constant, constant_place}
+use Rattle.typing.specs.Passing.{Checked}
+use Rattle.typing.specs.Steps.{fits}
+use Rattle.typing.specs.Strings.{string_characters}
+use Rattle.typing.specs.Constants.{as_constant, as_ordinal, unsigned_constant, signed_value, behind_sign, constant, ordinal_constant, constant_place}
 use Rattle.typing.specs.Statements.{own_constant, case_constant, constant_row}
 use Rattle.typing_laws.proofs.Sound.{IsSound}
 use Rattle.typing_laws.proofs.Grown.{both_true}
-use Rattle.typing_laws.proofs.Steps.{Does, Nothing, quietly, checks, pass_does, pure_does, find_does}
-use Rattle.typing_laws.proofs.Expressions.{fits_is}
+use Rattle.typing_laws.proofs.Steps.{Does, Nothing, quietly, checks, pass_does, pure_does, given_does, find_does}
+use Rattle.typing_laws.proofs.Strings.{fit_is, all_of_char, string_constant_does}
 
 abbrev pub IsWhole : ℤ → Type 0
 IsWhole value = is_whole value ≡ true
@@ -34,13 +37,15 @@ IsWhole value = is_whole value ≡ true
 pub number_whole : (value : ℕ) → nat_le value 2147483647 ≡ true → IsWhole (pos value)
 number_whole value few = few
 
-pub named_whole : (variables : ℕ) (place : Place) (d : Denotation) (c : ℤ × TypeId) → as_constant place d ≡ Ok c → IsSound variables d → IsWhole c.0
-named_whole variables place (denotes.Constant value type_id) c is sound = let same : value ≡ c.0 = cc in subst IsWhole same sound
-named_whole variables place (denotes.Variable root type_id) c is sound = absurd cc
-named_whole variables place (denotes.TypeName type_id) c is sound = absurd cc
-named_whole variables place (denotes.Procedure procedure) c is sound = absurd cc
-named_whole variables place (denotes.Function function) c is sound = absurd cc
-named_whole variables place denotes.Output c is sound = absurd cc
+-- a constant that a name denotes is what is denoted
+pub constant_is : (place : Place) (d c : Denotation) → as_constant place d ≡ Ok c → d ≡ c
+constant_is place (denotes.Constant value type_id) c is = cc
+constant_is place (denotes.Text number type_id) c is = cc
+constant_is place (denotes.Variable root type_id) c is = absurd cc
+constant_is place (denotes.TypeName type_id) c is = absurd cc
+constant_is place (denotes.Procedure procedure) c is = absurd cc
+constant_is place (denotes.Function function) c is = absurd cc
+constant_is place denotes.Output c is = absurd cc
 
 negative_whole : (value : ℤ) → IsWhole value → IsWhole (neg_ℤ value)
 negative_whole value whole = grind (arith, ints)
@@ -49,9 +54,16 @@ signed_whole : (s : Sign) (value : ℤ) → IsWhole value → IsWhole (signed_va
 signed_whole sign.Plus value whole = whole
 signed_whole sign.Minus value whole = negative_whole value whole
 
-own_is : (types : List TypeForm) (type_id : TypeId) (before : List ℤ) (place : Place) (c : ℤ × TypeId) (value : ℤ)
-    → own_constant types type_id before place c ≡ Ok value → c.0 ≡ value
-own_is types type_id before place c value is = by (is_compatible types type_id c.1 && not (list_any (int_eq c.0) before)) is
+-- the value of an ordinal constant is whole
+abbrev pub IsWholeOrdinal : Option (ℤ × TypeId) → Type 0
+IsWholeOrdinal None = Unit {0}
+IsWholeOrdinal (Some c) = IsWhole c.0
+
+own_whole : (types : List TypeForm) (type_id : TypeId) (before : List ℤ) (place : Place) (c : Option (ℤ × TypeId)) (value : ℤ)
+    → own_constant types type_id before place c ≡ Ok value → IsWholeOrdinal c → IsWhole value
+own_whole types type_id before place None value is whole = absurd cc
+own_whole types type_id before place (Some c) value is whole =
+    subst IsWhole (by (is_compatible types type_id c.1 && not (list_any (int_eq c.0) before)) is) whole
   where
     by : (test : Bool) → (if test then Ok c.0 else Err (fault.CaseConstant place)) ≡ Ok value → c.0 ≡ value
     by true h = cc
@@ -60,31 +72,59 @@ own_is types type_id before place c value is = by (is_compatible types type_id c
 -- ---- constants
 
 module _ (variables : ℕ) where
-  pub behind_whole : (s : Option SignAt) (c made : ℤ × TypeId) → behind_sign s c ≡ Ok made → IsWhole c.0 → IsWhole made.0
-  behind_whole None c made is whole = let same : c ≡ made = cc in subst (λ z. IsWhole z.0) same whole
-  behind_whole (Some at) c made is whole =
-      let made_is = fits_is variables (is_same c.1 integer && is_whole c.0) at.place (signed_value at.sign c.0, integer) made is in
-      subst (λ z. IsWhole z.0) made_is.1 (signed_whole at.sign c.0 whole)
+  pub behind_sound : (s : Option SignAt) (c made : Denotation) → behind_sign s c ≡ Ok made → IsSound variables c → IsSound variables made
+  behind_sound None c made is sound = let same : c ≡ made = cc in subst (IsSound variables) same sound
+  behind_sound (Some at) (denotes.Constant value type_id) made is sound =
+      let made_is = fit_is (is_same type_id integer && is_whole value) at.place (denotes.Constant (signed_value at.sign value) integer) made is in
+      subst (IsSound variables) made_is.1 (signed_whole at.sign value sound)
+  behind_sound (Some at) (denotes.Text number type_id) made is sound = absurd cc
+  behind_sound (Some at) (denotes.Variable root type_id) made is sound = absurd cc
+  behind_sound (Some at) (denotes.TypeName type_id) made is sound = absurd cc
+  behind_sound (Some at) (denotes.Procedure procedure) made is sound = absurd cc
+  behind_sound (Some at) (denotes.Function function) made is sound = absurd cc
+  behind_sound (Some at) denotes.Output made is sound = absurd cc
 
-  unsigned_does : {least : ℕ} (v : ConstantValue) → Does variables least Nothing (unsigned_constant v) (λ c now. IsWhole c.0)
+  pub ordinal_whole : (d : Denotation) → IsSound variables d → IsWholeOrdinal (as_ordinal d)
+  ordinal_whole (denotes.Constant value type_id) sound = sound
+  ordinal_whole (denotes.Text number type_id) sound = tt
+  ordinal_whole (denotes.Variable root type_id) sound = tt
+  ordinal_whole (denotes.TypeName type_id) sound = tt
+  ordinal_whole (denotes.Procedure procedure) sound = tt
+  ordinal_whole (denotes.Function function) sound = tt
+  ordinal_whole denotes.Output sound = tt
+
+  pub number_sound : (number : ℕ) (place : Place) (c : Denotation)
+      → fits (nat_le number 2147483647) place (denotes.Constant (pos number) integer) ≡ Ok c → IsSound variables c
+  number_sound number place c is =
+      let fit = fit_is (nat_le number 2147483647) place (denotes.Constant (pos number) integer) c is in
+      subst (IsSound variables) fit.1 (number_whole number fit.0)
+
+  unsigned_does : {least : ℕ} (v : ConstantValue) → Does variables least Nothing (unsigned_constant v) (λ d now. IsSound variables d)
   unfolding unsigned_constant
-  unsigned_does (value.Number number place) =
-      checks (pass_does place) λ types _ c now _ is _.
-      let fit = fits_is variables (nat_le number 2147483647) place (pos number, integer) c is in
-      subst (λ z. IsWhole z.0) fit.1 (number_whole number fit.0)
+  unsigned_does (value.Number number place) = checks (pass_does place) λ types _ c now _ is _. number_sound number place c is
+  unsigned_does (value.String text place) =
+      quietly (quietly (pass_does place) λ _ _ _ _. given_does (string_characters place text.now)) λ cs _ _ is.
+      string_constant_does place cs (all_of_char place text.now cs is)
   unsigned_does (value.Name name) =
-      checks (find_does name) λ types d c now _ is sound. named_whole variables name.place d c is sound
+      checks (find_does name) λ types d c now _ is sound. subst (IsSound variables) (constant_is name.place d c is) sound
 
-  constant_does : {least : ℕ} (c : Constant) → Does variables least Nothing (constant c) (λ made now. IsWhole made.0)
+  constant_does : {least : ℕ} (c : Constant) → Does variables least Nothing (constant c) (λ d now. IsSound variables d)
   unfolding constant
-  constant_does c = checks (unsigned_does c.value) λ types unsigned made now _ is whole. behind_whole c.sign unsigned made is whole
+  constant_does c = checks (unsigned_does c.value) λ types unsigned made now _ is sound. behind_sound c.sign unsigned made is sound
+
+  ordinal_does : {least : ℕ} (c : Constant) → Does variables least Nothing (ordinal_constant c) (λ one now. IsWholeOrdinal one)
+  unfolding ordinal_constant
+  ordinal_does c = checks (constant_does c) λ types d one now _ is sound. by d one is sound
+    where
+      by : (d : Denotation) (one : Option (ℤ × TypeId)) → ◌≡◌ {A = Checked (Option (ℤ × TypeId))} (Ok (as_ordinal d)) (Ok one) → IsSound variables d
+          → IsWholeOrdinal one
+      by d one is sound = let same : as_ordinal d ≡ one = cc in subst IsWholeOrdinal same (ordinal_whole d sound)
 
   case_constant_does : {least : ℕ} (type_id : TypeId) (before : List ℤ) (c : Constant)
       → Does variables least Nothing (case_constant type_id before c) (λ value now. IsWhole value)
   unfolding case_constant
   case_constant_does type_id before c =
-      checks (constant_does c) λ types one value now _ is whole.
-      subst IsWhole (own_is types type_id before (constant_place c) one value is) whole
+      checks (ordinal_does c) λ types one value now _ is whole. own_whole types type_id before (constant_place c) one value is whole
 
   -- those before an arm
   pub row_does : {least : ℕ} (type_id : TypeId) (before row : List ℤ) (cs : List Constant) → list_all is_whole row ≡ true

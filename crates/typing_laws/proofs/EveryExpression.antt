@@ -9,12 +9,12 @@ use Rattle.syntax_tree.specs.declared.Expr.TheViews.{roll-Expr, roll-Link, roll-
 use Rattle.syntax_tree.specs.declared.Expr.TheFolds.{map-Expr, map-Link, map-Actual, fold-roll-Expr, fold-roll-Link, fold-roll-Actual, ind-Expr, ind-Actual}
 use Rattle.syntax_tree.specs.Places.{Places, joined_places, width_places, expr_places, actual_places, link_places, expression_step as expression_row}
 use Rattle.syntax_tree.specs.Places.{actual_step as actual_row, link_step as link_row}
-use Rattle.types.specs.declared.form.TypeId.{TypeId}
+use Rattle.typing.specs.declared.typed.Typed.{Typed}
 use Rattle.typing.specs.Expressions.{Written, WrittenActual, WrittenLink, expression, written_actual, written_link, expression_step, actual_step, link_step}
 use Rattle.typing.specs.Expressions.{links, only, without_width}
 use Rattle.typing_laws.proofs.Covers.{Covers, covers_more}
-use Rattle.typing_laws.proofs.Steps.{Does, Anything, sited}
-use Rattle.typing_laws.proofs.Expressions.{LawfulWritten, LawfulLink, Types, number_does, named_does, parenthesized_does, negation_does, signed_does}
+use Rattle.typing_laws.proofs.Steps.{Does, IsKnown, sited}
+use Rattle.typing_laws.proofs.Expressions.{LawfulWritten, LawfulLink, Types, number_does, string_does, named_does, parenthesized_does, negation_does, signed_does}
 use Rattle.typing_laws.proofs.Operators.{link_does, links_none, links_more, chain_does, call_does}
 
 module _ (variables : ℕ) where
@@ -97,16 +97,17 @@ module _ (variables : ℕ) where
   abbrev bare_links : List WithLink → List Link
   bare_links ys = map (λ (y : WithLink). y.0) ys
 
-  links_lawful : (ys : List WithLink) (now : ℕ) (type_id : TypeId)
-      → Does variables now (Covers 2 (joined_places (map link_places (bare_links ys)))) (links type_id (map written_link (bare_links ys))) Anything
-  links_lawful [] now type_id = links_none variables type_id
-  links_lawful (y ∷ ys) now type_id =
-      links_more variables type_id (written_link y.0) (map written_link (bare_links ys)) (link_places y.0) (joined_places (map link_places (bare_links ys))) y.1
+  links_lawful : (ys : List WithLink) (now : ℕ) (t : Typed) → IsKnown t.site now
+      → Does variables now (Covers 2 (joined_places (map link_places (bare_links ys)))) (links t (map written_link (bare_links ys))) Types
+  links_lawful [] now t known = links_none variables t known
+  links_lawful (y ∷ ys) now t known =
+      links_more variables t (written_link y.0) (map written_link (bare_links ys)) (link_places y.0) (joined_places (map link_places (bare_links ys))) known y.1
       (links_lawful ys)
 
   expression_layer : (y : layer.Expr-F WithExpr WithActual WithLink) → LawfulExpr (roll-Expr (bare y))
   expression_layer (layer.Number value place) = from_layer (layer.Number value place) (number_does variables value place)
   expression_layer (layer.Name name) = from_layer (layer.Name name) (named_does variables name)
+  expression_layer (layer.String text place) = from_layer (layer.String text place) (string_does variables text.now place)
   expression_layer (layer.Call name actuals) = from_layer (bare (layer.Call name actuals)) (call_does variables name _ _ (only_lawful name.place actuals.items))
   expression_layer (layer.Parenthesized place inner) =
       from_layer (bare (layer.Parenthesized place inner)) (parenthesized_does variables place _ _ inner.value.1)

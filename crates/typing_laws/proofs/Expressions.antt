@@ -1,12 +1,12 @@
 -- What expressions do, form by form: their sites stand at their places, and the leading site behind the first token's own.
-use Rattle.std.proofs.Common.{◌≡◌, ℕ, ◌<◌, ◌≤◌, Bool, true, false, nat_le, nat_lt, List, [], ◌∷◌, Option, Some, None, Ok, pos, refl, subst, arith}
+use Rattle.std.proofs.Common.{◌≡◌, ℕ, ◌<◌, ◌≤◌, true, nat_le, nat_lt, List, [], ◌∷◌, length, Option, Some, None, Ok, pos, refl, subst, arith}
+use Rattle.std.specs.List.{list_all}
 use Rattle.std.proofs.lemmas.Bool.Decides.{nat_tests}
 use Rattle.place.specs.declared.Place.{Place}
 use Rattle.syntax_tree.specs.declared.Name.{Name}
 use Rattle.syntax_tree.specs.declared.Sign.{Sign}
 use Rattle.syntax_tree.specs.declared.Sign.TheVariants as sign
-use Rattle.types.specs.declared.form.TypeId.{TypeId}
-use Rattle.types.specs.Types.{integer, boolean, is_same}
+use Rattle.types.specs.Types.{integer, boolean, char}
 use Rattle.scopes.specs.declared.denotation.Denotation.{Denotation}
 use Rattle.scopes.specs.declared.denotation.Denotation.TheVariants as denotes
 use Rattle.typed_tree.specs.declared.fault.TypeFault.TheVariants as fault
@@ -14,14 +14,19 @@ use Rattle.typed_tree.specs.declared.site.SiteKind.{SiteKind}
 use Rattle.typed_tree.specs.declared.site.SiteKind.TheVariants as kind
 use Rattle.typed_tree.specs.declared.tree.Monadic.TheVariants as monadic
 use Rattle.typed_tree.specs.Sites.{number_of}
-use Rattle.typed_tree.specs.WellFormed.{monadic_is_well_formed}
-use Rattle.typed_tree.specs.Look.{Constant, Variable, Operation}
-use Rattle.typing.specs.Passing.{Checked, Passing}
-use Rattle.typing.specs.Expressions.{Typed, Written, WrittenLink, typed, fits, number, denoted, named, parenthesized, negation, signed, sign_operation}
+use Rattle.typed_tree.specs.WellFormed.{monadic_is_well_formed, is_character}
+use Rattle.typed_tree.specs.Look.{Constant, Text, Variable, Operation, Applied}
+use Rattle.typing.specs.Passing.{Checked, Passing, pure, ◌>>=◌, ◌>>◌}
+use Rattle.typing.specs.Steps.{fits, enter_as}
+use Rattle.typing.specs.Strings.{string_characters, string_type}
+use Rattle.typing.specs.declared.typed.Typed.{Typed}
+use Rattle.typing.specs.Expressions.{Written, WrittenLink, typed, typed_string, number, spelled, string, denoted, named, parenthesized, negation, signed}
+use Rattle.typing.specs.Expressions.{sign_operation}
 use Rattle.typing_laws.proofs.Sound.{IsSound}
 use Rattle.typing_laws.proofs.Covers.{AreAbove, Covers, Leads, leads_first, leads_more, leads_covers}
 use Rattle.typing_laws.proofs.Grown.{both_true}
-use Rattle.typing_laws.proofs.Steps.{Does, Anything, joins, quietly, checks, sited, pass_does, pure_does, given_does, fail_does, find_does, enter_does}
+use Rattle.typing_laws.proofs.Strings.{fit_is, all_of_char, char_whole, string_type_does}
+use Rattle.typing_laws.proofs.Steps.{Does, Anything, Nothing, joins, quietly, last, checks, sited, mark_does, text_at_does, pass_does, pure_does, given_does, fail_does, find_does, enter_does}
 use Rattle.typing_laws.proofs.Steps.{host_type_does}
 use Rattle.typing_laws.proofs.Steps.{site_does, led, IsKnown, behind_does}
 
@@ -60,13 +65,9 @@ module _ (variables : ℕ) where
     pub types : (least : ℕ) (lead : Option SiteKind) → IsLed lead → Does variables least (Covers 2 places) (w.typing lead) Types
 
   pub record LawfulLink (places : List Place) (l : WrittenLink) : Type 0 where
-    pub types : (least : ℕ) (left : TypeId) → Does variables least (Covers 2 places) (l left) Anything
+    pub types : (least : ℕ) (left : Typed) → IsKnown left.site least → Does variables least (Covers 2 places) (l left) Types
 
   -- ---- constants and variables
-
-  pub fits_is : {A : Type 0} (test : Bool) (place : Place) (answer other : A) → fits test place answer ≡ Ok other → (test ≡ true) × (answer ≡ other)
-  fits_is true place answer other is = (refl, cc)
-  fits_is false place answer other is = absurd cc
 
   pub led_covers : (low : ℕ) (place : Place) (places : List Place) (kinds : List SiteKind) → AreAbove low kinds
       → {least : ℕ} {A : Type 0} {p : Passing A} {K : A → ℕ → Type 0} → Does variables least (Leads low place kinds places) p K
@@ -82,9 +83,37 @@ module _ (variables : ℕ) where
           quietly (pass_does place) λ _ _ _ _.
           joins (leads_first 2 place (led lead) []) (behind_does lead place) λ id now _ known.
           quietly (given_does (fits (nat_le value 2147483647) place (typed integer id))) λ t _ more is.
-          let fit = fits_is (nat_le value 2147483647) place (typed integer id) t is in
+          let fit = fit_is (nat_le value 2147483647) place (typed integer id) t is in
           quietly (enter_does (λ n. Constant n (pos value)) (λ n. refl) (λ n. refl) (λ n m h. fit.0)) λ _ next later _.
           pure_does t (λ n h. subst (λ (z : Typed). IsKnown z.site n) fit.1 (known_later id now n (omega arith) known))
+
+  -- two or more characters
+  text_does : (place : Place) (id : Option ℕ) {least : ℕ} (cs : List ℕ) → IsKnown id least → list_all is_character cs ≡ true
+      → Does variables least Nothing (string_type place (length cs) >>= (λ type_id. enter_as (λ n. Text n cs) >> pure (typed_string type_id (length cs) id))) Types
+  text_does place id {least} cs known all =
+      quietly (string_type_does place (length cs)) λ type_id _ some few.
+      quietly (enter_does (λ n. Text n cs) (λ n. refl) (λ n. refl) (λ n m h. both_true _ _ few all)) λ _ _ more _.
+      pure_does (typed_string type_id (length cs) id) (λ n h. known_later id least n (omega arith) known)
+
+  spelled_does : (place : Place) (id : Option ℕ) {least : ℕ} (cs : List ℕ) → IsKnown id least → list_all is_character cs ≡ true
+      → Does variables least Nothing (spelled place id cs) Types
+  unfolding spelled
+  spelled_does place id [] known all = text_does place id [] known all
+  spelled_does place id {least} (c ∷ []) known all =
+      quietly (enter_does (λ n. Constant n (pos c)) (λ n. refl) (λ n. refl) (λ n m h. char_whole c all)) λ _ _ more _.
+      pure_does (typed char id) (λ n h. known_later id least n (omega arith) known)
+  spelled_does place id (c ∷ d ∷ cs) known all = text_does place id (c ∷ d ∷ cs) known all
+
+  pub string_does : (text : List ℕ) (place : Place) → LawfulWritten (place ∷ []) (record { first = place; typing = string text place })
+  unfolding string
+  string_does text place = record { begins = ([], refl); types = λ least lead is. led_covers 2 place [] (led lead) (led_alone lead is) (by least lead) }
+    where
+      by : (least : ℕ) (lead : Option SiteKind) → Does variables least (Leads 2 place (led lead) []) (string text place lead) Types
+      by least lead =
+          quietly (pass_does place) λ _ _ _ _.
+          joins (leads_first 2 place (led lead) []) (behind_does lead place) λ id now _ known.
+          quietly (given_does (string_characters place text)) λ cs next more is.
+          spelled_does place id cs (known_later id now next more known) (all_of_char place text cs is)
 
   denoted_does : (denotation : Denotation) (place : Place) {least : ℕ} (lead : Option SiteKind) → IsLed lead → IsSound variables denotation
       → Does variables least (Covers 2 (place ∷ [])) (denoted denotation place lead) Types
@@ -96,6 +125,14 @@ module _ (variables : ℕ) where
           joins (leads_first 2 place (led lead) []) (behind_does lead place) λ id now _ known.
           quietly (enter_does (λ n. Constant n value) (λ n. refl) (λ n. refl) (λ n m h. sound)) λ _ _ more _.
           pure_does (typed type_id id) (λ n h. known_later id now n (omega arith) known)
+  denoted_does (denotes.Text number type_id) place lead is sound = led_covers 2 place [] (led lead) (led_alone lead is) by
+    where
+      by : {least : ℕ} → Does variables least (Leads 2 place (led lead) []) (denoted (denotes.Text number type_id) place lead) Types
+      by =
+          joins (leads_first 2 place (led lead) []) (behind_does lead place) λ id now _ known.
+          quietly (text_at_does number) λ cs _ some are.
+          quietly (enter_does (λ n. Text n cs) (λ n. refl) (λ n. refl) (λ n m h. are)) λ _ _ more _.
+          pure_does (typed_string type_id (length cs) id) (λ n h. known_later id now n (omega arith) known)
   denoted_does (denotes.Variable root type_id) place lead is sound =
       led_covers 2 place [] (kind.UndefinedVariable ∷ led lead) (led_behind kind.UndefinedVariable lead (omega arith) (omega arith) is) by
     where
@@ -133,18 +170,12 @@ module _ (variables : ℕ) where
       by least lead =
           quietly (pass_does place) λ _ _ _ _.
           joins (leads_first 2 place (led lead) places) (behind_does lead place) λ id now _ known.
-          checks (law.types now None tt) λ types t b n more is _. answer id now n b t.type_id known more is
+          checks (law.types now None tt) λ types t b n more is _. answer id now n b t known more is
         where
-          answer : (id : Option ℕ) (now n : ℕ) (b : Typed) (type_id : TypeId) → IsKnown id now → now ≤ n
-              → ◌≡◌ {A = Checked Typed} (Ok (typed type_id id)) (Ok b) → IsKnown b.site n
-          answer id now n b type_id known more is =
-              let same : typed type_id id ≡ b = cc in subst (λ (z : Typed). IsKnown z.site n) same (known_later id now n more known)
-
-  -- an answer where types fit
-  pub fits_known : (test : Bool) (place : Place) (type_id : TypeId) (id : Option ℕ) (b : Typed) (now n : ℕ) → fits test place (typed type_id id) ≡ Ok b
-      → IsKnown id now → now ≤ n → IsKnown b.site n
-  fits_known test place type_id id b now n is known more =
-      subst (λ (z : Typed). IsKnown z.site n) (fits_is test place (typed type_id id) b is).1 (known_later id now n more known)
+          answer : (id : Option ℕ) (now n : ℕ) (b t : Typed) → IsKnown id now → now ≤ n
+              → ◌≡◌ {A = Checked Typed} (Ok (record t { site = id })) (Ok b) → IsKnown b.site n
+          answer id now n b t known more is =
+              let same : record t { site = id } ≡ b = cc in subst (λ (z : Typed). IsKnown z.site n) same (known_later id now n more known)
 
   pub negation_does : (place : Place) (places : List Place) (operand : Written) → LawfulWritten places operand
       → LawfulWritten (place ∷ places) (record { first = place; typing = negation place operand })
@@ -158,8 +189,10 @@ module _ (variables : ℕ) where
       by least lead =
           quietly (pass_does place) λ _ _ _ _.
           joins (leads_first 2 place (led lead) places) (behind_does lead place) λ id now _ known.
-          quietly (enter_does (λ n. Operation n monadic.Not) (λ n. refl) (λ n. refl) (λ n m h. refl)) λ _ next later _.
-          checks (law.types next None tt) λ types t b n more is _. fits_known (is_same t.type_id boolean) place boolean id b now n is known (omega arith)
+          quietly (enter_does Operation (λ n. refl) (λ n. refl) (λ n m h. refl)) λ _ next one _.
+          last (checks {L = Anything} (law.types next None tt) λ types t b n more is _. tt) λ _ there two _.
+          quietly (mark_does (Applied monadic.Not) refl refl (λ n h. refl)) λ _ _ more _.
+          pure_does (typed boolean id) (λ n h. known_later id now n (omega arith) known)
 
   signs_formed : (s : Sign) (sites : ℕ) → monadic_is_well_formed variables sites (sign_operation s) ≡ true
   signs_formed sign.Plus sites = refl
@@ -177,5 +210,7 @@ module _ (variables : ℕ) where
       by least lead =
           quietly (pass_does place) λ _ _ _ _.
           joins (leads_first 2 place (led lead) places) (behind_does lead place) λ id now _ known.
-          quietly (enter_does (λ n. Operation n (sign_operation s)) (λ n. refl) (λ n. refl) (λ n m h. signs_formed s m)) λ _ next later _.
-          checks (law.types next None tt) λ types t b n more is _. fits_known (is_same t.type_id integer) place integer id b now n is known (omega arith)
+          quietly (enter_does Operation (λ n. refl) (λ n. refl) (λ n m h. refl)) λ _ next one _.
+          last (checks {L = Anything} (law.types next None tt) λ types t b n more is _. tt) λ _ there two _.
+          quietly (mark_does (Applied (sign_operation s)) refl refl (λ n h. signs_formed s n)) λ _ _ more _.
+          pure_does (typed integer id) (λ n h. known_later id now n (omega arith) known)

@@ -1,4 +1,5 @@
--- What a form does to what is known: it adds sites and entries, and its marks are well formed. All else stays.
+-- What a form does to what is known: it adds sites, entries and perhaps types, and its marks are well formed. All else
+-- stays.
 use Rattle.std.proofs.Common.{◌≡◌, ℕ, zero, suc, ◌+◌, ◌≤◌, Bool, true, ◌&&◌, List, ◌∷◌, ◌++◌, length, append_assoc, length-append, sym, ap, subst, ◌∙◌, arith}
 use Rattle.std.specs.List.{range_with_len, list_all, flat_map}
 use Rattle.std.proofs.lemmas.List.Folds.{list_all-append}
@@ -9,18 +10,22 @@ use Rattle.typing.specs.Passing.{Passed}
 use Rattle.typing.specs.Steps.{most_sites, most_entries}
 use Rattle.typing_laws.proofs.Sound.{AreSound}
 use Rattle.typing_laws.proofs.WholeRanges.{HaveWholeRanges}
+use Rattle.typing_laws.proofs.Cells.{AreRequired, AreLater, AreTexts, later_still, required_later}
 
 -- what is known may be passed on
 pub record Fine (variables : ℕ) (s : Passed) : Type 0 where
   pub sound : AreSound variables s.regions
   pub whole : HaveWholeRanges s.types
+  pub required : AreRequired s.types
+  pub texts : AreTexts s.texts
   pub few_sites : length s.sites ≤ most_sites
   pub few_entries : s.entries ≤ most_entries
 
 -- a form that looks so, with sites of which something holds
 pub record Grown (variables : ℕ) (Has : List Stands → Type 0) (look : Look) (old new : Passed) : Type 0 where
   pub regions : new.regions ≡ old.regions
-  pub types : new.types ≡ old.types
+  pub types : AreLater old.types new.types
+  pub texts : AreTexts new.texts
   pub variables_kept : new.variables ≡ old.variables
   pub added : List Stands
   pub sites : new.sites ≡ old.sites ++ added
@@ -50,7 +55,9 @@ pub fine_later : {variables : ℕ} {Has : List Stands → Type 0} {look : Look} 
     → Fine variables new
 fine_later {variables} g f = record {
   sound = subst (AreSound variables) (sym g.regions) f.sound;
-  whole = subst HaveWholeRanges (sym g.types) f.whole;
+  whole = g.types.whole f.whole;
+  required = required_later g.types f.required;
+  texts = g.texts;
   few_sites = g.few_sites;
   few_entries = g.few_entries;
 }
@@ -81,7 +88,8 @@ pub grown_then : {variables : ℕ} {First Second Both : List Stands → Type 0} 
     → Grown variables First look old now → Grown variables Second more now new → Grown variables Both (look ++ more) old new
 grown_then {variables} {First} {Second} {Both} {look} {more} {old} {now} {new} joined f g = record {
   regions = g.regions ∙ f.regions;
-  types = g.types ∙ f.types;
+  types = later_still f.types g.types;
+  texts = g.texts;
   variables_kept = g.variables_kept ∙ f.variables_kept;
   added = f.added ++ g.added;
   sites = g.sites ∙ ap (λ l. l ++ g.added) f.sites ∙ append_assoc old.sites f.added g.added;

@@ -1,11 +1,14 @@
 -- What operators, chains and calls do, each with the site of its operation.
-use Rattle.std.proofs.Common.{◌≡◌, ℕ, ◌<◌, ◌≤◌, true, List, [], ◌∷◌, ◌++◌, Option, None, Ok, refl, ap, arith}
+use Rattle.std.proofs.Common.{◌≡◌, ℕ, ◌<◌, ◌≤◌, Bool, true, false, ◌&&◌, ◌||◌, if◌then◌else◌, nat_lt, nat_eq, List, [], ◌∷◌, ◌++◌, length, Option, None, Some}
+use Rattle.std.proofs.Common.{Ok, is_none, pos, neg_ℤ, refl, ap, subst, arith}
 use Rattle.place.specs.declared.Place.{Place}
 use Rattle.syntax_tree.specs.declared.Name.{Name}
 use Rattle.syntax_tree.specs.declared.Operator.{Operator}
 use Rattle.syntax_tree.specs.declared.Operator.TheVariants as op
 use Rattle.types.specs.declared.form.TypeId.{TypeId}
-use Rattle.types.specs.Types.{integer, is_same}
+use Rattle.types.specs.declared.form.TypeForm.{TypeForm}
+use Rattle.types.specs.declared.form.OrdinalRange.{OrdinalRange}
+use Rattle.types.specs.Types.{integer, boolean, is_same, is_compatible, is_string, range_of}
 use Rattle.scopes.specs.declared.denotation.RequiredFunction.{RequiredFunction}
 use Rattle.scopes.specs.declared.denotation.RequiredFunction.TheVariants as function
 use Rattle.typed_tree.specs.declared.site.SiteKind.{SiteKind}
@@ -15,14 +18,19 @@ use Rattle.typed_tree.specs.declared.tree.Monadic.TheVariants as monadic
 use Rattle.typed_tree.specs.declared.tree.Dyadic.{Dyadic}
 use Rattle.typed_tree.specs.declared.tree.Dyadic.TheVariants as dyadic
 use Rattle.typed_tree.specs.declared.tree.Relation.TheVariants as relation
-use Rattle.typed_tree.specs.WellFormed.{monadic_is_well_formed, dyadic_is_well_formed}
-use Rattle.typed_tree.specs.Look.{Operation, Begins, Operator as OperatorMark, Ends}
-use Rattle.typing.specs.Expressions.{Written, WrittenActual, WrittenLink, typed, tested, operation, link, links, chain, as_function, function_type}
-use Rattle.typing.specs.Expressions.{function_operation, call, only}
+use Rattle.typed_tree.specs.WellFormed.{is_whole, monadic_is_well_formed, dyadic_is_well_formed}
+use Rattle.typed_tree.specs.Look.{Operation, Applied, Begins, Operator as OperatorMark, Compared, Ends}
+use Rattle.typing.specs.Steps.{fits, or_mismatch}
+use Rattle.typing.specs.declared.typed.Typed.{Typed}
+use Rattle.typing.specs.Expressions.{Written, WrittenActual, WrittenLink, typed, tested, operation, both_of, are_alike, compared, result_type, compares, link}
+use Rattle.typing.specs.Expressions.{links, chain, as_function, takes, function_type, function_operation, on_range, applied, call, only}
+use Rattle.typing_laws.proofs.WholeRanges.{HaveWholeRanges, IfWhole}
 use Rattle.typing_laws.proofs.Covers.{AreAbove, at_place, Covers, Leads, covers_both, leads_first, leads_more}
-use Rattle.typing_laws.proofs.Steps.{Does, Anything, joins, quietly, last, checks, pure_does, given_does, find_does, mark_does, enter_does, site_does, led}
-use Rattle.typing_laws.proofs.Steps.{behind_does}
-use Rattle.typing_laws.proofs.Expressions.{IsLed, led_alone, led_behind, known_later, lt_true, LawfulWritten, LawfulLink, led_covers, fits_known}
+use Rattle.typing_laws.proofs.Grown.{both_true}
+use Rattle.typing_laws.proofs.Steps.{Does, Anything, Nothing, joins, quietly, last, checks_types, pure_does, given_does, by_types_does, find_does, mark_does}
+use Rattle.typing_laws.proofs.Steps.{enter_does, site_does, led, IsKnown, behind_does}
+use Rattle.typing_laws.proofs.Strings.{fit_is, there, both_and}
+use Rattle.typing_laws.proofs.Expressions.{IsLed, Types, led_alone, led_behind, known_later, lt_true, LawfulWritten, LawfulLink, led_covers}
 
 module _ (variables : ℕ) where
   -- ---- operators
@@ -86,41 +94,93 @@ module _ (variables : ℕ) where
   operation_does op.LessOrEqual place = pure_does (dyadic.Relation relation.LessOrEqual) (λ m h n more. refl)
   operation_does op.GreaterOrEqual place = pure_does (dyadic.Relation relation.GreaterOrEqual) (λ m h n more. refl)
 
+  -- an operator takes ordinals alone, or strings of one length
+  of_alike : (wanted : TypeId) (left right : Typed) (t : TypeId) → both_of wanted left right ≡ Some t → are_alike left.length right.length ≡ true
+  of_alike wanted left right t is =
+      by left.length right.length (is_same left.type_id wanted) (is_same right.type_id wanted) is
+    where
+      by : (a b : Option ℕ) (one two : Bool) → (if (is_none a && one) && (is_none b && two) then Some wanted else None) ≡ Some t → are_alike a b ≡ true
+      by None None one two h = refl
+      by None (Some n) true two h = absurd cc
+      by None (Some n) false two h = absurd cc
+      by (Some n) b one two h = absurd cc
+
+  compared_alike : (types : List TypeForm) (left right : Typed) (t : TypeId) → compared types left right ≡ Some t
+      → are_alike left.length right.length ≡ true
+  compared_alike types left right t is =
+      by (are_alike left.length right.length)
+      (is_compatible types left.type_id right.type_id && (is_none left.length || is_string types left.type_id)) is
+    where
+      by : (a b : Bool) → (if a && b then Some boolean else None) ≡ Some t → a ≡ true
+      by true b h = refl
+      by false b h = absurd cc
+
+  result_alike : (types : List TypeForm) (o : Operator) (left right : Typed) (t : TypeId) → result_type types o left right ≡ Some t
+      → are_alike left.length right.length ≡ true
+  result_alike types op.Plus left right t is = of_alike integer left right t is
+  result_alike types op.Minus left right t is = of_alike integer left right t is
+  result_alike types op.Or left right t is = of_alike boolean left right t is
+  result_alike types op.Times left right t is = of_alike integer left right t is
+  result_alike types op.Div left right t is = of_alike integer left right t is
+  result_alike types op.Mod left right t is = of_alike integer left right t is
+  result_alike types op.And left right t is = of_alike boolean left right t is
+  result_alike types op.Equal left right t is = compared_alike types left right t is
+  result_alike types op.NotEqual left right t is = compared_alike types left right t is
+  result_alike types op.Less left right t is = compared_alike types left right t is
+  result_alike types op.Greater left right t is = compared_alike types left right t is
+  result_alike types op.LessOrEqual left right t is = compared_alike types left right t is
+  result_alike types op.GreaterOrEqual left right t is = compared_alike types left right t is
+
+  compares_does : {least : ℕ} (left right : Option ℕ) → are_alike left right ≡ true → Does variables least Nothing (compares left right) Anything
+  unfolding compares
+  compares_does None None alike = pure_does tt (λ n h. tt)
+  compares_does None (Some b) alike = pure_does tt (λ n h. tt)
+  compares_does (Some a) None alike = pure_does tt (λ n h. tt)
+  compares_does (Some a) (Some b) alike = mark_does (Compared a b) refl refl (λ n h. alike)
+
   pub link_does : (o : Operator) (place : Place) (places : List Place) (operand : Written) → LawfulWritten variables places operand
       → LawfulLink variables (place ∷ places) (link o place operand)
   unfolding link
   link_does o place places operand law = record {
-    types = λ least left. led_covers variables 2 place places (operator_kinds o) (operator_ascending o) (by least left);
+    types = λ least left known. led_covers variables 2 place places (operator_kinds o) (operator_ascending o) (by least left known);
   }
     where
-      by : (least : ℕ) (left : TypeId) → Does variables least (Leads 2 place (operator_kinds o) places) (link o place operand left) Anything
-      by least left =
-          joins (leads_first 2 place (operator_kinds o) places) (operation_does o place) λ tests now _ formed.
-          quietly (enter_does (λ n. OperatorMark n tests) (λ n. refl) (λ n. refl) (λ n m h. formed m h)) λ _ next _ _.
-          checks (law.types next None tt) λ types t b n more is _. tt
+      by : (least : ℕ) (left : Typed) → IsKnown left.site least
+          → Does variables least (Leads 2 place (operator_kinds o) places) (link o place operand left) Types
+      by least left known =
+          joins (leads_first 2 place (operator_kinds o) places) (operation_does o place) λ tests now one formed.
+          quietly (enter_does (λ n. OperatorMark n tests) (λ n. refl) (λ n. refl) (λ n m h. formed m h)) λ _ next two _.
+          last (law.types next None tt) λ right met three _.
+          quietly (by_types_does (λ types. or_mismatch place (result_type types o left right))) λ type_id _ four is.
+          let result = there place (result_type is.0 o left right) type_id is.1 in
+          quietly (compares_does left.length right.length (result_alike is.0 o left right type_id result)) λ _ _ five _.
+          pure_does (typed type_id left.site) (λ n h. known_later left.site least n (omega arith) known)
 
   -- ---- chains
 
-  pub links_none : {least : ℕ} (left : TypeId) → Does variables least (Covers 2 []) (links left []) Anything
-  links_none left = pure_does left (λ n h. tt)
+  pub links_none : {least : ℕ} (left : Typed) → IsKnown left.site least → Does variables least (Covers 2 []) (links left []) Types
+  links_none {least} left known = pure_does left (λ n h. known_later left.site least n h known)
 
-  pub links_more : {least : ℕ} (left : TypeId) (l : WrittenLink) (ls : List WrittenLink) (first rest : List Place) → LawfulLink variables first l
-      → ((now : ℕ) (type_id : TypeId) → Does variables now (Covers 2 rest) (links type_id ls) Anything)
-      → Does variables least (Covers 2 (first ++ rest)) (links left (l ∷ ls)) Anything
-  links_more {least} left l ls first rest law more = joins (covers_both 2 first rest) (law.types least left) λ type_id now _ _. more now type_id
+  pub links_more : {least : ℕ} (left : Typed) (l : WrittenLink) (ls : List WrittenLink) (first rest : List Place) → IsKnown left.site least
+      → LawfulLink variables first l
+      → ((now : ℕ) (t : Typed) → IsKnown t.site now → Does variables now (Covers 2 rest) (links t ls) Types)
+      → Does variables least (Covers 2 (first ++ rest)) (links left (l ∷ ls)) Types
+  links_more {least} left l ls first rest known law more =
+      joins (covers_both 2 first rest) (law.types least left known) λ t now _ known. more now t known
 
   pub chain_does : (first : Written) (ls : List WrittenLink) (places others : List Place) → LawfulWritten variables places first
-      → ((now : ℕ) (type_id : TypeId) → Does variables now (Covers 2 others) (links type_id ls) Anything)
+      → ((now : ℕ) (t : Typed) → IsKnown t.site now → Does variables now (Covers 2 others) (links t ls) Types)
       → LawfulWritten variables (places ++ others) (record { first = first.first; typing = chain first ls })
   unfolding chain
   chain_does first ls places others law more = record {
     begins = (law.begins.0 ++ others, ap (λ l. l ++ others) law.begins.1);
     types = λ least lead is.
         quietly (mark_does Begins refl refl (λ n h. refl)) λ _ now _ _.
-        joins (covers_both 2 places others) (law.types now lead is) λ f there _ known.
-        last (more there f.type_id) λ type_id next later _.
+        joins (covers_both 2 places others) (law.types now lead is) λ f met _ known.
+        quietly (given_does (fits (is_none f.length || nat_eq (length ls) 1) first.first f)) λ _ next later _.
+        last (more next f (known_later f.site met next later known)) λ t there _ known.
         quietly (mark_does Ends refl refl (λ n h. refl)) λ _ m further _.
-        pure_does (typed type_id f.site) (λ n h. known_later f.site there n (omega arith) known);
+        pure_does t (λ n h. known_later t.site there n (omega arith) known);
   }
 
   -- ---- calls
@@ -129,11 +189,19 @@ module _ (variables : ℕ) where
   function_kinds function.Abs = []
   function_kinds function.Sqr = kind.Overflow ∷ []
   function_kinds function.Odd = []
+  function_kinds function.Ord = []
+  function_kinds function.Chr = kind.Chr ∷ []
+  function_kinds function.Succ = kind.Succ ∷ []
+  function_kinds function.Pred = kind.Pred ∷ []
 
   function_ascending : (f : RequiredFunction) (lead : Option SiteKind) → IsLed lead → AreAbove 2 (function_kinds f ++ led lead)
   function_ascending function.Abs lead is = led_alone lead is
   function_ascending function.Sqr lead is = led_behind kind.Overflow lead (omega arith) (omega arith) is
   function_ascending function.Odd lead is = led_alone lead is
+  function_ascending function.Ord lead is = led_alone lead is
+  function_ascending function.Chr lead is = led_behind kind.Chr lead (omega arith) (omega arith) is
+  function_ascending function.Succ lead is = led_behind kind.Succ lead (omega arith) (omega arith) is
+  function_ascending function.Pred lead is = led_behind kind.Pred lead (omega arith) (omega arith) is
 
   abbrev IsFormedMonadic : Monadic → ℕ → Type 0
   IsFormedMonadic o now = (n : ℕ) → now ≤ n → monadic_is_well_formed variables n o ≡ true
@@ -146,6 +214,47 @@ module _ (variables : ℕ) where
       last (site_does kind.Overflow place) λ id now _ known.
       pure_does (monadic.Sqr id) (λ m h n more. lt_true id n (omega (arith, known, h, more)))
   function_does function.Odd place = pure_does monadic.Odd (λ m h n more. refl)
+  function_does function.Ord place = pure_does monadic.Ord (λ m h n more. refl)
+  function_does function.Chr place =
+      last (site_does kind.Chr place) λ id now _ known.
+      pure_does (monadic.Chr id) (λ m h n more. lt_true id n (omega (arith, known, h, more)))
+  function_does function.Succ place =
+      last (site_does kind.Succ place) λ id now _ known.
+      pure_does (monadic.Succ id (pos 2147483647)) (λ m h n more. both_true _ _ (lt_true id n (omega (arith, known, h, more))) refl)
+  function_does function.Pred place =
+      last (site_does kind.Pred place) λ id now _ known.
+      pure_does (monadic.Pred id (neg_ℤ (pos 2147483647))) (λ m h n more. both_true _ _ (lt_true id n (omega (arith, known, h, more))) refl)
+
+  -- on the values of a range it is formed as well
+  on_range_formed : (values : Option OrdinalRange) (o : Monadic) (n : ℕ) → IfWhole values → monadic_is_well_formed variables n o ≡ true
+      → monadic_is_well_formed variables n (on_range values o) ≡ true
+  on_range_formed None o n whole formed = formed
+  on_range_formed (Some values) (monadic.Succ id last) n whole formed =
+      both_true _ _ (both_and (nat_lt id n) (is_whole last) formed).0 (both_and (is_whole values.first) (is_whole values.last) whole).1
+  on_range_formed (Some values) (monadic.Pred id first) n whole formed =
+      both_true _ _ (both_and (nat_lt id n) (is_whole first) formed).0 (both_and (is_whole values.first) (is_whole values.last) whole).0
+  on_range_formed (Some values) monadic.Plus n whole formed = refl
+  on_range_formed (Some values) monadic.Minus n whole formed = refl
+  on_range_formed (Some values) monadic.Not n whole formed = refl
+  on_range_formed (Some values) monadic.Abs n whole formed = refl
+  on_range_formed (Some values) (monadic.Sqr id) n whole formed = formed
+  on_range_formed (Some values) monadic.Odd n whole formed = refl
+  on_range_formed (Some values) monadic.Ord n whole formed = refl
+  on_range_formed (Some values) (monadic.Chr id) n whole formed = formed
+
+  if_whole : (types : List TypeForm) → HaveWholeRanges types → (id : TypeId) → IfWhole (range_of types id)
+  if_whole types whole id = by (range_of types id) refl
+    where
+      by : (values : Option OrdinalRange) → range_of types id ≡ values → IfWhole values
+      by None is = tt
+      by (Some values) is = whole id values is
+
+  applied_formed : (types : List TypeForm) → HaveWholeRanges types → (f : RequiredFunction) (o : Monadic) (place : Place) (t : Typed) (does : Monadic × TypeId)
+      → applied types f o place t ≡ Ok does → (now n : ℕ) → now ≤ n → IsFormedMonadic o now → IsFormedMonadic does.0 n
+  applied_formed types whole f o place t does is now n more formed m h =
+      let fit = fit_is (is_none t.length && takes types f t.type_id) place (on_range (range_of types t.type_id) o, function_type f t.type_id) does is in
+      subst (λ (z : Monadic × TypeId). monadic_is_well_formed variables m z.0 ≡ true) fit.1
+      (on_range_formed (range_of types t.type_id) o m (if_whole types whole t.type_id) (formed m (omega (arith, more, h))))
 
   pub call_does : (name : Name) (actuals : List WrittenActual) (places : List Place)
       → ((w : Written) → only name.place actuals ≡ Ok w → LawfulWritten variables places w)
@@ -159,8 +268,10 @@ module _ (variables : ℕ) where
         led_covers variables 2 name.place places (function_kinds f ++ led lead) (function_ascending f lead is)
         (joins (leads_more 2 name.place (function_kinds f) (led lead) places) (function_does f name.place) λ tests met _ formed.
         joins (leads_first 2 name.place (led lead) places) (behind_does lead name.place) λ id now seen known.
-        quietly (enter_does (λ n. Operation n tests) (λ n. refl) (λ n. refl) (λ n m h. formed m (omega (arith, seen, h)))) λ _ _ entered _.
-        quietly (given_does (only name.place actuals)) λ actual m more right.
-        checks ((laws actual right).types m None tt) λ types t b n later fit _.
-        fits_known variables (is_same t.type_id integer) actual.first (function_type f) id b now n fit known (omega arith));
+        quietly (enter_does Operation (λ n. refl) (λ n. refl) (λ n m h. refl)) λ _ entered one _.
+        quietly (given_does (only name.place actuals)) λ actual m two right.
+        last (checks_types {L = λ does n. IsFormedMonadic does.0 n} ((laws actual right).types m None tt) λ types whole t does n later is _.
+        applied_formed types whole f tests actual.first t does is met n (omega arith) formed) λ does there three formed.
+        quietly (mark_does (Applied does.0) refl refl (λ n h. formed n h)) λ _ _ further _.
+        pure_does (typed does.1 id) (λ n h. known_later id now n (omega arith) known));
   }

@@ -1,23 +1,25 @@
 -- The law of typing: what each typed program has.
 use Rattle.std.proofs.Common.{◌≡◌, ℕ, List, [], ◌∷◌, ◌++◌, length, map, nat_eq, Ok, refl, sym, ap, subst, ◌∙◌, arith}
-use Rattle.std.specs.List.{range_with_len, list_all, flat_map}
+use Rattle.std.specs.List.{range_with_len, list_all, flat_map, All}
 use Rattle.syntax_tree.specs.declared.Program.{Program}
 use Rattle.syntax_tree.specs.declared.Block.{Block}
 use Rattle.syntax_tree.specs.Places.{name_places, definition_places, type_definition_places, group_places, stmt_places, program_places}
+use Rattle.typed_tree.specs.declared.tree.Variable.{Variable}
 use Rattle.typed_tree.specs.Ids.{Stands, AreByPlace}
 use Rattle.typed_tree.specs.Look.{BlockEnds, entries_of_look, loops_of_look, is_formed_mark}
 use Rattle.typing.specs.Passing.{Passed, After, after, behind_marks}
 use Rattle.typing.specs.Steps.{begins}
 use Rattle.typing.specs.Statements.{statement}
 use Rattle.typing.specs.Typing.{declarations, statement_part, typing}
-use Rattle.typing_laws.specs.Lawful.{AreScalar, Lawful}
+use Rattle.typing_laws.specs.Lawful.{HaveScalarVariables, Lawful}
 use Rattle.typing_laws.proofs.Covers.{Covers, covers_more, covers_behind, covers_skip}
 use Rattle.typing_laws.proofs.Ordered.{covers_by_place}
-use Rattle.typing_laws.proofs.WholeRanges.{required_have, required_scalar}
+use Rattle.typing_laws.proofs.WholeRanges.{required_have}
+use Rattle.typing_laws.proofs.Cells.{TakesOne, required_take, no_texts}
 use Rattle.typing_laws.proofs.Grown.{Fine, Grown}
 use Rattle.typing_laws.proofs.Steps.{Does, Anything, split, split_behind, last, mark_does}
 use Rattle.typing_laws.proofs.Statements.{compound_does, statements_lawful}
-use Rattle.typing_laws.proofs.Declarations.{IsReady, declarations_keep}
+use Rattle.typing_laws.proofs.Declarations.{IsReady, variables_later, declarations_keep}
 
 -- the statements of a block
 statement_part_does : (variables : ℕ) (block : Block)
@@ -48,6 +50,8 @@ fine_ready : (s : Passed) → IsReady s → Fine (length s.variables) s
 fine_ready s r = record {
   sound = r.sound;
   whole = r.whole;
+  required = r.required;
+  texts = r.texts;
   few_sites = omega (arith, ap length r.sites);
   few_entries = omega (arith, r.entries);
 }
@@ -62,7 +66,7 @@ grown_lawful program s a r g = record {
   few_variables = omega (arith, kept, r.declared, r.room);
   declared = ap (list_all (λ variable. nat_eq variable.block 0)) g.variables_kept ∙ r.by_program;
   few_sites = g.few_sites;
-  types = subst AreScalar (sym g.types) r.types;
+  scalar = subst (λ variables. HaveScalarVariables variables a.passed.types) (sym g.variables_kept) (cells s.variables (variables_later g.types s.variables r.one_cell));
   by_place = λ order.
       subst AreByPlace (sym (g.sites ∙ ap (λ l. l ++ g.added) r.sites))
       (covers_by_place (program_places program) g.added order (program_covers program g.added g.covered));
@@ -70,6 +74,10 @@ grown_lawful program s a r g = record {
   where
     kept : length a.passed.variables ≡ length s.variables
     kept = ap length g.variables_kept
+
+    cells : (variables : List Variable) → All (λ variable. TakesOne a.passed.types variable.type_id) variables
+        → HaveScalarVariables variables a.passed.types
+    cells variables all = λ k d within. (all k d within).one
 
 -- what each typed program has
 pub typing_is_lawful : (program : Program) (a : After (Unit {0})) → typing program ≡ Ok a → Lawful program a
@@ -80,12 +88,15 @@ typing_is_lawful program a is =
     let y = split_behind x.0.look (statement_part program.block x.0.passed) a x.2 in
     let ready : IsReady start = record {
       sound = tt;
-      types = required_scalar;
+      scalar = tt;
       whole = required_have;
+      required = required_take;
+      texts = no_texts;
       sites = refl;
       entries = refl;
       loops = refl;
       by_program = refl;
+      one_cell = λ k d within. absurd (omega (arith, within));
       declared = omega arith;
       room = omega arith;
     } in

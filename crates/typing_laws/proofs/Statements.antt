@@ -1,6 +1,6 @@
 -- What statements do, form by form, and the law of every statement, by induction over its form.
 use Rattle.std.proofs.Common.{◌≡◌, ℕ, ℤ, Vec, ◌<◌, Bool, true, false, if◌then◌else◌, List, [], ◌∷◌, ◌++◌, map, Option, Some, None, Ok, refl, sym}
-use Rattle.std.proofs.Common.{subst, append_assoc, arith}
+use Rattle.std.proofs.Common.{subst, append_assoc, arith, is_none, option_map, ◌&&◌}
 use Rattle.std.specs.List.{flat_map}
 use Rattle.std.specs.declared.alloc.Global.{Global}
 use Rattle.place.specs.declared.Place.{Place}
@@ -21,19 +21,22 @@ use Rattle.syntax_tree.specs.Places.{statement_step as statement_row}
 use Rattle.types.specs.declared.form.TypeForm.{TypeForm}
 use Rattle.types.specs.declared.form.TypeId.{TypeId}
 use Rattle.types.specs.declared.form.OrdinalRange.{OrdinalRange}
-use Rattle.types.specs.Types.{integer, is_same, is_assignable, range_of}
+use Rattle.types.specs.Types.{integer, is_assignable, is_string, range_of}
 use Rattle.scopes.specs.declared.denotation.Denotation.{Denotation}
 use Rattle.scopes.specs.declared.denotation.Denotation.TheVariants as denotes
 use Rattle.scopes.specs.declared.denotation.RequiredProcedure.{RequiredProcedure}
 use Rattle.typed_tree.specs.declared.site.SiteKind.{SiteKind}
 use Rattle.typed_tree.specs.declared.site.SiteKind.TheVariants as kind
+use Rattle.typed_tree.specs.declared.tree.Representation.{Representation}
 use Rattle.typed_tree.specs.Ids.{Stands}
 use Rattle.typed_tree.specs.Look.{Assign, Target, Fits, Write, Written as WrittenMark, Width, Empty, Compound, If, Then, Else, While, Do, Repeat, Until, For}
-use Rattle.typed_tree.specs.Look.{Case, Arm, Ends}
+use Rattle.typed_tree.specs.Look.{Case, Arm, Ends, Mark, WrittenString, mark_entries, mark_loops, is_formed_mark}
 use Rattle.typing.specs.Passing.{Passing, and_then, each}
-use Rattle.typing.specs.Expressions.{Typed, Written, WrittenActual, fits, or_mismatch, expression, written_actual}
+use Rattle.typing.specs.Steps.{fits, or_mismatch}
+use Rattle.typing.specs.declared.typed.Typed.{Typed}
+use Rattle.typing.specs.Expressions.{Written, WrittenActual, is_of, expression, written_actual}
 use Rattle.typing.specs.Statements.{as_variable, fitting, assignment, as_procedure, ends_line, is_output, names_file, unless_wide, is_file, written_values}
-use Rattle.typing.specs.Statements.{has_values, measured, width, parameter, write, procedure_call, compound, condition, alternative, tested, choice, while_loop}
+use Rattle.typing.specs.Statements.{has_values, representation_of, written_as, measured, width, parameter, write, procedure_call, compound, condition, alternative, tested, choice, while_loop}
 use Rattle.typing.specs.Statements.{repeat_loop, way, bound, for_head, for_body, for_loop, case_arms, case_head, case_body, case_statement, statement_step}
 use Rattle.typing.specs.Statements.{statement}
 use Rattle.typing_laws.proofs.Sound.{IsSound}
@@ -45,6 +48,7 @@ use Rattle.typing_laws.proofs.Steps.{wants_output_does}
 use Rattle.typing_laws.proofs.Steps.{mark_does, enter_does, enter_loop_does, may_change_does, begin_control_does, end_control_does, site_does, IsKnown}
 use Rattle.typing_laws.proofs.Expressions.{IsLed, Types, lt_true, LawfulWritten, led_covers}
 use Rattle.typing_laws.proofs.Constants.{row_does}
+use Rattle.typing_laws.proofs.Strings.{there}
 use Rattle.typing_laws.proofs.EveryExpression.{LawfulActual, IsLawfulWidth, expression_lawful, actual_lawful}
 
 -- ---- assignments
@@ -53,30 +57,41 @@ variable_is : (variables : ℕ) (place : Place) (d : Denotation) (target : ℕ �
     → target.0 < variables
 variable_is variables place (denotes.Variable root type_id) target is sound = let same : root ≡ target.0 = cc in subst (λ n. n < variables) same sound
 variable_is variables place (denotes.Constant value type_id) target is sound = absurd cc
+variable_is variables place (denotes.Text number type_id) target is sound = absurd cc
 variable_is variables place (denotes.TypeName type_id) target is sound = absurd cc
 variable_is variables place (denotes.Procedure procedure) target is sound = absurd cc
 variable_is variables place (denotes.Function function) target is sound = absurd cc
 variable_is variables place denotes.Output target is sound = absurd cc
 
-fitting_whole : (place : Place) (types : List TypeForm) → HaveWholeRanges types → (target value : TypeId) (range : OrdinalRange)
+fitting_whole : (place : Place) (types : List TypeForm) → HaveWholeRanges types → (target : TypeId) (value : Typed) (range : OrdinalRange)
     → or_mismatch place (fitting types target value) ≡ Ok range → IsWholeRange range
-fitting_whole place types whole target value range is = by (is_assignable types target value) is
+fitting_whole place types whole target value range is = by (is_none value.length && is_assignable types target value.type_id) is
   where
-    among : (values : Option OrdinalRange) → or_mismatch place values ≡ Ok range → values ≡ Some range
-    among None h = absurd cc
-    among (Some found) h = cc
-
     by : (test : Bool) → or_mismatch place (if test then range_of types target else None) ≡ Ok range → IsWholeRange range
-    by true h = whole target range (among (range_of types target) h)
+    by true h = whole target range (there place (range_of types target) range h)
     by false h = absurd cc
 
 measured_is : (place : Place) (t : Typed) (id : ℕ) → measured place t ≡ Ok id → t.site ≡ Some id
-measured_is place t id is = by (is_same t.type_id integer) t.site is
+measured_is place t id is = by (is_of integer t) t.site is
   where
     by : (test : Bool) (s : Option ℕ) → and_then (fits test place s) (or_mismatch place) ≡ Ok id → s ≡ Some id
     by true (Some n) h = cc
     by true None h = absurd cc
     by false s h = absurd cc
+
+-- a mark that says how a value is written is no entry
+abbrev IsForm : Mark → Type 0
+IsForm one = (mark_entries one ≡ []) × (mark_loops one ≡ []) × ((variables sites : ℕ) → is_formed_mark variables sites one ≡ true)
+
+form_is : (place : Place) (types : List TypeForm) (t : Typed) (form : Mark) → or_mismatch place (written_as types t) ≡ Ok form → IsForm form
+form_is place types t form is = by (is_none t.length) (representation_of types t.type_id) (is_string types t.type_id) (there place (written_as types t) form is)
+  where
+    by : (ordinal : Bool) (representation : Option Representation) (string : Bool)
+        → (if ordinal then option_map WrittenMark representation else (if string then Some WrittenString else None)) ≡ Some form → IsForm form
+    by true (Some r) string h = let same : WrittenMark r ≡ form = cc in subst IsForm same (refl, refl, λ variables sites. refl)
+    by true None string h = absurd cc
+    by false r true h = let same : WrittenString ≡ form = cc in subst IsForm same (refl, refl, λ variables sites. refl)
+    by false r false h = absurd cc
 
 module _ (variables : ℕ) where
   pub record LawfulStatement (places : List Place) (p : Passing (Unit {0})) : Type 0 where
@@ -101,7 +116,7 @@ module _ (variables : ℕ) where
         (led_covers variables 0 becomes places (kind.Subrange ∷ []) (omega arith, tt)
         (joins (leads_first 0 becomes (kind.Subrange ∷ []) places) (site_does kind.Subrange becomes) λ id there _ known.
         last (checks_types {L = λ range n. IsWholeRange range} (typed_does there places value None law tt) λ types whole t range n more fits _.
-        fitting_whole becomes types whole target.1 t.type_id range fits) λ range n more whole.
+        fitting_whole becomes types whole target.1 t range fits) λ range n more whole.
         mark_does (Fits (record { site = id; range = range })) refl refl (λ m h. both_true _ _ (lt_true id m (omega (arith, known, more, h))) whole)));
   }
 
@@ -110,6 +125,7 @@ module _ (variables : ℕ) where
   names_file_does : {least : ℕ} (e : expr_layer.Expr-F Expr Actual Link) → Does variables least Nothing (names_file e) Anything
   names_file_does (expr_layer.Name name) = quietly (find_does name) λ d _ _ _. pure_does (is_output d) (λ n h. tt)
   names_file_does (expr_layer.Number value place) = pure_does false (λ n h. tt)
+  names_file_does (expr_layer.String text place) = pure_does false (λ n h. tt)
   names_file_does (expr_layer.Call name actuals) = pure_does false (λ n h. tt)
   names_file_does (expr_layer.Parenthesized place inner) = pure_does false (λ n h. tt)
   names_file_does (expr_layer.Not place operand) = pure_does false (λ n h. tt)
@@ -154,8 +170,9 @@ module _ (variables : ℕ) where
   parameter_does least places a law =
       sited (λ sites. subst (λ p. Covers 0 p sites) (sym law.places_are))
       (joins (covers_both 0 law.of_value law.of_width)
-      (checks {L = Anything} (typed_does least law.of_value a.value None law.value tt) λ types t b n more is _. tt) λ written now _ _.
-      quietly (mark_does (WrittenMark written) refl refl (λ n h. refl)) λ _ next _ _.
+      (checks {L = λ form n. IsForm form} (typed_does least law.of_value a.value None law.value tt) λ types t form n more is _.
+      form_is a.value.first types t form is) λ form now _ is.
+      quietly (mark_does form is.0 is.1 (λ n h. is.2 variables n)) λ _ next _ _.
       width_does next law.of_width a.width law.width)
 
   parameters_do : (least : ℕ) (values : List Actual)
@@ -278,7 +295,7 @@ module _ (variables : ℕ) where
   bound_does least type_id places w law =
       joins ahead (site_does kind.Subrange w.first) λ id there _ known.
       last (checks_types {L = λ range n. IsWholeRange range} (law.types there None tt) λ types whole t range n more fits _.
-      fitting_whole w.first types whole type_id t.type_id range fits) λ range n more whole.
+      fitting_whole w.first types whole type_id t range fits) λ range n more whole.
       mark_does (Fits (record { site = id; range = range })) refl refl (λ m h. both_true _ _ (lt_true id m (omega (arith, known, more, h))) whole)
     where
       ahead : (a b : List Stands) → a ≡ (kind.Subrange, w.first) ∷ [] → Covers 2 places b → Covers 0 places (a ++ b)

@@ -1,6 +1,6 @@
 -- What the steps of typing do, and what they do one after another.
 use Rattle.std.proofs.Common.{◌≡◌, ℕ, ◌+◌, ◌-◌, ◌<◌, ◌≤◌, Bool, true, false, nat_eq, nat_le, take, Result, List, [], ◌∷◌, ◌++◌, length, Option, Some, None, Ok}
-use Rattle.std.proofs.Common.{Err, if◌then◌else◌}
+use Rattle.std.proofs.Common.{Err, if◌then◌else◌, get_or}
 use Rattle.std.proofs.Common.{append-nil, length-append, refl, sym, ap, subst, ◌∙◌, arith}
 use Rattle.std.specs.List.{range_with_len, list_any}
 use Rattle.std.proofs.lemmas.Bool.Decides.{nat_tests}
@@ -16,13 +16,15 @@ use Rattle.typed_tree.specs.declared.fault.TypeFault.{TypeFault}
 use Rattle.typed_tree.specs.declared.fault.TypeFault.TheVariants as fault
 use Rattle.typed_tree.specs.declared.site.SiteKind.{SiteKind}
 use Rattle.typed_tree.specs.Ids.{Stands}
+use Rattle.typed_tree.specs.WellFormed.{are_characters}
 use Rattle.typed_tree.specs.Look.{Mark, Look, mark_entries, mark_loops, is_formed_mark}
-use Rattle.typing.specs.Passing.{Passed, Checked, After, Passing, and_then, after, pure, fail, given, mark, behind_marks, ◌>>=◌, ◌>>?◌}
+use Rattle.typing.specs.Passing.{Passed, Checked, After, Passing, and_then, after, pure, fail, given, by_types, mark, behind_marks, ◌>>=◌, ◌>>?◌}
 use Rattle.typing.specs.Steps.{most_sites, most_entries, pass, enter, enter_as, number_loop, begin_loop, enter_loop, site, find, told, may_change}
-use Rattle.typing.specs.Steps.{begin_control, end_control, wants_output, host_type}
+use Rattle.typing.specs.Steps.{begin_control, end_control, wants_output, host_type, text_at, keep_text}
 use Rattle.typing.specs.Expressions.{behind}
 use Rattle.typing.specs.Names.{folded}
-use Rattle.typing_laws.proofs.Sound.{IsSound, found_sound}
+use Rattle.typing_laws.proofs.Sound.{IsSound, found_holds}
+use Rattle.typing_laws.proofs.Cells.{AreLater, AreTexts, texts_more, the_same}
 use Rattle.typing_laws.proofs.Covers.{at_place}
 use Rattle.typing_laws.proofs.WholeRanges.{HaveWholeRanges}
 use Rattle.typing_laws.proofs.Grown.{Fine, Grown, fine_later, more_sites, grown_then, both_true}
@@ -130,6 +132,7 @@ sited {variables} {Has = Has} {Had = Had} has d = record {
     otherwise g = record {
       regions = g.regions;
       types = g.types;
+      texts = g.texts;
       variables_kept = g.variables_kept;
       added = g.added;
       sites = g.sites;
@@ -146,12 +149,14 @@ sited {variables} {Has = Has} {Had = Had} has d = record {
 -- ---- steps that add no site
 
 -- what is known is the same, but for the latest token
-pub grown_silent : (variables : ℕ) (s new : Passed) → new.regions ≡ s.regions → new.types ≡ s.types → new.variables ≡ s.variables → new.sites ≡ s.sites
+pub grown_silent : (variables : ℕ) (s new : Passed) → new.regions ≡ s.regions → new.types ≡ s.types → new.texts ≡ s.texts
+    → new.variables ≡ s.variables → new.sites ≡ s.sites
     → new.entries ≡ s.entries → new.loops ≡ s.loops → Fine variables s
     → Grown variables Nothing [] s new
-grown_silent variables s new regions types declared sites entries loops fine = record {
+grown_silent variables s new regions types texts declared sites entries loops fine = record {
   regions = regions;
-  types = types;
+  types = subst (AreLater s.types) (sym types) the_same;
+  texts = subst AreTexts (sym texts) fine.texts;
   variables_kept = declared;
   added = [];
   sites = sites ∙ sym (append-nil s.sites);
@@ -170,14 +175,14 @@ unfolding pass
 pass_does {variables} place = record {
   does = λ s a is fine h.
       let same : after tt [] (record s { latest = place }) ≡ a = cc in
-      subst (Leaves variables Nothing s Anything) same (grown_silent variables s (record s { latest = place }) refl refl refl refl refl refl fine, tt);
+      subst (Leaves variables Nothing s Anything) same (grown_silent variables s (record s { latest = place }) refl refl refl refl refl refl refl fine, tt);
 }
 
 pub pure_does : {variables least : ℕ} {A : Type 0} {K : A → ℕ → Type 0} (x : A) → ((now : ℕ) → least ≤ now → K x now) → Does variables least Nothing (pure x) K
 pure_does {variables} {least} {A} {K} x known = record {
   does = λ s a is fine h.
       let same : after x [] s ≡ a = cc in
-      subst (Leaves variables Nothing s K) same (grown_silent variables s s refl refl refl refl refl refl fine, known (length s.sites) h);
+      subst (Leaves variables Nothing s K) same (grown_silent variables s s refl refl refl refl refl refl refl fine, known (length s.sites) h);
 }
 
 pub given_does : {variables least : ℕ} {A : Type 0} (checked : Checked A) → Does variables least Nothing (given checked) (λ x now. checked ≡ Ok x)
@@ -185,7 +190,17 @@ given_does {variables} {least} {A} checked = record {
   does = λ s a is fine h.
       let x = split checked (λ b. Ok (after b [] s)) a is in
       let same : after x.0 [] s ≡ a = cc in
-      subst (Leaves variables Nothing s (λ x now. checked ≡ Ok x)) same (grown_silent variables s s refl refl refl refl refl refl fine, x.1);
+      subst (Leaves variables Nothing s (λ x now. checked ≡ Ok x)) same (grown_silent variables s s refl refl refl refl refl refl refl fine, x.1);
+}
+
+pub by_types_does : {variables least : ℕ} {A : Type 0} (test : List TypeForm → Checked A)
+    → Does variables least Nothing (by_types test) (λ x now. (types : List TypeForm) × (test types ≡ Ok x))
+by_types_does {variables} {least} {A} test = record {
+  does = λ s a is fine h.
+      let x = split (test s.types) (λ b. Ok (after b [] s)) a is in
+      let same : after x.0 [] s ≡ a = cc in
+      subst (Leaves variables Nothing s (λ x now. (types : List TypeForm) × (test types ≡ Ok x))) same
+      (grown_silent variables s s refl refl refl refl refl refl refl fine, (s.types, x.1));
 }
 
 pub fail_does : {variables least : ℕ} {A : Type 0} {Has : List Stands → Type 0} {K : A → ℕ → Type 0} (why : TypeFault)
@@ -200,9 +215,9 @@ find_does {variables} name = record {
       let text = folded name.text.now in
       let x = split (told name.place (found s.regions text)) (λ denotation. Ok (after denotation [] (record s { latest = name.place }))) a is in
       let same : after x.0 [] (record s { latest = name.place }) ≡ a = cc in
-      let there = found_sound variables s.regions text x.0 fine.sound (by (found s.regions text) x.0 x.1) in
+      let there = found_holds (IsSound variables) s.regions text x.0 fine.sound (by (found s.regions text) x.0 x.1) in
       subst (Leaves variables Nothing s (λ denotation now. IsSound variables denotation)) same
-      (grown_silent variables s (record s { latest = name.place }) refl refl refl refl refl refl fine, there);
+      (grown_silent variables s (record s { latest = name.place }) refl refl refl refl refl refl refl fine, there);
 }
   where
     by : (r : Result Denotation ScopeFault) (d : Denotation) → told name.place r ≡ Ok d → r ≡ Ok d
@@ -214,7 +229,7 @@ unfolding wants_output
 wants_output_does {variables} place = record {
   does = λ s a is fine h.
       let x = split_if s.has_output (fault.NotProgramParameter place) (after tt [] s) a is in
-      subst (Leaves variables Nothing s Anything) x.1 (grown_silent variables s s refl refl refl refl refl refl fine, tt);
+      subst (Leaves variables Nothing s Anything) x.1 (grown_silent variables s s refl refl refl refl refl refl refl fine, tt);
 }
 
 -- ---- marks
@@ -229,7 +244,8 @@ mark_does {variables} {least} one none no_loop formed = record {
       let loops_counted : length (mark_loops one ++ []) ≡ 0 = ap (λ (l : List ℕ). length (l ++ [])) no_loop in
       let g : Grown variables Nothing (one ∷ []) s s = record {
         regions = refl;
-        types = refl;
+        types = the_same;
+        texts = fine.texts;
         variables_kept = refl;
         added = [];
         sites = sym (append-nil s.sites);
@@ -261,7 +277,8 @@ enter_does {variables} {least} marked one no_loop formed = record {
       let loops_counted : length (mark_loops (marked number) ++ []) ≡ 0 = ap (λ (l : List ℕ). length (l ++ [])) (no_loop number) in
       let g : Grown variables Nothing (marked number ∷ []) s new = record {
         regions = refl;
-        types = refl;
+        types = the_same;
+        texts = fine.texts;
         variables_kept = refl;
         added = [];
         sites = sym (append-nil s.sites);
@@ -307,7 +324,8 @@ enter_loop_does {variables} {least} marked one loop formed = record {
         let loops_counted : length (mark_loops made ++ []) ≡ 1 = ap (λ (l : List ℕ). length (l ++ [])) (loop s.entries s.loops) in
         let g : Grown variables Nothing (made ∷ []) s new = record {
           regions = refl;
-          types = refl;
+          types = the_same;
+          texts = fine.texts;
           variables_kept = refl;
           added = [];
           sites = sym (append-nil s.sites);
@@ -329,7 +347,7 @@ unfolding may_change
 may_change_does {variables} place root = record {
   does = λ s a is fine h.
       let x = split_unless (list_any (λ control. nat_eq control root) s.controls) (fault.Threatened place) (after tt [] s) a is in
-      subst (Leaves variables Nothing s Anything) x.1 (grown_silent variables s s refl refl refl refl refl refl fine, tt);
+      subst (Leaves variables Nothing s Anything) x.1 (grown_silent variables s s refl refl refl refl refl refl refl fine, tt);
 }
 
 pub begin_control_does : {variables least : ℕ} (root : ℕ) → Does variables least Nothing (begin_control root) Anything
@@ -338,7 +356,7 @@ begin_control_does {variables} root = record {
   does = λ s a is fine h.
       let new : Passed = record s { controls = s.controls ++ root ∷ [] } in
       let same : after tt [] new ≡ a = cc in
-      subst (Leaves variables Nothing s Anything) same (grown_silent variables s new refl refl refl refl refl refl fine, tt);
+      subst (Leaves variables Nothing s Anything) same (grown_silent variables s new refl refl refl refl refl refl refl fine, tt);
 }
 
 pub end_control_does : {variables least : ℕ} → Does variables least Nothing end_control Anything
@@ -347,7 +365,7 @@ end_control_does {variables} = record {
   does = λ s a is fine h.
       let new : Passed = record s { controls = take (length s.controls - 1) s.controls } in
       let same : after tt [] new ≡ a = cc in
-      subst (Leaves variables Nothing s Anything) same (grown_silent variables s new refl refl refl refl refl refl fine, tt);
+      subst (Leaves variables Nothing s Anything) same (grown_silent variables s new refl refl refl refl refl refl refl fine, tt);
 }
 
 pub host_type_does : {variables least : ℕ} (id : TypeId) → Does variables least Nothing (host_type id) Anything
@@ -356,6 +374,42 @@ host_type_does {variables} {least} id = record {
   does = λ s a is fine h.
       let answers : Does variables least Nothing (pure (host_of s.types id)) Anything = pure_does (host_of s.types id) (λ n more. tt) in
       answers.does s a is fine h;
+}
+
+-- ---- texts
+
+pub text_at_does : {variables least : ℕ} (number : ℕ) → Does variables least Nothing (text_at number) (λ text now. are_characters text ≡ true)
+unfolding text_at
+text_at_does {variables} {least} number = record {
+  does = λ s a is fine h.
+      let same : after (get_or s.texts number []) [] s ≡ a = cc in
+      subst (Leaves variables Nothing s (λ text now. are_characters text ≡ true)) same
+      (grown_silent variables s s refl refl refl refl refl refl refl fine, fine.texts number);
+}
+
+pub keep_text_does : {variables least : ℕ} (text : List ℕ) → are_characters text ≡ true → Does variables least Nothing (keep_text text) Anything
+unfolding keep_text
+keep_text_does {variables} {least} text is_text = record {
+  does = λ s a is fine h.
+      let new : Passed = record s { texts = s.texts ++ text ∷ [] } in
+      let same : after (length s.texts) [] new ≡ a = cc in
+      let g : Grown variables Nothing [] s new = record {
+        regions = refl;
+        types = the_same;
+        texts = texts_more s.texts text fine.texts is_text;
+        variables_kept = refl;
+        added = [];
+        sites = sym (append-nil s.sites);
+        covered = refl;
+        few_sites = fine.few_sites;
+        numbered = refl;
+        entered = omega arith;
+        few_entries = fine.few_entries;
+        looped = refl;
+        begun = omega arith;
+        formed = λ n more. refl;
+      } in
+      subst (Leaves variables Nothing s Anything) same (g, tt);
 }
 
 -- ---- sites
@@ -370,7 +424,8 @@ site_does {variables} {least} kind place = record {
       let counted = length-append s.sites ((kind, place) ∷ []) in
       let g : Grown variables (λ added. added ≡ (kind, place) ∷ []) [] s new = record {
         regions = refl;
-        types = refl;
+        types = the_same;
+        texts = fine.texts;
         variables_kept = refl;
         added = (kind, place) ∷ [];
         sites = refl;

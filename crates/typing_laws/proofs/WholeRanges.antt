@@ -1,14 +1,12 @@
 -- Tables of types whose ordinal types go from a number of integer to another.
-use Rattle.std.proofs.Common.{◌≡◌, ℕ, zero, suc, true, ◌&&◌, List, [], ◌∷◌, ◌++◌, Option, Some, None, slice_get, refl, ap, subst, ◌∙◌, append_assoc}
+use Rattle.std.proofs.Common.{◌≡◌, ℕ, zero, suc, true, ◌&&◌, List, [], ◌∷◌, ◌++◌, Option, Some, None, slice_get, refl, subst}
 use Rattle.std.specs.Option.{option_and_then}
 use Rattle.types.specs.declared.form.TypeForm.{TypeForm}
 use Rattle.types.specs.declared.form.TypeId.{TypeId}
 use Rattle.types.specs.declared.form.OrdinalRange.{OrdinalRange}
 use Rattle.types.specs.declared.table.Entry.{Entry}
-use Rattle.types.specs.Types.{counted, entry_cells, form_cells, form_range, range_of, required_forms}
-use Rattle.types.proofs.Counts.{counted_more, one_cell}
+use Rattle.types.specs.Types.{form_cells, form_range, range_of, required_forms}
 use Rattle.typed_tree.specs.WellFormed.{is_whole}
-use Rattle.typing_laws.specs.Lawful.{AreScalar}
 
 abbrev pub IsWholeRange : OrdinalRange → Type 0
 IsWholeRange range = (is_whole range.first && is_whole range.last) ≡ true
@@ -49,30 +47,7 @@ one_more (first ∷ types) form all one (suc n) = one_more types form (λ k. all
 pub whole_more : (types : List TypeForm) (form : TypeForm) → HaveWholeRanges types → IfWhole (form_range form) → HaveWholeRanges (types ++ form ∷ [])
 whole_more types form whole one id range is = subst IfWhole is (one_more types form (whole_at types whole) one id.index)
 
--- ---- types of one cell
-
-cell_more : (entries : List Entry) (entry : Entry) → ((n : ℕ) → entry_cells (slice_get entries n) ≡ 1) → entry.cells ≡ 1
-    → (n : ℕ) → entry_cells (slice_get (entries ++ entry ∷ []) n) ≡ 1
-cell_more [] entry all one zero = one
-cell_more [] entry all one (suc n) = refl
-cell_more (first ∷ entries) entry all one zero = all zero
-cell_more (first ∷ entries) entry all one (suc n) = cell_more entries entry (λ k. all (suc k)) one n
-
--- the required types take one
-pub required_scalar : AreScalar required_forms
-required_scalar = record { own = []; begins = refl; one_cell = one_cell }
-
 -- a form that takes one cell, and has whole values
 pub record IsScalar (form : TypeForm) : Type 0 where
   pub one : (before : List Entry) → form_cells before form ≡ 1
   pub whole : IfWhole (form_range form)
-
-pub scalar_more : (types : List TypeForm) (form : TypeForm) → AreScalar types → IsScalar form → AreScalar (types ++ form ∷ [])
-scalar_more types form are is = record {
-  own = are.own ++ form ∷ [];
-  begins = ap (λ l. l ++ form ∷ []) are.begins ∙ append_assoc required_forms are.own (form ∷ []);
-  one_cell = λ id.
-      ap (λ entries. entry_cells (slice_get entries id.index)) (counted_more types form)
-      ∙ cell_more (counted types) (record { form = form; cells = form_cells (counted types) form }) (λ n. are.one_cell (record { index = n }))
-      (is.one (counted types)) id.index;
-}

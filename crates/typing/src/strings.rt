@@ -1,0 +1,131 @@
+ghost use Rattle.std.specs.Prelude.{◌≡◌, ◌⊎◌, [], Ok, Err, IfOk, MatchResult, option_map};
+ghost use Rattle.typed_tree.specs.declared.fault.TypeFault.TheVariants.{Memory};
+ghost use Rattle.std.specs.List.{list_all};
+ghost use Rattle.typed_tree.specs.WellFormed.{is_character};
+ghost use Rattle.typing.specs.Strings.{characters, string_characters};
+
+use crate::denoters::value_of;
+use crate::typer::Typer;
+use place::Place;
+use scopes::Denotation;
+use std::alloc::{AllocError, Global};
+use typed_tree::fault::TypeFault;
+use types::{TypeForm, TypeId, TypeTable};
+
+impl Typer {
+    ghost use Rattle.typing.specs.Outcomes.{Takes, Makes};
+    ghost use Rattle.typing.specs.Steps as step;
+    ghost use Rattle.typing.specs.Strings as spec;
+
+    /// The type of a string of so many characters, of its own: packed array [1..length] of char (6.4.3.2). Y2 at the
+    /// place where it has too many.
+    #[tactic(auto, unfolding(crate::specs::Strings::string_type))]
+    pub fn string_type(&mut self, place: Place, length: usize) -> Result<TypeId, TypeFault>
+        ensures { Takes (spec.string_type place length self.old) result self.new }
+    {
+        let last = value_of(length, place)?;
+        let index = self.add_type(
+            place,
+            TypeForm::Subrange {
+                host: TypeTable::INTEGER,
+                first: 1,
+                last,
+            },
+        )?;
+        self.add_type(
+            place,
+            TypeForm::Array {
+                packed: true,
+                index,
+                element: TypeTable::CHAR,
+            },
+        )
+    }
+
+    /// The characters that have a number.
+    #[tactic(auto, unfolding(crate::specs::Steps::text_at))]
+    pub fn text_at(&self, number: usize) -> Result<Vec<u8>, TypeFault>
+        ensures { Makes (λ text. text.items) (λ text. []) (step.text_at number self.now) result self.now }
+    {
+        match self.texts.get(number) {
+            Some(text) => Ok(text.clone()?),
+            None => Ok(Vec::new(self.alloc)),
+        }
+    }
+
+    // What a constant is, by the characters of its string.
+    #[tactic(auto, unfolding(crate::specs::Strings::string_constant))]
+    pub(crate) fn string_constant(
+        &mut self,
+        place: Place,
+        characters: Vec<u8>,
+    ) -> Result<Denotation, TypeFault>
+        ensures { Takes (spec.string_constant place characters.items self.old) result self.new }
+    {
+        if let [character] = characters.as_slice() {
+            return Ok(Denotation::Constant {
+                value: i32::from(*character),
+                type_id: TypeTable::CHAR,
+            });
+        }
+        let type_id = self.string_type(place, characters.len())?;
+        let number = self.keep_text(characters)?;
+        Ok(Denotation::Text { number, type_id })
+    }
+
+    // These characters get the next number.
+    #[tactic(auto, unfolding(crate::specs::Steps::keep_text))]
+    fn keep_text(&mut self, characters: Vec<u8>) -> Result<usize, TypeFault>
+        ensures { Takes (step.keep_text characters.items self.old) result self.new }
+    {
+        let number = self.texts.len();
+        self.texts.push(characters)?;
+        Ok(number)
+    }
+}
+
+/// The characters of a string between its apostrophes, two of which stand for one (6.1.7). There are one or more, each
+/// of type char; K1 at the place where the text is no such string.
+pub fn characters(alloc: Global, place: Place, text: &[u8]) -> Result<Vec<u8>, TypeFault>
+    ensures { MatchResult result
+        (λ made. string_characters place text.now ≡ Ok made.items)
+        (λ why. (why ≡ Memory) ⊎ (string_characters place text.now ≡ Err why)) }
+{
+    let characters = undoubled(alloc, text)?.ok_or(TypeFault::Mismatch(place))?;
+    if characters.is_empty() || !are_of_char(&characters) {
+        return Err(TypeFault::Mismatch(place));
+    }
+    Ok(characters)
+}
+
+// Whether each is of type char.
+fn are_of_char(characters: &[u8]) -> bool
+    ensures { result ≡ list_all is_character characters.now }
+{
+    characters.iter().all(|character| *character < 128)
+}
+
+// Those of any bytes, if they stand between apostrophes.
+fn undoubled(alloc: Global, text: &[u8]) -> Result<Option<Vec<u8>>, AllocError>
+    ensures { IfOk result (λ found. option_map (λ made. made.items) found ≡ characters text.now) }
+{
+    let mut made = Vec::new(alloc);
+    let [b'\'', behind @ ..] = text else {
+        return Ok(None);
+    };
+    let mut rest = behind;
+    loop {
+        match rest {
+            [b'\''] => return Ok(Some(made)),
+            [b'\'', b'\'', more @ ..] => {
+                made.push(b'\'')?;
+                rest = more;
+            }
+            [b'\'', ..] | [] => return Ok(None),
+            [character, more @ ..] => {
+                made.push(*character)?;
+                rest = more;
+            }
+        }
+    }
+}

@@ -1,0 +1,24 @@
+ghost use Rattle.std.specs.Prelude.{◌≡◌};
+ghost use Rattle.typing.specs.Expressions.{is_of};
+
+use types::TypeId;
+
+/// What an expression is.
+#[derive(Clone, Copy)]
+pub struct Typed {
+    /// The type of its value: a host type, or a string type.
+    pub type_id: TypeId,
+    /// How many characters its value has, where that is a string; none where it is an ordinal.
+    pub length: Option<usize>,
+    /// The id of its leading site.
+    pub site: Option<u32>,
+}
+
+impl Typed {
+    /// Whether it is an ordinal of this type.
+    pub fn is_of(self, type_id: TypeId) -> bool
+        ensures { result ≡ is_of type_id self }
+    {
+        self.length.is_none() && self.type_id.same(type_id)
+    }
+}

@@ -1,0 +1,195 @@
+-- What strings do: a string has at most as many characters as a type has cells, and its type leaves all others as they are.
+use Rattle.std.proofs.Common.{◌≡◌, ℕ, ℤ, ◌*◌, Bool, true, false, ◌&&◌, not, nat_le, nat_lt, List, [], ◌∷◌, ◌++◌, length, Option, Some, None}
+use Rattle.std.proofs.Common.{Result, Ok, Err, if◌then◌else◌, ok_or, pos, refl, sym, ap, ap₂, subst, ◌∙◌, arith, slice_get, append-nil}
+use Rattle.std.specs.Prelude.{◌==◌, ◌-ℤ◌, ◌+ℤ◌}
+use Rattle.std.specs.List.{list_all}
+use Rattle.std.specs.Option.{option_and_then}
+use Rattle.std.proofs.lemmas.Bool.Decides.{nat_tests}
+use Rattle.std.proofs.lemmas.Int.{ints}
+use Rattle.place.specs.declared.Place.{Place}
+use Rattle.types.specs.declared.form.TypeForm.{TypeForm}
+use Rattle.types.specs.declared.form.TypeForm.TheVariants.{Subrange, Array}
+use Rattle.types.specs.declared.form.TypeId.{TypeId}
+use Rattle.types.specs.declared.refusal.TypeRefusal.{TypeRefusal}
+use Rattle.types.specs.declared.refusal.TypeRefusal.TheVariants.{TooManyCells}
+use Rattle.types.specs.Types.{integer, char, natural, few, admitted_cells, numbered, counted, cells_at, values_at, index_values, form_range}
+use Rattle.types.proofs.Counts.{values_counted}
+use Rattle.scopes.specs.declared.denotation.Denotation.TheVariants as denotes
+use Rattle.typed_tree.specs.WellFormed.{is_character, is_whole}
+use Rattle.typing.specs.Passing.{Passed, Checked, After, Passing, and_then, after, given, behind_marks, pure, ◌>>=◌}
+use Rattle.typing.specs.Steps.{fits, or_mismatch, value_of, added, add_type, keep_text}
+use Rattle.typing.specs.Strings.{characters, string_characters, string_type, string_constant}
+use Rattle.typing.proofs.Rows.{behind_nothing}
+use Rattle.typing_laws.proofs.WholeRanges.{whole_more}
+use Rattle.typing_laws.proofs.Cells.{TakesOne, AreLater, takes_more}
+use Rattle.typing_laws.proofs.Sound.{IsSound}
+use Rattle.typing_laws.proofs.Grown.{Grown, both_true}
+use Rattle.typing_laws.proofs.Steps.{Does, Nothing, Leaves, split, quietly, pure_does, keep_text_does}
+
+-- ---- tests
+
+-- an answer, where it fits
+pub fit_is : {A : Type 0} (test : Bool) (place : Place) (answer other : A) → fits test place answer ≡ Ok other → (test ≡ true) × (answer ≡ other)
+fit_is true place answer other is = (refl, cc)
+fit_is false place answer other is = absurd cc
+
+pub there : {A : Type 0} (place : Place) (found : Option A) (a : A) → or_mismatch place found ≡ Ok a → found ≡ Some a
+there place (Some b) a is = cc
+there place None a is = absurd cc
+
+pub both_and : (a b : Bool) → (a && b) ≡ true → (a ≡ true) × (b ≡ true)
+both_and true true is = (refl, refl)
+both_and true false is = absurd cc
+both_and false b is = absurd cc
+
+-- the characters of a string are of type char
+pub all_of_char : (place : Place) (bytes cs : List ℕ) → string_characters place bytes ≡ Ok cs → list_all is_character cs ≡ true
+all_of_char place bytes cs is =
+    let x = split (or_mismatch place (characters bytes)) (λ found. fits (not (length found == 0) && list_all is_character found) place found) cs is in
+    let fit = fit_is (not (length x.0 == 0) && list_all is_character x.0) place x.0 cs x.2 in
+    subst (λ z. list_all is_character z ≡ true) fit.1 (both_and (not (length x.0 == 0)) (list_all is_character x.0) fit.0).1
+
+-- ---- a type more
+
+-- a test, and then others
+pub given_then : {A B : Type 0} (checked : Checked A) (f : A → Passing B) (s : Passed) (b : After B) → (given checked >>= f) s ≡ Ok b
+    → (x : A) × (checked ≡ Ok x) × (f x s ≡ Ok b)
+given_then (Ok x) f s b is = (x, refl, sym (behind_nothing (f x s)) ∙ is)
+given_then (Err why) f s b is = absurd cc
+
+-- a table with a form more
+abbrev pub with_form : TypeForm → Passed → Passed
+with_form form s = record s { types = s.types ++ form ∷ [] }
+
+abbrev pub next_type : Passed → TypeId
+next_type s = record { index = length s.types }
+
+-- a type more, and then others
+pub add_type_then : {B : Type 0} (place : Place) (form : TypeForm) (f : TypeId → Passing B) (s : Passed) (b : After B)
+    → (add_type place form >>= f) s ≡ Ok b
+    → (cells : ℕ) × (admitted_cells s.types form ≡ Ok cells) × (f (next_type s) (with_form form s) ≡ Ok b)
+unfolding add_type
+add_type_then {B} place form f s b is = by (admitted_cells s.types form) refl is
+  where
+    by : (r : Result ℕ TypeRefusal) → admitted_cells s.types form ≡ r
+        → and_then (and_then (added place (numbered s.types r)) (λ id. Ok (after id [] (with_form form s))))
+        (λ a. behind_marks a.look (f a.answer a.passed)) ≡ Ok b
+        → (cells : ℕ) × (admitted_cells s.types form ≡ Ok cells) × (f (next_type s) (with_form form s) ≡ Ok b)
+    by (Ok cells) admits h = (cells, admits, sym (behind_nothing (f (next_type s) (with_form form s))) ∙ h)
+    by (Err rule) admits h = absurd cc
+
+-- a type more
+pub type_added : (place : Place) (form : TypeForm) (s : Passed) (a : After TypeId) → add_type place form s ≡ Ok a
+    → (cells : ℕ) × (admitted_cells s.types form ≡ Ok cells) × (after (next_type s) [] (with_form form s) ≡ a)
+unfolding add_type
+type_added place form s a is = by (admitted_cells s.types form) refl is
+  where
+    by : (r : Result ℕ TypeRefusal) → admitted_cells s.types form ≡ r
+        → and_then (added place (numbered s.types r)) (λ id. Ok (after id [] (with_form form s))) ≡ Ok a
+        → (cells : ℕ) × (admitted_cells s.types form ≡ Ok cells) × (after (next_type s) [] (with_form form s) ≡ a)
+    by (Ok cells) admits h = (cells, admits, cc)
+    by (Err rule) admits h = absurd cc
+
+-- ---- the type of a string
+
+few_is : (m cells : ℕ) → ok_or (few m) TooManyCells ≡ Ok cells → nat_le m 65536 ≡ true
+few_is m cells is = by (nat_lt 65536 m) refl is
+  where
+    by : (test : Bool) → nat_lt 65536 m ≡ test → ok_or (if test then None else Some m) TooManyCells ≡ Ok cells → nat_le m 65536 ≡ true
+    by true h e = absurd cc
+    by false h e = grind (arith, nat_tests)
+
+from_one : (n : ℕ) → natural (pos n -ℤ pos 1 +ℤ pos 1) ≡ n
+from_one n = let same : pos n -ℤ pos 1 +ℤ pos 1 ≡ pos n = omega (arith, ints) in ap natural same
+
+at_end : (types : List TypeForm) (form : TypeForm) → slice_get (types ++ form ∷ []) (length types) ≡ Some form
+at_end [] form = refl
+at_end (first ∷ types) form = at_end types form
+
+-- an array over the subrange before it, which goes from 1 to its length
+few_components : (types : List TypeForm) (n cells : ℕ) → TakesOne types char
+    → admitted_cells (types ++ Subrange integer (pos 1) (pos n) ∷ []) (Array true (record { index = length types }) char) ≡ Ok cells
+    → nat_le n 65536 ≡ true
+few_components types n cells one is =
+    let form = Subrange integer (pos 1) (pos n) in
+    let index : TypeId = record { index = length types } in
+    let entries = counted (types ++ form ∷ []) in
+    let values : values_at entries index ≡ n =
+    values_counted (types ++ form ∷ []) index ∙ ap (λ found. index_values (option_and_then form_range found)) (at_end types form) ∙ from_one n in
+    let once : n * 1 ≡ n = omega arith in
+    subst (λ m. nat_le m 65536 ≡ true) (ap₂ (λ a b. a * b) values (takes_more types form char one).one ∙ once)
+    (few_is (values_at entries index * cells_at entries char) cells is)
+
+-- a string type is new, and leaves all other types
+pub record IsStringType (n : ℕ) (s : Passed) (a : After TypeId) : Type 0 where
+  pub same : after a.answer [] (record s { types = a.passed.types }) ≡ a
+  pub later : AreLater s.types a.passed.types
+  pub few : nat_le n 65536 ≡ true
+
+pub string_type_is : (place : Place) (n : ℕ) (s : Passed) (a : After TypeId) → TakesOne s.types char → string_type place n s ≡ Ok a → IsStringType n s a
+unfolding string_type
+string_type_is place n s a one is =
+    let form : ℤ → TypeForm = λ last. Subrange integer (pos 1) last in
+    let array : TypeForm = Array true (next_type s) char in
+    let x = given_then (value_of n place) (λ last. add_type place (form last) >>= (λ index. add_type place (Array true index char))) s a is in
+    let fit = fit_is (nat_le n 2147483647) place (pos n) x.0 x.1 in
+    let rest : (add_type place (form (pos n)) >>= (λ index. add_type place (Array true index char))) s ≡ Ok a =
+    subst (λ last. (add_type place (form last) >>= (λ index. add_type place (Array true index char))) s ≡ Ok a) (sym fit.1) x.2 in
+    let y = add_type_then place (form (pos n)) (λ index. add_type place (Array true index char)) s a rest in
+    let z = type_added place array (with_form (form (pos n)) s) a y.2 in
+    subst (IsStringType n s) z.2 (record {
+      same = refl;
+      later = record {
+        whole = λ whole. whole_more (s.types ++ form (pos n) ∷ []) array (whole_more s.types (form (pos n)) whole fit.0) tt;
+        kept = λ id takes. takes_more (s.types ++ form (pos n) ∷ []) array id (takes_more s.types (form (pos n)) id takes);
+      };
+      few = few_components s.types n z.0 one z.1;
+    })
+
+module _ {variables least : ℕ} where
+  pub string_type_does : (place : Place) (n : ℕ) → Does variables least Nothing (string_type place n) (λ id now. nat_le n 65536 ≡ true)
+  string_type_does place n = record {
+    does = λ s a is fine h.
+        let made = string_type_is place n s a fine.required.chars is in
+        let new : Passed = record s { types = a.passed.types } in
+        let g : Grown variables Nothing [] s new = record {
+          regions = refl;
+          types = made.later;
+          texts = fine.texts;
+          variables_kept = refl;
+          added = [];
+          sites = sym (append-nil s.sites);
+          covered = refl;
+          few_sites = fine.few_sites;
+          numbered = refl;
+          entered = omega arith;
+          few_entries = fine.few_entries;
+          looped = refl;
+          begun = omega arith;
+          formed = λ n more. refl;
+        } in
+        subst (Leaves variables Nothing s (λ id now. nat_le n 65536 ≡ true)) made.same (g, made.few);
+  }
+
+-- ---- constants
+
+-- a char is a whole number
+pub char_whole : (c : ℕ) → list_all is_character (c ∷ []) ≡ true → is_whole (pos c) ≡ true
+char_whole c is = grind (arith, nat_tests)
+
+module _ {variables least : ℕ} where
+  -- two or more characters
+  text_does : (place : Place) (cs : List ℕ) → list_all is_character cs ≡ true
+      → Does variables least Nothing (string_type place (length cs) >>= (λ type_id. keep_text cs >>= (λ number. pure (denotes.Text number type_id))))
+      (λ d now. IsSound variables d)
+  text_does place cs all =
+      quietly (string_type_does place (length cs)) λ type_id _ _ few.
+      quietly (keep_text_does cs (both_true _ _ few all)) λ number _ _ _.
+      pure_does (denotes.Text number type_id) (λ n h. tt)
+
+  pub string_constant_does : (place : Place) (cs : List ℕ) → list_all is_character cs ≡ true
+      → Does variables least Nothing (string_constant place cs) (λ d now. IsSound variables d)
+  unfolding string_constant
+  string_constant_does place [] all = text_does place [] all
+  string_constant_does place (c ∷ []) all = pure_does (denotes.Constant (pos c) char) (λ n h. char_whole c all)
+  string_constant_does place (c ∷ d ∷ cs) all = text_does place (c ∷ d ∷ cs) all
