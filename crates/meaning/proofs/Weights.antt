@@ -20,7 +20,8 @@ use Rattle.meaning.specs.declared.outcome.Ending.{Ending}
 use Rattle.meaning.specs.declared.work.Work.{Work}
 use Rattle.meaning.specs.declared.work.Work.TheVariants as work
 use Rattle.meaning.specs.Weight.{Weight, row_weight, rounds_weight, link_weight, expression_weight, weight_of_expression, weight_of_link, weight_of_width}
-use Rattle.meaning.specs.Weight.{weight_of_written, weight_of_parameter, round_weight, for_weight, statement_weight, weight_of_statement, weight_of_alternative, weight_of}
+use Rattle.meaning.specs.Weight.{weight_of_written, weight_of_parameter, round_weight, for_weight, statement_weight, weight_of_statement}
+use Rattle.meaning.specs.Weight.{weight_of_alternative, weight_of}
 use Rattle.meaning.specs.Weight.{turn_weight}
 
 -- a weight that more turns never lower
