@@ -1,6 +1,8 @@
+pub mod Addressed
 pub mod Written
 pub mod Cells
 pub mod Characters
-mod Examples
+pub mod Examples
+mod ExamplesOfRows
 pub mod Steps
 pub mod Growing

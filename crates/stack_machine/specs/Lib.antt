@@ -1,3 +1,4 @@
+pub mod Addresses
 pub mod Counted
 pub mod Deeds
 pub mod Does

@@ -158,18 +158,7 @@ impl Output {
     {
         let shown = cells.len().min(places_of(width));
         self.put_blanks(blanks_before(cells.len(), width), writer)?;
-        self.put_characters(&cells[..shown], writer)
-    }
-
-    /// Takes the characters in these cells in turn.
-    fn put_characters<W: Sink>(&mut self, cells: &[Cell], writer: &mut W) -> Result<(), Halt>
-        requires { W.failures writer.old < 2 ^ 64 - 1 }
-        ensures only { IsOkUnless result Halt.WriteFailed }
-        ensures failures { W.failures writer.new ≡ W.failures writer.old + failures_in result }
-        ensures bytes { PassesOrLoses result (ports (W.contents writer.old) (W.offered writer.old) self.old)
-            (ports (W.contents writer.new) (W.offered writer.new) self.new) (characters cells.now) }
-    {
-        for cell in cells {
+        for cell in &cells[..shown] {
             self.put(byte_of(cell.value()), writer)?;
         }
         Ok(())

@@ -6,8 +6,8 @@ ghost use Rattle.stack_machine.specs.Rows as rows;
 use crate::cell::Cell;
 use crate::stop::MachineFault;
 
-#[tactic(auto, using(crate::proofs::Characters::numbers_tested))]
 /// A fault where one of these cells isn't a number.
+#[tactic(auto, using(crate::proofs::Characters::numbers_tested))]
 pub fn only_numbers(row: &[Cell]) -> Result<(), MachineFault>
     ensures { MatchResult result
         (λ _. rows.numbers row.now ≡ Ok (rows.values row.now))
@@ -37,35 +37,15 @@ pub fn order(left: &[Cell], right: &[Cell]) -> i32
 }
 
 /// Whether all of these cells are defined.
-pub fn all_defined(cells: &[Cell]) -> bool
-    ensures { result ≡ list_all frames.is_defined cells.now }
+pub fn all_defined(row: &[Cell]) -> bool
+    ensures { result ≡ list_all frames.is_defined row.now }
 {
-    cells.iter().all(|cell| is_defined(*cell))
+    row.iter().all(|cell| !matches!(cell, Cell::Undefined))
 }
 
 /// Whether all of these cells are numbers.
 fn all_numbers(row: &[Cell]) -> bool
     ensures { result ≡ list_all rows.is_number row.now }
 {
-    row.iter().all(|cell| is_number(*cell))
-}
-
-/// Whether the cell is a number.
-fn is_number(cell: Cell) -> bool
-    ensures { result ≡ rows.is_number cell }
-{
-    match cell {
-        Cell::Number(_) => true,
-        Cell::Undefined => false,
-    }
-}
-
-/// Whether the cell is defined.
-fn is_defined(cell: Cell) -> bool
-    ensures { result ≡ frames.is_defined cell }
-{
-    match cell {
-        Cell::Undefined => false,
-        Cell::Number(_) => true,
-    }
+    row.iter().all(|cell| matches!(cell, Cell::Number(_)))
 }

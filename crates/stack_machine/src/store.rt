@@ -1,10 +1,12 @@
-ghost use Rattle.std.specs.Prelude.{◌≡◌, ◌+◌, ◌-◌, ◌<◌, ◌≤◌, ◌++◌, nat_le, if◌then◌else◌, replicate, take, IfOk, OnOk};
+ghost use Rattle.std.specs.Prelude.{◌≡◌, ◌+◌, ◌-◌, ◌<◌, ◌≤◌, ◌++◌, nat_le, if◌then◌else◌, replicate, take, IfOk};
 ghost use Rattle.std.specs.Prelude.{vec_len, MatchResult, Ok, Err};
 ghost use Rattle.stack_machine.specs.declared.cell.Cell.TheVariants.{Undefined};
 ghost use Rattle.stack_machine.specs.Frames as frames;
 ghost use Rattle.stack_machine.specs.Rows as rows;
 
-use crate::arithmetic::{Dyadic, Monadic, is_true, modulo, product, quotient};
+mod addresses;
+
+use crate::arithmetic::{Dyadic, Monadic, is_true, product};
 use crate::cell::Cell;
 use crate::rows::{all_defined, only_numbers, order};
 use crate::stop::MachineFault;
@@ -142,23 +144,27 @@ impl Store {
         Ok(())
     }
 
-    /// `dvi`
+    /// `dvi`: cuts toward zero; -2147483648 by -1 is -2147483648 (ISO 7185:1990, 6.7.2.2).
     pub fn divide(&mut self) -> Result<(), MachineFault>
         ensures { Acts result (view self.old) (view self.new) (frames.divide (view self.old)) }
     {
         let (left, right) = self.operands()?;
-        let value = quotient(left, right)?;
-        self.replace(2, Cell::Number(value));
+        if right == 0 {
+            return Err(MachineFault::WrongDivisor);
+        }
+        self.replace(2, Cell::Number(left.wrapping_div(right)));
         Ok(())
     }
 
-    /// `mod`
+    /// `mod`: from 0 to below the divisor (ISO 7185:1990, 6.7.2.2).
     pub fn modulo(&mut self) -> Result<(), MachineFault>
         ensures { Acts result (view self.old) (view self.new) (frames.modulo (view self.old)) }
     {
         let (left, right) = self.operands()?;
-        let value = modulo(left, right)?;
-        self.replace(2, Cell::Number(value));
+        if right < 1 {
+            return Err(MachineFault::WrongDivisor);
+        }
+        self.replace(2, Cell::Number(left.rem_euclid(right)));
         Ok(())
     }
 
@@ -202,29 +208,6 @@ impl Store {
         self.used -= count;
     }
 
-    /// Pops two numbers and answers them, the lower one first.
-    pub fn pop_two(&mut self) -> Result<(i32, i32), MachineFault>
-        ensures value { result ≡ frames.top_two (view self.old) }
-        ensures popped { OnOk result (view self.new ≡ frames.popped 2 (view self.old)) }
-        ensures size { self.new.size ≡ self.old.size }
-    {
-        let numbers = self.top_two()?;
-        self.used -= 2;
-        Ok(numbers)
-    }
-
-    /// Pops a number and answers whether it is true.
-    pub fn pop_truth(&mut self) -> Result<bool, MachineFault>
-        ensures value { result ≡ frames.top_is_not_zero (view self.old) }
-        ensures popped { OnOk result (view self.new ≡ frames.popped 1 (view self.old)) }
-        ensures size { self.new.size ≡ self.old.size }
-    {
-        self.has(1)?;
-        let value = self.number_at(1)?;
-        self.used -= 1;
-        Ok(is_true(value))
-    }
-
     /// `chk`: whether the number on top lies in the range.
     pub fn is_in_range(&self, low: i32, high: i32) -> Result<bool, MachineFault>
         ensures { result ≡ frames.top_is_in_range low high (view self.now) }
@@ -236,7 +219,8 @@ impl Store {
 
     /// `ckz`: whether the number on top isn't zero.
     pub fn is_not_zero(&self) -> Result<bool, MachineFault>
-        ensures { result ≡ frames.top_is_not_zero (view self.now) }
+        ensures within { IfOk result (λ _. self.now.frame + 5 ≤ self.now.used) }
+        ensures value { result ≡ frames.top_is_not_zero (view self.now) }
     {
         self.has(1)?;
         let value = self.number_at(1)?;
@@ -339,7 +323,7 @@ impl Store {
     }
 
     /// The topmost two numbers, above the frame's links.
-    fn top_two(&self) -> Result<(i32, i32), MachineFault>
+    pub fn top_two(&self) -> Result<(i32, i32), MachineFault>
         ensures within { IfOk result (λ _. self.now.frame + 6 ≤ self.now.used) }
         ensures value { result ≡ frames.top_two (view self.now) }
     {
