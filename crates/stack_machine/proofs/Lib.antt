@@ -1,5 +1,8 @@
+pub mod Addressed
 pub mod Written
 pub mod Cells
-mod Examples
+pub mod Characters
+pub mod Examples
+mod ExamplesOfRows
 pub mod Steps
 pub mod Growing

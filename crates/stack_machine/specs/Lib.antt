@@ -1,3 +1,4 @@
+pub mod Addresses
 pub mod Counted
 pub mod Deeds
 pub mod Does
@@ -8,6 +9,7 @@ pub mod Laws
 pub mod Machine
 pub mod Output
 pub mod Ports
+pub mod Rows
 pub mod Run
 pub mod Texts
 pub mod View

@@ -1,9 +1,5 @@
-ghost use Rattle.std.specs.Prelude.{◌≡◌, pos, ◌*ℤ◌, int_le, if◌then◌else◌};
-ghost use Rattle.std.specs.Int.{w32, int_wrapping_div, int_rem_euclid};
+ghost use Rattle.std.specs.Prelude.{◌≡◌, ◌*ℤ◌};
 ghost use Rattle.stack_machine.specs.Frames as frames;
-ghost use Rattle.stack_machine.specs.declared.stop.MachineFault.TheVariants.{WrongDivisor};
-
-use crate::stop::MachineFault;
 
 /// An operator of one number (ISO 7185:1990, 6.7.2.2, 6.7.2.3, 6.6.6.2 and 6.6.6.5).
 #[derive(Clone, Copy)]
@@ -40,7 +36,7 @@ impl Monadic {
             Monadic::Negate => value.wrapping_neg(),
             Monadic::Absolute => value.wrapping_abs(),
             Monadic::Square => value.wrapping_mul(value),
-            Monadic::Odd => truth(is_odd(value)),
+            Monadic::Odd => truth(value.rem_euclid(2) == 1),
             Monadic::Not => truth(!is_true(value)),
         }
     }
@@ -67,28 +63,6 @@ impl Dyadic {
     }
 }
 
-/// The quotient, cut toward zero; -2147483648 by -1 is -2147483648. A divisor of 0 is a `WrongDivisor`
-/// (ISO 7185:1990, 6.7.2.2).
-pub fn quotient(left: i32, right: i32) -> Result<i32, MachineFault>
-    ensures { result ≡ (if frames.is_true right then Ok (int_wrapping_div w32 left right) else Err WrongDivisor) }
-{
-    if right == 0 {
-        return Err(MachineFault::WrongDivisor);
-    }
-    Ok(left.wrapping_div(right))
-}
-
-/// The number from 0 to below the divisor that differs from the left one by a multiple of it. A divisor of 0 or
-/// less is a `WrongDivisor` (ISO 7185:1990, 6.7.2.2).
-pub fn modulo(left: i32, right: i32) -> Result<i32, MachineFault>
-    ensures { result ≡ (if int_le (pos 1) right then Ok (int_rem_euclid left right) else Err WrongDivisor) }
-{
-    if right < 1 {
-        return Err(MachineFault::WrongDivisor);
-    }
-    Ok(left.rem_euclid(right))
-}
-
 /// The product, which 64 bits always hold.
 pub fn product(left: i32, right: i32) -> i64
     ensures { result ≡ left *ℤ right }
@@ -101,13 +75,6 @@ pub fn is_true(number: i32) -> bool
     ensures { result ≡ frames.is_true number }
 {
     number != 0
-}
-
-/// Whether the number is odd (ISO 7185:1990, 6.6.6.5).
-fn is_odd(number: i32) -> bool
-    ensures { result ≡ frames.is_odd number }
-{
-    number.rem_euclid(2) == 1
 }
 
 /// The number of a Boolean value.

@@ -1,11 +1,14 @@
-ghost use Rattle.std.specs.Prelude.{◌≡◌, ◌+◌, ◌-◌, ◌<◌, ◌≤◌, ◌++◌, nat_le, if◌then◌else◌, replicate, take, IfOk, OnOk};
-ghost use Rattle.std.specs.Prelude.{vec_len};
+ghost use Rattle.std.specs.Prelude.{◌≡◌, ◌+◌, ◌-◌, ◌<◌, ◌≤◌, ◌++◌, nat_le, if◌then◌else◌, replicate, take, IfOk};
+ghost use Rattle.std.specs.Prelude.{vec_len, MatchResult, Ok, Err};
 ghost use Rattle.stack_machine.specs.declared.cell.Cell.TheVariants.{Undefined};
-ghost use Rattle.std.specs.List.{list_all};
 ghost use Rattle.stack_machine.specs.Frames as frames;
+ghost use Rattle.stack_machine.specs.Rows as rows;
 
-use crate::arithmetic::{Dyadic, Monadic, is_true, modulo, product, quotient};
+mod addresses;
+
+use crate::arithmetic::{Dyadic, Monadic, is_true, product};
 use crate::cell::Cell;
+use crate::rows::{all_defined, only_numbers, order};
 use crate::stop::MachineFault;
 use std::alloc::{AllocError, Global};
 
@@ -141,47 +144,68 @@ impl Store {
         Ok(())
     }
 
-    /// `dvi`
+    /// `dvi`: cuts toward zero; -2147483648 by -1 is -2147483648 (ISO 7185:1990, 6.7.2.2).
     pub fn divide(&mut self) -> Result<(), MachineFault>
         ensures { Acts result (view self.old) (view self.new) (frames.divide (view self.old)) }
     {
         let (left, right) = self.operands()?;
-        let value = quotient(left, right)?;
-        self.replace(2, Cell::Number(value));
+        if right == 0 {
+            return Err(MachineFault::WrongDivisor);
+        }
+        self.replace(2, Cell::Number(left.wrapping_div(right)));
         Ok(())
     }
 
-    /// `mod`
+    /// `mod`: from 0 to below the divisor (ISO 7185:1990, 6.7.2.2).
     pub fn modulo(&mut self) -> Result<(), MachineFault>
         ensures { Acts result (view self.old) (view self.new) (frames.modulo (view self.old)) }
     {
         let (left, right) = self.operands()?;
-        let value = modulo(left, right)?;
-        self.replace(2, Cell::Number(value));
+        if right < 1 {
+            return Err(MachineFault::WrongDivisor);
+        }
+        self.replace(2, Cell::Number(left.rem_euclid(right)));
         Ok(())
     }
 
-    /// Pops two numbers and answers them, the lower one first.
-    pub fn pop_two(&mut self) -> Result<(i32, i32), MachineFault>
-        ensures value { result ≡ frames.top_two (view self.old) }
-        ensures popped { OnOk result (view self.new ≡ frames.popped 2 (view self.old)) }
-        ensures size { self.new.size ≡ self.old.size }
+    /// `cmp`: two rows of so many numbers give way to their order.
+    pub fn compare(&mut self, length: u32) -> Result<(), MachineFault>
+        ensures { Acts result (view self.old) (view self.new) (rows.compared length (view self.old)) }
     {
-        let numbers = self.top_two()?;
-        self.used -= 2;
-        Ok(numbers)
+        let length = length as usize;
+        self.has(2 * length)?;
+        self.has_room_after(2 * length)?;
+        let left = self.row(2 * length, length);
+        let right = self.row(length, length);
+        only_numbers(left)?;
+        only_numbers(right)?;
+        let order = order(left, right);
+        self.replace(2 * length, Cell::Number(order));
+        Ok(())
     }
 
-    /// Pops a number and answers whether it is true.
-    pub fn pop_truth(&mut self) -> Result<bool, MachineFault>
-        ensures value { result ≡ frames.top_is_not_zero (view self.old) }
-        ensures popped { OnOk result (view self.new ≡ frames.popped 1 (view self.old)) }
+    /// `wrs`: the string on top, so many characters, and the width above it.
+    pub fn string(&self, length: u32) -> Result<(&[Cell], i32), MachineFault>
+        ensures within { IfOk result (λ _. self.now.frame + 4 + (length + 1) ≤ self.now.used) }
+        ensures value { MatchResult result
+            (λ found. rows.string length (view self.now) ≡ Ok (rows.values found.0.now, found.1))
+            (λ fault. rows.string length (view self.now) ≡ Err fault) }
+    {
+        let length = length as usize;
+        self.has(length + 1)?;
+        let characters = self.row(length + 1, length);
+        only_numbers(characters)?;
+        let width = self.number_at(1)?;
+        Ok((characters, width))
+    }
+
+    /// Pops so many cells.
+    pub fn pop(&mut self, count: usize)
+        requires { self.old.frame + 4 + count ≤ self.old.used }
+        ensures value { view self.new ≡ frames.popped count (view self.old) }
         ensures size { self.new.size ≡ self.old.size }
     {
-        self.has(1)?;
-        let value = self.number_at(1)?;
-        self.used -= 1;
-        Ok(is_true(value))
+        self.used -= count;
     }
 
     /// `chk`: whether the number on top lies in the range.
@@ -195,7 +219,8 @@ impl Store {
 
     /// `ckz`: whether the number on top isn't zero.
     pub fn is_not_zero(&self) -> Result<bool, MachineFault>
-        ensures { result ≡ frames.top_is_not_zero (view self.now) }
+        ensures within { IfOk result (λ _. self.now.frame + 5 ≤ self.now.used) }
+        ensures value { result ≡ frames.top_is_not_zero (view self.now) }
     {
         self.has(1)?;
         let value = self.number_at(1)?;
@@ -208,8 +233,7 @@ impl Store {
     {
         let length = length as usize;
         self.has(length)?;
-        let used = self.used;
-        Ok(all_defined(&self.cells.as_slice()[used - length..used]))
+        Ok(all_defined(self.row(length, length)))
     }
 
     /// `cka`: whether the sum of the topmost two numbers is an integer.
@@ -277,6 +301,16 @@ impl Store {
         number(self.cells[self.used - count])
     }
 
+    /// So many cells, the first of which is so many from the top.
+    fn row(&self, place: usize, count: usize) -> &[Cell]
+        requires in_use { place ≤ self.now.used }
+        requires within { count ≤ place }
+        ensures { result.now ≡ rows.row place count (view self.now) }
+    {
+        let first = self.used - place;
+        &self.cells.as_slice()[first..first + count]
+    }
+
     /// The topmost two numbers, which another may replace.
     fn operands(&self) -> Result<(i32, i32), MachineFault>
         ensures within { IfOk result
@@ -289,7 +323,7 @@ impl Store {
     }
 
     /// The topmost two numbers, above the frame's links.
-    fn top_two(&self) -> Result<(i32, i32), MachineFault>
+    pub fn top_two(&self) -> Result<(i32, i32), MachineFault>
         ensures within { IfOk result (λ _. self.now.frame + 6 ≤ self.now.used) }
         ensures value { result ≡ frames.top_two (view self.now) }
     {
@@ -405,23 +439,6 @@ fn in_use(address: usize, used: usize) -> Result<usize, MachineFault>
         return Err(MachineFault::OutOfBounds);
     }
     Ok(address)
-}
-
-/// Whether all of these cells are defined.
-fn all_defined(cells: &[Cell]) -> bool
-    ensures { result ≡ list_all frames.is_defined cells.now }
-{
-    cells.iter().all(|cell| is_defined(*cell))
-}
-
-/// Whether the cell is defined.
-fn is_defined(cell: Cell) -> bool
-    ensures { result ≡ frames.is_defined cell }
-{
-    match cell {
-        Cell::Undefined => false,
-        Cell::Number(_) => true,
-    }
 }
 
 /// Whether the number is of the type integer.

@@ -1,6 +1,61 @@
-use Rattle.std.proofs.Common.{arith}
-use Rattle.std.proofs.lemmas.Grind.{common_steps}
+use Rattle.std.specs.Prelude.{min}
+use Rattle.std.proofs.Common.{ap, arith, length, refl, ◌∙◌, replicate, rules, subst, take}
+use Rattle.std.proofs.lemmas.Int.{to_z-of_z}
+use Rattle.std.specs.Int.{w32}
+use mir.Val.{SFits}
+use Rattle.stack_machine.specs.Ports.{Passes}
+use Rattle.stack_machine.specs.Texts.{byte_of, characters}
+use Rattle.stack_machine.proofs.Characters.{all_characters, string_shown, Passes-character, Loses-character}
+use Rattle.stack_machine.proofs.Written.{Loses-more, Loses-then, Passes-none, Passes-then, PassesOrLoses-is, PassesOrLoses-err}
 use Rattle.stack_machine.proofs.output.Output.put_string.Goals as goal
 
+pub returns-in_err-put_blanks-clause-bytes : goal.returns-in_err-put_blanks-clause-bytes
+returns-in_err-put_blanks-clause-bytes g c =
+    let cells = c.args.cells.now in
+    let blanks = c.blanks_before.result in
+    let fits : SFits w32 c.args.width = search rules in
+    let shown = c.min-shown.result in
+    let fewer = c.min-shown.ensures ∙ ap (min (length cells)) (simp to_z-of_z at c.places_of.ensures) in
+    PassesOrLoses-is c.from_residual.result _ _ _ _ (string_shown cells c.args.width blanks shown (simp to_z-of_z at c.blanks_before.ensures) fewer)
+    (PassesOrLoses-err c.from_residual.result _ _ _ c.from_residual.ensures.0
+    (Loses-more _ _ _ (replicate blanks 32) (characters (take shown cells)) c.in_err-put_blanks.ensures.bytes))
+
+pub loop-cell-init : goal.loop-cell-init
+loop-cell-init g c = (refl, Passes-none _)
+
+pub returns-in_err-put-clause-bytes : goal.returns-in_err-put-clause-bytes
+returns-in_err-put-clause-bytes g c =
+    let cells = c.args.cells.now in
+    let blanks = c.blanks_before.result in
+    let fits : SFits w32 c.args.width = search rules in
+    let fits' : SFits w32 c.value.result = search rules in
+    let shown = c.min-shown.result in
+    let row = take shown cells in
+    let fewer = c.min-shown.ensures ∙ ap (min (length cells)) (simp to_z-of_z at c.places_of.ensures) in
+    let byte = (simp to_z-of_z at c.byte_of.ensures) ∙ ap byte_of c.value.ensures in
+    PassesOrLoses-is c.from_residual-in_err-put.result _ _ _ _ (string_shown cells c.args.width blanks shown (simp to_z-of_z at c.blanks_before.ensures) fewer)
+    (PassesOrLoses-err c.from_residual-in_err-put.result _ _ _ c.from_residual-in_err-put.ensures.0
+    (Loses-then _ _ _ (replicate blanks 32) (characters row) c.in_ok-put_blanks.ensures.bytes
+    (Loses-character _ _ _ row c.loop-cell.cell-index c.byte_of.result c.loop-cell-test.true byte c.loop-cell.invariant.1 c.in_err-put.ensures.bytes)))
+
+pub loop-cell-preserved : goal.loop-cell-preserved
+loop-cell-preserved g c =
+    let row = take c.min-shown.result c.args.cells.now in
+    let fits : SFits w32 c.value.result = search rules in
+    let byte = (simp to_z-of_z at c.byte_of.ensures) ∙ ap byte_of c.value.ensures in (
+      omega (arith, c.in_ok-put.ensures.failures, c.loop-cell.invariant.0),
+      Passes-character _ _ _ row c.loop-cell.cell-index c.byte_of.result c.loop-cell-test.true byte
+          c.loop-cell.invariant.1 c.in_ok-put.ensures.bytes,
+    )
+
 pub returns-clause-bytes : goal.returns-clause-bytes
-returns-clause-bytes g c = grind (arith, common_steps)
+returns-clause-bytes g c =
+    let cells = c.args.cells.now in
+    let blanks = c.blanks_before.result in
+    let fits : SFits w32 c.args.width = search rules in
+    let shown = c.min-shown.result in
+    let row = take shown cells in
+    let fewer = c.min-shown.ensures ∙ ap (min (length cells)) (simp to_z-of_z at c.places_of.ensures) in
+    let all = all_characters row c.loop-cell.cell-index c.loop-cell-test.false in
+    subst (Passes _ _) (string_shown cells c.args.width blanks shown (simp to_z-of_z at c.blanks_before.ensures) fewer)
+    (Passes-then _ _ _ (replicate blanks 32) (characters row) c.in_ok-put_blanks.ensures.bytes (subst (Passes _ _) all c.loop-cell.invariant.1))

@@ -1,5 +1,0 @@
-use Rattle.std.proofs.Common.{rules}
-use Rattle.stack_machine.proofs.arithmetic.modulo.Goals as goal
-
-pub returns : goal.returns
-returns c = search rules
