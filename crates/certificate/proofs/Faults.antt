@@ -3,21 +3,21 @@ use Rattle.std.proofs.Common.{◌≡◌, ℕ, suc, Bool, true, false, ◌&&◌, 
 use Rattle.std.specs.Bool.{if◌then◌else◌}
 use Rattle.std.specs.List.{flat_map, list_all}
 use Rattle.std.proofs.lemmas.Bool.{and_from, and_parts}
-use Rattle.certificate.specs.declared.claim.Claim.{Claim}
-use Rattle.certificate.specs.declared.claim.Claim.TheVariants.{Block, Loop, Change, Fact}
-use Rattle.certificate.specs.declared.order.Above.{Above}
+use Rattle.certificate.specs.Lines.{Claim, Block, Loop, Change, Fact}
+use Rattle.certificate.specs.Text.{Above}
 use Rattle.certificate.specs.declared.fault.ReadFault.{ReadFault}
 use Rattle.certificate.specs.declared.fault.ReadFault.TheVariants.{OutOfOrder}
 use Rattle.certificate.specs.Building.{is_claim, said_line}
 use Rattle.certificate.specs.declared.Version.TheVariants.{One}
 use Rattle.std.specs.Str.{bytes_eq}
 use Rattle.certificate.specs.Contents.{ended, heading, is_small}
-use Rattle.certificate.specs.Lines.{is_number, line_of, reading}
+use Rattle.certificate.specs.Words.{is_number}
+use Rattle.certificate.specs.Lines.{line_of, reading}
 use Rattle.certificate.specs.Text.{Line, admits, below, fault_from, has_below, lines, or_else}
 use Rattle.certificate.proofs.Again.{line_again, line_at}
 use Rattle.certificate.proofs.InOrder.{has_line, orderly}
 use Rattle.certificate.proofs.Numerals.{decimal-is_number, ok_is}
-use Rattle.certificate.proofs.Spelled.{small_is}
+use Rattle.certificate.proofs.WordLaws.{small_is}
 
 heading_number : (n : ℕ) → is_small n ≡ true → is_number (decimal n) ≡ true
 heading_number n small = let limit = small_is n small in decimal-is_number n (omega arith)

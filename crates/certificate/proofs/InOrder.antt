@@ -2,13 +2,12 @@
 use Rattle.std.proofs.Common.{◌≡◌, ℕ, Bool, true, false, not, ◌&&◌, List, [], ◌∷◌, ◌++◌, map, Option, Some, None, refl, ap, ◌∙◌, append_assoc}
 use Rattle.std.specs.List.{flat_map}
 use Rattle.std.specs.Ordering.{nat_cmp}
-use Rattle.domain.specs.declared.facts.Fact.{Fact as VariableFact}
-use Rattle.certificate.specs.declared.claim.Claim.{Claim}
-use Rattle.certificate.specs.declared.claim.Claim.TheVariants.{Block, Loop, Change, Fact}
-use Rattle.certificate.specs.declared.order.Above.{Above}
+use Rattle.domain.specs.Facts.{Fact as VariableFact, subject_order}
+use Rattle.certificate.specs.Lines.{Claim, Block, Loop, Change, Fact}
+use Rattle.certificate.specs.Text.{Above}
 use Rattle.certificate.specs.Building.{is_claim}
 use Rattle.certificate.specs.Contents.{LoopClaims, Section, are_in_order, are_listed, claims_of, claims_of_loop, claims_of_section, comes_behind, is_empty}
-use Rattle.certificate.specs.Contents.{is_fact, is_loop, is_section, is_small, subjects}
+use Rattle.certificate.specs.Contents.{is_fact, is_loop, is_section, is_small}
 use Rattle.certificate.specs.Text.{admits, below, nothing}
 
 -- a heading has below it what it needs there
@@ -77,17 +76,17 @@ step_and false false more rest = refl
 facts_in_order : (b : Option ℕ) (n : ℕ) (c : Option ℕ) (f : Option VariableFact) (facts : List VariableFact) (rest : List Claim)
     → ends_loop rest ≡ true
     → orderly (at b (Some n) c f) (map Fact facts ++ rest)
-    ≡ (are_listed subjects (λ fact. fact) is_fact f facts && orderly (at b (Some n) None None) rest)
+    ≡ (are_listed subject_order (λ fact. fact) is_fact f facts && orderly (at b (Some n) None None) rest)
 facts_in_order b n c f [] rest ends = loop_forgotten b (Some n) c None f None rest ends
 facts_in_order b n c f (fact ∷ facts) rest ends =
-    ap (λ more. is_fact fact && (comes_behind subjects f fact && more)) (facts_in_order b n c (Some fact) facts rest ends)
-    ∙ step_and (is_fact fact) (comes_behind subjects f fact) _ _
+    ap (λ more. is_fact fact && (comes_behind subject_order f fact && more)) (facts_in_order b n c (Some fact) facts rest ends)
+    ∙ step_and (is_fact fact) (comes_behind subject_order f fact) _ _
 
 changes_in_order : (b : Option ℕ) (n : ℕ) (c : Option ℕ) (changes : List ℕ) (facts : List VariableFact) (rest : List Claim)
     → ends_loop rest ≡ true
     → orderly (at b (Some n) c None) (map Change changes ++ (map Fact facts ++ rest))
     ≡ (are_listed nat_cmp (λ root. root) is_small c changes
-    && (are_listed subjects (λ fact. fact) is_fact None facts && orderly (at b (Some n) None None) rest))
+    && (are_listed subject_order (λ fact. fact) is_fact None facts && orderly (at b (Some n) None None) rest))
 changes_in_order b n c [] facts rest ends = facts_in_order b n c None facts rest ends
 changes_in_order b n c (root ∷ changes) facts rest ends =
     ap (λ more. is_small root && (comes_behind nat_cmp c root && more)) (changes_in_order b n (Some root) changes facts rest ends)
@@ -127,7 +126,7 @@ loop_in_order b n c f claims rest ends =
     ∙ ap (λ more. is_small claims.number && (comes_behind nat_cmp n claims.number && (not (is_empty claims.changes && is_empty claims.facts) && more)))
     (changes_in_order (Some b) claims.number None claims.changes claims.facts rest ends)
     ∙ loop_and (is_small claims.number) (comes_behind nat_cmp n claims.number) (not (is_empty claims.changes && is_empty claims.facts))
-    (are_listed nat_cmp (λ root. root) is_small None claims.changes) (are_listed subjects (λ fact. fact) is_fact None claims.facts)
+    (are_listed nat_cmp (λ root. root) is_small None claims.changes) (are_listed subject_order (λ fact. fact) is_fact None claims.facts)
     (orderly (at (Some b) (Some claims.number) None None) rest)
 
 section_ends_loop : (rest : List Claim) → ends_section rest ≡ true → ends_loop rest ≡ true

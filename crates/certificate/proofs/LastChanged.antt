@@ -1,9 +1,9 @@
 -- A list whose last element is changed.
 use Rattle.std.proofs.Common.{◌≡◌, ℕ, suc, zero, ◌-◌, ◌<◌, List, [], ◌∷◌, map, length, get_or, set, refl, ap, ◌∙◌, arith}
-use Rattle.certificate.specs.declared.claim.Claim.{Claim}
-use Rattle.certificate.specs.declared.claim.Claim.TheVariants.{Block, Loop, Change, Fact}
+use Rattle.certificate.specs.declared.claim.Claim.{Claim as KeptClaim}
+use Rattle.certificate.specs.declared.claim.Claim.TheVariants as kept
 use Rattle.certificate.specs.Contents.{LoopClaims, Section}
-use Rattle.certificate.specs.Building.{added, in_last, in_loop, in_section}
+use Rattle.certificate.specs.Building.{added, in_last, in_loop, in_section, said_claim}
 
 changed_at : {K A : Type 0} (view : K → A) (change : A → A) (xs : List K) (d y : K) (i : ℕ) → suc i ≡ length xs
     → view y ≡ change (view (get_or xs i d)) → map view (set xs i y) ≡ in_last change (map view xs)
@@ -21,17 +21,17 @@ last_changed view change xs len one y all some is changed =
     changed_at view change xs one y (len - 1) (omega arith) (changed ∙ ap (λ x. change (view x)) is)
 
 -- a claim that is no loop's heading goes to the last loop of a section
-pub in_last_loop : (claim : Claim) (section : Section) (loops : List LoopClaims) → ((number : ℕ) → claim ≡ Loop number → ⊥)
-    → loops ≡ in_last (in_loop claim) section.loops → record section { loops = loops } ≡ in_section claim section
-in_last_loop (Block number) section loops other is = ap (λ (l : List LoopClaims). record section { loops = l }) is
-in_last_loop (Loop number) section loops other is = absurd (other number refl)
-in_last_loop (Change root) section loops other is = ap (λ (l : List LoopClaims). record section { loops = l }) is
-in_last_loop (Fact fact) section loops other is = ap (λ (l : List LoopClaims). record section { loops = l }) is
+pub in_last_loop : (claim : KeptClaim) (section : Section) (loops : List LoopClaims) → ((number : ℕ) → claim ≡ kept.Loop number → ⊥)
+    → loops ≡ in_last (in_loop (said_claim claim)) section.loops → record section { loops = loops } ≡ in_section (said_claim claim) section
+in_last_loop (kept.Block number) section loops other is = ap (λ (l : List LoopClaims). record section { loops = l }) is
+in_last_loop (kept.Loop number) section loops other is = absurd (other number refl)
+in_last_loop (kept.Change root) section loops other is = ap (λ (l : List LoopClaims). record section { loops = l }) is
+in_last_loop (kept.Fact fact) section loops other is = ap (λ (l : List LoopClaims). record section { loops = l }) is
 
 -- a claim that is no block's heading goes to the last section
-pub in_last_section : (claim : Claim) (sections new : List Section) → ((number : ℕ) → claim ≡ Block number → ⊥)
-    → new ≡ in_last (in_section claim) sections → new ≡ added claim sections
-in_last_section (Block number) sections new other is = absurd (other number refl)
-in_last_section (Loop number) sections new other is = is
-in_last_section (Change root) sections new other is = is
-in_last_section (Fact fact) sections new other is = is
+pub in_last_section : (claim : KeptClaim) (sections new : List Section) → ((number : ℕ) → claim ≡ kept.Block number → ⊥)
+    → new ≡ in_last (in_section (said_claim claim)) sections → new ≡ added (said_claim claim) sections
+in_last_section (kept.Block number) sections new other is = absurd (other number refl)
+in_last_section (kept.Loop number) sections new other is = is
+in_last_section (kept.Change root) sections new other is = is
+in_last_section (kept.Fact fact) sections new other is = is

@@ -1,11 +1,16 @@
 pub mod Again
+pub mod BoundLaws
 pub mod Faults
 pub mod InOrder
 pub mod LastChanged
 pub mod Nested
 pub mod Numbers
 pub mod Numerals
+pub mod PathLaws
+pub mod Pieces
 pub mod Reading
+pub mod Seen
 pub mod Spelled
 pub mod TextLines
 pub mod Whole
+pub mod WordLaws

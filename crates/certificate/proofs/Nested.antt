@@ -5,12 +5,11 @@ use Rattle.std.specs.Option.{is_none, is_some}
 use Rattle.std.specs.Ordering.{nat_cmp}
 use Rattle.std.proofs.lemmas.Bool.{and_parts}
 use Rattle.std.proofs.lemmas.List.{append-nil}
-use Rattle.domain.specs.declared.facts.Fact.{Fact as VariableFact}
-use Rattle.certificate.specs.declared.claim.Claim.{Claim}
-use Rattle.certificate.specs.declared.claim.Claim.TheVariants.{Block, Loop, Change, Fact}
-use Rattle.certificate.specs.declared.order.Above.{Above}
+use Rattle.domain.specs.Facts.{Fact as VariableFact, subject_order}
+use Rattle.certificate.specs.Lines.{Claim, Block, Loop, Change, Fact}
+use Rattle.certificate.specs.Text.{Above}
 use Rattle.certificate.specs.Building.{added, built, in_last, in_loop, in_section, is_claim}
-use Rattle.certificate.specs.Contents.{LoopClaims, Section, claims_of, claims_of_loop, comes_behind, subjects}
+use Rattle.certificate.specs.Contents.{LoopClaims, Section, claims_of, claims_of_loop, comes_behind}
 use Rattle.certificate.specs.Text.{admits, below, nothing}
 use Rattle.certificate.proofs.InOrder.{has_line, orderly}
 
@@ -161,7 +160,7 @@ no_claims above (Change root ∷ more) outside is =
     (and_parts (is_some above.loop_number) (is_none above.fact && comes_behind nat_cmp above.change root) (orderly_parts above (Change root) more is).0).0)
 no_claims above (Fact fact ∷ more) outside is =
     absurd (none_no_some above.loop_number outside
-    (and_parts (is_some above.loop_number) (comes_behind subjects above.fact fact) (orderly_parts above (Fact fact) more is).0).0)
+    (and_parts (is_some above.loop_number) (comes_behind subject_order above.fact fact) (orderly_parts above (Fact fact) more is).0).0)
 
 -- claims that may stand below the heading of a text begin with no loop
 no_loops : (claims : List Claim) → orderly nothing claims ≡ true → (parts_of claims).loops ≡ []

@@ -1,7 +1,7 @@
 -- A number and its digits, and a number of a sign and its text.
 use Rattle.std.proofs.Common.{rules, ◌≡◌, ℕ, suc, zero, ◌+◌, ◌*◌, ◌-◌, ◌^◌, ◌<◌, ◌≤◌, ℤ, pos, negsuc, neg_ℤ, ◌≤ℤ◌, Bool, true, false, cond, nat_eq, nat_lt}
-use Rattle.std.proofs.Common.{int_le, ◌==◌, List, [], ◌∷◌, ◌++◌, length, take, drop, fold, get_or, Option, Some, None, Result, Ok, Err, refl, sym, ap, subst}
-use Rattle.std.proofs.Common.{◌∙◌, arith, ◌⊎◌, inl, inr, decimal, codes}
+use Rattle.std.proofs.Common.{int_le, int_lt, ◌==◌, List, [], ◌∷◌, ◌++◌, length, take, drop, fold, get_or, Option, Some, None, Result, Ok, Err, refl, sym}
+use Rattle.std.proofs.Common.{ap, subst, ◌∙◌, arith, ◌⊎◌, inl, inr, decimal, codes}
 use Rattle.std.specs.Bool.{if◌then◌else◌}
 use Rattle.std.specs.List.{list_all}
 use Rattle.std.specs.Char.{is_ascii_digit}
@@ -17,7 +17,7 @@ use Rattle.std.proofs.lemmas.Str.Parse.{IsNumeralModel, numerals_by_fold}
 use Rattle.certificate.specs.declared.claim.LineFault.{LineFault}
 use Rattle.certificate.specs.declared.claim.LineFault.TheVariants.{NotInGrammar, OutOfRange}
 use Rattle.certificate.specs.Contents.{is_constant}
-use Rattle.certificate.specs.Lines.{◌>>=◌, at_most, behind, constant_of, is_number, maxint, negative, value_of, value_up_to, when}
+use Rattle.certificate.specs.Words.{◌>>=◌, at_most, behind, constant_of, is_number, maxint, negative, negative_of, positive_of, value_of, value_up_to, when}
 
 abbrev value_after : ℕ → List ℕ → ℕ
 value_after n digits = fold (λ value digit. value * 10 + (digit - 48)) n digits
@@ -111,42 +111,72 @@ constant_is z fits =
     let parts = and_parts (int_le (neg_ℤ (pos maxint)) z) (int_le z (pos maxint)) fits in
     (grind (arith, ints, parts), grind (arith, ints, parts))
 
-negative_is : (n : ℕ) (z : ℤ) → negative n ≡ Ok z → n ≤ maxint → (45 ∷ decimal n ≡ signed_decimal z) × (is_constant z ≡ true)
+pub below_zero : (n : ℕ) → int_lt (negsuc n) (pos 0) ≡ true
+below_zero n = grind (arith, ints)
+
+pub not_below_zero : (n : ℕ) → int_lt (pos n) (pos 0) ≡ false
+not_below_zero n = grind (arith, ints)
+
+negative_is : (n : ℕ) (z : ℤ) → negative n ≡ Ok z → n ≤ maxint
+    → (45 ∷ decimal n ≡ signed_decimal z) × (int_lt z (pos 0) ≡ true) × (is_constant z ≡ true)
 negative_is zero z e fits = absurd cc
 negative_is (suc n) z e fits =
-    subst (λ z. (45 ∷ decimal (suc n) ≡ signed_decimal z) × (is_constant z ≡ true)) (ok_is (negsuc n) z e)
-    (refl, constant_from (negsuc n) (omega (arith, ints)) (omega (arith, ints)))
+    subst (λ z. (45 ∷ decimal (suc n) ≡ signed_decimal z) × (int_lt z (pos 0) ≡ true) × (is_constant z ≡ true)) (ok_is (negsuc n) z e)
+    (refl, below_zero n, constant_from (negsuc n) (omega (arith, ints)) (omega (arith, ints)))
+
+-- digits behind a minus, or without one
+pub negative_spelled : (digits : List ℕ) (z : ℤ) → negative_of digits ≡ Ok z
+    → (45 ∷ digits ≡ signed_decimal z) × (int_lt z (pos 0) ≡ true) × (is_constant z ≡ true)
+negative_spelled digits z e =
+    let number = bound_ok (at_most maxint digits) negative z e in
+    let spelled = at_most-spelled maxint digits number.0 number.1 (omega arith) in
+    let sign = negative_is number.0 z number.2 spelled.1 in
+    (ap (λ digits. 45 ∷ digits) spelled.0 ∙ sign.0, sign.1, sign.2)
+
+pub positive_spelled : (digits : List ℕ) (z : ℤ) → positive_of digits ≡ Ok z
+    → (digits ≡ signed_decimal z) × (int_lt z (pos 0) ≡ false) × (is_constant z ≡ true)
+positive_spelled digits z e =
+    let number = bound_ok (at_most maxint digits) (λ magnitude. Ok (pos magnitude)) z e in
+    let spelled = at_most-spelled maxint digits number.0 number.1 (omega arith) in
+    subst (λ z. (digits ≡ signed_decimal z) × (int_lt z (pos 0) ≡ false) × (is_constant z ≡ true)) (ok_is (pos number.0) z number.2)
+    (spelled.0, not_below_zero number.0, constant_from (pos number.0) (omega (arith, ints)) (omega (arith, ints, spelled.1)))
 
 pub constant_spelled : (word : List ℕ) (z : ℤ) → constant_of word ≡ Ok z → (word ≡ signed_decimal z) × (is_constant z ≡ true)
 constant_spelled word z e =
-    elim (when_ok (behind (codes "-") word) (λ digits. at_most maxint digits >>= negative) _ z e) [
+    elim (when_ok (behind (codes "-") word) negative_of _ z e) [
       | inl found ↦
-          let number = bound_ok (at_most maxint found.0) negative z found.2 in
-          let spelled = at_most-spelled maxint found.0 number.0 number.1 (omega arith) in
-          let sign = negative_is number.0 z number.2 spelled.1 in
-          (behind_some (codes "-") word found.0 found.1 ∙ ap (λ digits. 45 ∷ digits) spelled.0 ∙ sign.0, sign.1)
-      | inr found ↦
-          let number = bound_ok (at_most maxint word) (λ magnitude. Ok (pos magnitude)) z found in
-          let spelled = at_most-spelled maxint word number.0 number.1 (omega arith) in
-          subst (λ z. (word ≡ signed_decimal z) × (is_constant z ≡ true)) (ok_is (pos number.0) z number.2)
-          (spelled.0, constant_from (pos number.0) (omega (arith, ints)) (omega (arith, ints, spelled.1)))
+          let number = negative_spelled found.0 z found.2 in (behind_some (codes "-") word found.0 found.1 ∙ number.0, number.2)
+      | inr found ↦ let number = positive_spelled word z found in (number.0, number.2)
     ]
 
--- a number begins with a digit and not with a minus
-minus_no_digit : (first : ℕ) → is_ascii_digit first ≡ true → first ≡ 45 → ⊥
-minus_no_digit first digit same = let h : is_ascii_digit 45 ≡ true = subst (λ c. is_ascii_digit c ≡ true) same digit in absurd cc
+-- a number begins with a digit and with no other byte
+other_byte : (first byte : ℕ) → is_ascii_digit first ≡ true → is_ascii_digit byte ≡ false → first ≡ byte → ⊥
+other_byte first byte digit other same = let h : is_ascii_digit byte ≡ true = subst (λ c. is_ascii_digit c ≡ true) same digit in absurd cc
 
-no_minus : (word : List ℕ) → 0 < length word → list_all is_ascii_digit word ≡ true → behind (codes "-") word ≡ None
-no_minus [] some digits = absurd (omega arith)
-no_minus (first ∷ more) some digits =
+pub no_first : (byte : ℕ) (word : List ℕ) → is_ascii_digit byte ≡ false → 0 < length word → list_all is_ascii_digit word ≡ true
+    → behind (byte ∷ []) word ≡ None
+no_first byte [] other some digits = absurd (omega arith)
+no_first byte (first ∷ more) other some digits =
     let digit = (and_parts (is_ascii_digit first) _ digits).0 in
-    rw (ne_eqb first 45 (λ same. absurd (minus_no_digit first digit same))) refl
+    rw (ne_eqb first byte (λ same. absurd (other_byte first byte digit other same))) refl
 
-pub constant_again : (z : ℤ) → is_constant z ≡ true → constant_of (signed_decimal z) ≡ Ok z
-constant_again (pos n) fits =
-    let high = (constant_is (pos n) fits).1 in
-    let small : n < 2 ^ 64 = omega (arith, ints) in
-    rw (no_minus (decimal n) (decimal_nonempty n small) (digits_decimal own n small), at_most-again maxint n (omega (arith, ints)) small) refl
-constant_again (negsuc n) fits =
+-- what digits say behind a minus, or without one
+pub negative_again : (n : ℕ) → is_constant (negsuc n) ≡ true → negative_of (decimal (suc n)) ≡ Ok (negsuc n)
+negative_again n fits =
     let low = (constant_is (negsuc n) fits).0 in
     rw (at_most-again maxint (suc n) (omega (arith, ints)) (omega (arith, ints))) refl
+
+pub positive_again : (n : ℕ) → is_constant (pos n) ≡ true → positive_of (decimal n) ≡ Ok (pos n)
+positive_again n fits =
+    let high = (constant_is (pos n) fits).1 in
+    rw (at_most-again maxint n (omega (arith, ints)) (omega (arith, ints))) refl
+
+pub no_beginning : (byte n : ℕ) → is_ascii_digit byte ≡ false → is_constant (pos n) ≡ true → behind (byte ∷ []) (decimal n) ≡ None
+no_beginning byte n other fits =
+    let high = (constant_is (pos n) fits).1 in
+    let small : n < 2 ^ 64 = omega (arith, ints) in
+    no_first byte (decimal n) other (decimal_nonempty n small) (digits_decimal own n small)
+
+pub constant_again : (z : ℤ) → is_constant z ≡ true → constant_of (signed_decimal z) ≡ Ok z
+constant_again (pos n) fits = rw (no_beginning 45 n refl fits, positive_again n fits) refl
+constant_again (negsuc n) fits = negative_again n fits

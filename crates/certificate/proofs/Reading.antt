@@ -3,12 +3,11 @@ use Rattle.std.proofs.Common.{◌≡◌, ℕ, suc, ◌+◌, Bool, true, List, []
 use Rattle.std.specs.List.{list_all}
 use Rattle.std.proofs.lemmas.Bool.{and_from, and_parts}
 use Rattle.std.proofs.lemmas.List.{append-nil}
-use Rattle.certificate.specs.declared.claim.Claim.{Claim}
-use Rattle.certificate.specs.declared.order.Above.{Above}
+use Rattle.certificate.specs.Text.{Above}
 use Rattle.certificate.specs.declared.fault.ReadFault.{ReadFault}
 use Rattle.certificate.specs.Building.{added, built, is_claim, said_line}
 use Rattle.certificate.specs.Contents.{Section}
-use Rattle.certificate.specs.Lines.{line_of, reading}
+use Rattle.certificate.specs.Lines.{Claim, line_of, reading}
 use Rattle.certificate.specs.Text.{Line, below, below_line, fault_from, line_fault, nothing, or_else}
 use Rattle.certificate.proofs.Nested.{built-append}
 use Rattle.certificate.proofs.Spelled.{line_spelled}

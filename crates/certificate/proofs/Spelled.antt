@@ -1,75 +1,30 @@
 -- What a line says, and the line that says it.
-use Rattle.std.proofs.Common.{◌≡◌, ℕ, suc, ◌+◌, ◌≤◌, ℤ, pos, Bool, true, false, not, ◌&&◌, int_le, int_lt, ◌==◌, List, ◌∷◌, ◌++◌, take, drop, get_or, Option}
-use Rattle.std.proofs.Common.{Some, None, Result, Ok, Err, refl, sym, ap, subst, ◌∙◌, arith, inl, inr, decimal, codes}
+use Rattle.std.proofs.Common.{◌≡◌, ℕ, suc, ℤ, pos, Bool, true, false, not, ◌&&◌, int_le, int_lt, ◌==◌, List, ◌∷◌, ◌++◌, take, drop, Option}
+use Rattle.std.proofs.Common.{Some, None, Result, Ok, Err, refl, sym, ap, subst, ◌∙◌, arith, inl, inr, codes}
 use Rattle.std.specs.Bool.{if◌then◌else◌}
 use Rattle.std.specs.List.{position}
 use Rattle.std.specs.Ordering.{int_eq}
 use Rattle.std.specs.Fmt.{signed_decimal}
-use Rattle.std.proofs.lemmas.Bool.{and_from, and_parts, eqb-true}
-use Rattle.std.proofs.lemmas.Bool.Decides.{nat_tests}
+use Rattle.std.proofs.lemmas.Bool.{and_from, and_parts}
 use Rattle.std.proofs.lemmas.Int.{ints}
-use Rattle.std.proofs.lemmas.List.Quantifiers.{position-Some}
-use Rattle.std.proofs.lemmas.List.{drop_more, take-append-drop}
 use Rattle.domain.specs.Interval.{Interval, between}
-use Rattle.domain.specs.declared.facts.Fact.{Fact as VariableFact}
-use Rattle.domain.specs.declared.facts.Fact.TheVariants.{Range, Defined, Order}
-use Rattle.certificate.specs.declared.claim.Claim.{Claim}
-use Rattle.certificate.specs.declared.claim.Claim.TheVariants.{Block, Loop, Change, Fact}
+use Rattle.domain.specs.Facts.{Fact as VariableFact, Bound, Path}
+use Rattle.domain.specs.Facts.{Range, Defined, Stretch, Order}
 use Rattle.certificate.specs.declared.claim.LineFault.{LineFault}
 use Rattle.certificate.specs.declared.claim.LineFault.TheVariants.{NotInGrammar, OutOfRange}
+use Rattle.certificate.specs.Bounds.{bound_of}
 use Rattle.certificate.specs.Building.{is_claim}
-use Rattle.certificate.specs.Contents.{is_constant, is_fact, is_plain, is_small}
-use Rattle.certificate.specs.Lines.{◌>>=◌, behind, both, constant_of, fact_of, fact_words, line_of, most, number_of, order_fact, parted, parted_at, range_fact}
-use Rattle.certificate.specs.Lines.{range_of, reading, variable, variable_of}
-use Rattle.certificate.proofs.Numerals.{at_most-spelled, behind_some, bound_ok, constant_spelled, ok_is, when_ok}
+use Rattle.certificate.specs.Contents.{is_constant, is_fact, is_path, is_plain}
+use Rattle.certificate.specs.Lines.{Claim, Block, Loop, Change, Fact, defined_at, defined_fact, fact_of, fact_words, line_of, order_fact, range_fact, range_of}
+use Rattle.certificate.specs.Lines.{reading, stretch_fact}
+use Rattle.certificate.specs.Paths.{path_of, path_words}
+use Rattle.certificate.specs.Words.{◌>>=◌, behind, both, constant_of, number_of, parted, variable_of}
+use Rattle.certificate.proofs.BoundLaws.{bound_spelled}
+use Rattle.certificate.proofs.Numerals.{behind_some, bound_ok, constant_spelled, ok_is, when_ok}
+use Rattle.certificate.proofs.PathLaws.{path_spelled}
+use Rattle.certificate.proofs.WordLaws.{both_ok, front_part, number_spelled, parted_spelled, variable_spelled}
 
--- ---- what is read is spelled so
-
-small_from : (n : ℕ) → n ≤ most → is_small n ≡ true
-small_from n h = grind (arith, nat_tests)
-
-pub small_is : (n : ℕ) → is_small n ≡ true → n ≤ most
-small_is n h = grind (arith, nat_tests)
-
-number_spelled : (word : List ℕ) (n : ℕ) → number_of word ≡ Ok n → (word ≡ decimal n) × (is_small n ≡ true)
-number_spelled word n e =
-    let spelled = at_most-spelled most word n e (omega arith) in
-    (spelled.0, small_from n spelled.1)
-
-variable_spelled : (word : List ℕ) (n : ℕ) → variable_of word ≡ Ok n → (word ≡ variable n) × (is_small n ≡ true)
-variable_spelled word n e =
-    elim (when_ok (behind (codes "v") word) number_of (Err NotInGrammar) n e) [
-      | inl found ↦
-          let spelled = number_spelled found.0 n found.2 in
-          (behind_some (codes "v") word found.0 found.1 ∙ ap (λ digits. codes "v" ++ digits) spelled.0, spelled.1)
-      | inr fault ↦ absurd cc
-    ]
-
-both_ok : {A B : Type 0} (a : Result A LineFault) (b : Result B LineFault) (x : A) (y : B) → both a b ≡ Ok (x, y) → (a ≡ Ok x) × (b ≡ Ok y)
-both_ok (Ok a) (Ok b) x y e =
-    let same = ok_is (a, b) (x, y) e in (ap (λ p. Ok p.0) same, ap (λ p. Ok p.1) same)
-both_ok (Ok a) (Err fault) x y e = absurd cc
-both_ok (Err NotInGrammar) b x y e = absurd cc
-both_ok (Err OutOfRange) (Ok b) x y e = absurd cc
-both_ok (Err OutOfRange) (Err fault) x y e = absurd cc
-
-one_more : (n : ℕ) → n + 1 ≡ suc n
-one_more n = omega arith
-
-front_part : (words : List ℕ) (o : Option ℕ) (a b : List ℕ) → position (λ byte. byte == 32) words ≡ o → parted_at words o ≡ Ok (a, b)
-    → words ≡ a ++ 32 ∷ b
-front_part words None a b is e = absurd cc
-front_part words (Some end) a b is e =
-    let found = position-Some (λ byte. byte == 32) words end 0 is in
-    let same = ok_is (take end words, drop (suc end) words) (a, b) e in
-    let tail : drop end words ≡ get_or words end 0 ∷ drop (suc end) words =
-    drop_more words end 0 found.0 ∙ ap (λ k. get_or words end 0 ∷ drop k words) (one_more end) in
-    let whole : words ≡ take end words ++ get_or words end 0 ∷ drop (suc end) words =
-    sym (take-append-drop end words) ∙ ap (λ rest. take end words ++ rest) tail in
-    whole ∙ ap (λ byte. take end words ++ byte ∷ drop (suc end) words) (eqb-true _ 32 found.1) ∙ ap (λ p. p.0 ++ 32 ∷ p.1) same
-
-parted_spelled : (words a b : List ℕ) → parted words ≡ Ok (a, b) → words ≡ a ++ 32 ∷ b
-parted_spelled words a b e = front_part words _ a b refl e
+-- ---- facts
 
 range_plain : (first last : ℤ) (less one : Bool) → int_lt last first ≡ less → (int_eq first (pos 1) && int_eq last (pos 0)) ≡ one
     → (less && not one) ≡ false
@@ -84,18 +39,19 @@ range_plain first last false one less one_is is =
     let below : int_le first last ≡ true = grind (arith, ints) in
     (rw less refl, rw below refl)
 
-range_test : (root : ℕ) (first last : ℤ) (fact : VariableFact) (fault : Bool)
+range_test : (path : Path) (first last : ℤ) (fact : VariableFact) (fault : Bool)
     → (int_lt last first && not (int_eq first (pos 1) && int_eq last (pos 0))) ≡ fault
-    → (if fault then Err OutOfRange else Ok (Range root (between first last))) ≡ Ok fact
-    → is_small root ≡ true → is_constant first ≡ true → is_constant last ≡ true
-    → (codes "range " ++ variable root ++ 32 ∷ (signed_decimal first ++ 32 ∷ signed_decimal last) ≡ fact_words fact) × (is_fact fact ≡ true)
-range_test root first last fact true is e small low high = absurd cc
-range_test root first last fact false is e small low high =
+    → (if fault then Err OutOfRange else Ok (Range path (between first last))) ≡ Ok fact
+    → is_path true path ≡ true → is_constant first ≡ true → is_constant last ≡ true
+    → (codes "range " ++ path_words path ++ 32 ∷ (signed_decimal first ++ 32 ∷ signed_decimal last) ≡ fact_words fact) × (is_fact fact ≡ true)
+range_test path first last fact true is e right low high = absurd cc
+range_test path first last fact false is e right low high =
     let plain = range_plain first last _ _ refl refl is in
-    let same : Range root (record { first = first; last = last }) ≡ fact =
-    ap (λ range. Range root range) (sym plain.0) ∙ ok_is (Range root (between first last)) fact e in
-    subst (λ fact. (codes "range " ++ variable root ++ 32 ∷ (signed_decimal first ++ 32 ∷ signed_decimal last) ≡ fact_words fact) × (is_fact fact ≡ true)) same
-    (refl, rw (small, low, high, plain.1) refl)
+    let same : Range path (record { first = first; last = last }) ≡ fact =
+    ap (λ range. Range path range) (sym plain.0) ∙ ok_is (Range path (between first last)) fact e in
+    let words = codes "range " ++ path_words path ++ 32 ∷ (signed_decimal first ++ 32 ∷ signed_decimal last) in
+    subst (λ fact. (words ≡ fact_words fact) × (is_fact fact ≡ true)) same
+    (refl, rw (right, low, high, plain.1) refl)
 
 -- a text in three parts, which spell something
 three_parts : (words a rest b c x y z : List ℕ) → words ≡ a ++ 32 ∷ rest → rest ≡ b ++ 32 ∷ c → a ≡ x → b ≡ y → c ≡ z
@@ -105,19 +61,19 @@ three_parts words a rest b c x y z is rest_is a_is b_is c_is = rw (is, rest_is, 
 range_fact_spelled : (words : List ℕ) (fact : VariableFact) → range_fact words ≡ Ok fact
     → (codes "range " ++ words ≡ fact_words fact) × (is_fact fact ≡ true)
 range_fact_spelled words fact e =
-    let first = bound_ok (parted words) (λ first. parted first.1 >>= λ second. both (variable_of first.0)
+    let first = bound_ok (parted words) (λ first. parted first.1 >>= λ second. both (path_of true first.0)
     (both (constant_of second.0) (constant_of second.1)) >>= range_of) fact e in
-    let second = bound_ok (parted first.0.1) (λ second. both (variable_of first.0.0)
+    let second = bound_ok (parted first.0.1) (λ second. both (path_of true first.0.0)
     (both (constant_of second.0) (constant_of second.1)) >>= range_of) fact first.2 in
-    let parts = bound_ok (both (variable_of first.0.0) (both (constant_of second.0.0) (constant_of second.0.1))) range_of fact second.2 in
-    let ends = both_ok (variable_of first.0.0) (both (constant_of second.0.0) (constant_of second.0.1)) parts.0.0 parts.0.1 parts.1 in
+    let parts = bound_ok (both (path_of true first.0.0) (both (constant_of second.0.0) (constant_of second.0.1))) range_of fact second.2 in
+    let ends = both_ok (path_of true first.0.0) (both (constant_of second.0.0) (constant_of second.0.1)) parts.0.0 parts.0.1 parts.1 in
     let numbers = both_ok (constant_of second.0.0) (constant_of second.0.1) parts.0.1.0 parts.0.1.1 ends.1 in
-    let root = variable_spelled first.0.0 parts.0.0 ends.0 in
+    let path = path_spelled true first.0.0 parts.0.0 ends.0 in
     let low = constant_spelled second.0.0 parts.0.1.0 numbers.0 in
     let high = constant_spelled second.0.1 parts.0.1.1 numbers.1 in
-    let told = range_test parts.0.0 parts.0.1.0 parts.0.1.1 fact _ refl parts.2 root.1 low.1 high.1 in
+    let told = range_test parts.0.0 parts.0.1.0 parts.0.1.1 fact _ refl parts.2 path.1 low.1 high.1 in
     let whole = three_parts words first.0.0 first.0.1 second.0.0 second.0.1 _ _ _ (parted_spelled words first.0.0 first.0.1 first.1)
-    (parted_spelled first.0.1 second.0.0 second.0.1 second.1) root.0 low.0 high.0 in
+    (parted_spelled first.0.1 second.0.0 second.0.1 second.1) path.0 low.0 high.0 in
     (ap (λ more. codes "range " ++ more) whole ∙ told.0, told.1)
 
 order_fact_spelled : (words : List ℕ) (fact : VariableFact) → order_fact words ≡ Ok fact
@@ -140,17 +96,39 @@ order_fact_spelled words fact e =
     (ok_is (Order parts.0.0 parts.0.1.0 parts.0.1.1) fact parts.2)
     (ap (λ more. codes "order " ++ more) whole, and_from _ _ root.1 (and_from _ _ other.1 number.1))
 
-defined_spelled : (words : List ℕ) (fact : VariableFact) → (variable_of words >>= λ root. Ok (Defined root)) ≡ Ok fact
+stretch_spelled : (words path bounds : List ℕ) (fact : VariableFact) → words ≡ path ++ 32 ∷ bounds → stretch_fact path bounds ≡ Ok fact
     → (codes "defined " ++ words ≡ fact_words fact) × (is_fact fact ≡ true)
-defined_spelled words fact e =
-    let root = bound_ok (variable_of words) (λ root. Ok (Defined root)) fact e in
-    let spelled = variable_spelled words root.0 root.1 in
-    subst (λ fact. (codes "defined " ++ words ≡ fact_words fact) × (is_fact fact ≡ true)) (ok_is (Defined root.0) fact root.2)
+stretch_spelled words path bounds fact is e =
+    let made : Path × (Bound × Bound) → Result VariableFact LineFault = λ parts. Ok (Stretch parts.0 parts.1.0 parts.1.1) in
+    let ends = bound_ok (parted bounds) (λ ends. both (path_of false path) (both (bound_of ends.0) (bound_of ends.1)) >>= made) fact e in
+    let parts = bound_ok (both (path_of false path) (both (bound_of ends.0.0) (bound_of ends.0.1))) made fact ends.2 in
+    let two = both_ok (path_of false path) (both (bound_of ends.0.0) (bound_of ends.0.1)) parts.0.0 parts.0.1 parts.1 in
+    let both_are = both_ok (bound_of ends.0.0) (bound_of ends.0.1) parts.0.1.0 parts.0.1.1 two.1 in
+    let path_is = path_spelled false path parts.0.0 two.0 in
+    let first = bound_spelled ends.0.0 parts.0.1.0 both_are.0 in
+    let last = bound_spelled ends.0.1 parts.0.1.1 both_are.1 in
+    let whole = three_parts words path bounds ends.0.0 ends.0.1 _ _ _ is (parted_spelled bounds ends.0.0 ends.0.1 ends.1) path_is.0 first.0 last.0 in
+    subst (λ fact. (codes "defined " ++ words ≡ fact_words fact) × (is_fact fact ≡ true))
+    (ok_is (Stretch parts.0.0 parts.0.1.0 parts.0.1.1) fact parts.2)
+    (ap (λ more. codes "defined " ++ more) whole, and_from _ _ path_is.1 (and_from _ _ first.1 last.1))
+
+defined_part : (words : List ℕ) (o : Option ℕ) (fact : VariableFact) → position (λ byte. byte == 32) words ≡ o → defined_at words o ≡ Ok fact
+    → (codes "defined " ++ words ≡ fact_words fact) × (is_fact fact ≡ true)
+defined_part words None fact is e =
+    let path = bound_ok (path_of false words) (λ path. Ok (Defined path)) fact e in
+    let spelled = path_spelled false words path.0 path.1 in
+    subst (λ fact. (codes "defined " ++ words ≡ fact_words fact) × (is_fact fact ≡ true)) (ok_is (Defined path.0) fact path.2)
     (ap (λ more. codes "defined " ++ more) spelled.0, spelled.1)
+defined_part words (Some end) fact is e =
+    stretch_spelled words (take end words) (drop (suc end) words) fact (front_part words (Some end) (take end words) (drop (suc end) words) is refl) e
+
+defined_spelled : (words : List ℕ) (fact : VariableFact) → defined_fact words ≡ Ok fact
+    → (codes "defined " ++ words ≡ fact_words fact) × (is_fact fact ≡ true)
+defined_spelled words fact e = defined_part words _ fact refl e
 
 fact_spelled : (words : List ℕ) (fact : VariableFact) → fact_of words ≡ Ok fact → (words ≡ fact_words fact) × (is_fact fact ≡ true)
 fact_spelled words fact e =
-    elim (when_ok (behind (codes "defined ") words) (λ word. variable_of word >>= λ root. Ok (Defined root)) _ fact e) [
+    elim (when_ok (behind (codes "defined ") words) defined_fact _ fact e) [
       | inl found ↦
           let told = defined_spelled found.0 fact found.2 in (behind_some (codes "defined ") words found.0 found.1 ∙ told.0, told.1)
       | inr range ↦
@@ -222,5 +200,3 @@ line_spelled line claim e =
                 ]
           ]
     ]
-
--- ---- what is spelled so is read

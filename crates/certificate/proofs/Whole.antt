@@ -6,7 +6,6 @@ use Rattle.std.specs.List.{flat_map, list_all}
 use Rattle.std.specs.Result.{IsErrAnd}
 use Rattle.std.specs.Str.{bytes_eq}
 use Rattle.std.proofs.lemmas.Slice.Eq.{bytes_eq-Decides}
-use Rattle.certificate.specs.declared.claim.Claim.{Claim}
 use Rattle.certificate.specs.declared.Certificate.{Certificate}
 use Rattle.certificate.specs.declared.Version.{Version}
 use Rattle.certificate.specs.declared.Version.TheVariants.{One}
@@ -14,7 +13,7 @@ use Rattle.certificate.specs.declared.fault.ReadFault.{ReadFault}
 use Rattle.certificate.specs.declared.fault.ReadFault.TheVariants as fault
 use Rattle.certificate.specs.Building.{built, is_claim, said_line}
 use Rattle.certificate.specs.Contents.{IsReadAs, Section, are_in_order, claims_of, ended, heading, spelling}
-use Rattle.certificate.specs.Lines.{line_of}
+use Rattle.certificate.specs.Lines.{Claim, line_of}
 use Rattle.certificate.specs.Text.{Line, fault_from, fault_of_lines, first_fault, heading_fault, lines, nothing, or_else}
 use Rattle.certificate.proofs.Faults.{faultless-orderly, lines_of_claims, orderly-faultless, orderly-fits, same_claims}
 use Rattle.certificate.proofs.InOrder.{in_order, orderly}

@@ -2,23 +2,27 @@
 -- knows no certificates. It does not say what its claims mean for a program.
 use Rattle.std.specs.Prelude.{◌≡◌, ℕ, ℤ, pos, neg_ℤ, Bool, true, false, not, ◌&&◌, ◌||◌, nat_le, int_le, List, [], ◌∷◌}
 use Rattle.std.specs.Prelude.{◌++◌, map, Option, Some, None, Result, Ok, Err, codes}
-use Rattle.std.specs.List.{flat_map}
+use Rattle.std.specs.List.{flat_map, list_all}
 use Rattle.std.specs.declared.cmp.Ordering.{Ordering}
 use Rattle.std.specs.Ordering.{is_lt, int_eq, nat_cmp}
-use Rattle.domain.specs.Facts.{said, subject_order}
+use Rattle.domain.specs.Facts.{Step, Path, Bound, Elements, Field, Number, Plus, Range, Defined, Stretch, Order}
+use Rattle.domain.specs.Facts.{Fact as VariableFact, said_bound, subject_order}
 use Rattle.domain.specs.Interval.{Interval}
-use Rattle.domain.specs.declared.facts.Fact.{Fact as VariableFact}
-use Rattle.domain.specs.declared.facts.Fact.TheVariants.{Range, Defined, Order}
 use Rattle.certificate.specs.declared.Certificate.{Certificate}
 use Rattle.certificate.specs.declared.Section.{Section as KeptSection}
 use Rattle.certificate.specs.declared.LoopClaims.{LoopClaims as KeptLoop}
+use Rattle.certificate.specs.declared.facts.Step.{Step as KeptStep}
+use Rattle.certificate.specs.declared.facts.Step.TheVariants as kept_step
+use Rattle.certificate.specs.declared.facts.Path.{Path as KeptPath}
+use Rattle.certificate.specs.declared.facts.Fact.{Fact as KeptFact}
+use Rattle.certificate.specs.declared.facts.Fact.TheVariants as kept
 use Rattle.certificate.specs.declared.Version.{Version}
 use Rattle.certificate.specs.declared.Version.TheVariants.{One}
 use Rattle.certificate.specs.declared.fault.ReadFault.{ReadFault}
 use Rattle.certificate.specs.declared.fault.ReadFault.TheVariants.{Memory}
-use Rattle.certificate.specs.declared.claim.Claim.{Claim}
-use Rattle.certificate.specs.declared.claim.Claim.TheVariants.{Block, Loop, Change, Fact}
-use Rattle.certificate.specs.Lines.{line_of, most, maxint}
+use Rattle.certificate.specs.Words.{most, maxint}
+use Rattle.certificate.specs.Paths.{is_name}
+use Rattle.certificate.specs.Lines.{Claim, Block, Loop, Change, Fact, line_of}
 
 -- what is claimed of a loop: what it changes, and the facts that hold whenever a turn begins
 pub record LoopClaims : Type 0 where
@@ -32,8 +36,22 @@ pub record Section : Type 0 where
   pub loops : List LoopClaims
 
 -- what a certificate says, wherever it lies in memory
+abbrev pub said_step : KeptStep → Step
+said_step kept_step.Element = Elements
+said_step (kept_step.Field name) = Field name.items
+
+abbrev pub said_path : KeptPath → Path
+said_path path = record { root = path.root; steps = map said_step path.steps.items }
+
+abbrev pub said_fact : KeptFact → VariableFact
+said_fact (kept.Range path range) = Range (said_path path) range
+said_fact (kept.Defined path) = Defined (said_path path)
+said_fact (kept.Stretch path first last) = Stretch (said_path path) (said_bound first) (said_bound last)
+said_fact (kept.Order root other number) = Order root other number
+
 abbrev pub loop_of : KeptLoop → LoopClaims
-loop_of claims = record { number = claims.number; changes = claims.changes.items; facts = claims.facts.items }
+loop_of claims =
+    record { number = claims.number; changes = claims.changes.items; facts = map said_fact claims.facts.items }
 
 abbrev pub section_of : KeptSection → Section
 section_of section = record { block = section.block; loops = map loop_of section.loops.items }
@@ -55,10 +73,24 @@ is_constant number = int_le (neg_ℤ (pos maxint)) number && int_le number (pos 
 abbrev pub is_plain : Interval → Bool
 is_plain range = int_le range.first range.last || (int_eq range.first (pos 1) && int_eq range.last (pos 0))
 
--- the numbers of a fact are in range
+-- a step: elements where these may stand, and fields by right names
+abbrev pub is_step : (elements : Bool) → Step → Bool
+is_step elements Elements = elements
+is_step elements (Field name) = is_name name
+
+abbrev pub is_path : (elements : Bool) → Path → Bool
+is_path elements path = is_small path.root && list_all (is_step elements) path.steps
+
+abbrev pub is_bound : Bound → Bool
+is_bound (Number number) = is_constant number
+is_bound (Plus root number) = is_small root && is_constant number
+
+-- a fact has right paths, and its numbers are in range
 abbrev pub is_fact : VariableFact → Bool
-is_fact (Range root range) = is_small root && (is_constant range.first && (is_constant range.last && is_plain range))
-is_fact (Defined root) = is_small root
+is_fact (Range path range) =
+    is_path true path && (is_constant range.first && (is_constant range.last && is_plain range))
+is_fact (Defined path) = is_path false path
+is_fact (Stretch path first last) = is_path false path && (is_bound first && is_bound last)
 is_fact (Order root other number) = is_small root && (is_small other && is_constant number)
 
 -- ---- the order
@@ -74,21 +106,17 @@ are_listed order key is_right last [] = true
 are_listed order key is_right last (one ∷ more) =
     comes_behind order last (key one) && (is_right one && are_listed order key is_right (Some (key one)) more)
 
--- facts are listed by what they say something of
-abbrev pub subjects : VariableFact → VariableFact → Ordering
-subjects f g = subject_order (said f) (said g)
-
 abbrev pub is_empty : {A : Type 0} → List A → Bool
 is_empty [] = true
 is_empty (one ∷ more) = false
 
--- something is claimed of a loop: changes and facts, both in order
+-- something is claimed of a loop: changes and facts, both in order, facts by what they say something of
 abbrev pub is_loop : LoopClaims → Bool
 is_loop claims =
     is_small claims.number
     && (not (is_empty claims.changes && is_empty claims.facts)
     && (are_listed nat_cmp (λ root. root) is_small None claims.changes
-    && are_listed subjects (λ fact. fact) is_fact None claims.facts))
+    && are_listed subject_order (λ fact. fact) is_fact None claims.facts))
 
 -- something is claimed of loops of a block, in their order
 abbrev pub is_section : Section → Bool

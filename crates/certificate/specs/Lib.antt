@@ -1,3 +1,6 @@
+pub mod Words
+pub mod Paths
+pub mod Bounds
 pub mod Lines
 pub mod Contents
 pub mod Text

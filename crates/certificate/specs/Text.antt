@@ -5,17 +5,16 @@ use Rattle.std.specs.Prelude.{None, Result, Ok, Err, codes}
 use Rattle.std.specs.Str.{bytes_eq}
 use Rattle.std.specs.Option.{is_some, is_none}
 use Rattle.std.specs.Ordering.{nat_cmp}
+use Rattle.domain.specs.Facts.{Fact as VariableFact, subject_order}
 use Rattle.certificate.specs.declared.Version.TheVariants.{One}
-use Rattle.certificate.specs.declared.claim.Claim.{Claim}
-use Rattle.certificate.specs.declared.claim.Claim.TheVariants.{Block, Loop, Change, Fact}
 use Rattle.certificate.specs.declared.claim.LineFault.{LineFault}
 use Rattle.certificate.specs.declared.claim.LineFault.TheVariants as line
-use Rattle.certificate.specs.declared.order.Above.{Above}
 use Rattle.certificate.specs.declared.fault.ReadFault.{ReadFault}
 use Rattle.certificate.specs.declared.fault.ReadFault.TheVariants.{FirstLine, NotInGrammar, OutOfOrder, OutOfRange}
 use Rattle.certificate.specs.declared.fault.ReadFault.TheVariants.{Unended}
-use Rattle.certificate.specs.Lines.{behind, is_number, reading}
-use Rattle.certificate.specs.Contents.{comes_behind, heading, subjects}
+use Rattle.certificate.specs.Words.{behind, is_number}
+use Rattle.certificate.specs.Lines.{Claim, Block, Loop, Change, Fact, reading}
+use Rattle.certificate.specs.Contents.{comes_behind, heading}
 
 -- a line of a text: its bytes, and whether byte 10 ends it
 pub record Line : Type 0 where
@@ -34,6 +33,13 @@ lines (byte ∷ more) =
     if byte == 10 then record { bytes = []; ended = true } ∷ lines more else with_front byte (lines more)
 
 -- ---- where a line may stand
+
+-- what a line stands below: the last block, the last loop of it, and the last change and fact of that
+pub record Above : Type 0 where
+  pub block : Option ℕ
+  pub loop_number : Option ℕ
+  pub change : Option ℕ
+  pub fact : Option VariableFact
 
 -- below the heading of a text
 abbrev pub nothing : Above
@@ -54,7 +60,7 @@ admits above (Block number) = comes_behind nat_cmp above.block number
 admits above (Loop number) = is_some above.block && comes_behind nat_cmp above.loop_number number
 admits above (Change root) =
     is_some above.loop_number && (is_none above.fact && comes_behind nat_cmp above.change root)
-admits above (Fact fact) = is_some above.loop_number && comes_behind subjects above.fact fact
+admits above (Fact fact) = is_some above.loop_number && comes_behind subject_order above.fact fact
 
 -- a line is in the grammar as a heading of the word, whatever its number
 abbrev pub is_heading_behind : Option (List ℕ) → Bool

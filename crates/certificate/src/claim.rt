@@ -2,15 +2,16 @@ ghost use Rattle.std.specs.Prelude.{◌≡◌, ◌==◌, IsTrue, position};
 ghost use Rattle.std.specs.Char.{is_ascii_digit};
 ghost use Rattle.std.specs.List.{list_all};
 ghost use Rattle.std.specs.Result.{result_map_both};
-ghost use Rattle.certificate.specs.Lines as spec;
-ghost use Rattle.certificate.specs.Lines.{is_number};
+ghost use Rattle.certificate.specs.Building.{said_claim};
+ghost use Rattle.certificate.specs.Lines.{reading};
+ghost use Rattle.certificate.specs.Words as spec;
+ghost use Rattle.certificate.specs.Words.{is_number};
 
-use domain::facts::Fact;
-use domain::interval::Interval;
+use crate::fact_words::{FactWords, fact_of};
 
 /// What a line below the heading says.
 #[derive(Clone, Copy)]
-pub(crate) enum Claim {
+pub(crate) enum Claim<'a> {
     /// `proc N`: the lines below it are of the block of that number.
     Block(u32),
     /// `loop N`: the lines below it are of the loop of that number.
@@ -18,7 +19,7 @@ pub(crate) enum Claim {
     /// `change V`: the loop changes the variable of that root number.
     Change(u32),
     /// `fact ..`: the fact holds whenever a turn begins.
-    Fact(Fact),
+    Fact(FactWords<'a>),
 }
 
 /// Why a line says nothing.
@@ -35,8 +36,8 @@ const MOST: u32 = 999_999;
 const MAXINT: u32 = 2_147_483_647;
 
 /// What a line below the heading says.
-pub(crate) fn reading(line: &[u8]) -> Result<Claim, LineFault>
-    ensures { result ≡ spec.reading line.now }
+pub(crate) fn reading(line: &[u8]) -> Result<Claim<'_>, LineFault>
+    ensures { result_map_both said_claim (λ fault. fault) result ≡ reading line.now }
 {
     if let Some(number) = line.strip_prefix(b"proc ") {
         return Ok(Claim::Block(number_of(number)?));
@@ -47,68 +48,15 @@ pub(crate) fn reading(line: &[u8]) -> Result<Claim, LineFault>
     if let Some(root) = line.strip_prefix(b"change ") {
         return Ok(Claim::Change(variable_of(root)?));
     }
-    if let Some(fact) = line.strip_prefix(b"fact ") {
-        return Ok(Claim::Fact(fact_of(fact)?));
+    if let Some(words) = line.strip_prefix(b"fact ") {
+        let fact = fact_of(words)?;
+        return Ok(Claim::Fact(fact));
     }
     Err(LineFault::NotInGrammar)
-}
-
-/// The fact that the words behind `fact` tell.
-fn fact_of(words: &[u8]) -> Result<Fact, LineFault>
-    ensures { result ≡ spec.fact_of words.now }
-{
-    if let Some(root) = words.strip_prefix(b"defined ") {
-        let root = variable_of(root)?;
-        return Ok(Fact::Defined { root });
-    }
-    if let Some(words) = words.strip_prefix(b"range ") {
-        return range_fact(words);
-    }
-    if let Some(words) = words.strip_prefix(b"order ") {
-        return order_fact(words);
-    }
-    Err(LineFault::NotInGrammar)
-}
-
-/// The fact that a variable and two numbers tell.
-fn range_fact(words: &[u8]) -> Result<Fact, LineFault>
-    ensures { result ≡ spec.range_fact words.now }
-{
-    let (root, words) = parted(words)?;
-    let (first, last) = parted(words)?;
-    let ends = both(constant_of(first), constant_of(last));
-    range_of(both(variable_of(root), ends)?)
-}
-
-/// The fact that two variables and a number tell.
-fn order_fact(words: &[u8]) -> Result<Fact, LineFault>
-    ensures { result ≡ spec.order_fact words.now }
-{
-    let (root, words) = parted(words)?;
-    let (other, number) = parted(words)?;
-    let bound = both(variable_of(other), constant_of(number));
-    let (root, (other, number)) = both(variable_of(root), bound)?;
-    Ok(Fact::Order {
-        root,
-        other,
-        number,
-    })
-}
-
-/// A range fact: a range without a number is written 1 0.
-fn range_of(parts: (u32, (i32, i32))) -> Result<Fact, LineFault>
-    ensures { result ≡ spec.range_of parts }
-{
-    let (root, (first, last)) = parts;
-    if last < first && (first, last) != (1, 0) {
-        return Err(LineFault::OutOfRange);
-    }
-    let range = Interval::between(first, last);
-    Ok(Fact::Range { root, range })
 }
 
 /// Two parts of a line: it is not in the grammar before a number of it is out of range.
-fn both<A: Copy, B: Copy>(
+pub(crate) fn both<A: Copy, B: Copy>(
     first: Result<A, LineFault>,
     second: Result<B, LineFault>,
 ) -> Result<(A, B), LineFault>
@@ -126,7 +74,7 @@ fn both<A: Copy, B: Copy>(
 }
 
 /// What stands before the first blank, and what stands behind it.
-fn parted(words: &[u8]) -> Result<(&[u8], &[u8]), LineFault>
+pub(crate) fn parted(words: &[u8]) -> Result<(&[u8], &[u8]), LineFault>
     ensures { result_map_both (λ parts. (parts.0.now, parts.1.now)) (λ fault. fault) result ≡ spec.parted words.now }
 {
     match blank(words) {
@@ -136,14 +84,14 @@ fn parted(words: &[u8]) -> Result<(&[u8], &[u8]), LineFault>
 }
 
 /// Where the first blank stands.
-fn blank(words: &[u8]) -> Option<usize>
+pub(crate) fn blank(words: &[u8]) -> Option<usize>
     ensures { result ≡ position (λ byte. byte == 32) words.now }
 {
     words.iter().position(|byte| *byte == b' ')
 }
 
 /// A variable: `v` and its root number.
-fn variable_of(word: &[u8]) -> Result<u32, LineFault>
+pub(crate) fn variable_of(word: &[u8]) -> Result<u32, LineFault>
     ensures { result ≡ spec.variable_of word.now }
 {
     match word.strip_prefix(b"v") {
@@ -160,12 +108,26 @@ fn number_of(word: &[u8]) -> Result<u32, LineFault>
 }
 
 /// A number with or without a minus, which 0 hasn't.
-fn constant_of(word: &[u8]) -> Result<i32, LineFault>
+pub(crate) fn constant_of(word: &[u8]) -> Result<i32, LineFault>
     ensures { result ≡ spec.constant_of word.now }
 {
-    let Some(digits) = word.strip_prefix(b"-") else {
-        return Ok(at_most(MAXINT, word)? as i32);
-    };
+    match word.strip_prefix(b"-") {
+        Some(digits) => negative_of(digits),
+        None => positive_of(word),
+    }
+}
+
+/// The number of a magnitude.
+pub(crate) fn positive_of(digits: &[u8]) -> Result<i32, LineFault>
+    ensures { result ≡ spec.positive_of digits.now }
+{
+    Ok(at_most(MAXINT, digits)? as i32)
+}
+
+/// The negative of a magnitude, which isn't 0.
+pub(crate) fn negative_of(digits: &[u8]) -> Result<i32, LineFault>
+    ensures { result ≡ spec.negative_of digits.now }
+{
     match at_most(MAXINT, digits)? {
         0 => Err(LineFault::NotInGrammar),
         magnitude => Ok(-(magnitude as i32)),

@@ -1,14 +1,17 @@
 //! The text of a certificate: what a compiler is told of a program, line by line.
 #![tactic(auto)]
 
-use domain::facts::Fact;
-
+mod bounds;
 mod building;
 mod claim;
+mod fact_words;
+pub mod facts;
 pub mod fault;
 mod order;
+mod paths;
 pub mod reader;
 
+pub use facts::{Fact, Path, Step};
 pub use reader::read;
 
 /// The version that the first line of a certificate names.
@@ -42,6 +45,6 @@ pub struct LoopClaims {
     pub number: u32,
     /// The root numbers, at most 999,999, of the variables that it changes, in ascending order.
     pub changes: Vec<u32>,
-    /// What holds whenever a turn of it begins, in the order of facts: one range a variable and one order a pair.
+    /// What holds whenever a turn of it begins, in the order of facts: one range a path and one order a pair.
     pub facts: Vec<Fact>,
 }

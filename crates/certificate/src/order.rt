@@ -1,24 +1,26 @@
 ghost use Rattle.std.specs.Prelude.{◌≡◌};
-ghost use Rattle.certificate.specs.Contents.{comes_behind, subjects};
-ghost use Rattle.certificate.specs.Text.{admits, below};
 ghost use Rattle.std.specs.Ordering.{nat_cmp};
+ghost use Rattle.domain.specs.Facts.{subject_order};
+ghost use Rattle.certificate.specs.Building.{said_above, said_claim, word_fact, word_facts};
+ghost use Rattle.certificate.specs.Contents.{comes_behind};
+ghost use Rattle.certificate.specs.Text.{admits, below};
 
 use crate::claim::Claim;
-use domain::facts::Fact;
+use crate::fact_words::FactWords;
 
 /// What a line stands below: the last block, the last loop of it, and the last change and fact of that.
 #[derive(Clone, Copy)]
-pub(crate) struct Above {
+pub(crate) struct Above<'a> {
     pub(crate) block: Option<u32>,
     pub(crate) loop_number: Option<u32>,
     pub(crate) change: Option<u32>,
-    pub(crate) fact: Option<Fact>,
+    pub(crate) fact: Option<FactWords<'a>>,
 }
 
-impl Above {
+impl<'a> Above<'a> {
     /// Whether a line that says this may stand here.
-    pub(crate) fn admits(&self, claim: &Claim) -> bool
-        ensures { result ≡ admits self.now claim.now }
+    pub(crate) fn admits(&self, claim: &Claim<'_>) -> bool
+        ensures { result ≡ admits (said_above self.now) (said_claim claim.now) }
     {
         match claim {
             Claim::Block(number) => is_behind(self.block, *number),
@@ -31,8 +33,8 @@ impl Above {
     }
 
     /// Whether the fact comes behind the last one.
-    fn is_fact_behind(&self, fact: &Fact) -> bool
-        ensures { result ≡ comes_behind subjects self.now.fact fact.now }
+    fn is_fact_behind(&self, fact: &FactWords<'_>) -> bool
+        ensures { result ≡ comes_behind subject_order (word_facts self.now.fact) (word_fact fact.now) }
     {
         match &self.fact {
             None => true,
@@ -41,8 +43,8 @@ impl Above {
     }
 
     /// What the line stands below that follows a line which says this.
-    pub(crate) fn below(&self, claim: &Claim) -> Above
-        ensures { result ≡ below self.now claim.now }
+    pub(crate) fn below(&self, claim: &Claim<'a>) -> Above<'a>
+        ensures { said_above result ≡ below (said_above self.now) (said_claim claim.now) }
     {
         match claim {
             Claim::Block(number) => Above {

@@ -1,6 +1,6 @@
 ghost use Rattle.std.specs.Prelude.{◌≡◌, ◌≢◌, ◌==◌, ◌<◌, IsTrue, List, [], ◌∷◌, IfOk, length, MatchOption, position};
 ghost use Rattle.std.specs.Result.{result_err};
-ghost use Rattle.certificate.specs.Building.{AreRead, IsClaimAt};
+ghost use Rattle.certificate.specs.Building.{AreRead, IsClaimAt, said_above, said_claim};
 ghost use Rattle.certificate.specs.Contents.{IsReadAs, Section as Said, Spells, are_in_order, spelling};
 ghost use Rattle.certificate.specs.Text.{Line as TextLine, first_fault, has_below, heading_fault, is_heading, lines};
 ghost use Rattle.certificate.specs.declared.Version.{Version as TextVersion};
@@ -73,7 +73,7 @@ fn sections(alloc: Global, below: &[u8]) -> Result<Vec<Section>, ReadFault>
     while let Some((line, more)) = next_line(rest) {
         let claim = claim_at(number, &above, line, more)?;
         above = above.below(&claim);
-        add(alloc, &mut sections, claim)?;
+        add(alloc, &mut sections, &claim)?;
         number += 1;
         rest = more;
     }
@@ -81,9 +81,14 @@ fn sections(alloc: Global, below: &[u8]) -> Result<Vec<Section>, ReadFault>
 }
 
 /// What a line below the heading says, which has more lines below it.
-fn claim_at(number: u64, above: &Above, line: Line<'_>, more: &[u8]) -> Result<Claim, ReadFault>
-    ensures { IsClaimAt result number above.now (record { bytes = line.entry.bytes.now; ended = line.entry.ended })
-        (lines more.now) }
+fn claim_at<'a>(
+    number: u64,
+    above: &Above<'_>,
+    line: Line<'a>,
+    more: &[u8],
+) -> Result<Claim<'a>, ReadFault>
+    ensures { IsClaimAt result number (said_above above.now)
+        (record { bytes = line.entry.bytes.now; ended = line.entry.ended }) (lines more.now) }
 {
     if !line.ended {
         return Err(ReadFault::Unended { line: number });
@@ -105,8 +110,8 @@ fn claim_at(number: u64, above: &Above, line: Line<'_>, more: &[u8]) -> Result<C
 }
 
 /// Whether the text below a line has the line that this one needs there.
-fn has_below(claim: &Claim, text: &[u8]) -> bool
-    ensures { result ≡ has_below claim.now (lines text.now) }
+fn has_below(claim: &Claim<'_>, text: &[u8]) -> bool
+    ensures { result ≡ has_below (said_claim claim.now) (lines text.now) }
 {
     match claim {
         Claim::Change(_) | Claim::Fact(_) => true,

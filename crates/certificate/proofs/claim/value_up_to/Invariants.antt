@@ -1,5 +1,5 @@
 use Rattle.std.proofs.Common.{◌≡◌, ◌≤◌, take}
-use Rattle.certificate.specs.Lines.{value_of}
+use Rattle.certificate.specs.Words.{value_of}
 use Rattle.certificate.proofs.claim.value_up_to.Given as goal
 
 abbrev pub invariant-loop-digit : goal.invariant-loop-digit

@@ -1,0 +1,44 @@
+-- Bounds in a certificate's lines: how a bound is spelled, and what is read of a word. ISO 7185:1990 knows no bounds.
+-- It does not say what number a bound is.
+use Rattle.std.specs.Prelude.{ℕ, ℤ, pos, int_lt, Bool, ◌||◌, ◌==◌, if◌then◌else◌, List, ◌++◌, take, drop, Result, Ok}
+use Rattle.std.specs.Prelude.{Err, codes}
+use Rattle.std.specs.Fmt.{signed_decimal}
+use Rattle.std.specs.List.{position_or_len}
+use Rattle.domain.specs.Facts.{Bound, Number, Plus}
+use Rattle.certificate.specs.declared.claim.LineFault.{LineFault}
+use Rattle.certificate.specs.declared.claim.LineFault.TheVariants.{NotInGrammar}
+use Rattle.certificate.specs.Words.{◌>>=◌, behind, both, constant_of, negative_of, positive_of, variable}
+use Rattle.certificate.specs.Words.{variable_of, when}
+
+-- ---- how a bound is spelled
+
+-- a number behind its sign, which is a plus at 0
+abbrev pub offset : ℤ → List ℕ
+offset number = if int_lt number (pos 0) then signed_decimal number else codes "+" ++ signed_decimal number
+
+-- a number, or a variable and a number with its sign
+abbrev pub bound_words : Bound → List ℕ
+bound_words (Number number) = signed_decimal number
+bound_words (Plus root number) = variable root ++ offset number
+
+-- ---- what a word says
+
+-- a number behind its sign
+abbrev pub offset_of : List ℕ → Result ℤ LineFault
+offset_of word =
+    when (behind (codes "+") word) positive_of (when (behind (codes "-") word) negative_of (Err NotInGrammar))
+
+abbrev pub is_sign : ℕ → Bool
+is_sign byte = byte == 43 || byte == 45
+
+-- a variable before the first sign, and a number from there on
+abbrev pub plus_at : List ℕ → ℕ → Result Bound LineFault
+plus_at word end = do
+  parts ← both (variable_of (take end word)) (offset_of (drop end word))
+  Ok (Plus parts.0 parts.1)
+
+-- the bound that a word says
+abbrev pub bound_of : List ℕ → Result Bound LineFault
+bound_of word =
+    when (behind (codes "v") word) (λ _. plus_at word (position_or_len is_sign word))
+    (constant_of word >>= λ number. Ok (Number number))

@@ -1,0 +1,69 @@
+ghost use Rattle.std.specs.Prelude.{◌≡◌, ◌≤◌, length, position};
+ghost use Rattle.std.specs.List.{position_or_len};
+ghost use Rattle.std.specs.Result.{result_map_both};
+ghost use Rattle.domain.specs.Facts.{said_bound};
+ghost use Rattle.certificate.specs.Bounds as spec;
+ghost use Rattle.certificate.specs.Bounds.{is_sign};
+
+use crate::claim::{LineFault, both, constant_of, negative_of, positive_of, variable_of};
+use domain::facts::Bound;
+
+/// The bound that a word tells: a number, or a variable and a number with its sign.
+pub(crate) fn bound_of(word: &[u8]) -> Result<Bound, LineFault>
+    ensures { result_map_both said_bound (λ fault. fault) result ≡ spec.bound_of word.now }
+{
+    match word.strip_prefix(b"v") {
+        Some(_) => plus_at(word, sign_place(word)),
+        None => {
+            let number = constant_of(word)?;
+            Ok(Bound::Number(number))
+        }
+    }
+}
+
+/// A variable before a place, and a number from there on.
+fn plus_at(word: &[u8], place: usize) -> Result<Bound, LineFault>
+    requires { place ≤ length word.now }
+    ensures { result_map_both said_bound (λ fault. fault) result ≡ spec.plus_at word.now place }
+{
+    let root = variable_of(&word[..place]);
+    let (root, number) = both(root, offset_of(&word[place..]))?;
+    Ok(Bound::Plus { root, number })
+}
+
+/// Where the first sign stands; the end, where there is none.
+#[tactic(auto, using(crate::proofs::Pieces::place_found, crate::proofs::Pieces::place_missed))]
+fn sign_place(word: &[u8]) -> usize
+    ensures place { result ≡ position_or_len is_sign word.now }
+    ensures within { result ≤ length word.now }
+{
+    match sign_position(word) {
+        None => word.len(),
+        Some(place) => place,
+    }
+}
+
+fn sign_position(word: &[u8]) -> Option<usize>
+    ensures { result ≡ position is_sign word.now }
+{
+    word.iter().position(|byte| is_sign(*byte))
+}
+
+fn is_sign(byte: u8) -> bool
+    ensures { result ≡ is_sign byte }
+{
+    byte == b'+' || byte == b'-'
+}
+
+/// A number behind its sign.
+fn offset_of(word: &[u8]) -> Result<i32, LineFault>
+    ensures { result ≡ spec.offset_of word.now }
+{
+    if let Some(digits) = word.strip_prefix(b"+") {
+        return positive_of(digits);
+    }
+    match word.strip_prefix(b"-") {
+        Some(digits) => negative_of(digits),
+        None => Err(LineFault::NotInGrammar),
+    }
+}

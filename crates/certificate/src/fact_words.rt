@@ -1,0 +1,200 @@
+ghost use Rattle.std.specs.Prelude.{◌≡◌, IfOk};
+ghost use Rattle.std.specs.Result.{result_map_both};
+ghost use Rattle.domain.specs.Facts.{rank, subject_order};
+ghost use Rattle.certificate.specs.Building.{word_fact, word_path};
+ghost use Rattle.certificate.specs.Contents.{said_fact};
+ghost use Rattle.certificate.specs.Lines as spec;
+
+use crate::bounds::bound_of;
+use crate::claim::{LineFault, blank, both, constant_of, parted, variable_of};
+use crate::facts::Fact;
+use crate::paths::{PathWord, path_of};
+use domain::facts::Bound;
+use domain::interval::Interval;
+use std::alloc::{AllocError, Global};
+use std::cmp::Ordering;
+
+/// A fact as the words of a line tell it.
+#[derive(Clone, Copy)]
+pub(crate) enum FactWords<'a> {
+    /// `range P C C`: the range from the first number to the last.
+    Range {
+        path: PathWord<'a>,
+        first: i32,
+        last: i32,
+    },
+    /// `defined P`.
+    Defined {
+        path: PathWord<'a>,
+    },
+    /// `defined P B B`.
+    Stretch {
+        path: PathWord<'a>,
+        first: Bound,
+        last: Bound,
+    },
+    /// `order V V C`.
+    Order {
+        root: u32,
+        other: u32,
+        number: i32,
+    },
+}
+
+impl<'a> FactWords<'a> {
+    /// How the fact stands to another in the order of facts, the numbers of ranges and orders aside.
+    pub(crate) fn compare_subjects(&self, other: &FactWords<'_>) -> Ordering
+        ensures { result ≡ subject_order (word_fact self.now) (word_fact other.now) }
+    {
+        match (self, other) {
+            (FactWords::Range { path: p, .. }, FactWords::Range { path: q, .. }) => p.compare(q),
+            (FactWords::Defined { path: p }, FactWords::Defined { path: q }) => p.compare(q),
+            (
+                FactWords::Stretch {
+                    path: p,
+                    first: a,
+                    last: b,
+                },
+                FactWords::Stretch {
+                    path: q,
+                    first: c,
+                    last: d,
+                },
+            ) => p.compare(q).then(a.compare(c).then(b.compare(d))),
+            (
+                FactWords::Order {
+                    root: v,
+                    other: a,
+                    ..
+                },
+                FactWords::Order {
+                    root: w,
+                    other: b,
+                    ..
+                },
+            ) => v.cmp(w).then(a.cmp(b)),
+            _ => self.rank().cmp(&other.rank()),
+        }
+    }
+
+    /// The place of the fact's form among the forms.
+    fn rank(&self) -> u8
+        ensures { result ≡ rank (word_fact self.now) }
+    {
+        match self {
+            FactWords::Range { .. } => 0,
+            FactWords::Defined { .. } => 1,
+            FactWords::Stretch { .. } => 2,
+            FactWords::Order { .. } => 3,
+        }
+    }
+
+    /// The fact itself.
+    pub(crate) fn kept(&self, alloc: Global) -> Result<Fact, AllocError>
+        ensures { IfOk result (λ fact. said_fact fact ≡ word_fact self.now) }
+    {
+        match self {
+            FactWords::Range { path, first, last } => {
+                let path = path.kept(alloc)?;
+                let range = Interval::between(*first, *last);
+                Ok(Fact::Range { path, range })
+            }
+            FactWords::Defined { path } => {
+                let path = path.kept(alloc)?;
+                Ok(Fact::Defined { path })
+            }
+            FactWords::Stretch { path, first, last } => {
+                let path = path.kept(alloc)?;
+                Ok(Fact::Stretch {
+                    path,
+                    first: *first,
+                    last: *last,
+                })
+            }
+            FactWords::Order {
+                root,
+                other,
+                number,
+            } => Ok(Fact::Order {
+                root: *root,
+                other: *other,
+                number: *number,
+            }),
+        }
+    }
+}
+
+/// The fact that the words behind `fact` tell.
+pub(crate) fn fact_of(words: &[u8]) -> Result<FactWords<'_>, LineFault>
+    ensures { result_map_both word_fact (λ fault. fault) result ≡ spec.fact_of words.now }
+{
+    if let Some(words) = words.strip_prefix(b"defined ") {
+        return defined_fact(words);
+    }
+    if let Some(words) = words.strip_prefix(b"range ") {
+        return range_fact(words);
+    }
+    if let Some(words) = words.strip_prefix(b"order ") {
+        return order_fact(words);
+    }
+    Err(LineFault::NotInGrammar)
+}
+
+/// The fact that a path and two numbers tell.
+fn range_fact(words: &[u8]) -> Result<FactWords<'_>, LineFault>
+    ensures { result_map_both word_fact (λ fault. fault) result ≡ spec.range_fact words.now }
+{
+    let (path, words) = parted(words)?;
+    let (first, last) = parted(words)?;
+    let ends = both(constant_of(first), constant_of(last));
+    let (path, (first, last)) = both(path_of(true, path), ends)?;
+    range_of(path, first, last)
+}
+
+/// A range fact: a range without a number is written 1 0.
+fn range_of(path: PathWord<'_>, first: i32, last: i32) -> Result<FactWords<'_>, LineFault>
+    ensures { result_map_both word_fact (λ fault. fault) result ≡ spec.range_of (word_path path.entry, (first, last)) }
+{
+    if last < first && (first, last) != (1, 0) {
+        return Err(LineFault::OutOfRange);
+    }
+    Ok(FactWords::Range { path, first, last })
+}
+
+/// The fact that a path tells, alone or with two bounds.
+fn defined_fact(words: &[u8]) -> Result<FactWords<'_>, LineFault>
+    ensures { result_map_both word_fact (λ fault. fault) result ≡ spec.defined_fact words.now }
+{
+    match blank(words) {
+        None => {
+            let path = path_of(false, words)?;
+            Ok(FactWords::Defined { path })
+        }
+        Some(end) => stretch_fact(&words[..end], &words[end + 1..]),
+    }
+}
+
+/// The fact that a path and two bounds tell.
+fn stretch_fact<'a>(path: &'a [u8], bounds: &'a [u8]) -> Result<FactWords<'a>, LineFault>
+    ensures { result_map_both word_fact (λ fault. fault) result ≡ spec.stretch_fact path.now bounds.now }
+{
+    let (first, last) = parted(bounds)?;
+    let bounds = both(bound_of(first), bound_of(last));
+    let (path, (first, last)) = both(path_of(false, path), bounds)?;
+    Ok(FactWords::Stretch { path, first, last })
+}
+
+/// The fact that two variables and a number tell.
+fn order_fact(words: &[u8]) -> Result<FactWords<'_>, LineFault>
+    ensures { result_map_both word_fact (λ fault. fault) result ≡ spec.order_fact words.now }
+{
+    let (root, words) = parted(words)?;
+    let (other, number) = parted(words)?;
+    let bound = both(variable_of(other), constant_of(number));
+    let (root, (other, number)) = both(variable_of(root), bound)?;
+    Ok(FactWords::Order {
+        root,
+        other,
+        number,
+    })
+}
