@@ -14,9 +14,9 @@ use Rattle.syntax_tree.specs.declared.TypeDenoter.{TypeDenoter}
 use Rattle.syntax_tree.specs.declared.TypeDenoter.TheVariants as denoter
 use Rattle.syntax_tree.specs.declared.VariableGroup.{VariableGroup}
 use Rattle.types.specs.declared.form.TypeForm.{TypeForm}
-use Rattle.types.specs.declared.form.TypeForm.TheVariants.{Enumeration}
+use Rattle.types.specs.declared.form.TypeForm.TheVariants.{Enumeration, Subrange, Array}
 use Rattle.types.specs.declared.form.TypeId.{TypeId}
-use Rattle.types.specs.Types.{integer, admitted, cells_of, most_cells}
+use Rattle.types.specs.Types.{integer, char, admitted, cells_of, most_cells}
 use Rattle.scopes.specs.Scopes.{Region, Knows, found, define}
 use Rattle.scopes.specs.declared.denotation.Denotation.{Denotation}
 use Rattle.scopes.specs.declared.denotation.Denotation.TheVariants as denotes
@@ -26,10 +26,10 @@ use Rattle.typed_tree.specs.declared.fault.TypeFault.TheVariants as fault
 use Rattle.typed_tree.specs.Look.{Look}
 use Rattle.typing.specs.Names.{folded, group_names, type_names}
 use Rattle.typing.specs.Passing.{Passed, Checked, After, Passing, after, and_then, behind_marks, given, pure, each, ◌>>=◌, ◌>>◌, ◌>>?◌}
-use Rattle.typing.specs.Steps.{told, pass, find, declare, added, add_type, latest, give_output, next_root, reserve}
-use Rattle.typing.specs.Constants.{as_constant, behind_sign, unsigned_constant, constant}
-use Rattle.typing.specs.Expressions.{fits}
-use Rattle.typing.specs.Denoters.{named_type, type_of_name, value_of, constants_from, enumeration, between, subrange, denoted_type}
+use Rattle.typing.specs.Steps.{told, fits, value_of, pass, find, declare, added, add_type, keep_text, latest, give_output, next_root, reserve}
+use Rattle.typing.specs.Strings.{string_characters, string_type, string_constant}
+use Rattle.typing.specs.Constants.{as_constant, as_ordinal, behind_sign, unsigned_constant, constant, ordinal_constant}
+use Rattle.typing.specs.Denoters.{named_type, type_of_name, constants_from, enumeration, between, subrange, denoted_type}
 use Rattle.typing.specs.Typing.{definition, type_definition, parameter_of_program, variable, group}
 use Rattle.declarations.specs.Known.{AreKnown, AreKnownDefinitions, AreKnownTypes, AreKnownGroups}
 
@@ -88,21 +88,64 @@ find_keeps name old other known = by (told name.place (found old.regions (folded
     by (Ok denotation) = known
     by (Err why) = tt
 
+given_keeps : {A : Type 0} (checked : Checked A) → Keeps (given checked)
+given_keeps (Ok answer) old name known = known
+given_keeps (Err why) old name known = tt
+
+pub add_type_keeps : (place : Place) (form : TypeForm) → Keeps (add_type place form)
+unfolding add_type
+add_type_keeps place form old name known = by (added place (admitted old.types form))
+  where
+    by : (outcome : Checked TypeId) → Leaves name (and_then outcome (λ id. Ok (after id [] (record old { types = old.types ++ form ∷ [] }))))
+    by (Ok id) = known
+    by (Err why) = tt
+
+string_type_keeps : (place : Place) (n : ℕ) → Keeps (string_type place n)
+unfolding string_type
+string_type_keeps place n =
+    then_keeps (given (value_of n place)) (λ last. add_type place (Subrange integer (pos 1) last) >>= (λ index. add_type place (Array true index char)))
+    (given_keeps (value_of n place)) λ last.
+    then_keeps (add_type place (Subrange integer (pos 1) last)) (λ index. add_type place (Array true index char))
+    (add_type_keeps place (Subrange integer (pos 1) last)) λ index.
+    add_type_keeps place (Array true index char)
+
+-- two or more characters
+text_keeps : (place : Place) (cs : List ℕ)
+    → Keeps (string_type place (length cs) >>= (λ type_id. keep_text cs >>= (λ number. pure (denotes.Text number type_id))))
+unfolding keep_text
+text_keeps place cs =
+    then_keeps (string_type place (length cs)) (λ type_id. keep_text cs >>= (λ number. pure (denotes.Text number type_id)))
+    (string_type_keeps place (length cs)) λ type_id.
+    then_keeps (keep_text cs) (λ number. pure (denotes.Text number type_id)) (λ old name known. known) (λ number old name known. known)
+
+string_constant_keeps : (place : Place) (cs : List ℕ) → Keeps (string_constant place cs)
+unfolding string_constant
+string_constant_keeps place [] = text_keeps place []
+string_constant_keeps place (c ∷ []) = λ old name known. known
+string_constant_keeps place (c ∷ d ∷ cs) = text_keeps place (c ∷ d ∷ cs)
+
 unsigned_keeps : (value : ConstantValue) → Keeps (unsigned_constant value)
 unfolding unsigned_constant pass
 unsigned_keeps (written.Number value place) =
-    checks_keep (pass place) (λ _ _. fits (nat_le value 2147483647) place (pos value, integer)) (λ old name known. known)
+    checks_keep (pass place) (λ _ _. fits (nat_le value 2147483647) place (denotes.Constant (pos value) integer)) (λ old name known. known)
+unsigned_keeps (written.String text place) =
+    then_keeps (pass place >> given (string_characters place text.now)) (string_constant place)
+    (then_keeps (pass place) (λ _. given (string_characters place text.now)) (λ old name known. known) (λ _. given_keeps (string_characters place text.now)))
+    (string_constant_keeps place)
 unsigned_keeps (written.Name name) = checks_keep (find name) (λ _ d. as_constant name.place d) (find_keeps name)
 
 pub constant_keeps : (c : Constant) → Keeps (constant c)
 unfolding constant
 constant_keeps c = checks_keep (unsigned_constant c.value) (λ _ unsigned. behind_sign c.sign unsigned) (unsigned_keeps c.value)
 
+ordinal_keeps : (c : Constant) → Keeps (ordinal_constant c)
+unfolding ordinal_constant
+ordinal_keeps c = checks_keep (constant c) (λ _ d. Ok (as_ordinal d)) (constant_keeps c)
+
 pub definition_keeps : (d : ConstantDefinition) → Keeps (definition d)
 unfolding definition
 definition_keeps d =
-    then_keeps (constant d.value) (λ c. declare d.name (denotes.Constant c.0 c.1)) (constant_keeps d.value)
-    (λ c. declare_keeps d.name (denotes.Constant c.0 c.1))
+    then_keeps (constant d.value) (λ c. declare d.name c) (constant_keeps d.value) (λ c. declare_keeps d.name c)
 
 reserve_keeps : (place : Place) (type_id : TypeId) → Keeps (reserve place type_id)
 unfolding reserve
@@ -129,18 +172,6 @@ variable_keeps type_id name =
     then_keeps next_root (λ root. declare name (denotes.Variable root type_id) >> reserve name.place type_id) (λ old other known. known)
     (λ root. then_keeps (declare name (denotes.Variable root type_id)) (λ _. reserve name.place type_id)
     (declare_keeps name (denotes.Variable root type_id)) (λ _. reserve_keeps name.place type_id))
-
-given_keeps : {A : Type 0} (checked : Checked A) → Keeps (given checked)
-given_keeps (Ok answer) old name known = known
-given_keeps (Err why) old name known = tt
-
-pub add_type_keeps : (place : Place) (form : TypeForm) → Keeps (add_type place form)
-unfolding add_type
-add_type_keeps place form old name known = by (added place (admitted old.types form))
-  where
-    by : (outcome : Checked TypeId) → Leaves name (and_then outcome (λ id. Ok (after id [] (record old { types = old.types ++ form ∷ [] }))))
-    by (Ok id) = known
-    by (Err why) = tt
 
 type_of_name_keeps : (names : List Name) (name : Name) → Keeps (type_of_name names name)
 unfolding type_of_name
@@ -183,9 +214,10 @@ enumeration_keeps names =
 subrange_keeps : (first : Constant) (place : Place) (last : Constant) → Keeps (subrange first place last)
 unfolding subrange
 subrange_keeps first place last =
-    then_keeps (constant first) (λ f. (constant last >>? (λ types l. between types place f l)) >>= (λ form. add_type place form)) (constant_keeps first) λ f.
-    then_keeps (constant last >>? (λ types l. between types place f l)) (λ form. add_type place form)
-    (checks_keep (constant last) (λ types l. between types place f l) (constant_keeps last)) λ form.
+    then_keeps (ordinal_constant first) (λ f. (ordinal_constant last >>? (λ types l. between types place f l)) >>= (λ form. add_type place form))
+    (ordinal_keeps first) λ f.
+    then_keeps (ordinal_constant last >>? (λ types l. between types place f l)) (λ form. add_type place form)
+    (checks_keep (ordinal_constant last) (λ types l. between types place f l) (ordinal_keeps last)) λ form.
     add_type_keeps place form
 
 pub denoted_type_keeps : (names : List Name) (denoter : TypeDenoter) → Keeps (denoted_type names denoter)

@@ -1,5 +1,5 @@
 -- Names that are known together are known in parts; and the constants of an enumerated type, one after another.
-use Rattle.std.proofs.Common.{◌≡◌, ◌∙◌, ℕ, ℤ, ◌+◌, ◌<◌, ◌≤◌, List, [], ◌∷◌, ◌++◌, All, drop, length, get_or, Ok, Err, inl, inr, sym, ap}
+use Rattle.std.proofs.Common.{◌≡◌, ◌∙◌, ℕ, ℤ, ◌+◌, ◌<◌, ◌≤◌, List, [], ◌∷◌, ◌++◌, drop, length, get_or, Ok, Err, inl, inr, sym, ap}
 use Rattle.std.proofs.lemmas.List.{drop_more, at_drop_all}
 use Rattle.std.proofs.lemmas.List.Elements.{All-cons, All-head, All-nil, All-tail}
 use Rattle.syntax_tree.specs.declared.Name.{Name}
@@ -7,12 +7,12 @@ use Rattle.types.specs.declared.form.TypeId.{TypeId}
 use Rattle.scopes.specs.Scopes.{Region, Knows}
 use Rattle.scopes.specs.declared.denotation.Denotation.TheVariants as denotes
 use Rattle.typed_tree.specs.declared.fault.TypeFault.{TypeFault}
-use Rattle.typing.specs.Denoters.{value_of, constants_from}
+use Rattle.typing.specs.Denoters.{constants_from}
 use Rattle.typing.specs.Names.{folded}
 use Rattle.typing.specs.Outcomes.{IsFault}
 use Rattle.typing.specs.Passing.{Passed, Checked, After, after, and_then, behind_marks}
-use Rattle.typing.specs.Steps.{declare}
-use Rattle.typing.proofs.Rows.{behind_nothing, behind_fault}
+use Rattle.typing.specs.Steps.{value_of, declare}
+use Rattle.typing.proofs.Rows.{behind_nothing}
 use Rattle.declarations.specs.Known.{AreKnown}
 
 module _ (regions : List Region) where

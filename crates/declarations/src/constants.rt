@@ -5,7 +5,6 @@ ghost use Rattle.typing.specs.Passing.{each};
 ghost use Rattle.typing.specs.Typing as spec;
 ghost use Rattle.declarations.specs.Known.{AreKnownDefinitions};
 
-use scopes::Denotation;
 use syntax_tree::ConstantDefinition;
 use typed_tree::fault::TypeFault;
 use typing::Typer;
@@ -30,6 +29,6 @@ fn declare_constant(typer: &mut Typer, definition: &ConstantDefinition) -> Resul
     requires known { Knows typer.old.regions (folded definition.now.name.text.now) }
     ensures { Takes (spec.definition definition.now typer.old) result typer.new }
 {
-    let (value, type_id) = typer.constant(&definition.value)?;
-    typer.declare(&definition.name, Denotation::Constant { value, type_id })
+    let denotation = typer.constant(&definition.value)?;
+    typer.declare(&definition.name, denotation)
 }

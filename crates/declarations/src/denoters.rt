@@ -66,8 +66,8 @@ fn subrange(
 ) -> Result<TypeId, TypeFault>
     ensures { Takes (spec.subrange first.now between last.now typer.old) result typer.new }
 {
-    let first = typer.constant(first)?;
-    let last = typer.constant(last)?;
+    let first = typer.ordinal_constant(first)?;
+    let last = typer.ordinal_constant(last)?;
     let form = typer.between(between, first, last)?;
     typer.add_type(between, form)
 }

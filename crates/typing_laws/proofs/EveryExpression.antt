@@ -14,7 +14,8 @@ use Rattle.typing.specs.Expressions.{Written, WrittenActual, WrittenLink, expres
 use Rattle.typing.specs.Expressions.{links, only, without_width}
 use Rattle.typing_laws.proofs.Covers.{Covers, covers_more}
 use Rattle.typing_laws.proofs.Steps.{Does, IsKnown, sited}
-use Rattle.typing_laws.proofs.Expressions.{LawfulWritten, LawfulLink, Types, number_does, string_does, named_does, parenthesized_does, negation_does, signed_does}
+use Rattle.typing_laws.proofs.Expressions.{LawfulWritten, LawfulLink, Types, number_does, string_does, named_does, parenthesized_does, negation_does}
+use Rattle.typing_laws.proofs.Expressions.{signed_does}
 use Rattle.typing_laws.proofs.Operators.{link_does, links_none, links_more, chain_does, call_does}
 
 module _ (variables : ℕ) where

@@ -26,9 +26,8 @@ use Rattle.typing_laws.proofs.Sound.{IsSound}
 use Rattle.typing_laws.proofs.Covers.{AreAbove, Covers, Leads, leads_first, leads_more, leads_covers}
 use Rattle.typing_laws.proofs.Grown.{both_true}
 use Rattle.typing_laws.proofs.Strings.{fit_is, all_of_char, char_whole, string_type_does}
-use Rattle.typing_laws.proofs.Steps.{Does, Anything, Nothing, joins, quietly, last, checks, sited, mark_does, text_at_does, pass_does, pure_does, given_does, fail_does, find_does, enter_does}
-use Rattle.typing_laws.proofs.Steps.{host_type_does}
-use Rattle.typing_laws.proofs.Steps.{site_does, led, IsKnown, behind_does}
+use Rattle.typing_laws.proofs.Steps.{Does, Anything, Nothing, joins, quietly, last, checks, sited, mark_does, text_at_does, pass_does, pure_does, given_does}
+use Rattle.typing_laws.proofs.Steps.{fail_does, find_does, enter_does, host_type_does, site_does, led, IsKnown, behind_does}
 
 -- ---- the leading site
 
@@ -89,7 +88,8 @@ module _ (variables : ℕ) where
 
   -- two or more characters
   text_does : (place : Place) (id : Option ℕ) {least : ℕ} (cs : List ℕ) → IsKnown id least → list_all is_character cs ≡ true
-      → Does variables least Nothing (string_type place (length cs) >>= (λ type_id. enter_as (λ n. Text n cs) >> pure (typed_string type_id (length cs) id))) Types
+      → Does variables least Nothing
+      (string_type place (length cs) >>= (λ type_id. enter_as (λ n. Text n cs) >> pure (typed_string type_id (length cs) id))) Types
   text_does place id {least} cs known all =
       quietly (string_type_does place (length cs)) λ type_id _ some few.
       quietly (enter_does (λ n. Text n cs) (λ n. refl) (λ n. refl) (λ n m h. both_true _ _ few all)) λ _ _ more _.

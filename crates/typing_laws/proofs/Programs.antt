@@ -66,7 +66,9 @@ grown_lawful program s a r g = record {
   few_variables = omega (arith, kept, r.declared, r.room);
   declared = ap (list_all (λ variable. nat_eq variable.block 0)) g.variables_kept ∙ r.by_program;
   few_sites = g.few_sites;
-  scalar = subst (λ variables. HaveScalarVariables variables a.passed.types) (sym g.variables_kept) (cells s.variables (variables_later g.types s.variables r.one_cell));
+  scalar =
+      subst (λ variables. HaveScalarVariables variables a.passed.types) (sym g.variables_kept)
+      (cells s.variables (variables_later g.types s.variables r.one_cell));
   by_place = λ order.
       subst AreByPlace (sym (g.sites ∙ ap (λ l. l ++ g.added) r.sites))
       (covers_by_place (program_places program) g.added order (program_covers program g.added g.covered));

@@ -36,7 +36,8 @@ use Rattle.typing.specs.Steps.{fits, or_mismatch}
 use Rattle.typing.specs.declared.typed.Typed.{Typed}
 use Rattle.typing.specs.Expressions.{Written, WrittenActual, is_of, expression, written_actual}
 use Rattle.typing.specs.Statements.{as_variable, fitting, assignment, as_procedure, ends_line, is_output, names_file, unless_wide, is_file, written_values}
-use Rattle.typing.specs.Statements.{has_values, representation_of, written_as, measured, width, parameter, write, procedure_call, compound, condition, alternative, tested, choice, while_loop}
+use Rattle.typing.specs.Statements.{has_values, representation_of, written_as, measured, width, parameter, write, procedure_call, compound, condition}
+use Rattle.typing.specs.Statements.{alternative, tested, choice, while_loop}
 use Rattle.typing.specs.Statements.{repeat_loop, way, bound, for_head, for_body, for_loop, case_arms, case_head, case_body, case_statement, statement_step}
 use Rattle.typing.specs.Statements.{statement}
 use Rattle.typing_laws.proofs.Sound.{IsSound}

@@ -10,6 +10,6 @@ declare-requires c =
     let d = c.args.definition.now in
     let new = c.constant.new.self in
     record {
-      known = still_known (constant d.value) (constant_keeps d.value) (c.in_ok-value.value, c.in_ok-value.type_id) [] c.args.typer.now new
-          c.in_ok-value.ensures (folded d.name.text.now) c.requires.known;
+      known = still_known (constant d.value) (constant_keeps d.value) c.in_ok-denotation.denotation [] c.args.typer.now new
+          c.in_ok-denotation.ensures (folded d.name.text.now) c.requires.known;
     }

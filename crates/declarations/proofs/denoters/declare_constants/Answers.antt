@@ -1,4 +1,4 @@
-use Rattle.std.proofs.Common.{rules, ◌≡◌, ◌∙◌, ℤ, [], Ok, ap, sym, to_z, of_z, w32}
+use Rattle.std.proofs.Common.{rules, ◌≡◌, ◌∙◌, [], Ok, ap, sym, to_z, of_z, w32}
 use Rattle.std.proofs.lemmas.Int.{to_z-of_z}
 use Rattle.std.proofs.lemmas.List.{get_or_default}
 use Rattle.declarations.proofs.Kept.{declare_keeps, names_stay}
