@@ -1,7 +1,7 @@
 -- Where a condition had a truth value, what is known of its branch holds: an induction over expressions, which change
 -- no variable.
-use Rattle.std.proofs.Common.{arith, ◌≡◌, ◌∙◌, sym, ap, ap₂, refl, subst, ℕ, ℤ, pos, ◌+ℤ◌, ◌-ℤ◌, ◌*ℤ◌, neg_ℤ, int_div, int_le, Bool, true, false, not, ◌&&◌}
-use Rattle.std.proofs.Common.{◌||◌, cond, List, [], ◌∷◌, ◌++◌, map, Option, Some, None}
+use Rattle.std.proofs.Common.{arith, ◌≡◌, ◌∙◌, sym, ap, ap₂, refl, subst, ℕ, ℤ, pos, ◌+ℤ◌, ◌-ℤ◌, ◌*ℤ◌, neg_ℤ, int_div, int_le, int_lt, Bool, true, false, not}
+use Rattle.std.proofs.Common.{◌&&◌, ◌||◌, cond, List, [], ◌∷◌, ◌++◌, map, Option, Some, None}
 use Rattle.std.specs.List.{list_all}
 use Rattle.std.specs.Int.{int_rem_euclid}
 use Rattle.std.specs.Ordering.{int_eq}
@@ -12,17 +12,19 @@ use Rattle.typed_tree.specs.declared.tree.Monadic.TheVariants as monadic
 use Rattle.typed_tree.specs.declared.tree.Dyadic.{Dyadic}
 use Rattle.typed_tree.specs.declared.tree.Dyadic.TheVariants as dyadic
 use Rattle.typed_tree.specs.declared.tree.Relation.{Relation}
+use Rattle.typed_tree.specs.declared.tree.Whole.{Whole}
+use Rattle.typed_tree.specs.declared.tree.Whole.TheVariants.{Text}
 use Rattle.typed_tree.specs.declared.tree.Expr.{Expr}
 use Rattle.typed_tree.specs.declared.tree.Link.{Link}
 use Rattle.typed_tree.specs.declared.tree.Expr.TheOpen.{Expr-F, Link-F}
 use Rattle.typed_tree.specs.declared.tree.Expr.TheViews.{roll-Expr, roll-Link}
-use Rattle.typed_tree.specs.declared.tree.Expr.TheOpen.Expr-F.{Constant, Variable, Monadic as MonadicOf, Chain}
+use Rattle.typed_tree.specs.declared.tree.Expr.TheOpen.Expr-F.{Constant, Variable, Monadic as MonadicOf, Chain, Compare}
 use Rattle.typed_tree.specs.declared.tree.Expr.TheFolds.{map-Expr, map-Link, fold-roll-Expr, fold-roll-Link, ind-Expr}
 use Rattle.domain.specs.Interval.{Interval, HasMember, always_true, never_true, has_number}
 use Rattle.domain.specs.Facts.{Bound}
 use Rattle.meaning.specs.declared.store.Value.{Value}
 use Rattle.meaning.specs.declared.store.Value.TheVariants.{Number}
-use Rattle.meaning.specs.Integers.{integer_or_none, is_integer_number, is_odd, is_true, magnitude, truth}
+use Rattle.meaning.specs.Integers.{integer_or_none, is_integer_number, is_odd, is_true, is_within, magnitude, truth}
 use Rattle.meaning.specs.Store.{Environment, Place, Store, held}
 use Rattle.meaning.specs.Effect as effect
 use Rattle.meaning.specs.Effect.{Reply, Gives, Stops, and_then}
@@ -95,6 +97,10 @@ sign-form (Literal k) monadic.Not moment n w s t is gives = tt
 sign-form (Literal k) monadic.Abs moment n w s t is gives = tt
 sign-form (Literal k) (monadic.Sqr overflow) moment n w s t is gives = tt
 sign-form (Literal k) monadic.Odd moment n w s t is gives = tt
+sign-form (Literal k) monadic.Ord moment n w s t is gives = tt
+sign-form (Literal k) (monadic.Chr no_char) moment n w s t is gives = tt
+sign-form (Literal k) (monadic.Succ no_successor last) moment n w s t is gives = tt
+sign-form (Literal k) (monadic.Pred no_predecessor first) moment n w s t is gives = tt
 sign-form (Signed k) operation moment n w s t is gives = tt
 sign-form (Entire root) operation moment n w s t is gives = tt
 sign-form (Moved root k) operation moment n w s t is gives = tt
@@ -108,6 +114,13 @@ whole-gives overflow n w s t is =
     let same = given-same (Number n) w s t passed.1 in
     (sym same.0, sym same.1)
 
+-- behind a test
+tested-kept : (test : Bool) (site : ℕ) (v w : Value) (s t : effect.State)
+    → effect.◌>>=◌ (effect.require test site) (λ done. effect.give v) s ≡ Gives w t → t ≡ s
+tested-kept test site v w s t is =
+    let passed = required test site s t (λ done. effect.give v) w is in
+    sym (given-same v w s t passed.1).1
+
 operated-kept : (operation : Monadic) (v w : Value) (s t : effect.State) → meaning.operated operation v s ≡ Gives w t → t ≡ s
 operated-kept monadic.Plus (Number n) w s t is = sym (given-same (Number n) w s t is).1
 operated-kept monadic.Minus (Number n) w s t is = sym (given-same (Number (neg_ℤ n)) w s t is).1
@@ -115,6 +128,10 @@ operated-kept monadic.Not (Number n) w s t is = sym (given-same (Number (truth (
 operated-kept monadic.Abs (Number n) w s t is = sym (given-same (Number (magnitude n)) w s t is).1
 operated-kept (monadic.Sqr overflow) (Number n) w s t is = (whole-gives overflow (n *ℤ n) w s t is).1
 operated-kept monadic.Odd (Number n) w s t is = sym (given-same (Number (truth (is_odd n))) w s t is).1
+operated-kept monadic.Ord (Number n) w s t is = sym (given-same (Number n) w s t is).1
+operated-kept (monadic.Chr no_char) (Number n) w s t is = tested-kept (is_within (pos 0) (pos 127) n) no_char (Number n) w s t is
+operated-kept (monadic.Succ no_successor last) (Number n) w s t is = tested-kept (int_lt n last) no_successor (Number (n +ℤ pos 1)) w s t is
+operated-kept (monadic.Pred no_predecessor first) (Number n) w s t is = tested-kept (int_lt first n) no_predecessor (Number (n -ℤ pos 1)) w s t is
 
 -- what is known of the result of an operation on two operands
 abbrev pub IsResult : Dyadic → ℤ → ℤ → Value → Type 0
@@ -383,6 +400,10 @@ monadic-known monadic.Minus condition variables env store n w s t refines is sta
 monadic-known monadic.Abs condition variables env store n w s t refines is state known = known
 monadic-known (monadic.Sqr overflow) condition variables env store n w s t refines is state known = known
 monadic-known monadic.Odd condition variables env store n w s t refines is state known = known
+monadic-known monadic.Ord condition variables env store n w s t refines is state known = known
+monadic-known (monadic.Chr no_char) condition variables env store n w s t refines is state known = known
+monadic-known (monadic.Succ no_successor last) condition variables env store n w s t refines is state known = known
+monadic-known (monadic.Pred no_predecessor first) condition variables env store n w s t refines is state known = known
 
 monadic-evaluates : (operation : Monadic) (condition : Condition) (env : Environment) (s u t : effect.State) (a w : Value)
     → Evaluates env condition s.store u.store a → meaning.operated operation a u ≡ Gives w t
@@ -457,6 +478,22 @@ abbrev entered : ℕ → Environment → effect.State → effect.State
 entered number env s =
     record s { visited = s.visited ++ record { number = number; environment = env; store = s.store } ∷ [] }
 
+-- a string changes no variable
+whole-kept : (value : Whole) (env : Environment) (s t : effect.State) (row : List ℤ) → meaning.whole_of value env s ≡ Gives row t → t.store ≡ s.store
+whole-kept (Text number characters) env s t row is =
+    ap (λ (x : effect.State). x.store) (sym (given-same (map pos characters.items) row (entered number env s) t is).1)
+
+compare-evaluates : (number : ℕ) (relation : Relation) (left right : Whole) (env : Environment) (s t : effect.State) (v : Value)
+    → meaning.value_step (Compare number relation left right) env s ≡ Gives v t → t.store ≡ s.store
+compare-evaluates number relation left right env s t v is =
+    let behind : List ℤ → effect.Action Value =
+    λ a. effect.◌>>=◌ (effect.enter number env) (λ done. effect.◌>>=◌ (meaning.whole_of right env) (λ b. effect.give (meaning.compared relation a b))) in
+    let first = then-gives (meaning.whole_of left env s) behind v t is in
+    let start = entered number env first.1 in
+    let second = then-gives (meaning.whole_of right env start) (λ b. effect.give (meaning.compared relation first.0 b)) v t first.3 in
+    ap (λ (x : effect.State). x.store) (sym (given-same (meaning.compared relation first.0 second.0) v second.1 t second.3).1)
+    ∙ whole-kept right env start second.1 second.0 second.2 ∙ whole-kept left env s first.1 first.0 first.2
+
 value-layer : (y : Expr-F ProvedExpr ProvedLink) → ExprLayer (map-Expr ProvedExpr ProvedLink Expr Link (λ e. e.0) (λ l. l.0) y)
 value-layer (Constant number value) env s t v is =
     let same = given-same (Number value) v (entered number env s) t is in
@@ -479,6 +516,11 @@ value-layer (MonadicOf number operation operand) env s t v is =
 value-layer (Chain first rest) env s t v is =
     let step = then-gives (value_of first.value.0 env s) (turns rest.items env) v t is in
     chain-evaluates (condition_of first.value.0) rest.items env s step.1 t step.0 v (first.value.1 env s step.1 step.0 step.2) step.3
+value-layer (Compare number relation left right) env s t v is = record {
+  store_is = compare-evaluates number relation left right env s t v is;
+  form_is = tt;
+  refines = λ variables state known. known;
+}
 
 link-layer : (y : Link-F ProvedExpr ProvedLink) → LinkLayer (map-Link ProvedExpr ProvedLink Expr Link (λ e. e.0) (λ l. l.0) y)
 link-layer y env s t left result is =

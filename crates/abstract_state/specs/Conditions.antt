@@ -14,12 +14,13 @@ use Rattle.typed_tree.specs.declared.tree.Expr.{Expr}
 use Rattle.typed_tree.specs.declared.tree.Link.{Link}
 use Rattle.typed_tree.specs.declared.tree.Expr.TheOpen.{Expr-F, Link-F}
 use Rattle.typed_tree.specs.declared.tree.Expr.TheOpen.Expr-F.{Constant, Variable, Monadic as MonadicOf, Chain}
+use Rattle.typed_tree.specs.declared.tree.Expr.TheOpen.Expr-F.{Compare}
 use Rattle.typed_tree.specs.declared.tree.Expr.TheFolds.{fold-Expr, fold-Link}
 use Rattle.domain.specs.Interval.{Interval, always_true, at_least, at_most, never_true}
 use Rattle.domain.specs.Facts.{Bound, Number, Plus}
 use Rattle.abstract_state.specs.State.{State, Dead, bound_range, range_of, unless_empty, with_range}
 use Rattle.abstract_state.specs.Changes.{ordered, with_some}
-use Rattle.abstract_state.specs.Forms.{Form, Literal, Entire, Operand, bound_of, chain_form, sign_form}
+use Rattle.abstract_state.specs.Forms.{Form, Literal, Entire, Other, Operand, bound_of, chain_form, sign_form}
 
 -- ---- bounds
 
@@ -160,6 +161,7 @@ condition_step (Chain first rest) = record {
   form = chain_form first.value.form (map operand_of rest.items);
   refined = chain_refined first.value rest.items;
 }
+condition_step (Compare number relation left right) = record { form = Other; refined = λ truth state. state }
 
 -- an expression as a condition
 abbrev pub condition_of : Expr → Condition

@@ -41,7 +41,7 @@ impl State {
         ensures { IfOk result (λ _. viewed self.new ≡ refined truth condition.now (viewed self.old)) }
     {
         match condition {
-            Expr::Constant { .. } | Expr::Variable { .. } => Ok(()),
+            Expr::Constant { .. } | Expr::Variable { .. } | Expr::Compare { .. } => Ok(()),
             Expr::Monadic {
                 operation: Monadic::Not,
                 operand,

@@ -24,6 +24,7 @@ pub fn bound_form(expression: &Expr) -> Option<Bound>
             ..
         } => number(signed(*operation, literal(operand))),
         Expr::Chain { first, rest } => chain_bound(first, rest),
+        Expr::Compare { .. } => None,
     }
 }
 
@@ -88,6 +89,7 @@ fn constant(expression: &Expr) -> Option<i32>
             ..
         } => signed(*operation, literal(operand)),
         Expr::Chain { .. } => None,
+        Expr::Compare { .. } => None,
     }
 }
 
@@ -102,6 +104,10 @@ fn signed(operation: Monadic, literal: Option<i32>) -> Option<i32>
         Monadic::Abs => None,
         Monadic::Sqr { .. } => None,
         Monadic::Odd => None,
+        Monadic::Ord => None,
+        Monadic::Chr { .. } => None,
+        Monadic::Succ { .. } => None,
+        Monadic::Pred { .. } => None,
     }
 }
 
@@ -114,6 +120,7 @@ fn literal(expression: &Expr) -> Option<i32>
         Expr::Variable { .. } => None,
         Expr::Monadic { .. } => None,
         Expr::Chain { .. } => None,
+        Expr::Compare { .. } => None,
     }
 }
 
@@ -126,6 +133,7 @@ pub fn entire(expression: &Expr) -> Option<u32>
         Expr::Variable { access, .. } => Some(access.root),
         Expr::Monadic { .. } => None,
         Expr::Chain { .. } => None,
+        Expr::Compare { .. } => None,
     }
 }
 

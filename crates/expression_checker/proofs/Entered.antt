@@ -7,18 +7,23 @@ use Rattle.typed_tree.specs.declared.tree.Dyadic.{Dyadic}
 use Rattle.typed_tree.specs.declared.tree.Dyadic.TheVariants as dyadic
 use Rattle.typed_tree.specs.declared.tree.Width.{Width}
 use Rattle.typed_tree.specs.declared.tree.WriteParameter.{WriteParameter}
+use Rattle.typed_tree.specs.declared.tree.Written.{Written}
+use Rattle.typed_tree.specs.declared.tree.Written.TheVariants as written
+use Rattle.typed_tree.specs.declared.tree.Whole.{Whole}
+use Rattle.typed_tree.specs.declared.tree.Whole.TheVariants.{Text}
 use Rattle.typed_tree.specs.declared.tree.Expr.{Expr}
 use Rattle.typed_tree.specs.declared.tree.Link.{Link}
 use Rattle.typed_tree.specs.declared.tree.Expr.TheOpen.{Expr-F, Link-F}
-use Rattle.typed_tree.specs.declared.tree.Expr.TheOpen.Expr-F.{Constant, Variable, Monadic as MonadicOf, Chain}
+use Rattle.typed_tree.specs.declared.tree.Expr.TheOpen.Expr-F.{Constant, Variable, Monadic as MonadicOf, Chain, Compare}
 use Rattle.typed_tree.specs.declared.tree.Expr.TheFolds.{fold-Link, map-Expr, map-Link, fold-roll-Expr, fold-roll-Link, ind-Expr}
-use Rattle.typed_tree.specs.Entries.{joined, expression_entries, link_entries, entries_of_expression, entries_of_width, entries_of_parameter}
+use Rattle.typed_tree.specs.Entries.{joined, expression_entries, link_entries, entries_of_expression, entries_of_width, entries_of_parameter, entries_of_whole}
+use Rattle.typed_tree.specs.Entries.{entries_of_written}
 use Rattle.abstract_state.specs.declared.known.Known.{Known}
 use Rattle.abstract_state.specs.declared.known.Known.TheVariants.{Ordinal}
 use Rattle.expression_checker.specs.Visits.{Visits, all_counted, counted}
 use Rattle.abstract_state.specs.State.{State}
 use Rattle.expression_checker.specs.Walk.{Context, Linked, Walking, Combination, numbers_of, operated, combined, width_test, value_step, link_step, value_walk}
-use Rattle.expression_checker.specs.Walk.{link_walk, width_walk, parameter_walk, in_turn}
+use Rattle.expression_checker.specs.Walk.{link_walk, whole_walk, width_walk, written_walk, parameter_walk, in_turn}
 
 -- a walk links states to these, in whatever context and from whatever state
 abbrev pub Enters : {A : Type 0} → Walking A → List ℕ → Type 0
@@ -50,6 +55,10 @@ operated-silent monadic.Not (Ordinal range) context state = refl
 operated-silent monadic.Abs (Ordinal range) context state = refl
 operated-silent (monadic.Sqr overflow) (Ordinal range) context state = refl
 operated-silent monadic.Odd (Ordinal range) context state = refl
+operated-silent monadic.Ord (Ordinal range) context state = refl
+operated-silent (monadic.Chr no_char) (Ordinal range) context state = refl
+operated-silent (monadic.Succ no_successor last) (Ordinal range) context state = refl
+operated-silent (monadic.Pred no_predecessor first) (Ordinal range) context state = refl
 
 combined-silent : (operation : Dyadic) (left right : Known) → Enters (combined operation left right) []
 combined-silent (dyadic.Plus overflow) (Ordinal left) (Ordinal right) context state = refl
@@ -68,6 +77,9 @@ turns-entered (link ∷ links) left context state =
     let rest = in_turn (map link_walk (map (λ l. l.0) links)) first.value context first.after in
     and_then first.linked rest.linked _ _ (link.1 left context state) (turns-entered links first.value context first.after)
 
+whole-entered : (value : Whole) → Enters (whole_walk value) (entries_of_whole value)
+whole-entered (Text number characters) context state = refl
+
 value-parts : (y : Expr-F EnteredExpr EnteredLink)
     → Enters (value_step
     (map-Expr Expr Link (Walking Known) Combination value_walk link_walk (map-Expr EnteredExpr EnteredLink Expr Link (λ e. e.0) (λ l. l.0) y)))
@@ -84,6 +96,11 @@ value-parts (Chain first rest) context state =
     let begun = value_walk first.value.0 context state in
     let after = in_turn (map link_walk (map (λ l. l.0) rest.items)) begun.value context begun.after in
     and_then begun.linked after.linked _ _ (first.value.1 context state) (turns-entered rest.items begun.value context begun.after)
+value-parts (Compare number relation left right) context state =
+    let begun = whole_walk left context state in
+    let end = whole_walk right context begun.after in
+    and_then begun.linked (record { number = number; state = begun.after } ∷ (end.linked ++ [])) _ _ (whole-entered left context state)
+    (ap (λ numbers. number ∷ numbers) (and_no_more end.linked [] _ (whole-entered right context begun.after) refl))
 
 link-parts : (y : Link-F EnteredExpr EnteredLink)
     → EntersFrom
@@ -125,11 +142,16 @@ width-entered (Some width) context state =
     and_no_more first.linked test.linked _ (value-entered width.value context state) (test-silent width.site first.value context first.after)
 
 -- a value that is written, and its width
+written-entered : (value : Written) → Enters (written_walk value) (entries_of_written value)
+written-entered (written.Ordinal value representation) context state =
+    and_no_more (value_walk value context state).linked [] _ (value-entered value context state) refl
+written-entered (written.String value) context state = whole-entered value context state
+
 pub parameter-entered : (parameter : WriteParameter) → Enters (parameter_walk parameter) (entries_of_parameter parameter)
 parameter-entered parameter context state =
-    let first = value_walk parameter.value context state in
+    let first = written_walk parameter.value context state in
     let width = width_walk parameter.width context first.after in
-    and_then first.linked width.linked _ _ (value-entered parameter.value context state) (width-entered parameter.width context first.after)
+    and_then first.linked width.linked _ _ (written-entered parameter.value context state) (width-entered parameter.width context first.after)
 
 -- the entries are as many as the numbers that were counted
 pub counted-many : (numbers : List ℕ) (visits : Visits) → (all_counted numbers visits).entries ≡ visits.entries + length numbers

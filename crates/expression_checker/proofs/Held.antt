@@ -1,6 +1,6 @@
 -- The test of a result is the same whether the ends of its range are held or not.
-use Rattle.std.proofs.Common.{◌≡◌, ◌∙◌, sym, ap, subst, ℕ, Result}
-use Rattle.domain.specs.Interval.{Interval, held, IsPlain, is_included, common, sum, difference, product, squared}
+use Rattle.std.proofs.Common.{◌≡◌, ◌∙◌, sym, ap, subst, ℕ, ℤ, pos, ◌+ℤ◌, ◌-ℤ◌, Result}
+use Rattle.domain.specs.Interval.{Interval, IsEnd, at_least, at_most, held, IsPlain, is_included, common, sum, difference, product, squared}
 use Rattle.domain.specs.Ranges.{held-common, held-included, integer-inner, sum-plain, difference-plain, product-plain, squared-plain}
 use Rattle.typed_tree.specs.declared.tree.Monadic.{Monadic}
 use Rattle.typed_tree.specs.declared.tree.Monadic.TheVariants as monadic
@@ -14,6 +14,8 @@ use Rattle.expression_checker.specs.declared.flow.Flow.{Flow}
 use Rattle.abstract_state.specs.State.{integer}
 use Rattle.expression_checker.specs.Walk.{Walking, ◌>>=◌, ordinal, whole, within, tested, operated, combined}
 use Rattle.expression_checker.specs.View.{Goes}
+use Rattle.structured_states.specs.Ways.{single}
+use Rattle.structured_states.proofs.Behind.{held-above, held-below}
 
 within-held : (range : Interval) (site : ℕ) → IsPlain range → within integer site (held range) ≡ within integer site range
 within-held range site plain =
@@ -67,3 +69,24 @@ pub product-done : (operation : Dyadic) (left right : Known) (overflow : ℕ) (o
 product-done operation left right overflow one two kept result old new kept_is left_is right_is is done =
     whole-done (combined operation left right) kept (product one two) overflow result old new
     (combined-as operation (dyadic.Times overflow) left right one two is left_is right_is) (product-plain one two) kept_is done
+
+-- an operation on the range of an ordinal
+pub operated-done : (operation same : Monadic) (known : Known) (range : Interval) (result : Result Known CheckFault) (old new : Flow)
+    → known ≡ Ordinal range → operation ≡ same → GoesSo (operated same (Ordinal range)) old result new → GoesSo (operated operation known) old result new
+operated-done operation same known range result old new known_is is done visits =
+    subst (λ (w : Walking Known). Goes w old visits result new visits)
+    (sym (ap (λ o. operated o known) is ∙ ap (operated same) known_is)) (done visits)
+
+-- the range of one number
+abbrev one-end : ℤ → Interval
+one-end n = record { first = n; last = n }
+
+pub next-held : (last : ℤ) (range passed : Interval) → IsEnd last → IsEnd range.first → passed ≡ at_most (last -ℤ pos 1) range
+    → held (sum passed single) ≡ sum passed single
+next-held last range passed high low is =
+    subst (λ r. held (sum r single) ≡ sum r single) (sym is) (held-below (one-end last) range high low)
+
+pub before-held : (first : ℤ) (range passed : Interval) → IsEnd first → IsEnd range.last → passed ≡ at_least (first +ℤ pos 1) range
+    → held (difference passed single) ≡ difference passed single
+before-held first range passed low high is =
+    subst (λ r. held (difference r single) ≡ difference r single) (sym is) (held-above (one-end first) range low high)

@@ -1,31 +1,38 @@
 -- The walk over expressions is sound, form by form, and so is that over values that are written.
-use Rattle.std.proofs.Common.{◌≡◌, sym, subst, ℕ, Bool, true, nat_lt, List, [], ◌∷◌, map, Option, Some, None}
+use Rattle.std.proofs.Common.{◌≡◌, sym, subst, ℕ, ℤ, pos, Bool, true, nat_lt, List, [], ◌∷◌, map, Option, Some, None}
 use Rattle.std.proofs.lemmas.Bool.{and_parts, ltb-true}
-use Rattle.typed_tree.specs.declared.tree.Representation.{Representation}
 use Rattle.typed_tree.specs.declared.tree.Width.{Width}
 use Rattle.typed_tree.specs.declared.tree.WriteParameter.{WriteParameter}
+use Rattle.typed_tree.specs.declared.tree.Written.{Written}
+use Rattle.typed_tree.specs.declared.tree.Written.TheVariants as written
+use Rattle.typed_tree.specs.declared.tree.Whole.{Whole}
+use Rattle.typed_tree.specs.declared.tree.Whole.TheVariants.{Text}
 use Rattle.typed_tree.specs.declared.tree.Expr.{Expr}
 use Rattle.typed_tree.specs.declared.tree.Link.{Link}
 use Rattle.typed_tree.specs.declared.tree.Expr.TheOpen.{Expr-F, Link-F}
-use Rattle.typed_tree.specs.declared.tree.Expr.TheOpen.Expr-F.{Constant, Variable, Monadic as MonadicOf, Chain}
+use Rattle.typed_tree.specs.declared.tree.Expr.TheOpen.Expr-F.{Constant, Variable, Monadic as MonadicOf, Chain, Compare}
 use Rattle.typed_tree.specs.declared.tree.Expr.TheViews.{roll-Expr, roll-Link}
 use Rattle.typed_tree.specs.declared.tree.Expr.TheFolds.{map-Expr, map-Link, fold-roll-Expr, fold-roll-Link, ind-Expr}
 use Rattle.typed_tree.specs.WellFormed.{all_hold, dyadic_is_well_formed, expr_is_well_formed, is_well_formed_expr, is_well_formed_link}
-use Rattle.typed_tree.specs.WellFormed.{is_well_formed_parameter, is_well_formed_width, link_is_well_formed, monadic_is_well_formed}
+use Rattle.typed_tree.specs.WellFormed.{is_well_formed_parameter, is_well_formed_width, is_well_formed_written, length_of, link_is_well_formed}
+use Rattle.typed_tree.specs.WellFormed.{monadic_is_well_formed}
 use Rattle.meaning.specs.declared.store.Value.{Value}
 use Rattle.meaning.specs.declared.store.Value.TheVariants.{Number}
+use Rattle.meaning.specs.Integers.{truth}
 use Rattle.meaning.specs.Store.{Environment}
 use Rattle.meaning.specs.Effect as effect
-use Rattle.meaning.specs.Effect.{is_positive, text_of}
+use Rattle.meaning.specs.Effect.{is_positive, row_text, text_of}
 use Rattle.meaning.specs.Meaning as meaning
-use Rattle.meaning.specs.Meaning.{Evaluation, value_of, link_of, parameter_of, width_of}
+use Rattle.meaning.specs.Meaning.{Evaluation, value_of, link_of, parameter_of, width_of, written_of}
+use Rattle.domain.specs.Interval.{truth_values}
 use Rattle.abstract_state.specs.declared.known.Known.{Known}
 use Rattle.abstract_state.specs.declared.known.Known.TheVariants.{Ordinal}
 use Rattle.expression_checker.specs.Walk as walk
 use Rattle.expression_checker.specs.Walk.{Walking, value_walk, link_walk, parameter_walk, width_walk}
-use Rattle.abstract_state.proofs.Ranged.{IsKnown, constant-in}
+use Rattle.abstract_state.proofs.Ranged.{IsKnown, constant-in, truth_values-has}
 use Rattle.abstract_state.proofs.Knows.{Shows}
-use Rattle.expression_checker.proofs.Sound.{World, Sound, Any_value, Passes, sound-then, sound-written, sound-give, sound-enter, sound-use}
+use Rattle.expression_checker.proofs.Sound.{World, Sound, Any_value, Passes, sound-then, sound-given, sound-named, sound-written, sound-give, sound-enter}
+use Rattle.expression_checker.proofs.Sound.{sound-use}
 use Rattle.expression_checker.proofs.SoundOperations.{given-sound, operated-sound, combined-sound, positive-sound}
 
 -- the walk over an action that gives no value is sound
@@ -94,6 +101,12 @@ module _ (world : World) (env : Environment) (shows : Shows world.variables env)
       (meaning.link_step (map-Link Expr Link Evaluation meaning.Combination value_of link_of x))
       (walk.link_step (map-Link Expr Link (Walking Known) walk.Combination value_walk link_walk x))
 
+  -- a string is entered
+  whole-sound : (value : Whole) → Sound {B = Unit {0}} world env Any_value (meaning.whole_of value env) (walk.whole_walk value)
+  whole-sound (Text number text) =
+      sound-given world env Any_value Any_value (λ done. map pos text.items) (λ b a tie. tt) (effect.enter number env) (walk.enter number)
+      (sound-enter world env shows number)
+
   value-layer : (y : Expr-F ProvedExpr ProvedLink) → ExprLayer (map-Expr ProvedExpr ProvedLink Expr Link (λ e. e.0) (λ l. l.0) y)
   value-layer (Constant number value) well =
       entered-sound world env shows IsKnown number (effect.give (Number value)) (walk.ordinal (record { first = value; last = value }))
@@ -114,6 +127,17 @@ module _ (world : World) (env : Environment) (shows : Shows world.variables env)
       sound-then world env IsKnown IsKnown (value_of first.value.0 env) (meaning.in_turn (map link_of links) env) (value_walk first.value.0)
       (walk.in_turn (map link_walk links))
       (first.value.1 parts.0) (λ known v inside. turns-sound rest.items parts.1 known v inside)
+  value-layer (Compare number relation left right) well =
+      let compares = λ (a : List ℤ). effect.◌>>=◌ (meaning.whole_of right env) (λ b. effect.give (meaning.compared relation a b)) in
+      let behind = λ (a : List ℤ). effect.◌>>=◌ (effect.enter number env) (λ done. compares a) in
+      let walked = walk.◌>>=◌ (walk.whole_walk right) (λ done. walk.ordinal truth_values) in
+      sound-then world env Any_value IsKnown (meaning.whole_of left env) behind
+      (walk.whole_walk left) (λ done. walk.◌>>=◌ (walk.enter number) (λ done. walked)) (whole-sound left)
+      (λ b a tie. entered-sound world env shows IsKnown number (compares a) walked
+      (sound-then world env Any_value IsKnown (meaning.whole_of right env) (λ b. effect.give (meaning.compared relation a b))
+      (walk.whole_walk right) (λ done. walk.ordinal truth_values) (whole-sound right)
+      (λ c b tie. given-sound world env truth_values (truth (meaning.relates relation (meaning.order_of a b) (pos 0)))
+      (truth_values-has (meaning.relates relation (meaning.order_of a b) (pos 0))))))
 
   link-layer : (y : Link-F ProvedExpr ProvedLink) → LinkLayer (map-Link ProvedExpr ProvedLink Expr Link (λ e. e.0) (λ l. l.0) y)
   link-layer y well known v inside =
@@ -175,23 +199,38 @@ module _ (world : World) (env : Environment) (shows : Shows world.variables env)
       (positive-sound world env site range w (ltb-true site world.sites below) inside)
       (λ passed tested passes. sound-give {B = Unit {0}} world env Any_value w tt tt)
 
-  width-sound : (width : Option Width) (representation : Representation) → is_well_formed_width world.variables world.sites width ≡ true
-      → Sound {B = Unit {0}} world env Any_value (width_of width representation env) (width_walk width)
-  width-sound None representation well = sound-give {B = Unit {0}} world env Any_value (Number (meaning.default_width representation)) tt tt
-  width-sound (Some width) representation well =
+  width-sound : (width : Option Width) (default : ℤ) → is_well_formed_width world.variables world.sites width ≡ true
+      → Sound {B = Unit {0}} world env Any_value (width_of width default env) (width_walk width)
+  width-sound None default well = sound-give {B = Unit {0}} world env Any_value (Number default) tt tt
+  width-sound (Some width) default well =
       let parts = and_parts (nat_lt width.site world.sites) (well_expr width.value) well in
       let tests = λ (w : Value). effect.◌>>=◌ (effect.require (is_positive w) width.site) (λ tested. effect.give w) in
       sound-then {D = Unit {0}} world env IsKnown Any_value (value_of width.value env) tests (value_walk width.value) (walk.width_test width.site)
       (value-sound width.value parts.1) (λ known w inside. width-tested width.site known w parts.0 inside)
 
   -- a value that is written, and its width
+  written-sound : (value : Written) (width : Option Width) → is_well_formed_written world.variables world.sites value ≡ true
+      → is_well_formed_width world.variables world.sites width ≡ true
+      → SoundAction world env (written_of value width env) (walk.◌>>=◌ (walk.written_walk value) (λ done. width_walk width))
+  written-sound (written.Ordinal value representation) width well wide =
+      let default = meaning.default_width representation in
+      sound-then world env Any_value Any_value (value_of value env)
+      (λ v. effect.◌>>=◌ (width_of width default env) (λ w. effect.write (text_of representation v w)))
+      (walk.written_walk (written.Ordinal value representation)) (λ done. width_walk width)
+      (sound-named world env IsKnown Any_value (λ known. tt) (λ known v inside. tt) (value_of value env) (value_walk value) (value-sound value well))
+      (λ done v tie. sound-written world env Any_value (text_of representation v) (width_of width default env) (width_walk width)
+      (width-sound width default wide))
+  written-sound (written.String value) width well wide =
+      let default = pos (length_of value) in
+      sound-then world env Any_value Any_value (meaning.whole_of value env)
+      (λ row. effect.◌>>=◌ (width_of width default env) (λ w. effect.write (row_text row w)))
+      (walk.whole_walk value) (λ done. width_walk width) (whole-sound value)
+      (λ done row tie. sound-written world env Any_value (row_text row) (width_of width default env) (width_walk width)
+      (width-sound width default wide))
+
   pub parameter-sound : (parameter : WriteParameter) → is_well_formed_parameter world.variables world.sites parameter ≡ true
       → SoundAction world env (parameter_of parameter env) (parameter_walk parameter)
   parameter-sound parameter well =
-      let parts = and_parts (well_expr parameter.value) (is_well_formed_width world.variables world.sites parameter.width) well in
-      let width = width_of parameter.width parameter.representation env in
-      sound-then world env IsKnown Any_value (value_of parameter.value env) (λ v. effect.◌>>=◌ width (λ w. effect.write (text_of parameter.representation v w)))
-      (value_walk parameter.value) (λ known. width_walk parameter.width)
-      (value-sound parameter.value parts.0)
-      (λ known v inside. sound-written world env Any_value (text_of parameter.representation v) width (width_walk parameter.width)
-      (width-sound parameter.width parameter.representation parts.1))
+      let parts = and_parts (is_well_formed_written world.variables world.sites parameter.value)
+      (is_well_formed_width world.variables world.sites parameter.width) well in
+      written-sound parameter.value parameter.width parts.0 parts.1

@@ -1,20 +1,22 @@
 -- The tests of values and the operations are sound, operation by operation.
-use Rattle.std.proofs.Common.{◌≡◌, ℕ, ◌<◌, ℤ, pos, ◌+ℤ◌, ◌-ℤ◌, ◌*ℤ◌, neg_ℤ, int_le, int_div, Bool, true, not, ◌&&◌, ◌||◌}
+use Rattle.std.proofs.Common.{arith, ◌≡◌, ℕ, ◌<◌, ℤ, pos, ◌+ℤ◌, ◌-ℤ◌, ◌*ℤ◌, ◌≤ℤ◌, neg_ℤ, int_le, int_lt, int_div, nat_lt, Bool, true, not, ◌&&◌, ◌||◌}
 use Rattle.std.specs.Int.{int_rem_euclid}
-use Rattle.std.proofs.lemmas.Bool.{ltb-true}
+use Rattle.std.proofs.lemmas.Bool.{and_parts, ltb-true}
+use Rattle.std.proofs.lemmas.Int.{ints}
 use Rattle.typed_tree.specs.declared.tree.RangeTest.{RangeTest}
 use Rattle.typed_tree.specs.declared.tree.Monadic.{Monadic}
 use Rattle.typed_tree.specs.declared.tree.Monadic.TheVariants as monadic
 use Rattle.typed_tree.specs.declared.tree.Dyadic.{Dyadic}
 use Rattle.typed_tree.specs.declared.tree.Dyadic.TheVariants as dyadic
-use Rattle.typed_tree.specs.WellFormed.{monadic_is_well_formed, dyadic_is_well_formed}
-use Rattle.domain.specs.Interval.{Interval, HasMember, has_number, is_included, common, without_zero_end, at_least, sum, difference, negated, product, squared}
+use Rattle.typed_tree.specs.WellFormed.{is_whole, monadic_is_well_formed, dyadic_is_well_formed}
+use Rattle.domain.specs.Interval.{Interval, HasMember, has_number, is_included, common, without_zero_end, at_least, at_most, sum, difference, negated, product}
+use Rattle.domain.specs.Interval.{squared}
 use Rattle.domain.specs.Interval.{absolute, quotient, remainder, both, either, complement, truth_values}
 use Rattle.domain.specs.Ranges.{sum-has, difference-has, negated-has, product-has, squared-has, absolute-has, quotient-has, remainder-has, without_zero_end-has}
-use Rattle.domain.specs.Ranges.{at_least-has, both-has, either-has, complement-has}
+use Rattle.domain.specs.Ranges.{at_least-has, at_most-has, both-has, either-has, complement-has}
 use Rattle.meaning.specs.declared.store.Value.{Value}
 use Rattle.meaning.specs.declared.store.Value.TheVariants.{Number}
-use Rattle.meaning.specs.Integers.{is_integer_number, truth, is_true, is_odd, magnitude}
+use Rattle.meaning.specs.Integers.{is_integer_number, is_within, truth, is_true, is_odd, magnitude}
 use Rattle.meaning.specs.Store.{Environment}
 use Rattle.meaning.specs.Effect as effect
 use Rattle.meaning.specs.Effect.{is_in, is_positive}
@@ -23,10 +25,26 @@ use Rattle.abstract_state.specs.declared.known.Known.{Known}
 use Rattle.abstract_state.specs.declared.known.Known.TheVariants.{Ordinal}
 use Rattle.abstract_state.specs.State.{integer, limits_of}
 use Rattle.expression_checker.specs.Walk as walk
+use Rattle.structured_states.specs.Ways.{single}
 use Rattle.abstract_state.specs.Holds.{IsIn}
 use Rattle.abstract_state.proofs.Ranged.{IsKnown, truth-in, truth_values-has, is_within-has, has-is_within, is_in-limits, limits-is_in, included-in, common-in}
 use Rattle.abstract_state.proofs.Ranged.{first-positive, is-positive, without-zero}
 use Rattle.expression_checker.proofs.Sound.{World, Sound, Passes, sound-then, sound-named, sound-give, sound-tested}
+
+below-end : (range : Interval) (n last : ℤ) → int_lt range.last last ≡ true → HasMember range n → int_lt n last ≡ true
+below-end range n last closed inside = grind (arith, ints)
+
+above-end : (range : Interval) (n first : ℤ) → int_lt first range.first ≡ true → HasMember range n → int_lt first n ≡ true
+above-end range n first closed inside = grind (arith, ints)
+
+below-last : (n last : ℤ) → int_lt n last ≡ true → n ≤ℤ (last -ℤ pos 1)
+below-last n last less = grind (arith, ints)
+
+above-first : (n first : ℤ) → int_lt first n ≡ true → (first +ℤ pos 1) ≤ℤ n
+above-first n first less = grind (arith, ints)
+
+one-single : HasMember single (pos 1)
+one-single = (omega (arith, ints), omega (arith, ints))
 
 -- a value is known, behind a test
 abbrev pub IsKnownOf : Value → Known → Unit {0} → Type 0
@@ -86,6 +104,40 @@ module _ (world : World) (env : Environment) where
       (within-sound integer overflow range (Number n) test below (is_within-has integer.first integer.last n) fits inside)
       (λ passed tested passes. given-sound passed n passes.0)
 
+  -- a result that is the number itself, if it passes a test
+  passed-sound : (limits : Interval) (site : ℕ) (range : Interval) (n : ℤ) → site < world.sites → HasMember range n
+      → Sound world env IsKnown (effect.◌>>=◌ (effect.require (is_within limits.first limits.last n) site) (λ tested. effect.give (Number n)))
+      (walk.◌>>=◌ (walk.within limits site range) (λ passed. walk.ordinal passed))
+  passed-sound limits site range n below inside =
+      let test = is_within limits.first limits.last n in
+      sound-then world env (Passes test (Number n)) IsKnown (effect.require test site) (λ tested. effect.give (Number n))
+      (walk.within limits site range) (λ passed. walk.ordinal passed)
+      (within-sound limits site range (Number n) test below (is_within-has limits.first limits.last n) (has-is_within limits.first limits.last n) inside)
+      (λ passed tested passes. given-sound passed n passes.0)
+
+  -- the next value, and the value before
+  successor-sound : (last : ℤ) (site : ℕ) (range : Interval) (n : ℤ) → site < world.sites → HasMember range n
+      → Sound world env IsKnown (effect.◌>>=◌ (effect.require (int_lt n last) site) (λ tested. effect.give (Number (n +ℤ pos 1))))
+      (walk.◌>>=◌ (walk.below last site range) (λ passed. walk.ordinal (sum passed single)))
+  successor-sound last site range n below inside =
+      let test = int_lt n last in
+      sound-then world env (Passes test (Number n)) IsKnown (effect.require test site) (λ tested. effect.give (Number (n +ℤ pos 1)))
+      (walk.below last site range) (λ passed. walk.ordinal (sum passed single))
+      (sound-tested world env (int_lt range.last last) site (at_most (last -ℤ pos 1) range) (Number n) test below
+      (λ closed. below-end range n last closed inside) (λ passes. at_most-has (last -ℤ pos 1) range n inside (below-last n last passes)))
+      (λ passed tested passes. given-sound (sum passed single) (n +ℤ pos 1) (sum-has passed single n (pos 1) passes.0 one-single))
+
+  predecessor-sound : (first : ℤ) (site : ℕ) (range : Interval) (n : ℤ) → site < world.sites → HasMember range n
+      → Sound world env IsKnown (effect.◌>>=◌ (effect.require (int_lt first n) site) (λ tested. effect.give (Number (n -ℤ pos 1))))
+      (walk.◌>>=◌ (walk.above first site range) (λ passed. walk.ordinal (difference passed single)))
+  predecessor-sound first site range n below inside =
+      let test = int_lt first n in
+      sound-then world env (Passes test (Number n)) IsKnown (effect.require test site) (λ tested. effect.give (Number (n -ℤ pos 1)))
+      (walk.above first site range) (λ passed. walk.ordinal (difference passed single))
+      (sound-tested world env (int_lt first range.first) site (at_least (first +ℤ pos 1) range) (Number n) test below
+      (λ closed. above-end range n first closed inside) (λ passes. at_least-has (first +ℤ pos 1) range n inside (above-first n first passes)))
+      (λ passed tested passes. given-sound (difference passed single) (n -ℤ pos 1) (difference-has passed single n (pos 1) passes.0 one-single))
+
   pub operated-sound : (operation : Monadic) (known : Known) (v : Value) → monadic_is_well_formed world.variables world.sites operation ≡ true → IsKnown known v
       → Sound world env IsKnown (meaning.operated operation v) (walk.operated operation known)
   operated-sound monadic.Plus (Ordinal range) (Number n) well inside = given-sound range n inside
@@ -96,6 +148,15 @@ module _ (world : World) (env : Environment) where
   operated-sound (monadic.Sqr overflow) (Ordinal range) (Number n) well inside =
       whole-sound overflow (squared range) (n *ℤ n) (ltb-true overflow world.sites well) (squared-has range n inside)
   operated-sound monadic.Odd (Ordinal range) (Number n) well inside = truth-sound (is_odd n)
+  operated-sound monadic.Ord (Ordinal range) (Number n) well inside = given-sound range n inside
+  operated-sound (monadic.Chr no_char) (Ordinal range) (Number n) well inside =
+      passed-sound walk.characters no_char range n (ltb-true no_char world.sites well) inside
+  operated-sound (monadic.Succ no_successor last) (Ordinal range) (Number n) well inside =
+      let parts = and_parts (nat_lt no_successor world.sites) (is_whole last) well in
+      successor-sound last no_successor range n (ltb-true no_successor world.sites parts.0) inside
+  operated-sound (monadic.Pred no_predecessor first) (Ordinal range) (Number n) well inside =
+      let parts = and_parts (nat_lt no_predecessor world.sites) (is_whole first) well in
+      predecessor-sound first no_predecessor range n (ltb-true no_predecessor world.sites parts.0) inside
 
   pub combined-sound : (operation : Dyadic) (left right : Known) (v w : Value) → dyadic_is_well_formed world.variables world.sites operation ≡ true
       → IsKnown left v

@@ -1,10 +1,11 @@
 -- What the checker did over an expression, from what it did over the parts of it.
-use Rattle.std.proofs.Common.{rules, ◌≡◌, ◌≤◌, Bool, Option, Some, None, Result, Ok, Err, ℕ, ℤ, ◌+◌, List, [], ◌∷◌, ◌++◌, length, map, refl, sym, ap, ◌∙◌}
+use Rattle.std.proofs.Common.{rules, ◌≡◌, ◌≤◌, Bool, Some, Result, Ok, Err, ℕ, ℤ, ◌+◌, List, [], ◌∷◌, ◌++◌, length, map, refl, sym, ap, ◌∙◌}
 use Rattle.std.proofs.Common.{subst, append_assoc, append-nil, ◌<◌, get_or, drop}
 use Rattle.std.specs.Result.{IsErr, IsErrAnd}
-use Rattle.typed_tree.specs.declared.tree.Access.{Access}
 use Rattle.typed_tree.specs.declared.tree.RangeTest.{RangeTest}
 use Rattle.typed_tree.specs.declared.tree.Monadic.{Monadic}
+use Rattle.typed_tree.specs.declared.tree.Relation.{Relation}
+use Rattle.typed_tree.specs.declared.tree.Whole.{Whole}
 use Rattle.typed_tree.specs.declared.tree.Expr.{Expr}
 use Rattle.typed_tree.specs.declared.tree.Link.{Link}
 use Rattle.typed_tree.specs.declared.tree.Expr.TheVariants as expr
@@ -24,7 +25,7 @@ use Rattle.domain.specs.Interval.{Interval, between}
 use Rattle.std.proofs.lemmas.Int.{ints}
 use Rattle.expression_checker.specs.Visits.{Visits, all_counted, counted}
 use Rattle.expression_checker.specs.Walk.{Breach, Context, Linked, Walked, Walking, IsBreachOf, use_of, tested, positive, within, width_test, fitting, ◌>>=◌}
-use Rattle.expression_checker.specs.Walk.{give, ordinal, enter, first_breach, variable_walk, operated, combined, in_turn, value_walk, link_walk, numbers_of}
+use Rattle.expression_checker.specs.Walk.{comparison_walk, give, ordinal, enter, first_breach, operated, combined, in_turn, value_walk, link_walk, numbers_of}
 use Rattle.expression_checker.specs.View.{Flows, Goes}
 use Rattle.structured_states.proofs.Claims.{item-cut, drop-past}
 
@@ -277,3 +278,19 @@ tested-goes walk test next passed result old new visits is result_is tested =
     goes-as walk (test >>= λ x. give (next x)) old new visits visits (Ok result) is
     (subst (λ r. Goes (test >>= λ x. give (next x)) old visits (Ok r) new visits) (sym result_is)
     (goes-then test (λ x. give (next x)) old new new visits visits visits passed (Ok (next passed)) tested (goes-give (next passed) new visits)))
+
+-- ---- strings
+
+pub value-Compare : (number : ℕ) (relation : Relation) (left right : Whole)
+    → value_walk (expr.Compare number relation left right) ≡ comparison_walk left number right
+value-Compare number relation left right = search (rules, the_lemmas)
+
+-- ---- the value after another, and before
+
+-- what passed a test is known in each context, and so is what is made of it
+pub passed-goes : {A B : Type 0} (walk : Walking B) (test : Walking A) (next : A → B) (passed known : A) (result : B) (old new : Flow) (visits : Visits)
+    → walk ≡ (test >>= λ x. give (next x)) → ((context : Context) → (test context (viewed old.state)).value ≡ known)
+    → (passed ≡ known → result ≡ next passed) → Goes test old visits (Ok passed) new visits → Goes walk old visits (Ok result) new visits
+passed-goes walk test next passed known result old new visits is known_is result_is tested = λ context.
+    let same = result_is ((tested context).value_is ∙ known_is context) in
+    tested-goes walk test next passed result old new visits is same tested context

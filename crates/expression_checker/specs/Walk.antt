@@ -1,8 +1,8 @@
 -- The walk of the checker over an expression, one equation a form: what is known of its value, the state after it, the
 -- sites that it leaves open, and the state at each entry into an expression (ISO 7185:1990, 6.7). Rules of certificates
 -- are broken by statements alone. It does not say that a run does what the walk says of it.
-use Rattle.std.specs.Prelude.{◌≡◌, ℕ, pos, Bool, not, ◌||◌, int_le, List, [], ◌∷◌, ◌++◌, Option, Some, None}
-use Rattle.std.specs.Prelude.{if◌then◌else◌, map}
+use Rattle.std.specs.Prelude.{◌≡◌, ℕ, ℤ, pos, ◌+ℤ◌, ◌-ℤ◌, Bool, not, ◌||◌, int_le, int_lt, List, [], ◌∷◌, ◌++◌}
+use Rattle.std.specs.Prelude.{Option, Some, None, if◌then◌else◌, map}
 use Rattle.place.specs.declared.Place.{Place}
 use Rattle.typed_tree.specs.declared.tree.Tree.{Tree}
 use Rattle.typed_tree.specs.declared.tree.Access.{Access}
@@ -13,14 +13,19 @@ use Rattle.typed_tree.specs.declared.tree.Dyadic.{Dyadic}
 use Rattle.typed_tree.specs.declared.tree.Dyadic.TheVariants as dyadic
 use Rattle.typed_tree.specs.declared.tree.Width.{Width}
 use Rattle.typed_tree.specs.declared.tree.WriteParameter.{WriteParameter}
+use Rattle.typed_tree.specs.declared.tree.Written.{Written}
+use Rattle.typed_tree.specs.declared.tree.Written.TheVariants as written
+use Rattle.typed_tree.specs.declared.tree.Whole.{Whole}
+use Rattle.typed_tree.specs.declared.tree.Whole.TheVariants.{Text}
 use Rattle.typed_tree.specs.declared.tree.Expr.{Expr}
 use Rattle.typed_tree.specs.declared.tree.Link.{Link}
 use Rattle.typed_tree.specs.declared.tree.Expr.TheOpen.{Expr-F, Link-F}
 use Rattle.typed_tree.specs.declared.tree.Expr.TheOpen.Expr-F.{Constant, Variable, Monadic as MonadicOf, Chain}
+use Rattle.typed_tree.specs.declared.tree.Expr.TheOpen.Expr-F.{Compare}
 use Rattle.typed_tree.specs.declared.tree.Expr.TheFolds.{fold-Expr, fold-Link}
 use Rattle.domain.specs.Interval.{Interval, is_included, has_number, common, sum, difference, negated, product, squared}
-use Rattle.domain.specs.Interval.{absolute, quotient, remainder, without_zero_end, at_least, both, either, complement}
-use Rattle.domain.specs.Interval.{truth_values}
+use Rattle.domain.specs.Interval.{absolute, quotient, remainder, without_zero_end, at_least, at_most, both, either}
+use Rattle.domain.specs.Interval.{complement, truth_values}
 use Rattle.expression_checker.specs.declared.fault.Rule.{Rule}
 use Rattle.expression_checker.specs.declared.fault.CheckFault.{CheckFault}
 use Rattle.expression_checker.specs.declared.fault.CheckFault.TheVariants.{Memory, Foreign, Broken}
@@ -29,6 +34,7 @@ use Rattle.abstract_state.specs.declared.known.Known.TheVariants.{Ordinal}
 use Rattle.abstract_state.specs.State.{State, integer, is_dead, is_defined, limits_of, range_of, with_defined}
 use Rattle.abstract_state.specs.State.{unless_empty}
 use Rattle.structured_states.specs.Loops.{Claims, Round}
+use Rattle.structured_states.specs.Ways.{single}
 
 -- what a walk goes by: the program, the values of its variables' types, the claims on its loops, and the loops round
 -- the point, the outermost first
@@ -134,6 +140,14 @@ within limits site range = tested (is_included range limits) site (common range 
 abbrev pub positive : ℕ → Interval → Walking Interval
 positive site range = tested (int_le (pos 1) range.first) site (at_least (pos 1) range)
 
+-- an ordinal that has to lie below the last of its type
+abbrev pub below : ℤ → ℕ → Interval → Walking Interval
+below last site range = tested (int_lt range.last last) site (at_most (last -ℤ pos 1) range)
+
+-- an ordinal that has to lie above the first of its type
+abbrev pub above : ℤ → ℕ → Interval → Walking Interval
+above first site range = tested (int_lt first range.first) site (at_least (first +ℤ pos 1) range)
+
 -- a divisor, which may not be 0: an end of its range that is 0 is cut off
 abbrev pub divisor : ℕ → Interval → Walking Interval
 divisor site range = tested (not (has_number range (pos 0))) site (without_zero_end range)
@@ -148,6 +162,10 @@ whole overflow range = do
   passed ← within integer overflow range
   ordinal passed
 
+-- the values of type char (6.4.2.2)
+abbrev pub characters : Interval
+characters = record { first = pos 0; last = pos 127 }
+
 -- an operation on one operand, by what is known of the operand
 abbrev pub operated : Monadic → Known → Walking Known
 operated monadic.Plus (Ordinal range) = ordinal range
@@ -156,6 +174,16 @@ operated monadic.Not (Ordinal range) = ordinal (complement range)
 operated monadic.Abs (Ordinal range) = ordinal (absolute range)
 operated (monadic.Sqr overflow) (Ordinal range) = whole overflow (squared range)
 operated monadic.Odd (Ordinal range) = ordinal truth_values
+operated monadic.Ord (Ordinal range) = ordinal range
+operated (monadic.Chr no_char) (Ordinal range) = do
+  passed ← within characters no_char range
+  ordinal passed
+operated (monadic.Succ no_successor last) (Ordinal range) = do
+  passed ← below last no_successor range
+  ordinal (sum passed single)
+operated (monadic.Pred no_predecessor first) (Ordinal range) = do
+  passed ← above first no_predecessor range
+  ordinal (difference passed single)
 
 -- an operation on two operands, by what is known of them
 abbrev pub combined : Dyadic → Known → Known → Walking Known
@@ -177,6 +205,18 @@ abbrev pub variable_walk : Access → ℕ → Walking Known
 variable_walk access site = do
   _ ← enter access.number
   use_of access.root site
+
+-- a string, which is entered: it has no site
+abbrev pub whole_walk : Whole → Walking (Unit {0})
+whole_walk (Text number characters) = enter number
+
+-- a relation of two strings, whose operator is entered between them
+abbrev pub comparison_walk : Whole → ℕ → Whole → Walking Known
+comparison_walk left number right = do
+  _ ← whole_walk left
+  _ ← enter number
+  _ ← whole_walk right
+  ordinal truth_values
 
 -- what the walk does with an operator and its right operand, by what is known of the value to its left
 abbrev pub Combination : Type 0
@@ -209,6 +249,7 @@ value_step (MonadicOf number operation operand) = do
 value_step (Chain first rest) = do
   known ← first.value
   in_turn rest.items known
+value_step (Compare number relation left right) = comparison_walk left number right
 
 -- the walk over an operator and its right operand
 abbrev pub link_walk : Link → Combination
@@ -231,10 +272,17 @@ width_walk (Some width) = do
   known ← value_walk width.value
   width_test width.site known
 
--- a value that is written, and then its width
+-- a value that is written
+abbrev pub written_walk : Written → Walking (Unit {0})
+written_walk (written.Ordinal value representation) = do
+  _ ← value_walk value
+  give tt
+written_walk (written.String value) = whole_walk value
+
+-- the same, and then its width
 abbrev pub parameter_walk : WriteParameter → Walking (Unit {0})
 parameter_walk parameter = do
-  _ ← value_walk parameter.value
+  _ ← written_walk parameter.value
   width_walk parameter.width
 
 -- a value has to lie in the range of a type

@@ -2,16 +2,19 @@ ghost use Rattle.std.specs.Prelude.{◌≡◌};
 ghost use Rattle.abstract_state.specs.State.{limits_of};
 ghost use Rattle.expression_checker.specs.Visits.{Visits};
 ghost use Rattle.expression_checker.specs.View.{Goes};
-ghost use Rattle.expression_checker.specs.Walk.{combined, divisor, enter, fitting, link_walk, operated, parameter_walk};
-ghost use Rattle.expression_checker.specs.Walk.{positive, tested, value_walk, variable_walk, whole, width_test};
-ghost use Rattle.expression_checker.specs.Walk.{width_walk, within};
+ghost use Rattle.expression_checker.specs.Walk.{above, below, combined, comparison_walk, divisor, enter, fitting};
+ghost use Rattle.expression_checker.specs.Walk.{link_walk, operated, parameter_walk, positive, tested, value_walk};
+ghost use Rattle.expression_checker.specs.Walk.{variable_walk, whole, whole_walk, width_test, width_walk, within};
+ghost use Rattle.expression_checker.specs.Walk.{written_walk};
 
 use crate::fault::CheckFault;
 use crate::visits::Visits;
 use abstract_state::{Known, State, limits};
 use domain::Domain;
 use domain::interval::Interval;
-use typed_tree::tree::{Access, Dyadic, Expr, Link, Monadic, RangeTest, Width, WriteParameter};
+use typed_tree::tree::{
+    Access, Dyadic, Expr, Link, Monadic, RangeTest, Whole, Width, WriteParameter, Written,
+};
 
 /// The flow of a walk through a program: what it comes with to each expression, and goes on with behind it.
 #[derive(Drop)]
@@ -69,6 +72,12 @@ impl Flow {
                 }
                 Ok(known)
             }
+            Expr::Compare {
+                number,
+                left,
+                right,
+                ..
+            } => self.comparison(left, *number, right, visits),
         }
     }
 
@@ -80,6 +89,30 @@ impl Flow {
         self.enter(link.number, visits)?;
         let right = self.expression(&link.operand, visits)?;
         self.combined(link.operation, left, right)
+    }
+
+    /// A relation of two strings: the operator is entered between them.
+    fn comparison(
+        &mut self,
+        left: &Whole,
+        number: u32,
+        right: &Whole,
+        visits: &mut Visits,
+    ) -> Result<Known, CheckFault>
+        ensures { Goes (comparison_walk left.now number right.now) self.old visits.old result self.new visits.new }
+    {
+        self.whole_value(left, visits)?;
+        self.enter(number, visits)?;
+        self.whole_value(right, visits)?;
+        Ok(Known::Ordinal(Interval::TRUTH_VALUES))
+    }
+
+    /// A string is only entered.
+    fn whole_value(&mut self, value: &Whole, visits: &mut Visits) -> Result<(), CheckFault>
+        ensures { Goes (whole_walk value.now) self.old visits.old result self.new visits.new }
+    {
+        let Whole::Text { number, .. } = value;
+        self.enter(*number, visits)
     }
 
     /// The use of a variable: it is defined afterwards.
@@ -106,8 +139,21 @@ impl Flow {
     ) -> Result<(), CheckFault>
         ensures { Goes (parameter_walk parameter.now) self.old visits.old result self.new visits.new }
     {
-        self.expression(&parameter.value, visits)?;
+        self.written(&parameter.value, visits)?;
         self.width(&parameter.width, visits)
+    }
+
+    /// A value that is written.
+    fn written(&mut self, value: &Written, visits: &mut Visits) -> Result<(), CheckFault>
+        ensures { Goes (written_walk value.now) self.old visits.old result self.new visits.new }
+    {
+        match value {
+            Written::Ordinal { value, .. } => {
+                self.expression(value, visits)?;
+                Ok(())
+            }
+            Written::String { value } => self.whole_value(value, visits),
+        }
     }
 
     /// The width of a value that is written.
@@ -138,7 +184,51 @@ impl Flow {
             Monadic::Abs => Ok(Known::Ordinal(range.absolute())),
             Monadic::Sqr { overflow } => self.whole(overflow, range.square()),
             Monadic::Odd => Ok(Known::Ordinal(Interval::TRUTH_VALUES)),
+            Monadic::Ord => Ok(Known::Ordinal(range)),
+            Monadic::Chr { no_char } => self.character(no_char, range),
+            Monadic::Succ { no_successor, last } => self.successor(no_successor, last, range),
+            Monadic::Pred {
+                no_predecessor,
+                first,
+            } => self.predecessor(no_predecessor, first, range),
         }
+    }
+
+    /// A number that has to be that of a character.
+    fn character(&mut self, no_char: u32, range: Interval) -> Result<Known, CheckFault>
+        ensures { (visits : Visits) → Goes (operated (Monadic.Chr no_char) (Known.Ordinal range))
+            self.old visits result self.new visits }
+    {
+        let characters = Interval::between(0, 127);
+        Ok(Known::Ordinal(self.within(characters, no_char, range)?))
+    }
+
+    /// The next value of an ordinal, which has to lie below the last of its type.
+    fn successor(
+        &mut self,
+        no_successor: u32,
+        last: i32,
+        range: Interval,
+    ) -> Result<Known, CheckFault>
+        ensures { (visits : Visits) → Goes (operated (Monadic.Succ no_successor last) (Known.Ordinal range))
+            self.old visits result self.new visits }
+    {
+        let passed = self.below(last, no_successor, range)?;
+        Ok(Known::Ordinal(passed.add(&Interval::between(1, 1))))
+    }
+
+    /// The value before an ordinal, which has to lie above the first of its type.
+    fn predecessor(
+        &mut self,
+        no_predecessor: u32,
+        first: i32,
+        range: Interval,
+    ) -> Result<Known, CheckFault>
+        ensures { (visits : Visits) → Goes (operated (Monadic.Pred no_predecessor first) (Known.Ordinal range))
+            self.old visits result self.new visits }
+    {
+        let passed = self.above(first, no_predecessor, range)?;
+        Ok(Known::Ordinal(passed.subtract(&Interval::between(1, 1))))
     }
 
     /// What an operation gives for two values.
@@ -211,6 +301,22 @@ impl Flow {
         ensures { (visits : Visits) → Goes (positive site range) self.old visits result self.new visits }
     {
         self.test(1 <= range.first(), site, range.at_least(1))
+    }
+
+    /// An ordinal that has to lie below the last of its type.
+    fn below(&mut self, last: i32, site: u32, range: Interval) -> Result<Interval, CheckFault>
+        ensures { (visits : Visits) → Goes (below last site range) self.old visits result self.new visits }
+    {
+        let last = i64::from(last);
+        self.test(range.last() < last, site, range.at_most(last - 1))
+    }
+
+    /// An ordinal that has to lie above the first of its type.
+    fn above(&mut self, first: i32, site: u32, range: Interval) -> Result<Interval, CheckFault>
+        ensures { (visits : Visits) → Goes (above first site range) self.old visits result self.new visits }
+    {
+        let first = i64::from(first);
+        self.test(first < range.first(), site, range.at_least(first + 1))
     }
 
     /// A divisor, which may not be 0.

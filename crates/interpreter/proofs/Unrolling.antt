@@ -1,5 +1,6 @@
 -- Each form of an expression and of a statement, as the work that an interpreter has to do for it.
-use Rattle.std.proofs.Common.{◌≡◌, ℕ, ℤ, pos, List, [], ◌∷◌, ◌++◌, Bool, true, false, Option, Some, None, Result, Bor, if◌then◌else◌, Box, Vec, Global, map, sym}
+use Rattle.std.proofs.Common.{◌≡◌, ℕ, ℤ, pos, List, [], ◌∷◌, ◌++◌, Bool, true, false, Option, Some, None, Result, Bor, if◌then◌else◌, Box, Vec, Global, map}
+use Rattle.std.proofs.Common.{sym}
 use Rattle.std.proofs.Common.{◌∙◌, ap, refl}
 use Rattle.place.specs.declared.Place.{Place as SourcePlace}
 use Rattle.typed_tree.specs.declared.tree.Access.{Access}
@@ -31,7 +32,8 @@ use Rattle.meaning.specs.Store.{Environment, kept}
 use Rattle.meaning.specs.Effect.{State, Reply, Gives, Action, ◌>>=◌, and_then, give, require, enter, use_turn, another, looped}
 use Rattle.meaning.specs.Effect.{fetch, store, undefine, write, is_in, row_text, text_of}
 use Rattle.meaning.specs.Meaning.{Combination, Execution, effect_step, operated, combined, in_turn, all_of}
-use Rattle.meaning.specs.Meaning.{compared, whole_of, default_width, written_of, width_of, parameter_of, line_ended, is_so, turn_if, for_between, arm_of, number_of, value_of, link_of, effect_of}
+use Rattle.meaning.specs.Meaning.{compared, whole_of, default_width, written_of, width_of, parameter_of, line_ended, is_so, turn_if, for_between, arm_of}
+use Rattle.meaning.specs.Meaning.{number_of, value_of, link_of, effect_of}
 use Rattle.interpreter.specs.Pending.{Resumption, pending_of, resumed, chosen, further, while_rounds, repeat_rounds, bounds_tested, value_before, counting}
 use Rattle.interpreter.specs.Pending.{forgetting, turning, line_ending, linking, giving, with_top}
 use Rattle.interpreter.specs.Pending.{Agrees, components_of, positive, top_of, below_top, writing, writing_whole}

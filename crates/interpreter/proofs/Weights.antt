@@ -20,8 +20,8 @@ use Rattle.meaning.specs.declared.outcome.Ending.{Ending}
 use Rattle.interpreter.specs.declared.work.Work.{Work}
 use Rattle.interpreter.specs.declared.work.Work.TheVariants as work
 use Rattle.interpreter.specs.Weight.{Weight, row_weight, rounds_weight, link_weight, expression_weight, weight_of_expression, weight_of_link, weight_of_width}
-use Rattle.interpreter.specs.Weight.{weight_of_written, weight_of_parameter, round_weight, for_weight, statement_weight, weight_of_statement, weight_of_alternative, weight_of}
-use Rattle.interpreter.specs.Weight.{turn_weight}
+use Rattle.interpreter.specs.Weight.{weight_of_written, weight_of_parameter, round_weight, for_weight, statement_weight, weight_of_statement}
+use Rattle.interpreter.specs.Weight.{weight_of_alternative, weight_of, turn_weight}
 
 -- a weight that more turns never lower
 abbrev Rises : Weight → Type 0

@@ -40,7 +40,8 @@ use Rattle.meaning.specs.Effect.{State, Reply, Gives, Stops, Action, Round, ◌>
 use Rattle.meaning.specs.Effect.{looped}
 use Rattle.meaning.specs.Effect.{fetched, fetch, store, undefine, write, is_in, is_positive, row_text, text_of}
 use Rattle.meaning.specs.Meaning.{Evaluation, Combination, Execution, value_step, link_step, effect_step, whole, operated, combined, in_turn, all_of}
-use Rattle.meaning.specs.Meaning.{compared, whole_of, default_width, width_of, written_of, parameter_of, line_ended, is_so, turn_if, while_round, repeat_round, for_round, for_rounds, for_between, is_among}
+use Rattle.meaning.specs.Meaning.{compared, whole_of, default_width, width_of, written_of, parameter_of, line_ended, is_so, turn_if, while_round}
+use Rattle.meaning.specs.Meaning.{repeat_round, for_round, for_rounds, for_between, is_among}
 use Rattle.meaning.specs.Meaning.{arm_of, number_of, value_of, link_of, effect_of, Meaning, run_of, run, ended}
 use Rattle.meaning.specs.Meaning.{program_environment, first_state}
 use Rattle.meaning.specs.Laws.{with_turns, reply_with_turns, state_after, Begins, Extends, TurnsGoOn, TurnsExtendTheOutput, EndingsStay}

@@ -1,9 +1,10 @@
 use Rattle.std.proofs.Common.{rules, Ok, Err, ap, map, sym, ◌∙◌, ◌≡◌, ℤ, to_z, of_z, w32}
 use Rattle.std.proofs.lemmas.Int.{to_z-of_z}
 use Rattle.domain.specs.Interval.{between}
-use Rattle.expression_checker.specs.Walk.{◌>>=◌, combined, enter, in_turn, link_walk, operated, ordinal, value_walk}
+use Rattle.expression_checker.specs.Walk.{◌>>=◌, combined, comparison_walk, enter, in_turn, link_walk, operated, ordinal, value_walk}
 use Rattle.expression_checker.proofs.Steps.{chain-begun, given-up, goes-as, goes-give, goes-stopped, goes-then, link-done, link-walks, monadic-begun}
-use Rattle.expression_checker.proofs.Steps.{one-number, stopped-as, turn-end, turn-step, turn-stopped, value-Chain, value-Constant, value-Monadic}
+use Rattle.expression_checker.proofs.Steps.{one-number, stopped-as, turn-end, turn-step, turn-stopped, value-Chain, value-Compare, value-Constant}
+use Rattle.expression_checker.proofs.Steps.{value-Monadic}
 use Rattle.abstract_state.specs.declared.known.Known.TheVariants.{Ordinal}
 use Rattle.expression_checker.proofs.flow.Flow.+expression.Goals as goal
 
@@ -136,3 +137,9 @@ link-returns-in_err-right t c =
     c.args.visits.now c.enter.new.visits after tt (Err fault) c.in_ok-enter.ensures
     (goes-stopped (value_walk link.operand) (combined link.operation c.args.left) c.enter.new.self new c.enter.new.visits after fault
     c.in_err-right.ensures)))
+
+pub expression-returns-in-Compare : goal.expression-returns-in-Compare
+expression-returns-in-Compare t c =
+    let it = c.in-Compare in
+    goes-as (value_walk c.args.expression.now) (comparison_walk it.left it.number it.right) c.args.self.now c.comparison.new.self c.args.visits.now
+    c.comparison.new.visits c.comparison.result (ap value_walk it.is ∙ value-Compare it.number it.relation it.left it.right) c.comparison.ensures

@@ -1,0 +1,17 @@
+use Rattle.std.proofs.Common.{rules, ap₂, sym, ◌≡◌, Bool, ℤ, pos, ◌-ℤ◌, to_z, of_z, w64, int_lt}
+use Rattle.std.proofs.lemmas.Int.{to_z-of_z}
+use Rattle.domain.specs.Interval.{Interval, at_most}
+use Rattle.expression_checker.specs.Walk.{below, tested}
+use Rattle.expression_checker.proofs.Steps.{goes-as}
+use Rattle.expression_checker.proofs.flow.Flow.below.Goals as goal
+
+pub returns : goal.returns
+returns c = λ visits.
+    let own = c.args.range in
+    let site = c.args.site in
+    let last = c.args.last in
+    let end : ◌≡◌ {A = ℤ} (to_z w64 (of_z w64 c.last.result)) own.last = search (rules, to_z-of_z) in
+    let given : ◌≡◌ {A = ℤ} (to_z w64 (of_z w64 c.from-last.result)) last = search (rules, to_z-of_z) in
+    let passed : c.at_most.result ≡ at_most (last -ℤ pos 1) own = search (rules, to_z-of_z) in
+    goes-as (below last site own) _ c.args.self.now c.test.new.self visits visits c.test.result
+    (sym (ap₂ (λ (closed : Bool) (range : Interval). tested closed site range) (ap₂ int_lt end given) passed)) (c.test.ensures visits)

@@ -1,0 +1,15 @@
+use Rattle.std.proofs.Common.{ap}
+use Rattle.expression_checker.specs.Walk.{give, value_walk, whole_walk, written_walk}
+use Rattle.expression_checker.proofs.Steps.{goes-as, stopped-as}
+use Rattle.expression_checker.proofs.flow.Flow.written.Goals as goal
+
+pub returns-in_err-expression-in-Ordinal : goal.returns-in_err-expression-in-Ordinal
+returns-in_err-expression-in-Ordinal c =
+    stopped-as (written_walk c.args.value.now) (value_walk c.in-Ordinal.value) (λ _. give (tt {0})) c.args.self.now c.expression.new.self
+    c.args.visits.now c.expression.new.visits c.in_err-expression-in-Ordinal.field-0.0 c.from_residual.result (ap written_walk c.in-Ordinal.is)
+    c.from_residual.ensures c.in_err-expression-in-Ordinal.ensures
+
+pub returns-in-String : goal.returns-in-String
+returns-in-String c =
+    goes-as (written_walk c.args.value.now) (whole_walk c.in-String.value) c.args.self.now c.whole_value.new.self c.args.visits.now
+    c.whole_value.new.visits c.whole_value.result (ap written_walk c.in-String.is) c.whole_value.ensures
