@@ -1,6 +1,7 @@
 use crate::sources::{fault_told, tree_of};
+use interpreter::interpret;
+use meaning::laws;
 use meaning::outcome::{Ending, Outcome};
-use meaning::{interpret, laws};
 use std::alloc::{AllocError, Global};
 use std::test::Fail;
 use test_words::rows::all_hold;

@@ -22,14 +22,13 @@ use Rattle.meaning.specs.declared.store.Value.{Value}
 use Rattle.meaning.specs.declared.store.Value.TheVariants.{Number}
 use Rattle.meaning.specs.Store.{Place, Step, Element, Environment, stored, written, undefined, overlap}
 use Rattle.meaning.specs.Integers.{is_integer_number}
-use Rattle.meaning.specs.Effect.{State, Reply, Gives, Stops, Action, Round, looped, ◌>>=◌, and_then, give, enter, fetch, store, undefine, use_turn, write}
-use Rattle.meaning.specs.Effect.{is_in, places, boolean_text, char_text, row_text, text_of}
+use Rattle.meaning.specs.Effect.{State, Reply, Gives, Stops, Action, Round, looped, ◌>>=◌, and_then, give, enter, fetch, store, undefine, require, use_turn}
+use Rattle.meaning.specs.Effect.{write, is_in, is_positive, places, boolean_text, char_text, row_text, text_of}
 use Rattle.meaning.specs.Meaning.{Evaluation, Combination, Execution, effect_step, is_so, alternative_of, combined, while_round, repeat_round, for_between}
 use Rattle.meaning.specs.Meaning.{arm_of, Meaning, ended, link_step, in_turn, operated}
 use Rattle.meaning.specs.Meaning.{value_of, compared, order_of, default_width, width_of, written_of, completed, first_state}
 use Rattle.meaning.specs.Meaning.{home_of, program_environment}
 use Rattle.meaning.specs.Laws.{Extends}
-use Rattle.meaning.specs.Pending.{positive}
 
 abbrev place : ℕ → List Step → Place
 place root steps = record { activation = 0; variable = root; steps = steps }
@@ -240,8 +239,10 @@ unfolding nowhere
 both_evaluated = refl
 
 -- a width of 0 is an error at its site
-no_width : told (positive 6 (Number (pos 0)) (first_state [] 0)) ≡ End_of (Error 6)
-no_width = refl
+no_width : (width : Width) (default : ℤ) (environment : Environment) (s t : State) → value_of width.value environment s ≡ Gives (Number (pos 0)) t →
+    width_of (Some width) default environment s ≡ Stops (Error width.site) t
+no_width width default environment s t zero =
+    ap (λ (r : Reply Value). and_then r (λ w. require (is_positive w) width.site >>= λ _. give w)) zero
 
 -- where a value stops, its width isn't evaluated
 value_first : (value : Expr) (representation : Representation) (width : Option Width) (environment : Environment) (s t : State) (end : Ending) →

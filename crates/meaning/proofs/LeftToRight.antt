@@ -8,8 +8,8 @@ use Rattle.meaning.specs.declared.store.Value.{Value}
 use Rattle.meaning.specs.Store.{Environment}
 use Rattle.meaning.specs.Effect.{State, Reply, Stops, and_then}
 use Rattle.meaning.specs.Meaning.{in_turn, value_of, link_of}
-use Rattle.meaning.proofs.Resuming.{and_then-and_then, and_then-same}
-use Rattle.meaning.proofs.Unrolling.{value-Chain}
+use Rattle.meaning.proofs.Expressions.{value-Chain}
+use Rattle.meaning.proofs.Replies.{and_then-and_then, and_then-same}
 
 -- some operators, and then more of them
 in_turn-more : (links more : List Link) (env : Environment) (v : Value) (s : State) →

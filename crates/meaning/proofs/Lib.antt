@@ -1,11 +1,6 @@
-mod Counts
 mod Examples
-mod FoundArms
+pub mod Expressions
 mod LeftToRight
 pub mod Loops
-mod Resuming
-mod Starting
-mod Strings
+pub mod Replies
 pub mod Turns
-mod Unrolling
-mod Weights

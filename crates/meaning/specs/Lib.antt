@@ -3,6 +3,4 @@ pub mod Store
 pub mod Counting
 pub mod Effect
 pub mod Meaning
-pub mod Weight
-pub mod Pending
 pub mod Laws

@@ -7,24 +7,6 @@ ghost use Rattle.meaning.specs.Integers.{magnitude, truth};
 
 use std::marker::Model;
 
-/// A step from a variable to a component of it.
-#[derive(PartialEq, Eq, PartialOrd, Ord, Drop)]
-pub enum Step {
-    /// The element of an array at this ordinal.
-    Element(i32),
-    /// The field of a record with this name, in small letters.
-    Field(Vec<u8>),
-}
-
-/// Where a scalar or a set lies: an activation, a variable of it by its root number, and the steps
-/// to a component.
-#[derive(PartialEq, Eq, PartialOrd, Ord, Drop)]
-pub struct Place {
-    pub activation: u64,
-    pub variable: u32,
-    pub steps: Vec<Step>,
-}
-
 /// A value: an ordinal by its number.
 #[derive(Clone, Copy)]
 pub enum Value {
@@ -49,7 +31,7 @@ impl Model for Ordinal {
 
 impl Ordinal {
     /// The ordinal of a number.
-    pub(crate) fn new(number: i32) -> Ordinal
+    pub fn new(number: i32) -> Ordinal
         ensures { result ≡ number }
     {
         Ordinal {
@@ -58,14 +40,14 @@ impl Ordinal {
     }
 
     /// Its number.
-    pub(crate) fn number(self) -> i64
+    pub fn number(self) -> i64
         ensures { result ≡ self }
     {
         self.number
     }
 
     /// The ordinal with the other sign.
-    pub(crate) fn negated(self) -> Ordinal
+    pub fn negated(self) -> Ordinal
         ensures { result ≡ neg_ℤ self }
     {
         Ordinal {
@@ -74,21 +56,21 @@ impl Ordinal {
     }
 
     /// Whether it is of type integer: -2147483647 to 2147483647 (ISO 7185:1990, 6.4.2.2).
-    pub(crate) fn is_integer(self) -> bool
+    pub fn is_integer(self) -> bool
         ensures { result ≡ is_integer_number self }
     {
         -2_147_483_647 <= self.number && self.number <= 2_147_483_647
     }
 
     /// The byte of its lowest 8 bits.
-    pub(crate) fn byte(self) -> u8
+    pub fn byte(self) -> u8
         ensures { result ≡ byte_of self }
     {
         u8::try_from(self.number.rem_euclid(256)).unwrap_or(0)
     }
 
     /// The ordinal after one that isn't the greatest.
-    pub(crate) fn successor(self) -> Ordinal
+    pub fn successor(self) -> Ordinal
         requires { self <ℤ pos 2147483648 }
         ensures { result ≡ self +ℤ pos 1 }
     {
@@ -98,7 +80,7 @@ impl Ordinal {
     }
 
     /// The ordinal before one that isn't the least.
-    pub(crate) fn predecessor(self) -> Ordinal
+    pub fn predecessor(self) -> Ordinal
         requires { neg_ℤ (pos 2147483648) <ℤ self }
         ensures { result ≡ self -ℤ pos 1 }
     {
@@ -108,28 +90,28 @@ impl Ordinal {
     }
 
     /// The sum, if it is of type integer.
-    pub(crate) fn plus(self, other: Ordinal) -> Option<Ordinal>
+    pub fn plus(self, other: Ordinal) -> Option<Ordinal>
         ensures { result ≡ integer_or_none (self +ℤ other) }
     {
         integer(self.number + other.number)
     }
 
     /// The difference, if it is of type integer.
-    pub(crate) fn minus(self, other: Ordinal) -> Option<Ordinal>
+    pub fn minus(self, other: Ordinal) -> Option<Ordinal>
         ensures { result ≡ integer_or_none (self -ℤ other) }
     {
         integer(self.number - other.number)
     }
 
     /// The product, if it is of type integer.
-    pub(crate) fn times(self, other: Ordinal) -> Option<Ordinal>
+    pub fn times(self, other: Ordinal) -> Option<Ordinal>
         ensures { result ≡ integer_or_none (self *ℤ other) }
     {
         integer(self.number * other.number)
     }
 
     /// The quotient, cut toward zero (6.7.2.2). The divisor isn't 0.
-    pub(crate) fn quotient(self, divisor: Ordinal) -> Ordinal
+    pub fn quotient(self, divisor: Ordinal) -> Ordinal
         requires { divisor ≢ pos 0 }
         ensures { result ≡ int_div self divisor }
     {
@@ -139,7 +121,7 @@ impl Ordinal {
     }
 
     /// The remainder that isn't negative (6.7.2.2). The divisor is at least 1.
-    pub(crate) fn modulus(self, divisor: Ordinal) -> Ordinal
+    pub fn modulus(self, divisor: Ordinal) -> Ordinal
         requires { pos 1 ≤ℤ divisor }
         ensures { result ≡ int_rem_euclid self divisor }
     {
@@ -149,7 +131,7 @@ impl Ordinal {
     }
 
     /// The ordinal without its sign.
-    pub(crate) fn magnitude(self) -> Ordinal
+    pub fn magnitude(self) -> Ordinal
         ensures { result ≡ magnitude self }
     {
         if self.number < 0 {
@@ -160,14 +142,14 @@ impl Ordinal {
     }
 
     /// Whether it is odd.
-    pub(crate) fn is_odd(self) -> bool
+    pub fn is_odd(self) -> bool
         ensures { result ≡ is_odd self }
     {
         self.number.rem_euclid(2) == 1
     }
 
     /// The ordinal of a truth value: false is 0, true is 1 (6.4.2.2).
-    pub(crate) fn truth(holds: bool) -> Ordinal
+    pub fn truth(holds: bool) -> Ordinal
         ensures { result ≡ truth holds }
     {
         Ordinal {
@@ -176,35 +158,35 @@ impl Ordinal {
     }
 
     /// Its truth value: whether it isn't 0.
-    pub(crate) fn is_true(self) -> bool
+    pub fn is_true(self) -> bool
         ensures { result ≡ is_true self }
     {
         self.number != 0
     }
 
     /// Whether it lies within `first` to `last`.
-    pub(crate) fn is_within(self, first: i32, last: i32) -> bool
+    pub fn is_within(self, first: i32, last: i32) -> bool
         ensures { result ≡ is_within first last self }
     {
         i64::from(first) <= self.number && self.number <= i64::from(last)
     }
 
     /// Whether it is equal to another.
-    pub(crate) fn equals(self, other: Ordinal) -> bool
+    pub fn equals(self, other: Ordinal) -> bool
         ensures { result ≡ int_eq self other }
     {
         self.number == other.number
     }
 
     /// Whether it is less than another.
-    pub(crate) fn is_less_than(self, other: Ordinal) -> bool
+    pub fn is_less_than(self, other: Ordinal) -> bool
         ensures { result ≡ int_lt self other }
     {
         self.number < other.number
     }
 
     /// Whether it is at most another.
-    pub(crate) fn is_at_most(self, other: Ordinal) -> bool
+    pub fn is_at_most(self, other: Ordinal) -> bool
         ensures { result ≡ int_le self other }
     {
         self.number <= other.number

@@ -4,7 +4,7 @@
 use crate::generated::{certificate, program};
 use crate::numbers::Numbers;
 use crate::shown::{Ran, is_same_end, run};
-use meaning::interpret;
+use interpreter::interpret;
 use meaning::outcome::{Ending, Outcome};
 use report::compile::{Compiled, compile};
 use report::fault::Fault;

@@ -3,7 +3,7 @@
 ghost use Rattle.std.specs.Prelude.{◌≤◌};
 
 use cert_checker::Verdict;
-use meaning::interpret;
+use interpreter::interpret;
 use meaning::outcome::{Ending, Outcome};
 use pcode_assembler::code::Code;
 use report::compile::compile;

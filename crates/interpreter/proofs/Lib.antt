@@ -1,0 +1,7 @@
+mod Counts
+mod FoundArms
+mod Resuming
+mod Starting
+mod Strings
+mod Unrolling
+mod Weights

@@ -1,0 +1,151 @@
+-- What pending work means, step by step.
+use Rattle.std.proofs.Common.{◌≡◌, ℕ, List, [], ◌∷◌, ◌++◌, Option, Some, None, Result, Ok, reverse, sym, ◌∙◌, ap, subst, refl, length, arith, Bool}
+use Rattle.std.proofs.Common.{true, false, if◌then◌else◌, Box, Global, ℤ}
+use Rattle.std.proofs.lemmas.Int.{ints}
+use mir.Syntax.{w32}
+use mir.Val.{SFits, to_z, of_z}
+use Rattle.std.specs.declared.alloc.AllocError.{AllocError}
+use Rattle.typed_tree.specs.declared.tree.RangeTest.{RangeTest}
+use Rattle.typed_tree.specs.declared.tree.Stmt.{Stmt}
+use Rattle.types.specs.declared.form.OrdinalRange.{OrdinalRange}
+use Rattle.meaning.specs.declared.outcome.Ending.{Ending}
+use Rattle.std.proofs.lemmas.List.{reverse-append}
+use Rattle.std.specs.Option.{ok_or}
+use Rattle.meaning.specs.declared.outcome.Ending.TheVariants.{Finished}
+use Rattle.meaning.specs.declared.store.Value.{Value}
+use Rattle.interpreter.specs.declared.interpreter.Run.{Run}
+use Rattle.interpreter.specs.declared.work.Work.{Work}
+use Rattle.interpreter.specs.declared.work.Work.TheVariants as work
+use Rattle.meaning.specs.Store.{Environment, Place, held, kept}
+use Rattle.meaning.specs.Effect.{State, Reply, Gives, Stops, Action, ◌>>=◌, and_then, fetched, fetch, is_in, require, store}
+use Rattle.meaning.specs.Meaning.{effect_of, is_so}
+use Rattle.interpreter.specs.Pending.{Resumption, Agrees, Continues, Does, EndsAs, pending_of, resumed, rest_of, answered, giving, with_top, chosen, top_of}
+use Rattle.interpreter.specs.Pending.{below_top, checked}
+
+-- one more at the end of a stack is one more at its top
+pub reverse_push : {A : Type 0} (xs : List A) (x : A) → reverse (xs ++ x ∷ []) ≡ x ∷ reverse xs
+reverse_push xs x = reverse-append xs (x ∷ [])
+
+pub reverse_pushed : {A : Type 0} (ys xs : List A) (x : A) (zs : List A) → ys ≡ xs ++ x ∷ [] → reverse xs ≡ zs → reverse ys ≡ x ∷ zs
+reverse_pushed ys xs x zs pushed below = ap reverse pushed ∙ reverse_push xs x ∙ ap (λ l. x ∷ l) below
+
+pub none_left : {A : Type 0} (xs : List A) → length xs ≡ 0 → xs ≡ []
+none_left [] h = refl
+none_left (x ∷ xs) h = let no : ⊥ = omega (arith, h) in absurd no
+
+fetched_answer : (o : Option Value) (site : ℕ) (s : State) → fetched o site s ≡ answered (ok_or o site) s
+fetched_answer None site s = refl
+fetched_answer (Some v) site s = refl
+
+-- the value of a variable is what its place holds
+pub fetched_there : (defined : ℕ) (s : State) (place : Option Place) (o : Option Value) (answer : Result Value ℕ) → o ≡ held s.store place →
+    answer ≡ ok_or o defined → fetch place defined s ≡ answered answer s
+fetched_there defined s place o answer holds is = ap (λ w. fetched w defined s) (sym holds) ∙ fetched_answer o defined s ∙ ap (λ a. answered a s) (sym is)
+
+module _ (env : Environment) (old new : Run) where
+  -- the run goes on with other work
+  pub goes_on_to : (s : State) (works : List Work) (reply : Reply (Unit {0})) → Agrees env new s → reverse new.pending.items ≡ works →
+      new.values.items ≡ old.values.items → reply ≡ pending_of env works (reverse old.values.items) s → Continues env reply (Ok None) new
+  goes_on_to s works reply agrees work same is =
+      (s, agrees, is ∙ ap (λ l. pending_of env works (reverse l) s) (sym same) ∙ ap (λ p. pending_of env p (reverse new.values.items) s) (sym work))
+
+  -- what another reply goes on to
+  pub continues_as : (reply other : Reply (Unit {0})) (result : Result (Option Ending) AllocError) → reply ≡ other → Continues env other result new →
+      Continues env reply result new
+  continues_as reply other result is continues = subst (λ (r : Reply (Unit {0})). Continues env r result new) (sym is) continues
+
+module _ (old new : Run) where
+  -- a step that does another piece of work that is the same
+  pub does_as : (work other : Work) (result : Result (Option Ending) AllocError) → work ≡ other → Does (λ env. resumed env other) old result new →
+      Does (λ env. resumed env work) old result new
+  does_as work other result is does = subst (λ (w : Work). Does (λ env. resumed env w) old result new) (sym is) does
+
+  -- a run that goes on after its topmost piece of work
+  pub goes_on_from : (env : Environment) (start reply : Reply (Unit {0})) (result : Result (Option Ending) AllocError) → start ≡ reply → result ≡ Ok None →
+      Continues env reply result new → (t : State) × Agrees env new t × (start ≡ rest_of env new t)
+  goes_on_from env start reply result is none continues =
+      let next : Continues env reply (Ok None) new = subst (λ (r : Result (Option Ending) AllocError). Continues env reply r new) none continues in
+      (next.0, next.1, is ∙ next.2)
+
+  -- a run that stops at its topmost piece of work
+  pub stops_from : (env : Environment) (start reply : Reply (Unit {0})) (result : Result (Option Ending) AllocError) (ending : Ending) → start ≡ reply →
+      result ≡ Ok (Some ending) → Continues env reply result new → EndsAs env start new ending
+  stops_from env start reply result ending is some continues =
+      let next : Continues env reply (Ok (Some ending)) new = subst (λ (r : Result (Option Ending) AllocError). Continues env reply r new) some continues in
+      subst (λ (r : Reply (Unit {0})). EndsAs env r new ending) (sym (is ∙ next.2)) (record { state = next.1; ending = refl })
+
+  -- a run that has nothing left to do
+  pub done_from : (env : Environment) (start : Reply (Unit {0})) (t : State) → start ≡ rest_of env new t → new.pending.items ≡ [] → Agrees env new t →
+      EndsAs env start new Finished
+  done_from env start t is none agrees =
+      let done : start ≡ Gives tt t = is ∙ ap (λ (l : List Work). pending_of env (reverse l) (reverse new.values.items) t) none in
+      subst (λ (r : Reply (Unit {0})). EndsAs env r new Finished) (sym done) (record { state = agrees; ending = refl })
+
+-- a run that stops behind its operands
+pub stops_below : (old taken : Run) (env : Environment) (s : State) (start : Reply (Unit {0})) (ending : Ending) →
+    taken ≡ record old { values = taken.values } → start ≡ Stops ending s → Agrees env old s → Continues env start (Ok (Some ending)) taken
+stops_below old taken env s start ending same is agrees = (s, subst (λ (r : Run). Agrees env r s) (sym same) agrees, is)
+
+-- a piece of work whose operands were taken from the stack
+pub goes_on_below : (old taken new : Run) (env : Environment) (s : State) (piece : Environment → Resumption → Resumption) (below : List Value)
+    (result : Result (Option Ending) AllocError) (start : Reply (Unit {0})) → taken ≡ record old { values = taken.values } →
+    reverse taken.values.items ≡ below → start ≡ piece env (pending_of env (reverse old.pending.items)) below s → Agrees env old s →
+    Does piece taken result new → Continues env start result new
+goes_on_below old taken new env s piece below result start same left is agrees does =
+    let agreed : Agrees env taken s = subst (λ (r : Run). Agrees env r s) (sym same) agrees in
+    continues_as env old new start _ result
+    (is
+    ∙ ap (λ (l : List Value). piece env (pending_of env (reverse old.pending.items)) l s) (sym left)
+    ∙ ap (λ (r : Run). piece env (pending_of env (reverse r.pending.items)) (reverse taken.values.items) s) (sym same))
+    (does env s agreed)
+
+-- a statement, and then the rest
+abbrev pub executing : Stmt → Environment → Resumption → Resumption
+executing statement env next operands = effect_of statement env >>= λ _. next operands
+
+-- the topmost operand chooses a branch
+pub chooses : (env : Environment) (consequence : Stmt) (alternative : Option (Box Stmt Global)) (next : Resumption) (operands : List Value) (s : State)
+    (so : Bool) → is_so (top_of operands) ≡ so →
+    with_top (λ v below. chosen (is_so v) consequence alternative env >>= λ _. next below) operands s ≡
+    and_then (chosen so consequence alternative env s) (λ _. next (below_top operands))
+chooses env consequence alternative next operands s so is =
+    ap (λ (b : Bool). and_then (chosen b consequence alternative env s) (λ _. next (below_top operands))) is
+
+-- a calculation with operands that were taken from the stack
+pub goes_on_by : (old taken new : Run) (env : Environment) (s : State) (action : Action Value) (answer : Result Value ℕ) (below : List Value)
+    (result : Result (Option Ending) AllocError) → taken ≡ record old { values = taken.values } → reverse taken.values.items ≡ below →
+    action s ≡ answered answer s → Agrees env old s → Does (λ env. giving (answered answer)) taken result new →
+    Continues env (giving action (pending_of env (reverse old.pending.items)) below s) result new
+goes_on_by old taken new env s action answer below result same left gives agrees does =
+    goes_on_below old taken new env s (λ env. giving (answered answer)) below result _ same left
+    (ap (λ (r : Reply Value). and_then r (λ v. pending_of env (reverse old.pending.items) (v ∷ below))) gives)
+    agrees does
+
+-- the topmost piece of work is taken from the stack
+pub taken : (env : Environment) (run : Run) (left : List Work) (work : Work) (t : State) → run.pending.items ≡ left ++ work ∷ [] →
+    rest_of env run t ≡ resumed env work (pending_of env (reverse left)) (reverse run.values.items) t
+taken env run left work t is = ap (λ (l : List Work). pending_of env l (reverse run.values.items) t) (ap reverse is ∙ reverse_push left work)
+
+-- the topmost operand is stored
+pub stores : (env : Environment) (root : ℕ) (fits : RangeTest) (next : Resumption) (operands : List Value) (s : State) (v : Value) → v ≡ top_of operands →
+    is_in fits.range v ≡ true → resumed env (work.Store root fits) next operands s ≡
+    next (below_top operands) (record s { store = kept s.store (env root) v })
+stores env root fits next operands s v top fine =
+    let then_rest : Value → Unit {0} → Action (Unit {0}) = λ u _. store (env root) u >>= λ _. next (below_top operands) in
+    ap (λ (u : Value). and_then (require (is_in fits.range u) fits.site s) (then_rest u)) (sym top)
+    ∙ ap (λ (b : Bool). and_then (require b fits.site s) (then_rest v)) fine
+
+-- a value that passed the test
+choice_some : (b : Bool) (v u : Value) → (if b then Some v else None) ≡ Some u → (v ≡ u) × (b ≡ true)
+choice_some true v u h = (cc, refl)
+choice_some false v u h = let no : ⊥ = cc in absurd no
+
+pub checked_some : (range : OrdinalRange) (v u : Value) (o : Option Value) → o ≡ checked range v → o ≡ Some u → (v ≡ u) × (is_in range v ≡ true)
+checked_some range v u o is some = choice_some (is_in range v) v u (sym is ∙ some)
+
+-- what holds of two numbers that were passed holds of them
+pub passed : (P : ℤ → ℤ → Type 0) (a b : ℤ) → SFits w32 a → SFits w32 b → P (to_z w32 (of_z w32 a)) (to_z w32 (of_z w32 b)) → P a b
+passed P a b fits too holds =
+    let one : to_z w32 (of_z w32 a) ≡ a = omega (arith, ints, fits) in
+    let other : to_z w32 (of_z w32 b) ≡ b = omega (arith, ints, too) in
+    subst (λ n. P n b) one (subst (λ n. P (to_z w32 (of_z w32 a)) n) other holds)

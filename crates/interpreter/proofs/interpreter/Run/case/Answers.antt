@@ -1,0 +1,46 @@
+use Rattle.std.proofs.Common.{◌≡◌, Option, Some, None, Bor, option_map, reverse, sym, ◌∙◌, ap}
+use Rattle.typed_tree.specs.declared.tree.Stmt.{Stmt}
+use Rattle.meaning.specs.Effect.{Reply, and_then}
+use Rattle.meaning.specs.Meaning.{number_of}
+use Rattle.interpreter.specs.Pending.{arm_at, top_of, below_top, pending_of}
+use Rattle.interpreter.proofs.FoundArms.{arm_or_error, arm-found, arm-lightens}
+use Rattle.interpreter.proofs.Resuming.{executing, goes_on_below, stops_below}
+use Rattle.interpreter.proofs.interpreter.Run.case.Goals as goal
+
+pub returns-in-Some-clause-fewer : goal.returns-in-Some-clause-fewer
+returns-in-Some-clause-fewer c =
+    let found : arm_at c.args.constants.now c.args.arms.now c.number_of-index.result ≡ Some c.in-Some.arm.now =
+    sym c.arm_at.ensures ∙ ap (option_map (λ (arm : Bor Stmt). arm.now)) c.in-Some.is in
+    arm-lightens c.args.self.now c.popped.new.self c.do_next.new.self c.args.constants.now c.args.arms.now c.number_of-index.result c.in-Some.arm.now
+    c.do_next.result found c.popped.ensures.same c.do_next.ensures.weight
+
+pub returns-in-Some-clause-does : goal.returns-in-Some-clause-does
+returns-in-Some-clause-does c = λ env s agrees.
+    let old = c.args.self.now in
+    let operands = reverse old.values.items in
+    let next = pending_of env (reverse old.pending.items) in
+    let rows = c.args.constants.now in
+    let arms = c.args.arms.now in
+    let found : arm_at rows arms (number_of (top_of operands)) ≡ Some c.in-Some.arm.now =
+    ap (arm_at rows arms) (ap number_of (sym c.popped.ensures.top) ∙ sym c.number_of-index.ensures)
+    ∙ sym c.arm_at.ensures ∙ ap (option_map (λ (arm : Bor Stmt). arm.now)) c.in-Some.is in
+    goes_on_below old c.popped.new.self c.do_next.new.self env s (executing c.in-Some.arm.now) (below_top operands) c.do_next.result _
+    c.popped.ensures.same c.popped.ensures.below
+    (ap (λ (r : Reply (Unit {0})). and_then r (λ _. next (below_top operands)))
+    (arm-found c.args.site rows arms (number_of (top_of operands)) env s ∙ ap (λ (o : Option Stmt). arm_or_error c.args.site o env s) found))
+    agrees c.do_next.ensures.does
+
+pub returns-in-None-clause-does : goal.returns-in-None-clause-does
+returns-in-None-clause-does c = λ env s agrees.
+    let old = c.args.self.now in
+    let operands = reverse old.values.items in
+    let next = pending_of env (reverse old.pending.items) in
+    let rows = c.args.constants.now in
+    let arms = c.args.arms.now in
+    let found : arm_at rows arms (number_of (top_of operands)) ≡ None =
+    ap (arm_at rows arms) (ap number_of (sym c.popped.ensures.top) ∙ sym c.number_of-index.ensures)
+    ∙ sym c.arm_at.ensures ∙ ap (option_map (λ (arm : Bor Stmt). arm.now)) c.in-None.is in
+    stops_below old c.popped.new.self env s _ _ c.popped.ensures.same
+    (ap (λ (r : Reply (Unit {0})). and_then r (λ _. next (below_top operands)))
+    (arm-found c.args.site rows arms (number_of (top_of operands)) env s ∙ ap (λ (o : Option Stmt). arm_or_error c.args.site o env s) found))
+    agrees

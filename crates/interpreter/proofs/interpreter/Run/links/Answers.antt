@@ -1,0 +1,42 @@
+use Rattle.std.proofs.Common.{◌≡◌, ℕ, ◌+◌, ◌<◌, List, ◌∷◌, Option, Result, Ok, Err, OnOk, map, sum_by, reverse, refl, ap, sym, subst, ◌∙◌, arith}
+use Rattle.std.specs.declared.alloc.AllocError.{AllocError}
+use Rattle.meaning.specs.declared.outcome.Ending.{Ending}
+use Rattle.interpreter.specs.Weight.{Weight, weight_of, weight_of_link, weight_of_expression, expression_weight, link_weight, row_weight}
+use Rattle.typed_tree.specs.declared.tree.Expr.TheFolds.{fold_out-Link}
+use Rattle.std.proofs.lemmas.List.Sums.{sum_by-cons, sum_by_push}
+use Rattle.interpreter.specs.declared.work.Work.{Work}
+use Rattle.interpreter.specs.declared.work.Work.TheVariants as work
+use Rattle.interpreter.proofs.Resuming.{continues_as, reverse_pushed}
+use Rattle.interpreter.proofs.Unrolling.{entered, evaluated, does-Links}
+use Rattle.interpreter.proofs.interpreter.Run.links.Goals as goal
+
+pub returns-in_ok-put-in-Some-clause-does : goal.returns-in_ok-put-in-Some-clause-does
+returns-in_ok-put-in-Some-clause-does c = λ env s agrees.
+    let old = c.args.self.now in
+    let first = c.in-Some.first.now in
+    let all : c.args.links.now ≡ first ∷ c.in-Some.rest.now = c.in-Some.ensures.cases.0 in
+    continues_as env old c.plan.new.self _ _ c.plan.result
+    (does-Links first c.in-Some.rest c.args.links all env (reverse old.pending.items) (reverse old.values.items) s
+    ∙ ap (λ (works : List Work). evaluated env first.operand (work.Combine first.operation ∷ works) (reverse old.values.items) (entered first.number env s))
+    (sym (reverse_pushed _ _ _ _ c.in_ok-put-in-Some.ensures refl)))
+    (c.plan.ensures.does env (entered first.number env s) agrees)
+
+-- what weighs as much as a sum below the bound weighs less than the bound
+lighter : (result : Result (Option Ending) AllocError) (new sum bound : ℕ) → OnOk result (new ≡ sum) → sum < bound → OnOk result (new < bound)
+lighter (Ok ending) new sum bound is less = subst (λ n. n < bound) (sym is) less
+lighter (Err e) new sum bound is less = tt
+
+pub returns-in_ok-put-in-Some-clause-fewer : goal.returns-in_ok-put-in-Some-clause-fewer
+returns-in_ok-put-in-Some-clause-fewer c =
+    let first = c.in-Some.first.now in
+    let old = c.args.self.now.pending.items in
+    let turns = c.args.self.now.turns in
+    let left : sum_by (weight_of turns) c.put.new.pending.items ≡ sum_by (weight_of turns) old + weight_of turns (work.Links c.in-Some.rest) =
+    ap (sum_by (weight_of turns)) c.in_ok-put-in-Some.ensures ∙ sum_by_push (weight_of turns) old (work.Links c.in-Some.rest) in
+    let after = map weight_of_link c.in-Some.rest.now in
+    let all : weight_of turns (work.Links c.args.links)
+    ≡ 1 + (weight_of_expression first.operand turns + 2 + sum_by (λ (piece : Weight). piece turns + 2) after) =
+    ap (λ ls. row_weight 2 (map weight_of_link ls) turns) c.in-Some.ensures.cases.0
+    ∙ ap (λ (piece : Weight). row_weight 2 (piece ∷ after) turns) (fold_out-Link Weight Weight expression_weight link_weight first)
+    ∙ ap (λ n. 1 + n) (sum_by-cons (λ (piece : Weight). piece turns + 2) (λ turns. weight_of_expression first.operand turns) after) in
+    lighter c.plan.result _ _ _ c.plan.ensures.weight (omega (arith, left, all))

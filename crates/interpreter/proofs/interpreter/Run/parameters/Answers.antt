@@ -1,0 +1,20 @@
+use Rattle.std.proofs.Common.{◌≡◌, ◌∷◌, [], reverse}
+use Rattle.interpreter.proofs.Resuming.{continues_as, none_left}
+use Rattle.interpreter.proofs.Unrolling.{does-Parameters, does-no-Parameters}
+use Rattle.interpreter.proofs.interpreter.Run.parameters.Goals as goal
+
+pub returns-in-Some-clause-does : goal.returns-in-Some-clause-does
+returns-in-Some-clause-does c = λ env s agrees.
+    let old = c.args.self.now in
+    let all : c.args.parameters.now ≡ c.in-Some.first.now ∷ c.in-Some.rest.now = c.in-Some.ensures.cases.0 in
+    continues_as env old c.plan.new.self _ _ c.plan.result
+    (does-Parameters c.in-Some.first c.in-Some.rest c.args.parameters c.args.ends_line all env (reverse old.pending.items) (reverse old.values.items) s)
+    (c.plan.ensures.does env s agrees)
+
+pub returns-in-None-clause-does : goal.returns-in-None-clause-does
+returns-in-None-clause-does c = λ env s agrees.
+    let old = c.args.self.now in
+    let none : c.args.parameters.now ≡ [] = none_left c.args.parameters.now c.in-None.ensures.cases in
+    continues_as env old c.line_end.new.self _ _ c.line_end.result
+    (does-no-Parameters c.args.parameters c.args.ends_line none env (reverse old.pending.items) (reverse old.values.items) s)
+    (c.line_end.ensures.does env s agrees)

@@ -1,0 +1,81 @@
+use Rattle.std.proofs.Common.{reverse, refl}
+use Rattle.interpreter.proofs.Resuming.{continues_as, goes_on_to}
+use Rattle.interpreter.proofs.Unrolling.{entered, does-Empty, does-Assign, does-Write, does-Compound, does-If, does-While, does-Repeat, does-For, does-Case}
+use Rattle.interpreter.proofs.interpreter.Run.statement.Goals as goal
+
+pub returns-in-Empty-clause-does : goal.returns-in-Empty-clause-does
+returns-in-Empty-clause-does c = λ env s agrees.
+    let old = c.args.self.now in
+    goes_on_to env old old (entered c.in-Empty.number env s) (reverse old.pending.items) _
+    agrees refl refl
+    (does-Empty c.in-Empty.number c.args.statement.now c.in-Empty.is env (reverse old.pending.items) (reverse old.values.items) s)
+
+pub returns-in-Assign-clause-does : goal.returns-in-Assign-clause-does
+returns-in-Assign-clause-does c = λ env s agrees.
+    let old = c.args.self.now in
+    let assign = c.in-Assign in
+    continues_as env old c.plan.new.self _ _ c.plan.result
+    (does-Assign assign.number assign.becomes assign.target assign.fits assign.value c.args.statement.now assign.is env (reverse old.pending.items)
+    (reverse old.values.items) s)
+    (c.plan.ensures.does env (entered assign.target.number env (entered assign.number env s)) agrees)
+
+pub returns-in-Write-clause-does : goal.returns-in-Write-clause-does
+returns-in-Write-clause-does c = λ env s agrees.
+    let old = c.args.self.now in
+    continues_as env old c.parameters.new.self _ _ c.parameters.result
+    (does-Write c.in-Write.number c.in-Write.name c.in-Write.parameters c.in-Write.ends_line c.args.statement.now c.in-Write.is c.deref.result
+    c.deref.ensures.value env (reverse old.pending.items) (reverse old.values.items) s)
+    (c.parameters.ensures.does env (entered c.in-Write.number env s) agrees)
+
+pub returns-in-Compound-clause-does : goal.returns-in-Compound-clause-does
+returns-in-Compound-clause-does c = λ env s agrees.
+    let old = c.args.self.now in
+    continues_as env old c.statements.new.self _ _ c.statements.result
+    (does-Compound c.in-Compound.number c.in-Compound.statements c.args.statement.now c.in-Compound.is c.deref-in-Compound.result
+    c.deref-in-Compound.ensures.value env (reverse old.pending.items) (reverse old.values.items) s)
+    (c.statements.ensures.does env (entered c.in-Compound.number env s) agrees)
+
+pub returns-in-If-clause-does : goal.returns-in-If-clause-does
+returns-in-If-clause-does c = λ env s agrees.
+    let old = c.args.self.now in
+    let branches = c.in-If in
+    continues_as env old c.plan-in-If.new.self _ _ c.plan-in-If.result
+    (does-If branches.number branches.condition branches.consequence branches.alternative c.args.statement.now branches.is c.deref-in-If.result.now
+    c.deref-in-If.ensures env (reverse old.pending.items) (reverse old.values.items) s)
+    (c.plan-in-If.ensures.does env (entered branches.number env s) agrees)
+
+pub returns-in-While-clause-does : goal.returns-in-While-clause-does
+returns-in-While-clause-does c = λ env s agrees.
+    let old = c.args.self.now in
+    let given = c.in-While in
+    continues_as env old c.while_round.new.self _ _ c.while_round.result
+    (does-While given.number given.loop_number given.place given.condition given.body c.args.statement.now given.is c.deref-in-While.result.now
+    c.deref-in-While.ensures env (reverse old.pending.items) (reverse old.values.items) s)
+    (c.while_round.ensures.does env (entered given.number env s) agrees)
+
+pub returns-in-Repeat-clause-does : goal.returns-in-Repeat-clause-does
+returns-in-Repeat-clause-does c = λ env s agrees.
+    let old = c.args.self.now in
+    let given = c.in-Repeat in
+    continues_as env old c.repeat_round.new.self _ _ c.repeat_round.result
+    (does-Repeat given.number given.loop_number given.place given.statements given.condition c.args.statement.now given.is c.deref-in-Repeat.result.now
+    c.deref-in-Repeat.ensures.value env (reverse old.pending.items) (reverse old.values.items) s)
+    (c.repeat_round.ensures.does env (entered given.number env s) agrees)
+
+pub returns-in-For-clause-does : goal.returns-in-For-clause-does
+returns-in-For-clause-does c = λ env s agrees.
+    let old = c.args.self.now in
+    let given = c.in-For in
+    continues_as env old c.plan_values.new.self _ _ c.plan_values.result
+    (does-For given.number given.loop_number given.place given.control given.first given.first_fits given.direction given.last given.last_fits given.body
+    c.args.statement.now given.is c.deref-in-For.result.now c.deref-in-For.ensures env (reverse old.pending.items) (reverse old.values.items) s)
+    (c.plan_values.ensures.does env (entered given.number env s) agrees)
+
+pub returns-in-Case-clause-does : goal.returns-in-Case-clause-does
+returns-in-Case-clause-does c = λ env s agrees.
+    let old = c.args.self.now in
+    let given = c.in-Case in
+    continues_as env old c.plan-in-Case.new.self _ _ c.plan-in-Case.result
+    (does-Case given.number given.site given.index given.constants given.arms c.args.statement.now given.is c.deref-in-Case.result
+    c.deref-in-Case.ensures.value c.deref-in-Case-2.result c.deref-in-Case-2.ensures.value env (reverse old.pending.items) (reverse old.values.items) s)
+    (c.plan-in-Case.ensures.does env (entered given.number env s) agrees)

@@ -1,0 +1,94 @@
+use Rattle.std.proofs.Common.{ℤ, rules}
+use mir.Syntax.{w32}
+use mir.Val.{SFits}
+use Rattle.interpreter.specs.declared.work.Work.TheVariants as work
+use Rattle.interpreter.specs.Pending.{Does, resumed}
+use Rattle.interpreter.proofs.Resuming.{does_as, passed}
+use Rattle.interpreter.proofs.interpreter.Run.step.Goals as goal
+
+pub returns-in-Statements-clause-does : goal.returns-in-Statements-clause-does
+returns-in-Statements-clause-does c =
+    does_as c.args.self.now c.statements.new.self c.args.work _ c.statements.result c.in-Statements.is c.statements.ensures.does
+
+pub returns-in-Statement-clause-does : goal.returns-in-Statement-clause-does
+returns-in-Statement-clause-does c = does_as c.args.self.now c.statement.new.self c.args.work _ c.statement.result c.in-Statement.is c.statement.ensures.does
+
+pub returns-in-Choose-clause-does : goal.returns-in-Choose-clause-does
+returns-in-Choose-clause-does c = does_as c.args.self.now c.choose.new.self c.args.work _ c.choose.result c.in-Choose.is c.choose.ensures.does
+
+pub returns-in-While-clause-does : goal.returns-in-While-clause-does
+returns-in-While-clause-does c = does_as c.args.self.now c.while_round.new.self c.args.work _ c.while_round.result c.in-While.is c.while_round.ensures.does
+
+pub returns-in-WhileTurn-clause-does : goal.returns-in-WhileTurn-clause-does
+returns-in-WhileTurn-clause-does c = does_as c.args.self.now c.while_turn.new.self c.args.work _ c.while_turn.result c.in-WhileTurn.is c.while_turn.ensures.does
+
+pub returns-in-Repeat-clause-does : goal.returns-in-Repeat-clause-does
+returns-in-Repeat-clause-does c = does_as c.args.self.now c.repeat_round.new.self c.args.work _ c.repeat_round.result c.in-Repeat.is c.repeat_round.ensures.does
+
+pub returns-in-Until-clause-does : goal.returns-in-Until-clause-does
+returns-in-Until-clause-does c = does_as c.args.self.now c.until.new.self c.args.work _ c.until.result c.in-Until.is c.until.ensures.does
+
+pub returns-in-Unless-clause-does : goal.returns-in-Unless-clause-does
+returns-in-Unless-clause-does c = does_as c.args.self.now c.unless.new.self c.args.work _ c.unless.result c.in-Unless.is c.unless.ensures.does
+
+pub returns-in-Bounds-clause-does : goal.returns-in-Bounds-clause-does
+returns-in-Bounds-clause-does c = does_as c.args.self.now c.bounds.new.self c.args.work _ c.bounds.result c.in-Bounds.is c.bounds.ensures.does
+
+pub returns-in-For-clause-does : goal.returns-in-For-clause-does
+returns-in-For-clause-does c =
+    let given = c.in-For in
+    let old = c.args.self.now in
+    let new = c.for_round.new.self in
+    let fits : SFits w32 given.value = search rules in
+    let last_fits : SFits w32 given.last = search rules in
+    let does : ℤ → ℤ → Type 0 = λ value last.
+    Does (λ env. resumed env (work.For given.control given.direction value last given.body)) old c.for_round.result new in
+    does_as old new c.args.work _ c.for_round.result given.is
+    (passed does given.value given.last fits last_fits c.for_round.ensures.does)
+
+pub returns-in-Next-clause-does : goal.returns-in-Next-clause-does
+returns-in-Next-clause-does c =
+    let given = c.in-Next in
+    let old = c.args.self.now in
+    let new = c.next_round.new.self in
+    let fits : SFits w32 given.value = search rules in
+    let last_fits : SFits w32 given.last = search rules in
+    let does : ℤ → ℤ → Type 0 = λ value last.
+    Does (λ env. resumed env (work.Next given.control given.direction value last given.body)) old c.next_round.result new in
+    does_as old new c.args.work _ c.next_round.result given.is
+    (passed does given.value given.last fits last_fits c.next_round.ensures.does)
+
+pub returns-in-Case-clause-does : goal.returns-in-Case-clause-does
+returns-in-Case-clause-does c = does_as c.args.self.now c.case.new.self c.args.work _ c.case.result c.in-Case.is c.case.ensures.does
+
+pub returns-in-Parameters-clause-does : goal.returns-in-Parameters-clause-does
+returns-in-Parameters-clause-does c =
+    does_as c.args.self.now c.parameters.new.self c.args.work _ c.parameters.result c.in-Parameters.is c.parameters.ensures.does
+
+pub returns-in-Parameter-clause-does : goal.returns-in-Parameter-clause-does
+returns-in-Parameter-clause-does c = does_as c.args.self.now c.parameter.new.self c.args.work _ c.parameter.result c.in-Parameter.is c.parameter.ensures.does
+
+pub returns-in-Width-clause-does : goal.returns-in-Width-clause-does
+returns-in-Width-clause-does c = does_as c.args.self.now c.width.new.self c.args.work _ c.width.result c.in-Width.is c.width.ensures.does
+
+pub returns-in-WidthTest-clause-does : goal.returns-in-WidthTest-clause-does
+returns-in-WidthTest-clause-does c = does_as c.args.self.now c.width_test.new.self c.args.work _ c.width_test.result c.in-WidthTest.is c.width_test.ensures.does
+
+pub returns-in-WriteWhole-clause-does : goal.returns-in-WriteWhole-clause-does
+returns-in-WriteWhole-clause-does c =
+    does_as c.args.self.now c.write_whole.new.self c.args.work _ c.write_whole.result c.in-WriteWhole.is c.write_whole.ensures.does
+
+pub returns-in-Store-clause-does : goal.returns-in-Store-clause-does
+returns-in-Store-clause-does c = does_as c.args.self.now c.store.new.self c.args.work _ c.store.result c.in-Store.is c.store.ensures.does
+
+pub returns-in-Value-clause-does : goal.returns-in-Value-clause-does
+returns-in-Value-clause-does c = does_as c.args.self.now c.value.new.self c.args.work _ c.value.result c.in-Value.is c.value.ensures.does
+
+pub returns-in-Monadic-clause-does : goal.returns-in-Monadic-clause-does
+returns-in-Monadic-clause-does c = does_as c.args.self.now c.monadic.new.self c.args.work _ c.monadic.result c.in-Monadic.is c.monadic.ensures.does
+
+pub returns-in-Links-clause-does : goal.returns-in-Links-clause-does
+returns-in-Links-clause-does c = does_as c.args.self.now c.links.new.self c.args.work _ c.links.result c.in-Links.is c.links.ensures.does
+
+pub returns-in-Combine-clause-does : goal.returns-in-Combine-clause-does
+returns-in-Combine-clause-does c = does_as c.args.self.now c.combine.new.self c.args.work _ c.combine.result c.in-Combine.is c.combine.ensures.does

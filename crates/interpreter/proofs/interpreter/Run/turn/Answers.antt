@@ -1,0 +1,32 @@
+use Rattle.std.proofs.Common.{◌≡◌, suc, ◌-◌, reverse, arith, refl, sym, ap, ◌∙◌}
+use Rattle.meaning.specs.Effect.{State, and_then, take_turn}
+use Rattle.interpreter.specs.Pending.{Agrees, pending_of, resumed}
+use Rattle.interpreter.proofs.Resuming.{continues_as}
+use Rattle.interpreter.proofs.Weights.{turn_weighs}
+use Rattle.interpreter.proofs.interpreter.Run.turn.Goals as goal
+
+pub returns-clause-weight : goal.returns-clause-weight
+returns-clause-weight c =
+    let old = c.args.self.now in
+    let some : old.turns ≡ suc (old.turns - 1) = omega (arith, c.if-self-eq0.false) in
+    turn_weighs old.pending.items c.args.next c.args.later old.turns (old.turns - 1) _ c.plan.result some c.plan.ensures.weight
+
+pub returns-clause-does : goal.returns-clause-does
+returns-clause-does c = λ env s agrees.
+    let old = c.args.self.now in
+    let left = old.turns - 1 in
+    let some : old.turns ≡ suc left = omega (arith, c.if-self-eq0.false) in
+    let after : State = record s { turns = left } in
+    let moved : Agrees env (record old { turns = left }) after = record {
+      visible = agrees.visible;
+      store = agrees.store;
+      input = agrees.input;
+      output = agrees.output;
+      turns = refl;
+      activations = agrees.activations;
+    } in
+    let works = pending_of env (reverse old.pending.items) in
+    continues_as env old c.plan.new.self _ _ c.plan.result
+    (ap (λ n. and_then (take_turn n s) (λ _. resumed env c.args.next (resumed env c.args.later works) (reverse old.values.items)))
+    (sym agrees.turns ∙ some))
+    (c.plan.ensures.does env after moved)

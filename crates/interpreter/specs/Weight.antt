@@ -1,0 +1,157 @@
+-- How many steps of the interpreter a piece of pending work needs at most, for the turns that are left: the measure by
+-- which it ends.
+-- It says nothing of what the steps do.
+use Rattle.std.specs.Prelude.{ℕ, zero, suc, ◌+◌, ◌<◌, List, Option, Some, None, Result, OnOk, map, sum_by}
+use Rattle.std.specs.declared.alloc.AllocError.{AllocError}
+use Rattle.std.specs.declared.alloc.Global.{Global}
+use Rattle.std.specs.declared.boxed.Box.{Box}
+use Rattle.typed_tree.specs.declared.tree.Width.{Width}
+use Rattle.typed_tree.specs.declared.tree.WriteParameter.{WriteParameter}
+use Rattle.typed_tree.specs.declared.tree.Written.{Written}
+use Rattle.typed_tree.specs.declared.tree.Written.TheVariants.{Ordinal, String}
+use Rattle.typed_tree.specs.declared.tree.Expr.{Expr}
+use Rattle.typed_tree.specs.declared.tree.Link.{Link}
+use Rattle.typed_tree.specs.declared.tree.Expr.TheOpen.{Expr-F, Link-F}
+use Rattle.typed_tree.specs.declared.tree.Expr.TheOpen.Expr-F.{Constant, Variable, Monadic, Chain, Compare}
+use Rattle.typed_tree.specs.declared.tree.Expr.TheFolds.{fold-Expr, fold-Link}
+use Rattle.typed_tree.specs.declared.tree.Stmt.{Stmt}
+use Rattle.typed_tree.specs.declared.tree.Stmt.TheOpen.{Stmt-F}
+use Rattle.typed_tree.specs.declared.tree.Stmt.TheOpen.Stmt-F.{Empty, Assign, Write, Compound, If, While, Repeat, For}
+use Rattle.typed_tree.specs.declared.tree.Stmt.TheOpen.Stmt-F.{Case}
+use Rattle.typed_tree.specs.declared.tree.Stmt.TheFolds.{fold-Stmt}
+use Rattle.meaning.specs.declared.outcome.Ending.{Ending}
+use Rattle.interpreter.specs.declared.interpreter.Run.{Run}
+use Rattle.interpreter.specs.declared.work.Work.{Work}
+use Rattle.interpreter.specs.declared.work.Work.TheVariants as work
+
+-- the steps of a piece, from the turns that are left: what a turn starts is weighed with the turns after it
+abbrev pub Weight : Type 0
+Weight = ℕ → ℕ
+
+-- a row of pieces, each with k steps beside its own, and one step for its end
+abbrev pub row_weight : ℕ → List Weight → Weight
+row_weight k pieces turns = 1 + sum_by (λ piece. piece turns + k) pieces
+
+abbrev pub link_weight : Link-F Weight Weight → Weight
+link_weight l turns = l.operand turns
+
+abbrev pub expression_weight : Expr-F Weight Weight → Weight
+expression_weight (Constant n v) turns = 1
+expression_weight (Variable a d) turns = 1
+expression_weight (Monadic n operation operand) turns = 2 + operand.value turns
+expression_weight (Chain first rest) turns = 1 + first.value turns + row_weight 2 rest.items turns
+expression_weight (Compare n relation left right) turns = 1
+
+abbrev pub weight_of_expression : Expr → Weight
+weight_of_expression = fold-Expr Weight Weight expression_weight link_weight
+
+abbrev pub weight_of_link : Link → Weight
+weight_of_link = fold-Link Weight Weight expression_weight link_weight
+
+abbrev pub weight_of_width : Option Width → Weight
+weight_of_width None turns = 1
+weight_of_width (Some width) turns = 2 + weight_of_expression width.value turns
+
+abbrev pub weight_of_written : Written → Weight
+weight_of_written (Ordinal value representation) turns = weight_of_expression value turns
+weight_of_written (String value) turns = 0
+
+abbrev pub weight_of_parameter : WriteParameter → Weight
+weight_of_parameter parameter turns =
+    2 + weight_of_written parameter.value turns + weight_of_width parameter.width turns
+
+-- the statement behind `else`, or nothing
+abbrev pub alternative_weight : Option (Box Weight Global) → Weight
+alternative_weight None turns = 0
+alternative_weight (Some weight) turns = weight.value turns
+
+-- the rounds that the turns that are left allow, each weighed with the turns behind its own
+abbrev pub rounds_weight : Weight → Weight
+rounds_weight round zero = 0
+rounds_weight round (suc left) = round left + rounds_weight round left
+
+-- a round of a while or repeat
+abbrev pub round_weight : Weight → Weight → Weight
+round_weight body condition turns = 3 + body turns + condition turns
+
+-- a while, from its condition
+abbrev pub while_weight : Weight → Weight → Weight
+while_weight condition body turns = 2 + condition turns + rounds_weight (round_weight body condition) turns
+
+-- a repeat, from its first turn
+abbrev pub repeat_weight : Weight → Weight → Weight
+repeat_weight statements condition turns = 1 + rounds_weight (round_weight statements condition) turns
+
+-- a for, from the round with its first value
+abbrev pub for_weight : Weight → Weight
+for_weight body turns = 1 + rounds_weight (λ left. 3 + body left) turns
+
+abbrev pub statement_weight : Stmt-F Weight → Weight
+statement_weight (Empty n) turns = 1
+statement_weight (Assign n becomes target fits value) turns = 2 + weight_of_expression value turns
+statement_weight (Write n name parameters ends_line) turns =
+    row_weight 1 (map weight_of_parameter parameters.items) turns
+statement_weight (Compound n statements) turns = row_weight 1 statements.items turns
+statement_weight (If n condition consequence alternative) turns =
+    2 + weight_of_expression condition turns + consequence.value turns + alternative_weight alternative turns
+statement_weight (While n loop_number place condition body) turns =
+    while_weight (weight_of_expression condition) body.value turns
+statement_weight (Repeat n loop_number place statements condition) turns =
+    repeat_weight (row_weight 1 statements.items) (weight_of_expression condition) turns
+statement_weight (For n loop_number place control first first_fits direction last last_fits body) turns =
+    3 + weight_of_expression first turns + weight_of_expression last turns + for_weight body.value turns
+statement_weight (Case n site index constants arms) turns =
+    1 + weight_of_expression index turns + row_weight 1 arms.items turns
+
+abbrev pub weight_of_statement : Stmt → Weight
+weight_of_statement = fold-Stmt Weight statement_weight
+
+abbrev pub weight_of_alternative : Option (Box Stmt Global) → Weight
+weight_of_alternative None turns = 0
+weight_of_alternative (Some statement) turns = weight_of_statement statement.value turns
+
+abbrev pub weight_of : ℕ → Work → ℕ
+weight_of turns (work.Statements statements) = row_weight 1 (map weight_of_statement statements.now) turns
+weight_of turns (work.Statement statement) = weight_of_statement statement.now turns
+weight_of turns (work.Choose consequence alternative) =
+    1 + weight_of_statement consequence.now turns + weight_of_alternative alternative.now turns
+weight_of turns (work.While condition body) =
+    while_weight (weight_of_expression condition.now) (weight_of_statement body.now) turns
+weight_of turns (work.WhileTurn condition body) =
+    1 + rounds_weight (round_weight (weight_of_statement body.now) (weight_of_expression condition.now)) turns
+weight_of turns (work.Repeat statements condition) =
+    repeat_weight (row_weight 1 (map weight_of_statement statements.now)) (weight_of_expression condition.now) turns
+weight_of turns (work.Until statements condition) =
+    2 + weight_of_expression condition.now turns
+    + repeat_weight (row_weight 1 (map weight_of_statement statements.now)) (weight_of_expression condition.now) turns
+weight_of turns (work.Unless statements condition) =
+    1 + repeat_weight (row_weight 1 (map weight_of_statement statements.now)) (weight_of_expression condition.now) turns
+weight_of turns (work.Bounds control first_fits direction last_fits body) =
+    1 + for_weight (weight_of_statement body.now) turns
+weight_of turns (work.For control direction value last body) = for_weight (weight_of_statement body.now) turns
+weight_of turns (work.Next control direction value last body) = 1 + for_weight (weight_of_statement body.now) turns
+weight_of turns (work.Case site constants arms) = row_weight 1 (map weight_of_statement arms.now) turns
+weight_of turns (work.Parameters parameters ends_line) = row_weight 1 (map weight_of_parameter parameters.now) turns
+weight_of turns (work.Parameter parameter) = weight_of_parameter parameter.now turns
+weight_of turns (work.Width width representation) = weight_of_width width.now turns
+weight_of turns (work.WidthTest site) = 1
+weight_of turns (work.Write representation) = 1
+weight_of turns (work.WriteWhole value) = 1
+weight_of turns (work.Store root fits) = 1
+weight_of turns (work.Value expression) = weight_of_expression expression.now turns
+weight_of turns (work.Monadic operation) = 1
+weight_of turns (work.Links links) = row_weight 2 (map weight_of_link links.now) turns
+weight_of turns (work.Combine operation) = 1
+
+-- two pieces of work in a turn, if one is left
+abbrev pub turn_weight : ℕ → Work → Work → ℕ
+turn_weight zero next later = 0
+turn_weight (suc left) next later = weight_of left next + weight_of left later
+
+-- all that a run has still to do, for the turns that it has left
+abbrev pub pending_weight : Run → ℕ
+pending_weight run = sum_by (weight_of run.turns) run.pending.items
+
+-- after a step there is less to do than before it, when its piece of work was still to do
+abbrev pub Lightens : Work → Run → Result (Option Ending) AllocError → Run → Type 0
+Lightens work old result new = OnOk result (pending_weight new < pending_weight old + weight_of old.turns work)

@@ -1,0 +1,40 @@
+-- Each form of an expression, by its own equation.
+use Rattle.std.proofs.Common.{◌≡◌, ℕ, Box, Vec, Global, map, sym, ◌∙◌, ap}
+use Rattle.typed_tree.specs.declared.tree.Access.{Access}
+use Rattle.typed_tree.specs.declared.tree.Monadic.{Monadic}
+use Rattle.typed_tree.specs.declared.tree.Relation.{Relation}
+use Rattle.typed_tree.specs.declared.tree.Whole.{Whole}
+use Rattle.typed_tree.specs.declared.tree.Expr.{Expr}
+use Rattle.typed_tree.specs.declared.tree.Link.{Link}
+use Rattle.typed_tree.specs.declared.tree.Expr.TheVariants as expr
+use Rattle.typed_tree.specs.declared.tree.Expr.TheOpen.Expr-F.{Variable as Variable-F, Monadic as Monadic-F, Chain as Chain-F, Compare as Compare-F}
+use Rattle.typed_tree.specs.declared.tree.Expr.TheFolds.{fold-roll-Expr, fold_out-Link}
+use Rattle.meaning.specs.declared.store.Value.{Value}
+use Rattle.meaning.specs.Store.{Environment}
+use Rattle.meaning.specs.Effect.{◌>>=◌, give, enter, fetch}
+use Rattle.meaning.specs.Meaning.{Evaluation, Combination, value_step, link_step, operated, combined, compared, in_turn, whole_of, value_of, link_of}
+
+pub value-Variable : (a : Access) (defined : ℕ) (env : Environment) →
+    value_of (expr.Variable a defined) env ≡ (enter a.number env >>= λ _. fetch (env a.root) defined)
+value-Variable a defined env = ap (λ (e : Expr). value_of e env) (sym (expr.rolls-Variable a defined))
+    ∙ ap (λ (f : Evaluation). f env) (fold-roll-Expr Evaluation Combination value_step link_step (Variable-F a defined))
+
+pub value-Monadic : (n : ℕ) (operation : Monadic) (operand : Box Expr Global) (env : Environment) →
+    value_of (expr.Monadic n operation operand) env ≡ (enter n env >>= λ _. value_of operand.value env >>= λ v. operated operation v)
+value-Monadic n operation operand env = ap (λ (e : Expr). value_of e env) (sym (expr.rolls-Monadic n operation operand))
+    ∙ ap (λ (f : Evaluation). f env) (fold-roll-Expr Evaluation Combination value_step link_step (Monadic-F n operation operand))
+
+pub value-Compare : (n : ℕ) (r : Relation) (left right : Whole) (env : Environment) →
+    value_of (expr.Compare n r left right) env ≡
+    (whole_of left env >>= λ a. enter n env >>= λ _. whole_of right env >>= λ b. give (compared r a b))
+value-Compare n r left right env = ap (λ (e : Expr). value_of e env) (sym (expr.rolls-Compare n r left right))
+    ∙ ap (λ (f : Evaluation). f env) (fold-roll-Expr Evaluation Combination value_step link_step (Compare-F n r left right))
+
+pub value-Chain : (first : Box Expr Global) (rest : Vec Link Global) (env : Environment) →
+    value_of (expr.Chain first rest) env ≡ (value_of first.value env >>= λ v. in_turn (map link_of rest.items) env v)
+value-Chain first rest env = ap (λ (e : Expr). value_of e env) (sym (expr.rolls-Chain first rest))
+    ∙ ap (λ (f : Evaluation). f env) (fold-roll-Expr Evaluation Combination value_step link_step (Chain-F first rest))
+
+pub combination-Link : (link : Link) (env : Environment) (left : Value) →
+    link_of link env left ≡ (enter link.number env >>= λ _. value_of link.operand env >>= λ right. combined link.operation left right)
+combination-Link link env left = ap (λ (f : Combination). f env left) (fold_out-Link Evaluation Combination value_step link_step link)
