@@ -25,10 +25,14 @@ use Rattle.typed_tree.specs.declared.tree.Representation.{Representation}
 use Rattle.typed_tree.specs.declared.tree.Representation.TheVariants as representation
 use Rattle.typed_tree.specs.declared.tree.Width.{Width}
 use Rattle.typed_tree.specs.declared.tree.WriteParameter.{WriteParameter}
+use Rattle.typed_tree.specs.declared.tree.Written.{Written}
+use Rattle.typed_tree.specs.declared.tree.Written.TheVariants.{Ordinal, String}
+use Rattle.typed_tree.specs.declared.tree.Whole.{Whole}
+use Rattle.typed_tree.specs.declared.tree.Whole.TheVariants.{Text}
 use Rattle.typed_tree.specs.declared.tree.Expr.{Expr}
 use Rattle.typed_tree.specs.declared.tree.Link.{Link}
 use Rattle.typed_tree.specs.declared.tree.Expr.TheOpen.{Expr-F, Link-F}
-use Rattle.typed_tree.specs.declared.tree.Expr.TheOpen.Expr-F.{Constant, Variable, Monadic as MonadicOf, Chain}
+use Rattle.typed_tree.specs.declared.tree.Expr.TheOpen.Expr-F.{Constant, Variable, Monadic as MonadicOf, Chain, Compare}
 use Rattle.typed_tree.specs.declared.tree.Expr.TheViews.{roll-Expr, roll-Link}
 use Rattle.typed_tree.specs.declared.tree.Expr.TheFolds.{map-Expr, map-Link, fold-roll-Expr, fold-roll-Link, ind-Expr}
 use Rattle.typed_tree.specs.declared.tree.Stmt.{Stmt}
@@ -36,11 +40,12 @@ use Rattle.typed_tree.specs.declared.tree.Stmt.TheOpen.{Stmt-F}
 use Rattle.typed_tree.specs.declared.tree.Stmt.TheOpen.Stmt-F.{Empty, Assign, Write, Compound, If, While, Repeat, For, Case}
 use Rattle.typed_tree.specs.declared.tree.Stmt.TheViews.{roll-Stmt}
 use Rattle.typed_tree.specs.declared.tree.Stmt.TheFolds.{map-Stmt, fold-roll-Stmt, ind-Stmt}
+use Rattle.typed_tree.specs.WellFormed.{length_of}
 use Rattle.code_generator.specs.declared.scope.Scope.{Scope}
 use Rattle.code_generator.specs.Code.{joined, placed, Placed, count, monadic_code, relation_instr, dyadic_code, expr_code, link_code, expr_step, link_step}
 use Rattle.code_generator.specs.Code.{width_code, parameter_code, write_instr, line_end_code, stmt_code, stmt_step, stmt_depth, holding, held_offset}
 use Rattle.code_generator.specs.Code.{variable_offset, range_check, order_instr, next_instr, row_code, arms_code, for_entry, for_begin, for_next, for_end}
-use Rattle.code_generator.specs.Code.{program_scope, body_code, program_code}
+use Rattle.code_generator.specs.Code.{program_scope, body_code, program_code, compare_code, whole_code, written_code}
 
 -- each instruction of some code is in bounds
 abbrev InBounds : List Instr → Type 0
@@ -60,6 +65,10 @@ monadic_in_bounds monadic.Not = refl
 monadic_in_bounds monadic.Abs = refl
 monadic_in_bounds (monadic.Sqr overflow) = refl
 monadic_in_bounds monadic.Odd = refl
+monadic_in_bounds monadic.Ord = refl
+monadic_in_bounds (monadic.Chr no_char) = refl
+monadic_in_bounds (monadic.Succ no_successor last) = refl
+monadic_in_bounds (monadic.Pred no_predecessor first) = refl
 
 relation_in_bounds : (r : Relation) → InBounds (relation_instr r ∷ [])
 relation_in_bounds relation.Equal = refl
@@ -78,6 +87,19 @@ dyadic_in_bounds (dyadic.Mod by_zero_or_less) = refl
 dyadic_in_bounds dyadic.And = refl
 dyadic_in_bounds dyadic.Or = refl
 dyadic_in_bounds (dyadic.Relation r) = relation_in_bounds r
+
+characters_in_bounds : (cs : List ℕ) → InBounds (map (λ c. instr.LoadConstant (pos c)) cs)
+characters_in_bounds [] = refl
+characters_in_bounds (c ∷ cs) = characters_in_bounds cs
+
+whole_in_bounds : (value : Whole) → InBounds (whole_code value)
+whole_in_bounds (Text number characters) = characters_in_bounds characters.items
+
+compare_in_bounds : (r : Relation) (left right : Whole) → InBounds (compare_code r left right)
+compare_in_bounds r left right =
+    append_in_bounds (whole_code left) _ (whole_in_bounds left)
+    (append_in_bounds (whole_code right) _ (whole_in_bounds right)
+    (ap (λ b. b && list_all in_bounds (relation_instr r ∷ [])) (cut_at (length_of left) 65536) ∙ relation_in_bounds r))
 
 module _ (scope : Scope) where
   abbrev ExprInBounds : Expr → Type 0
@@ -122,6 +144,7 @@ module _ (scope : Scope) where
   expr_layer (Chain first rest) =
       rolled_expr (bare_expr (Chain first rest))
       (append_in_bounds (expr_code scope first.value.0) (joined (map (link_code scope) (map (λ l. l.0) rest.items))) first.value.1 (links_in_bounds rest.items))
+  expr_layer (Compare number r left right) = rolled_expr (Compare number r left right) (compare_in_bounds r left right)
 
   link_layer : (y : Link-F ProvedExpr ProvedLink) → LinkInBounds (roll-Link (bare_link y))
   link_layer y =
@@ -133,22 +156,28 @@ module _ (scope : Scope) where
       ind-Expr ExprInBounds LinkInBounds (λ x y is. subst (λ z. ExprInBounds (roll-Expr z)) is (expr_layer y))
       (λ x y is. subst (λ z. LinkInBounds (roll-Link z)) is (link_layer y))
 
-  width_in_bounds : (width : Option Width) (representation : Representation) → InBounds (width_code scope width representation)
-  width_in_bounds None representation.Integer = refl
-  width_in_bounds None representation.Boolean = refl
-  width_in_bounds (Some width) representation = append_in_bounds (expr_code scope width.value) _ (expr_in_bounds width.value) refl
+  width_in_bounds : (width : Option Width) (value : Written) → InBounds (width_code scope width value)
+  width_in_bounds None (Ordinal value representation) = refl
+  width_in_bounds None (String value) = refl
+  width_in_bounds (Some width) value = append_in_bounds (expr_code scope width.value) _ (expr_in_bounds width.value) refl
 
-  write_in_bounds : (representation : Representation) → InBounds (write_instr representation ∷ [])
-  write_in_bounds representation.Integer = refl
-  write_in_bounds representation.Boolean = refl
+  write_in_bounds : (value : Written) → InBounds (write_instr value ∷ [])
+  write_in_bounds (Ordinal value representation.Char) = refl
+  write_in_bounds (Ordinal value representation.Integer) = refl
+  write_in_bounds (Ordinal value representation.Boolean) = refl
+  write_in_bounds (String value) = ap (λ b. b && true) (cut_at (length_of value) 65536)
+
+  written_in_bounds : (value : Written) → InBounds (written_code scope value)
+  written_in_bounds (Ordinal value representation) = expr_in_bounds value
+  written_in_bounds (String value) = whole_in_bounds value
 
   parameters_in_bounds : (parameters : List WriteParameter) → InBounds (flat_map (parameter_code scope) parameters)
   parameters_in_bounds [] = refl
   parameters_in_bounds (p ∷ ps) =
-      let width = width_code scope p.width p.representation in
-      let last = write_instr p.representation ∷ [] in
-      let behind = append_in_bounds width last (width_in_bounds p.width p.representation) (write_in_bounds p.representation) in
-      let whole = append_in_bounds (expr_code scope p.value) (width ++ last) (expr_in_bounds p.value) behind in
+      let width = width_code scope p.width p.value in
+      let last = write_instr p.value ∷ [] in
+      let behind = append_in_bounds width last (width_in_bounds p.width p.value) (write_in_bounds p.value) in
+      let whole = append_in_bounds (written_code scope p.value) (width ++ last) (written_in_bounds p.value) behind in
       append_in_bounds (parameter_code scope p) (flat_map (parameter_code scope) ps) whole (parameters_in_bounds ps)
 
 line_end_in_bounds : (ends_line : Bool) → InBounds (line_end_code ends_line)

@@ -1,21 +1,24 @@
 -- How many cells an evaluation needs at once is no more than its code has instructions, nor than the count that a full
 -- store is judged by.
 use Rattle.std.proofs.Common.{◌≡◌, ℕ, ◌+◌, ◌≤◌, max, List, [], ◌∷◌, ◌++◌, length, map, Option, Some, None, ap, sym, subst, arith, length-append}
-use Rattle.std.specs.Prelude.{ℤ, fold, sum, sum_by}
+use Rattle.std.specs.Prelude.{ℤ, pos, fold, sum, sum_by}
 use Rattle.std.specs.Global.{Vec}
 use Rattle.std.specs.List.{flat_map}
 use Rattle.std.proofs.lemmas.List.Sums.{sum_by-cons}
 use Rattle.pcode_assembler.specs.declared.instr.Instr.{Instr}
 use Rattle.pcode_assembler.specs.declared.instr.Instr.TheVariants as instr
+use Rattle.typed_tree.specs.declared.tree.Monadic.{Monadic}
+use Rattle.typed_tree.specs.declared.tree.Monadic.TheVariants as monadic
 use Rattle.typed_tree.specs.declared.tree.Dyadic.{Dyadic}
 use Rattle.typed_tree.specs.declared.tree.Dyadic.TheVariants as dyadic
-use Rattle.typed_tree.specs.declared.tree.Representation.{Representation}
 use Rattle.typed_tree.specs.declared.tree.Width.{Width}
 use Rattle.typed_tree.specs.declared.tree.WriteParameter.{WriteParameter}
+use Rattle.typed_tree.specs.declared.tree.Written.{Written}
+use Rattle.typed_tree.specs.declared.tree.Written.TheVariants.{Ordinal, String}
 use Rattle.typed_tree.specs.declared.tree.Expr.{Expr}
 use Rattle.typed_tree.specs.declared.tree.Link.{Link}
 use Rattle.typed_tree.specs.declared.tree.Expr.TheOpen.{Expr-F, Link-F}
-use Rattle.typed_tree.specs.declared.tree.Expr.TheOpen.Expr-F.{Constant, Variable, Monadic as MonadicOf, Chain}
+use Rattle.typed_tree.specs.declared.tree.Expr.TheOpen.Expr-F.{Constant, Variable, Monadic as MonadicOf, Chain, Compare}
 use Rattle.typed_tree.specs.declared.tree.Expr.TheViews.{roll-Expr, roll-Link}
 use Rattle.typed_tree.specs.declared.tree.Expr.TheFolds.{fold-Link, map-Expr, map-Link, fold-roll-Expr, fold-roll-Link, ind-Expr}
 use Rattle.typed_tree.specs.declared.tree.Stmt.{Stmt}
@@ -23,13 +26,14 @@ use Rattle.typed_tree.specs.declared.tree.Stmt.TheOpen.{Stmt-F}
 use Rattle.typed_tree.specs.declared.tree.Stmt.TheOpen.Stmt-F.{Empty, Assign, Write, Compound, If, While, Repeat, For, Case}
 use Rattle.typed_tree.specs.declared.tree.Stmt.TheViews.{roll-Stmt}
 use Rattle.typed_tree.specs.declared.tree.Stmt.TheFolds.{map-Stmt, fold-roll-Stmt, ind-Stmt}
+use Rattle.typed_tree.specs.WellFormed.{length_of}
 use Rattle.code_generator.specs.declared.scope.Scope.{Scope}
 use Rattle.code_generator.specs.Code.{joined, placed, Placed, monadic_code, dyadic_code, expr_code, link_code, expr_step, link_step, expr_depth, link_depth}
 use Rattle.code_generator.specs.Code.{expr_depth_step, link_depth_step, width_depth, width_code, parameter_depth, parameter_code, write_instr, line_end_code}
-use Rattle.code_generator.specs.Code.{stmt_code, stmt_step, stmt_depth, stmt_depth_step, holding, row_code, arms_code, arms_depth}
-use Rattle.code_generator.proofs.Exprs.{start_within}
-use Rattle.code_generator.proofs.Pieces.{length-For}
-use Rattle.code_generator.specs.Need.{expr_need, expr_need_step, link_need_step, width_need, parameter_need, stmt_need, stmt_need_step}
+use Rattle.code_generator.specs.Code.{stmt_code, stmt_step, stmt_depth, stmt_depth_step, holding, row_code, arms_code, arms_depth, whole_code, written_code}
+use Rattle.code_generator.specs.Code.{relation_instr, row_length, monadic_depth, written_cells, written_depth}
+use Rattle.code_generator.proofs.Pieces.{length-For, length-whole_code, start_within}
+use Rattle.code_generator.specs.Need.{expr_need, expr_need_step, link_need_step, width_need, written_need, parameter_need, stmt_need, stmt_need_step}
 
 -- a depth is within the length of some code and within a need
 pub record Within (depth : ℕ) (code : List Instr) (need : ℕ) : Type 0 where
@@ -100,6 +104,56 @@ dyadic_has_one dyadic.And = omega arith
 dyadic_has_one dyadic.Or = omega arith
 dyadic_has_one (dyadic.Relation r) = omega arith
 
+-- an operation on one operand needs another cell only if it has instructions
+monadic_within : (operation : Monadic) → Within (monadic_depth operation) (instr.Stop ∷ monadic_code operation) 2
+monadic_within monadic.Plus = record { code_is = omega arith; need_is = omega arith }
+monadic_within monadic.Minus = record { code_is = omega arith; need_is = omega arith }
+monadic_within monadic.Not = record { code_is = omega arith; need_is = omega arith }
+monadic_within monadic.Abs = record { code_is = omega arith; need_is = omega arith }
+monadic_within (monadic.Sqr overflow) = record { code_is = omega arith; need_is = omega arith }
+monadic_within monadic.Odd = record { code_is = omega arith; need_is = omega arith }
+monadic_within monadic.Ord = record { code_is = omega arith; need_is = omega arith }
+monadic_within (monadic.Chr no_char) = record { code_is = omega arith; need_is = omega arith }
+monadic_within (monadic.Succ no_successor last) = record { code_is = omega arith; need_is = omega arith }
+monadic_within (monadic.Pred no_predecessor first) = record { code_is = omega arith; need_is = omega arith }
+
+-- an expression needs a cell at least, that of its value
+abbrev NeedsOne : Expr → Type 0
+NeedsOne e = 1 ≤ expr_depth e
+
+abbrev LinkNeedsOne : Link → Type 0
+LinkNeedsOne l = 1 ≤ link_depth l
+
+abbrev HereNeedsOne : Type 0
+HereNeedsOne = (e : Expr) × NeedsOne e
+
+abbrev LinkHere : Type 0
+LinkHere = (l : Link) × LinkNeedsOne l
+
+one_of : (x : Expr-F Expr Link) → 1 ≤ expr_depth_step (map-Expr Expr Link ℕ ℕ expr_depth link_depth x) → NeedsOne (roll-Expr x)
+one_of x h = subst (λ n. 1 ≤ n) (sym (fold-roll-Expr ℕ ℕ expr_depth_step link_depth_step x)) h
+
+one_layer : (y : Expr-F HereNeedsOne LinkHere) → NeedsOne (roll-Expr (map-Expr HereNeedsOne LinkHere Expr Link (λ e. e.0) (λ l. l.0) y))
+one_layer (Constant number n) = one_of (Constant number n) (omega arith)
+one_layer (Variable access defined) = one_of (Variable access defined) (omega arith)
+one_layer (MonadicOf number operation operand) =
+    one_of (map-Expr HereNeedsOne LinkHere Expr Link (λ e. e.0) (λ l. l.0) (MonadicOf number operation operand))
+    (omega (arith, operand.value.1))
+one_layer (Chain first rest) =
+    one_of (map-Expr HereNeedsOne LinkHere Expr Link (λ e. e.0) (λ l. l.0) (Chain first rest))
+    (omega (arith, first.value.1, start_within (expr_depth first.value.0) (map link_depth (map (λ (l : LinkHere). l.0) rest.items))))
+one_layer (Compare number r left right) = one_of (Compare number r left right) (omega arith)
+
+link_one : (y : Link-F HereNeedsOne LinkHere) → LinkNeedsOne (roll-Link (map-Link HereNeedsOne LinkHere Expr Link (λ e. e.0) (λ l. l.0) y))
+link_one y =
+    subst (λ n. 1 ≤ n)
+    (sym (fold-roll-Link ℕ ℕ expr_depth_step link_depth_step (map-Link HereNeedsOne LinkHere Expr Link (λ e. e.0) (λ l. l.0) y))) (omega arith)
+
+needs_one : (e : Expr) → NeedsOne e
+needs_one =
+    ind-Expr NeedsOne LinkNeedsOne (λ x y is. subst (λ z. NeedsOne (roll-Expr z)) is (one_layer y))
+    (λ x y is. subst (λ z. LinkNeedsOne (roll-Link z)) is (link_one y))
+
 module _ (scope : Scope) where
   expr_layer : (y : Expr-F ((e : Expr) × ExprWithin scope e) ((l : Link) × LinkWithin scope l))
       → ExprWithin scope (roll-Expr (map-Expr ((e : Expr) × ExprWithin scope e) ((l : Link) × LinkWithin scope l) Expr Link (λ e. e.0) (λ l. l.0) y))
@@ -107,15 +161,29 @@ module _ (scope : Scope) where
   expr_layer (Variable access defined) = rolled_expr scope (Variable access defined) (record { code_is = omega arith; need_is = omega arith })
   expr_layer (MonadicOf number operation operand) =
       let a = operand.value.1.code_is in let b = operand.value.1.need_is in
+      let o = monadic_within operation in
+      let c = o.code_is in let d = o.need_is in
       rolled_expr scope (map-Expr ((e : Expr) × ExprWithin scope e) ((l : Link) × LinkWithin scope l) Expr Link (λ e. e.0) (λ l. l.0)
       (MonadicOf number operation operand)) (record {
-        code_is = omega (arith, length-append (expr_code scope operand.value.0) (monadic_code operation));
+        code_is = omega (arith, length-append (expr_code scope operand.value.0) (monadic_code operation), needs_one operand.value.0);
         need_is = omega arith;
       })
   expr_layer (Chain first rest) =
       rolled_expr scope (map-Expr ((e : Expr) × ExprWithin scope e) ((l : Link) × LinkWithin scope l) Expr Link (λ e. e.0) (λ l. l.0) (Chain first rest))
       (row_within link_depth (link_code scope) link_need rest.items (expr_depth first.value.0) (expr_code scope first.value.0) (expr_need first.value.0)
       first.value.1)
+  expr_layer (Compare number r left right) =
+      let last = instr.Compare (row_length (length_of left)) ∷ instr.LoadConstant (pos 0) ∷ relation_instr r ∷ [] in
+      rolled_expr scope (Compare number r left right) (record {
+        code_is = omega (
+          arith,
+          length-append (whole_code left) (whole_code right ++ last),
+          length-append (whole_code right) last,
+          length-whole_code left,
+          length-whole_code right,
+        );
+        need_is = omega arith;
+      })
 
   link_layer : (y : Link-F ((e : Expr) × ExprWithin scope e) ((l : Link) × LinkWithin scope l))
       → LinkWithin scope (roll-Link (map-Link ((e : Expr) × ExprWithin scope e) ((l : Link) × LinkWithin scope l) Expr Link (λ e. e.0) (λ l. l.0) y))
@@ -134,41 +202,44 @@ module _ (scope : Scope) where
       (λ x y is. subst (λ z. LinkWithin scope (roll-Link z)) is (link_layer y))
 
 -- a width, beside the value that is written in it
-record WidthWithin (scope : Scope) (width : Option Width) (representation : Representation) : Type 0 where
-  code_is : width_depth width ≤ length (width_code scope width representation)
+record WidthWithin (scope : Scope) (width : Option Width) (value : Written) : Type 0 where
+  code_is : width_depth width ≤ length (width_code scope width value)
   need_is : width_depth width ≤ width_need width + 1
-  has_one : 1 ≤ length (width_code scope width representation)
 
-width_within : (scope : Scope) (width : Option Width) (representation : Representation) → WidthWithin scope width representation
-width_within scope None representation = record { code_is = omega arith; need_is = omega arith; has_one = omega arith }
-width_within scope (Some width) representation =
+width_within : (scope : Scope) (width : Option Width) (value : Written) → WidthWithin scope width value
+width_within scope None value = record { code_is = omega arith; need_is = omega arith }
+width_within scope (Some width) value =
     let v = expr_within scope width.value in
     let a = v.code_is in let b = v.need_is in
-    record {
-      code_is = omega (arith, length-append {A = Instr});
-      need_is = omega arith;
-      has_one = omega (arith, length-append {A = Instr});
-    }
+    record { code_is = omega (arith, length-append {A = Instr}); need_is = omega arith }
 
--- a value that is written, and its width
+-- a value that is written, and its cells
+record WrittenWithin (scope : Scope) (value : Written) : Type 0 where
+  code_is : written_depth value ≤ length (written_code scope value)
+  need_is : written_depth value ≤ written_need value
+  cells_are : written_cells value ≤ written_depth value
+
+written_within : (scope : Scope) (value : Written) → WrittenWithin scope value
+written_within scope (Ordinal value representation) =
+    let v = expr_within scope value in record { code_is = v.code_is; need_is = v.need_is; cells_are = needs_one value }
+written_within scope (String value) =
+    let long = length-whole_code value in record { code_is = omega arith; need_is = omega arith; cells_are = omega arith }
+
+-- both together
 record ParameterWithin (scope : Scope) (p : WriteParameter) : Type 0 where
   code_is : parameter_depth p ≤ length (parameter_code scope p)
-  need_is : parameter_depth p ≤ parameter_need p + 2
+  need_is : parameter_depth p ≤ parameter_need p + 1
 
 parameter_within : (scope : Scope) (p : WriteParameter) → ParameterWithin scope p
 parameter_within scope p =
-    let v = expr_within scope p.value in
-    let a = v.code_is in let b = v.need_is in
-    let w = width_within scope p.width p.representation in
-    let a' = w.code_is in let b' = w.need_is in let c' = w.has_one in
-    let writing = width_code scope p.width p.representation ++ (write_instr p.representation ∷ []) in
+    let v = written_within scope p.value in
+    let a = v.code_is in let b = v.need_is in let c = v.cells_are in
+    let w = width_within scope p.width p.value in
+    let a' = w.code_is in let b' = w.need_is in
+    let last = write_instr p.value ∷ [] in
+    let wide = width_code scope p.width p.value in
     record {
-      code_is = omega (
-        arith,
-        length-append (expr_code scope p.value) writing,
-        length-append (width_code scope p.width p.representation)
-            (write_instr p.representation ∷ []),
-      );
+      code_is = omega (arith, length-append (written_code scope p.value) (wide ++ last), length-append wide last);
       need_is = omega arith;
     }
 
@@ -232,41 +303,6 @@ stmts_within scope (x ∷ xs) place depth first need w =
       code_is = omega (arith, length-append (first ++ code) rest, length-append first (code ++ rest), length-append code rest);
       need_is = omega arith;
     }
-
--- an expression needs a cell at least, that of its value
-abbrev NeedsOne : Expr → Type 0
-NeedsOne e = 1 ≤ expr_depth e
-
-abbrev LinkNeedsOne : Link → Type 0
-LinkNeedsOne l = 1 ≤ link_depth l
-
-abbrev HereNeedsOne : Type 0
-HereNeedsOne = (e : Expr) × NeedsOne e
-
-abbrev LinkHere : Type 0
-LinkHere = (l : Link) × LinkNeedsOne l
-
-one_of : (x : Expr-F Expr Link) → 1 ≤ expr_depth_step (map-Expr Expr Link ℕ ℕ expr_depth link_depth x) → NeedsOne (roll-Expr x)
-one_of x h = subst (λ n. 1 ≤ n) (sym (fold-roll-Expr ℕ ℕ expr_depth_step link_depth_step x)) h
-
-one_layer : (y : Expr-F HereNeedsOne LinkHere) → NeedsOne (roll-Expr (map-Expr HereNeedsOne LinkHere Expr Link (λ e. e.0) (λ l. l.0) y))
-one_layer (Constant number n) = one_of (Constant number n) (omega arith)
-one_layer (Variable access defined) = one_of (Variable access defined) (omega arith)
-one_layer (MonadicOf number operation operand) =
-    one_of (map-Expr HereNeedsOne LinkHere Expr Link (λ e. e.0) (λ l. l.0) (MonadicOf number operation operand)) operand.value.1
-one_layer (Chain first rest) =
-    one_of (map-Expr HereNeedsOne LinkHere Expr Link (λ e. e.0) (λ l. l.0) (Chain first rest))
-    (omega (arith, first.value.1, start_within (expr_depth first.value.0) (map link_depth (map (λ (l : LinkHere). l.0) rest.items))))
-
-link_one : (y : Link-F HereNeedsOne LinkHere) → LinkNeedsOne (roll-Link (map-Link HereNeedsOne LinkHere Expr Link (λ e. e.0) (λ l. l.0) y))
-link_one y =
-    subst (λ n. 1 ≤ n)
-    (sym (fold-roll-Link ℕ ℕ expr_depth_step link_depth_step (map-Link HereNeedsOne LinkHere Expr Link (λ e. e.0) (λ l. l.0) y))) (omega arith)
-
-needs_one : (e : Expr) → NeedsOne e
-needs_one =
-    ind-Expr NeedsOne LinkNeedsOne (λ x y is. subst (λ z. NeedsOne (roll-Expr z)) is (one_layer y))
-    (λ x y is. subst (λ z. LinkNeedsOne (roll-Link z)) is (link_one y))
 
 -- the arms of a case statement
 arms_within : (scope : Scope) (out : ℕ) (rows : List (Vec ℤ)) (arms : List ((s : Stmt) × StmtWithin s)) (place : ℕ)

@@ -9,6 +9,7 @@ use Rattle.typed_tree.specs.declared.tree.Tree.{Tree}
 use Rattle.typed_tree.specs.declared.tree.Variable.{Variable as Declared}
 use Rattle.typed_tree.specs.declared.tree.Representation.TheVariants as representation
 use Rattle.typed_tree.specs.declared.tree.WriteParameter.{WriteParameter}
+use Rattle.typed_tree.specs.declared.tree.Written.TheVariants.{Ordinal, String}
 use Rattle.typed_tree.specs.declared.tree.Expr.{Expr}
 use Rattle.typed_tree.specs.declared.tree.Expr.TheOpen.{Expr-F}
 use Rattle.typed_tree.specs.declared.tree.Expr.TheOpen.Expr-F.{Constant, Variable}
@@ -95,7 +96,7 @@ b_need = fold-roll-Expr ℕ ℕ expr_need_step link_need_step (Variable (record 
 
 -- the value that is written by b : 7
 abbrev b_in_seven : WriteParameter
-b_in_seven = record { value = b; representation = representation.Integer; width = Some (record { value = seven; site = 2 }) }
+b_in_seven = record { value = Ordinal b representation.Integer; width = Some (record { value = seven; site = 2 }) }
 
 -- begin a := 7; writeln(b : 7) end, whatever vectors hold the statements and the value
 module _ (becomes name : Place) (parameters : Vec WriteParameter) (writes : parameters.items ≡ b_in_seven ∷ []) where

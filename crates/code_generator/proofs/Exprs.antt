@@ -42,6 +42,7 @@ use Rattle.code_generator.specs.Code.{link_code, expr_step, link_step, expr_dept
 use Rattle.typed_tree.specs.WellFormed.{all_hold, monadic_is_well_formed, dyadic_is_well_formed, expr_is_well_formed, link_is_well_formed, is_well_formed_expr}
 use Rattle.typed_tree.specs.WellFormed.{is_well_formed_link, is_well_formed_width}
 use Rattle.check_remover.specs.Strip.{moved}
+use Rattle.code_generator.proofs.Pieces.{start_within}
 use Rattle.code_generator.proofs.Reach.{StandsAt, Stands, stands_front, stands_back, Comes, stays_here}
 use Rattle.code_generator.proofs.Setting.{Setting, on, Based, linked, Here, acts, passes, fails, Evaluates, gives, evaluates_from, then_evaluates}
 use Rattle.code_generator.proofs.Alike.{cell_of, HasFit, cell_within, alike_above, base_is, direct_lies}
@@ -49,11 +50,6 @@ use Rattle.code_generator.proofs.Acts.{framed, length_one, pushes, loads, define
 use Rattle.code_generator.proofs.Acts.{on_two_is, divides, leaves}
 use Rattle.code_generator.proofs.Numbers.{Fits, sum_is, difference_is, product_is, fits_negated, negated_is, fits_magnitude, magnitude_is, fits_quotient}
 use Rattle.code_generator.proofs.Numbers.{quotient_is, fits_remainder, fits_truth, same_truth, same_test, same_positive}
-
--- the start of a greatest number is no more than it
-pub start_within : (d : ℕ) (ds : List ℕ) → d ≤ fold max d ds
-start_within d [] = omega arith
-start_within d (e ∷ ds) = let r = start_within (max d e) ds in omega arith
 
 module _ (g : Setting) where
   abbrev variables : ℕ

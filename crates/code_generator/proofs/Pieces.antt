@@ -2,11 +2,11 @@
 use Rattle.std.proofs.Common.{◌≡◌, ℕ, Bool, ◌+◌, ◌<◌, ◌≤◌, max, length, length-append, take, get_or, List, [], ◌∷◌, ◌++◌, map, refl, ap, sym, ◌∙◌, append-nil}
 use Rattle.std.proofs.Common.{append_assoc, arith, Some, None}
 use Rattle.std.specs.List.{flat_map}
-use Rattle.std.specs.Prelude.{ℤ, fold}
+use Rattle.std.specs.Prelude.{ℤ, pos, fold}
 use Rattle.std.proofs.lemmas.List.Sums.{fold_push}
 use Rattle.std.proofs.Math.Nat.{add-zero, add_assoc}
 use Rattle.std.proofs.lemmas.Simd.{map-map}
-use Rattle.std.proofs.lemmas.List.{take_all, take_more, flat_map_more, map_push, map_more}
+use Rattle.std.proofs.lemmas.List.{length-map, take_all, take_more, flat_map_more, map_push, map_more}
 use Rattle.std.specs.Global.{Vec, Box}
 use Rattle.pcode_assembler.specs.declared.instr.Instr.{Instr}
 use Rattle.pcode_assembler.specs.declared.instr.Instr.TheVariants as instr
@@ -15,11 +15,16 @@ use Rattle.typed_tree.specs.declared.tree.Access.{Access}
 use Rattle.typed_tree.specs.declared.tree.Direction.{Direction}
 use Rattle.typed_tree.specs.declared.tree.RangeTest.{RangeTest}
 use Rattle.typed_tree.specs.declared.tree.WriteParameter.{WriteParameter}
+use Rattle.typed_tree.specs.declared.tree.Whole.{Whole}
+use Rattle.typed_tree.specs.declared.tree.Whole.TheVariants.{Text}
 use Rattle.typed_tree.specs.declared.tree.Expr.{Expr}
 use Rattle.typed_tree.specs.declared.tree.Link.{Link}
 use Rattle.typed_tree.specs.declared.tree.Expr.TheVariants.{Variable, rolls-Variable, Chain, rolls-Chain, Monadic as MonadicOf, rolls-Monadic}
+use Rattle.typed_tree.specs.declared.tree.Expr.TheVariants.{Compare, rolls-Compare}
 use Rattle.typed_tree.specs.declared.tree.Monadic.{Monadic}
+use Rattle.typed_tree.specs.declared.tree.Relation.{Relation}
 use Rattle.typed_tree.specs.declared.tree.Expr.TheOpen.Expr-F.{Variable as Variable-layer, Chain as Chain-layer, Monadic as Monadic-layer}
+use Rattle.typed_tree.specs.declared.tree.Expr.TheOpen.Expr-F.{Compare as Compare-layer}
 use Rattle.typed_tree.specs.declared.tree.Expr.TheFolds.{fold-roll-Expr, fold_out-Link}
 use Rattle.typed_tree.specs.declared.tree.Stmt.{Stmt}
 use Rattle.typed_tree.specs.declared.tree.Stmt.TheVariants.{Empty, rolls-Empty, Assign, rolls-Assign, Write, rolls-Write, Compound, rolls-Compound, If}
@@ -28,11 +33,12 @@ use Rattle.typed_tree.specs.declared.tree.Stmt.TheOpen.Stmt-F.{Empty as Empty-la
 use Rattle.typed_tree.specs.declared.tree.Stmt.TheOpen.Stmt-F.{If as If-layer, While as While-layer, Repeat as Repeat-layer, For as For-layer}
 use Rattle.typed_tree.specs.declared.tree.Stmt.TheOpen.Stmt-F.{Case as Case-layer}
 use Rattle.typed_tree.specs.declared.tree.Stmt.TheFolds.{fold-roll-Stmt}
+use Rattle.typed_tree.specs.WellFormed.{length_of}
 use Rattle.code_generator.specs.declared.scope.Scope.{Scope}
 use Rattle.code_generator.specs.Code.{joined, placed, Placed, if_code, if_else_code, while_code, repeat_code, for_code, for_entry, for_begin, for_next, for_end}
 use Rattle.code_generator.specs.Code.{case_code, holding, dyadic_code, monadic_code, expr_step, link_step, expr_code, link_code, variable_code, variable_offset}
 use Rattle.code_generator.specs.Code.{assign_code, write_code, parameter_code, line_end_code, stmt_step, stmt_code, greatest, arms_depth, expr_depth}
-use Rattle.code_generator.specs.Code.{parameter_depth, stmt_depth, stmt_depth_step}
+use Rattle.code_generator.specs.Code.{parameter_depth, stmt_depth, stmt_depth_step, compare_code, whole_code}
 
 -- the pieces of a list, one for each element
 pub joined-map : {X : Type 0} (piece_of : X → List Instr) (xs : List X) → joined (map piece_of xs) ≡ flat_map piece_of xs
@@ -50,6 +56,22 @@ pub expr_code-Variable : (scope : Scope) (access : Access) (defined : ℕ) → e
 expr_code-Variable scope access defined =
     ap (expr_code scope) (sym (rolls-Variable access defined))
     ∙ fold-roll-Expr (List Instr) (List Instr) (expr_step scope) link_step (Variable-layer access defined)
+
+-- a relation of two whole values
+pub expr_code-Compare : (scope : Scope) (number : ℕ) (r : Relation) (left right : Whole)
+    → expr_code scope (Compare number r left right) ≡ compare_code r left right
+expr_code-Compare scope number r left right =
+    ap (expr_code scope) (sym (rolls-Compare number r left right))
+    ∙ fold-roll-Expr (List Instr) (List Instr) (expr_step scope) link_step (Compare-layer number r left right)
+
+-- how many instructions push a whole value
+pub length-whole_code : (value : Whole) → length (whole_code value) ≡ length_of value
+length-whole_code (Text number characters) = length-map characters.items (λ c. instr.LoadConstant (pos c))
+
+-- the greatest of some numbers is no less than the one that they begin with
+pub start_within : (d : ℕ) (ds : List ℕ) → d ≤ fold max d ds
+start_within d [] = omega arith
+start_within d (e ∷ ds) = let r = start_within (max d e) ds in omega arith
 
 -- statements, one after another from this place on
 abbrev pub stmts_code : Scope → List Stmt → ℕ → List Instr

@@ -56,10 +56,10 @@ use Rattle.code_generator.proofs.Setting.{executes_from, then_executes, then_lea
 use Rattle.code_generator.proofs.Loops.{Rounds, RoundRuns, rounds_on, then_rounds, value_rounds, turned, loops, reset, rounds_from_reset, executes_from_reset}
 use Rattle.code_generator.proofs.Held.{slot, stores_variable, variable_kept, variable_forgotten, loads_held, stores_held, decides, begins, steps, leaves, tests}
 use Rattle.code_generator.proofs.Held.{compares_row, last_is, next_fits, one_fits}
-use Rattle.code_generator.proofs.Pieces.{length-For}
+use Rattle.code_generator.proofs.Pieces.{length-For, start_within}
 use Rattle.code_generator.proofs.Acts.{framed, length_one, is_in_range, writes}
 use Rattle.code_generator.proofs.Numbers.{Fits, same_range, sum_is, difference_is}
-use Rattle.code_generator.proofs.Exprs.{start_within, expr_runs, width_runs, one_held}
+use Rattle.code_generator.proofs.Exprs.{expr_runs, width_runs, one_held}
 
 -- what the machine writes in a width is what the program writes
 same_integer_text : (n width : ℤ) → texts.integer_text n width ≡ effect.integer_text n width

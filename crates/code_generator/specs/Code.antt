@@ -1,9 +1,10 @@
 -- The code of a typed tree: of an expression (ISO 7185:1990, 6.7), of a statement (6.8) and of a program (6.10), as
 -- functions of the tree, of where in a frame its variables lie and, for a statement, of its place in the code. It does
 -- not say what the code does: that is for the machine to say.
-use Rattle.std.specs.Prelude.{ℕ, ℤ, pos, ◌+◌, max, min, Bool, true, false, List, [], ◌∷◌, ◌++◌, Option, Some, None}
-use Rattle.std.specs.Prelude.{length, map, slice_get, fold}
+use Rattle.std.specs.Prelude.{ℕ, ℤ, pos, neg_ℤ, ◌+◌, ◌+ℤ◌, ◌-ℤ◌, max, min, Bool, true, false, List, [], ◌∷◌, ◌++◌}
+use Rattle.std.specs.Prelude.{Option, Some, None, length, map, slice_get, fold}
 use Rattle.std.specs.Global.{Vec}
+use Rattle.std.specs.Int.{w32, saturate_signed}
 use Rattle.std.specs.List.{flat_map}
 use Rattle.std.specs.declared.alloc.Global.{Global}
 use Rattle.std.specs.declared.boxed.Box.{Box}
@@ -25,16 +26,22 @@ use Rattle.typed_tree.specs.declared.tree.Representation.{Representation}
 use Rattle.typed_tree.specs.declared.tree.Representation.TheVariants as representation
 use Rattle.typed_tree.specs.declared.tree.Width.{Width}
 use Rattle.typed_tree.specs.declared.tree.WriteParameter.{WriteParameter}
+use Rattle.typed_tree.specs.declared.tree.Written.{Written}
+use Rattle.typed_tree.specs.declared.tree.Written.TheVariants.{Ordinal, String}
+use Rattle.typed_tree.specs.declared.tree.Whole.{Whole}
+use Rattle.typed_tree.specs.declared.tree.Whole.TheVariants.{Text}
 use Rattle.typed_tree.specs.declared.tree.Expr.{Expr}
 use Rattle.typed_tree.specs.declared.tree.Link.{Link}
 use Rattle.typed_tree.specs.declared.tree.Expr.TheOpen.{Expr-F, Link-F}
 use Rattle.typed_tree.specs.declared.tree.Expr.TheOpen.Expr-F.{Constant, Variable, Monadic as MonadicOf, Chain}
+use Rattle.typed_tree.specs.declared.tree.Expr.TheOpen.Expr-F.{Compare}
 use Rattle.typed_tree.specs.declared.tree.Expr.TheFolds.{fold-Expr, fold-Link}
 use Rattle.typed_tree.specs.declared.tree.Stmt.{Stmt}
 use Rattle.typed_tree.specs.declared.tree.Stmt.TheOpen.{Stmt-F}
 use Rattle.typed_tree.specs.declared.tree.Stmt.TheOpen.Stmt-F.{Empty, Assign, Write, Compound, If, While, Repeat, For}
 use Rattle.typed_tree.specs.declared.tree.Stmt.TheOpen.Stmt-F.{Case}
 use Rattle.typed_tree.specs.declared.tree.Stmt.TheFolds.{fold-Stmt}
+use Rattle.typed_tree.specs.WellFormed.{length_of}
 
 -- the pieces one after another
 abbrev pub joined : List (List Instr) → List Instr
@@ -57,6 +64,14 @@ offset n = min n 16777215
 abbrev pub count : ℕ → ℕ
 count n = min n 16777216
 
+-- a number of components as a length, or the greatest length
+abbrev pub row_length : ℕ → ℕ
+row_length n = min n 65536
+
+-- a number as an operand, or the next one of 32 bits
+abbrev pub bound : ℤ → ℤ
+bound n = saturate_signed w32 n
+
 -- where a variable lies in its block's frame
 abbrev pub variable_offset : Scope → ℕ → ℕ
 variable_offset scope root = offset (scope.variables + root)
@@ -69,6 +84,14 @@ monadic_code monadic.Not = instr.Not ∷ []
 monadic_code monadic.Abs = instr.Absolute ∷ []
 monadic_code (monadic.Sqr overflow) = instr.CheckSquare overflow ∷ instr.Square ∷ []
 monadic_code monadic.Odd = instr.Odd ∷ []
+monadic_code monadic.Ord = []
+monadic_code (monadic.Chr no_char) = instr.CheckRange no_char (pos 0) (pos 127) ∷ []
+monadic_code (monadic.Succ no_successor last) =
+    instr.CheckRange no_successor (neg_ℤ (pos 2147483647)) (bound (last -ℤ pos 1)) ∷ instr.LoadConstant (pos 1)
+    ∷ instr.Add ∷ []
+monadic_code (monadic.Pred no_predecessor first) =
+    instr.CheckRange no_predecessor (bound (first +ℤ pos 1)) (pos 2147483647) ∷ instr.LoadConstant (pos 1)
+    ∷ instr.Subtract ∷ []
 
 -- the instruction of a relation
 abbrev pub relation_instr : Relation → Instr
@@ -98,11 +121,23 @@ dyadic_code (dyadic.Relation r) = relation_instr r ∷ []
 abbrev pub variable_code : Scope → ℕ → ℕ → List Instr
 variable_code scope root defined = instr.Load 0 (variable_offset scope root) ∷ instr.CheckDefined defined 1 ∷ []
 
+-- the code of a whole value, which pushes its components, the first one first
+abbrev pub whole_code : Whole → List Instr
+whole_code (Text number characters) = map (λ c. instr.LoadConstant (pos c)) characters.items
+
+-- the code of a relation of two whole values: both, their order, and what that is to 0
+abbrev pub compare_code : Relation → Whole → Whole → List Instr
+compare_code r left right =
+    whole_code left
+    ++ (whole_code right
+    ++ (instr.Compare (row_length (length_of left)) ∷ instr.LoadConstant (pos 0) ∷ relation_instr r ∷ []))
+
 abbrev pub expr_step : Scope → Expr-F (List Instr) (List Instr) → List Instr
 expr_step scope (Constant number value) = instr.LoadConstant value ∷ []
 expr_step scope (Variable access defined) = variable_code scope access.root defined
 expr_step scope (MonadicOf number operation operand) = operand.value ++ monadic_code operation
 expr_step scope (Chain first rest) = first.value ++ joined rest.items
+expr_step scope (Compare number relation left right) = compare_code relation left right
 
 abbrev pub link_step : Link-F (List Instr) (List Instr) → List Instr
 link_step link = link.operand ++ dyadic_code link.operation
@@ -122,26 +157,43 @@ assign_code scope root fits value =
     ++ (instr.CheckRange fits.site fits.range.first fits.range.last
     ∷ instr.Store 0 (variable_offset scope root) ∷ [])
 
--- the width of a value that has none
-abbrev pub default_width : Representation → Instr
-default_width representation.Integer = instr.LoadConstant (pos 10)
-default_width representation.Boolean = instr.LoadConstant (pos 5)
+-- the width of an ordinal that has none
+abbrev pub ordinal_width : Representation → ℤ
+ordinal_width representation.Char = pos 1
+ordinal_width representation.Integer = pos 10
+ordinal_width representation.Boolean = pos 5
+
+-- the width of a value that has none: of a string it is its length
+abbrev pub default_width : Written → Instr
+default_width (Ordinal value representation) = instr.LoadConstant (ordinal_width representation)
+default_width (String value) = instr.LoadConstant (pos (row_length (length_of value)))
 
 -- the code of a width, checked
-abbrev pub width_code : Scope → Option Width → Representation → List Instr
-width_code scope None representation = default_width representation ∷ []
-width_code scope (Some width) representation = expr_code scope width.value ++ (check_positive width.site ∷ [])
+abbrev pub width_code : Scope → Option Width → Written → List Instr
+width_code scope None value = default_width value ∷ []
+width_code scope (Some width) value = expr_code scope width.value ++ (check_positive width.site ∷ [])
 
--- what writes a value, its width on top
-abbrev pub write_instr : Representation → Instr
-write_instr representation.Integer = instr.WriteInteger
-write_instr representation.Boolean = instr.WriteBoolean
+-- what writes an ordinal, its width on top
+abbrev pub ordinal_instr : Representation → Instr
+ordinal_instr representation.Char = instr.WriteChar
+ordinal_instr representation.Integer = instr.WriteInteger
+ordinal_instr representation.Boolean = instr.WriteBoolean
+
+-- the same of any value
+abbrev pub write_instr : Written → Instr
+write_instr (Ordinal value representation) = ordinal_instr representation
+write_instr (String value) = instr.WriteString (row_length (length_of value))
+
+-- the code of a value that is written
+abbrev pub written_code : Scope → Written → List Instr
+written_code scope (Ordinal value representation) = expr_code scope value
+written_code scope (String value) = whole_code value
 
 -- the code that writes a value
 abbrev pub parameter_code : Scope → WriteParameter → List Instr
 parameter_code scope parameter =
-    expr_code scope parameter.value
-    ++ (width_code scope parameter.width parameter.representation ++ (write_instr parameter.representation ∷ []))
+    written_code scope parameter.value
+    ++ (width_code scope parameter.width parameter.value ++ (write_instr parameter.value ∷ []))
 
 -- a line end behind a writeln
 abbrev pub line_end_code : Bool → List Instr
@@ -288,11 +340,18 @@ stmt_step (Case number site index constants arms) scope place =
 abbrev pub stmt_code : Stmt → Placed
 stmt_code = fold-Stmt Placed stmt_step
 
+-- how many cells an operation on one operand needs at once
+abbrev pub monadic_depth : Monadic → ℕ
+monadic_depth (monadic.Succ no_successor last) = 2
+monadic_depth (monadic.Pred no_predecessor first) = 2
+monadic_depth other = 1
+
 abbrev pub expr_depth_step : Expr-F ℕ ℕ → ℕ
 expr_depth_step (Constant number value) = 1
 expr_depth_step (Variable access defined) = 1
-expr_depth_step (MonadicOf number operation operand) = operand.value
+expr_depth_step (MonadicOf number operation operand) = max operand.value (monadic_depth operation)
 expr_depth_step (Chain first rest) = fold max first.value rest.items
+expr_depth_step (Compare number relation left right) = max (length_of left + length_of right) 2
 
 abbrev pub link_depth_step : Link-F ℕ ℕ → ℕ
 link_depth_step link = link.operand + 1
@@ -310,9 +369,20 @@ abbrev pub width_depth : Option Width → ℕ
 width_depth None = 1
 width_depth (Some width) = expr_depth width.value
 
--- the same of a value that is written: beside it, its width is evaluated
+-- the same of a value that is written
+abbrev pub written_depth : Written → ℕ
+written_depth (Ordinal value representation) = expr_depth value
+written_depth (String value) = length_of value
+
+-- how many cells it has
+abbrev pub written_cells : Written → ℕ
+written_cells (Ordinal value representation) = 1
+written_cells (String value) = length_of value
+
+-- how many cells are needed at once to write it: beside it, its width is evaluated
 abbrev pub parameter_depth : WriteParameter → ℕ
-parameter_depth parameter = max (expr_depth parameter.value) (width_depth parameter.width + 1)
+parameter_depth parameter =
+    max (written_depth parameter.value) (width_depth parameter.width + written_cells parameter.value)
 
 -- the same of what may be there
 abbrev pub alternative_depth : Option (Box ℕ Global) → ℕ

@@ -8,19 +8,28 @@ use Rattle.typed_tree.specs.declared.tree.Tree.{Tree}
 use Rattle.typed_tree.specs.declared.tree.Block.{Block}
 use Rattle.typed_tree.specs.declared.tree.Width.{Width}
 use Rattle.typed_tree.specs.declared.tree.WriteParameter.{WriteParameter}
+use Rattle.typed_tree.specs.declared.tree.Written.{Written}
+use Rattle.typed_tree.specs.declared.tree.Written.TheVariants.{Ordinal, String}
+use Rattle.typed_tree.specs.declared.tree.Whole.{Whole}
 use Rattle.typed_tree.specs.declared.tree.Expr.{Expr}
 use Rattle.typed_tree.specs.declared.tree.Expr.TheOpen.{Expr-F, Link-F}
 use Rattle.typed_tree.specs.declared.tree.Expr.TheOpen.Expr-F.{Constant, Variable, Monadic as MonadicOf, Chain}
+use Rattle.typed_tree.specs.declared.tree.Expr.TheOpen.Expr-F.{Compare}
 use Rattle.typed_tree.specs.declared.tree.Expr.TheFolds.{fold-Expr}
 use Rattle.typed_tree.specs.declared.tree.Stmt.{Stmt}
 use Rattle.typed_tree.specs.declared.tree.Stmt.TheOpen.{Stmt-F}
 use Rattle.typed_tree.specs.declared.tree.Stmt.TheOpen.Stmt-F.{Empty, Assign, Write, Compound, If, While, Repeat, For}
 use Rattle.typed_tree.specs.declared.tree.Stmt.TheOpen.Stmt-F.{Case}
 use Rattle.typed_tree.specs.declared.tree.Stmt.TheFolds.{fold-Stmt}
+use Rattle.typed_tree.specs.WellFormed.{length_of}
 
 -- an expression whose value is an ordinal, which has one cell
 abbrev pub one_value : ℕ
 one_value = 8 + 1
+
+-- an expression whose value has several components, each of which has a cell
+abbrev pub whole_need : Whole → ℕ
+whole_need value = 8 + length_of value
 
 -- a factor, a sign, or an operator, and what is in it
 abbrev pub expr_need_step : Expr-F ℕ ℕ → ℕ
@@ -28,6 +37,7 @@ expr_need_step (Constant number value) = one_value
 expr_need_step (Variable access defined) = one_value
 expr_need_step (MonadicOf number operation operand) = one_value + operand.value
 expr_need_step (Chain first rest) = first.value + sum rest.items
+expr_need_step (Compare number relation left right) = whole_need left + one_value + whole_need right
 
 abbrev pub link_need_step : Link-F ℕ ℕ → ℕ
 link_need_step link = one_value + link.operand
@@ -40,8 +50,13 @@ abbrev pub width_need : Option Width → ℕ
 width_need None = 0
 width_need (Some width) = expr_need width.value
 
+-- a value that is written
+abbrev pub written_need : Written → ℕ
+written_need (Ordinal value representation) = expr_need value
+written_need (String value) = whole_need value
+
 abbrev pub parameter_need : WriteParameter → ℕ
-parameter_need parameter = expr_need parameter.value + width_need parameter.width
+parameter_need parameter = written_need parameter.value + width_need parameter.width
 
 -- what may be there
 abbrev pub alternative_need : Option (Box ℕ Global) → ℕ

@@ -1,8 +1,10 @@
 ghost use Rattle.std.specs.Prelude.{◌≡◌, map};
-ghost use Rattle.code_generator.specs.Code.{arms_depth, expr_depth, greatest, parameter_depth, stmt_depth, width_depth};
+ghost use Rattle.code_generator.specs.Code.{arms_depth, expr_depth, greatest, monadic_depth, parameter_depth, stmt_depth};
+ghost use Rattle.code_generator.specs.Code.{width_depth, written_cells, written_depth};
 ghost use Rattle.code_generator.specs.Sizes.{capped};
 
-use typed_tree::tree::{Expr, Stmt, WriteParameter};
+use crate::size::whole_size;
+use typed_tree::tree::{Expr, Monadic, Stmt, WriteParameter, Written};
 
 /// How many cells the evaluation of the statement needs at once, or the greatest number of 32 bits.
 #[cycle(needed_by)]
@@ -93,12 +95,32 @@ fn needed_by_parameters(parameters: &[WriteParameter]) -> u32
     depth
 }
 
-/// The same of a value that is written: its width is evaluated beside it.
+/// The same to write a value: its width is evaluated beside it.
 fn needed_by_parameter(parameter: &WriteParameter) -> u32
     ensures { result ≡ capped (parameter_depth parameter.now) }
 {
-    let width = needed_by_width(parameter).saturating_add(1);
-    needed_by_expr(&parameter.value).max(width)
+    let width = needed_by_width(parameter).saturating_add(cells_of(&parameter.value));
+    needed_by_written(&parameter.value).max(width)
+}
+
+/// The same of the value alone.
+fn needed_by_written(value: &Written) -> u32
+    ensures { result ≡ capped (written_depth value.now) }
+{
+    match value {
+        Written::Ordinal { value, .. } => needed_by_expr(value),
+        Written::String { value } => whole_size(value),
+    }
+}
+
+/// How many cells the value has.
+fn cells_of(value: &Written) -> u32
+    ensures { result ≡ capped (written_cells value.now) }
+{
+    match value {
+        Written::Ordinal { .. } => 1,
+        Written::String { value } => whole_size(value),
+    }
 }
 
 /// The same of the width alone.
@@ -117,7 +139,11 @@ pub fn needed_by_expr(expr: &Expr) -> u32
 {
     match expr {
         Expr::Constant { .. } | Expr::Variable { .. } => 1,
-        Expr::Monadic { operand, .. } => needed_by_expr(operand),
+        Expr::Monadic {
+            operation,
+            operand,
+            ..
+        } => needed_by_expr(operand).max(needed_by_monadic(*operation)),
         Expr::Chain { first, rest } => {
             let mut depth = needed_by_expr(first);
             for link in rest {
@@ -125,5 +151,19 @@ pub fn needed_by_expr(expr: &Expr) -> u32
             }
             depth
         }
+        Expr::Compare { left, right, .. } => {
+            let both = whole_size(left).saturating_add(whole_size(right));
+            both.max(2)
+        }
+    }
+}
+
+/// The same of an operation on one operand.
+fn needed_by_monadic(operation: Monadic) -> u32
+    ensures { result ≡ monadic_depth operation }
+{
+    match operation {
+        Monadic::Succ { .. } | Monadic::Pred { .. } => 2,
+        _ => 1,
     }
 }

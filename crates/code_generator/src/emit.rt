@@ -1,25 +1,34 @@
 ghost use Rattle.std.specs.Prelude.{◌≡◌, ◌≤◌, ◌+◌, ◌*◌, ℕ, List, [], ◌∷◌, ◌++◌, OnOk, length, map, vec_len};
-ghost use Rattle.code_generator.specs.Code.{arms_code, expr_code, for_begin, width_code, write_code, write_instr};
+ghost use Rattle.code_generator.specs.Code.{arms_code, bound, compare_code, expr_code, for_begin, width_code, write_code};
 ghost use Rattle.code_generator.specs.Code.{assign_code, dyadic_code, for_end, order_instr, range_check, variable_code};
 ghost use Rattle.code_generator.specs.Code.{check_positive, held_offset as offset_of_held, next_instr, variable_offset};
-ghost use Rattle.code_generator.specs.Code.{default_width, line_end_code, monadic_code, parameter_code, relation_instr};
-ghost use Rattle.code_generator.specs.Code.{for_entry, for_next, holding, link_code, row_code, stmt_code};
+ghost use Rattle.code_generator.specs.Code.{default_width, line_end_code, monadic_code, ordinal_width, parameter_code, relation_instr};
+ghost use Rattle.code_generator.specs.Code.{for_entry, for_next, holding, link_code, row_code, stmt_code, whole_code};
+ghost use Rattle.code_generator.specs.Code.{row_length as length_of_row, write_instr, written_code};
 ghost use Rattle.code_generator.specs.Emitted.{Emits, statements_code, statements_table};
-ghost use Rattle.pcode_assembler.specs.declared.instr.Instr.TheVariants.{Fail, Jump, JumpIfFalse};
+ghost use Rattle.pcode_assembler.specs.declared.instr.Instr.TheVariants.{CheckRange, Fail, Jump, JumpIfFalse, LoadConstant};
 ghost use Rattle.code_generator.specs.Sizes.{arms_table, capped, measured, table_of};
+ghost use Rattle.std.specs.Prelude.{ℤ, pos, ◌+ℤ◌, ◌-ℤ◌};
+ghost use Rattle.typed_tree.specs.WellFormed.{length_of};
 
 use crate::scope::Scope;
-use crate::size::row_size;
+use crate::size::{row_size, whole_size};
 use crate::sizes::Sizes;
 use pcode_assembler::instr::Instr;
 use std::alloc::AllocError;
 use typed_tree::tree::{
     Access, Direction, Dyadic, Expr, Link, Monadic, RangeTest, Relation, Representation, Stmt,
-    WriteParameter,
+    Whole, WriteParameter, Written,
 };
 
 /// The greatest value of the type integer (ISO 7185:1990, 6.4.2.2).
 const MAXINT: i32 = 2147483647;
+
+/// The greatest value of the type char (6.4.2.2).
+const LAST_CHAR: i32 = 127;
+
+/// The total width of a char that is written without one.
+const CHAR_WIDTH: i32 = 1;
 
 /// The total width of an integer that is written without one.
 const INTEGER_WIDTH: i32 = 10;
@@ -29,6 +38,9 @@ const BOOLEAN_WIDTH: i32 = 5;
 
 /// The greatest offset that an instruction may have.
 const GREATEST_OFFSET: u32 = 16777215;
+
+/// The greatest length that an instruction may have.
+const GREATEST_LENGTH: u32 = 65536;
 
 /// The most cells that may be held.
 const MOST_CELLS: u32 = 16777216;
@@ -411,11 +423,7 @@ fn step_of(direction: Direction) -> Instr
 fn check_of(fits: RangeTest) -> Instr
     ensures { result ≡ range_check fits }
 {
-    Instr::CheckRange {
-        site: fits.site,
-        low: fits.range.first,
-        high: fits.range.last,
-    }
+    check_range(fits.site, fits.range.first, fits.range.last)
 }
 
 /// Where the n-th cell lies that is held above those that are held already, or the greatest offset.
@@ -489,9 +497,40 @@ fn emit_parameter(
 ) -> Result<(), AllocError>
     ensures { OnOk result (code.new.items ≡ code.old.items ++ parameter_code scope parameter.now) }
 {
-    emit_expr(code, scope, &parameter.value)?;
+    emit_written(code, scope, &parameter.value)?;
     emit_width(code, scope, parameter)?;
-    put(code, output_of(parameter.representation))
+    put(code, output_of(&parameter.value))
+}
+
+/// The value that is written.
+fn emit_written(code: &mut Vec<Instr>, scope: Scope, value: &Written) -> Result<(), AllocError>
+    ensures { OnOk result (code.new.items ≡ code.old.items ++ written_code scope value.now) }
+{
+    match value {
+        Written::Ordinal { value, .. } => emit_expr(code, scope, value),
+        Written::String { value } => emit_whole(code, value),
+    }
+}
+
+/// A value of several components: each of them, the first one first.
+fn emit_whole(code: &mut Vec<Instr>, value: &Whole) -> Result<(), AllocError>
+    ensures { OnOk result (code.new.items ≡ code.old.items ++ whole_code value.now) }
+{
+    match value {
+        Whole::Text { characters, .. } => emit_characters(code, characters.as_slice()),
+    }
+}
+
+/// Each character, as its number.
+fn emit_characters(code: &mut Vec<Instr>, characters: &[u8]) -> Result<(), AllocError>
+    ensures { OnOk result (
+        code.new.items ≡ code.old.items ++ map (λ c. LoadConstant (pos c)) characters.now) }
+{
+    for character in characters {
+        let value = i32::from(*character);
+        put(code, Instr::LoadConstant { value })?;
+    }
+    Ok(())
 }
 
 /// The width of a value that is written, checked, or the default one.
@@ -501,10 +540,10 @@ fn emit_width(
     parameter: &WriteParameter,
 ) -> Result<(), AllocError>
     ensures { OnOk result (
-        code.new.items ≡ code.old.items ++ width_code scope parameter.now.width parameter.now.representation) }
+        code.new.items ≡ code.old.items ++ width_code scope parameter.now.width parameter.now.value) }
 {
     match &parameter.width {
-        None => put(code, width_without(parameter.representation)),
+        None => put(code, width_without(&parameter.value)),
         Some(width) => {
             emit_expr(code, scope, &width.value)?;
             put(code, positive_at(width.site))
@@ -523,27 +562,51 @@ fn emit_line_end(code: &mut Vec<Instr>, ends_line: bool) -> Result<(), AllocErro
 }
 
 /// The width of a value that is written without one.
-fn width_without(representation: Representation) -> Instr
-    ensures { result ≡ default_width representation }
+fn width_without(value: &Written) -> Instr
+    ensures { result ≡ default_width value.now }
 {
-    match representation {
-        Representation::Integer => Instr::LoadConstant {
-            value: INTEGER_WIDTH,
+    match value {
+        Written::Ordinal { representation, .. } => Instr::LoadConstant {
+            value: width_of_ordinal(*representation),
         },
-        Representation::Boolean => Instr::LoadConstant {
-            value: BOOLEAN_WIDTH,
+        Written::String { value } => Instr::LoadConstant {
+            value: row_length(value) as i32,
         },
     }
 }
 
-/// What writes a value, its width on top.
-fn output_of(representation: Representation) -> Instr
-    ensures { result ≡ write_instr representation }
+/// The same of an ordinal.
+fn width_of_ordinal(representation: Representation) -> i32
+    ensures { result ≡ ordinal_width representation }
 {
     match representation {
-        Representation::Integer => Instr::WriteInteger,
-        Representation::Boolean => Instr::WriteBoolean,
+        Representation::Char => CHAR_WIDTH,
+        Representation::Integer => INTEGER_WIDTH,
+        Representation::Boolean => BOOLEAN_WIDTH,
     }
+}
+
+/// What writes a value, its width on top.
+fn output_of(value: &Written) -> Instr
+    ensures { result ≡ write_instr value.now }
+{
+    match value {
+        Written::Ordinal { representation, .. } => match representation {
+            Representation::Char => Instr::WriteChar,
+            Representation::Integer => Instr::WriteInteger,
+            Representation::Boolean => Instr::WriteBoolean,
+        },
+        Written::String { value } => Instr::WriteString {
+            length: row_length(value),
+        },
+    }
+}
+
+/// How many components a value has, or the greatest length.
+fn row_length(value: &Whole) -> u32
+    ensures { result ≡ length_of_row (length_of value.now) }
+{
+    whole_size(value).min(GREATEST_LENGTH)
 }
 
 /// The instructions of an expression: its value is pushed.
@@ -569,6 +632,12 @@ pub fn emit_expr(code: &mut Vec<Instr>, scope: Scope, expr: &Expr) -> Result<(),
             }
             Ok(())
         }
+        Expr::Compare {
+            relation,
+            left,
+            right,
+            ..
+        } => emit_compare(code, *relation, left, right),
     }
 }
 
@@ -579,6 +648,23 @@ fn emit_link(code: &mut Vec<Instr>, scope: Scope, link: &Link) -> Result<(), All
 {
     emit_expr(code, scope, &link.operand)?;
     emit_dyadic(code, link.operation)
+}
+
+/// Both values, and what their order is to 0.
+fn emit_compare(
+    code: &mut Vec<Instr>,
+    relation: Relation,
+    left: &Whole,
+    right: &Whole,
+) -> Result<(), AllocError>
+    ensures { OnOk result (code.new.items ≡ code.old.items ++ compare_code relation left.now right.now) }
+{
+    let length = row_length(left);
+    let order = Instr::Compare { length };
+    let zero = Instr::LoadConstant { value: 0 };
+    emit_whole(code, left)?;
+    emit_whole(code, right)?;
+    code.extend_from_slice(&[order, zero, comparison_of(relation)])
 }
 
 /// The value of a variable, and its check.
@@ -606,7 +692,7 @@ fn emit_monadic(code: &mut Vec<Instr>, operation: Monadic) -> Result<(), AllocEr
     ensures { OnOk result (code.new.items ≡ code.old.items ++ monadic_code operation) }
 {
     match operation {
-        Monadic::Plus => Ok(()),
+        Monadic::Plus | Monadic::Ord => Ok(()),
         Monadic::Minus => put(code, Instr::Negate),
         Monadic::Not => put(code, Instr::Not),
         Monadic::Abs => put(code, Instr::Absolute),
@@ -616,7 +702,25 @@ fn emit_monadic(code: &mut Vec<Instr>, operation: Monadic) -> Result<(), AllocEr
             Instr::Square,
         ),
         Monadic::Odd => put(code, Instr::Odd),
+        Monadic::Chr { no_char } => put(code, check_range(no_char, 0, LAST_CHAR)),
+        Monadic::Succ { no_successor, last } => {
+            let check = check_range(no_successor, -MAXINT, last.saturating_sub(1));
+            put_step(code, check, Instr::Add)
+        }
+        Monadic::Pred { no_predecessor, first } => {
+            let check = check_range(no_predecessor, first.saturating_add(1), MAXINT);
+            put_step(code, check, Instr::Subtract)
+        }
     }
+}
+
+/// A check, and an instruction that it is for, which takes a 1 beside the number that is checked.
+fn put_step(code: &mut Vec<Instr>, check: Instr, step: Instr) -> Result<(), AllocError>
+    ensures { OnOk result (
+        code.new.items ≡ code.old.items ++ check ∷ LoadConstant (pos 1) ∷ step ∷ []) }
+{
+    let one = Instr::LoadConstant { value: 1 };
+    code.extend_from_slice(&[check, one, step])
 }
 
 /// What an operation does to the two values before it, checked.
@@ -667,11 +771,14 @@ fn comparison_of(relation: Relation) -> Instr
 fn positive_at(site: u32) -> Instr
     ensures { result ≡ check_positive site }
 {
-    Instr::CheckRange {
-        site,
-        low: 1,
-        high: MAXINT,
-    }
+    check_range(site, 1, MAXINT)
+}
+
+/// A check that the number on top lies within two bounds.
+fn check_range(site: u32, low: i32, high: i32) -> Instr
+    ensures { result ≡ CheckRange site low high }
+{
+    Instr::CheckRange { site, low, high }
 }
 
 /// Where a variable lies in its block's frame, or the greatest offset.

@@ -2,13 +2,14 @@ ghost use Rattle.std.specs.Prelude.{◌≡◌, ◌+◌, ◌*◌, ℕ, length, ma
 ghost use Rattle.std.specs.List.{flat_map};
 ghost use Rattle.code_generator.specs.declared.scope.Scope.{Scope};
 ghost use Rattle.code_generator.specs.Code.{dyadic_code, expr_code, line_end_code, monadic_code, parameter_code};
-ghost use Rattle.code_generator.specs.Code.{program_code, stmt_code, width_code, write_code};
+ghost use Rattle.code_generator.specs.Code.{program_code, stmt_code, width_code, write_code, written_code};
 ghost use Rattle.code_generator.specs.Emitted.{statements_code};
 ghost use Rattle.code_generator.specs.Sizes.{arms_size as size_of_arms, capped, measured, table_of, AreTold};
 ghost use Rattle.code_generator.specs.Sizes.{ArmsAreTold, IsTold};
+ghost use Rattle.typed_tree.specs.WellFormed.{length_of};
 
 use std::alloc::AllocError;
-use typed_tree::tree::{Dyadic, Expr, Monadic, Stmt, Tree, WriteParameter};
+use typed_tree::tree::{Dyadic, Expr, Monadic, Stmt, Tree, Whole, WriteParameter, Written};
 
 /// How many instructions the program has, or the greatest number of 32 bits.
 pub fn program_size(tree: &Tree) -> u32
@@ -296,15 +297,34 @@ fn parameters_size(parameters: &[WriteParameter]) -> u32
 fn parameter_size(parameter: &WriteParameter) -> u32
     ensures { (scope : Scope) → result ≡ capped (length (parameter_code scope parameter.now)) }
 {
-    expr_size(&parameter.value)
+    written_size(&parameter.value)
         .saturating_add(width_size(parameter))
         .saturating_add(1)
+}
+
+/// The same of the value alone.
+fn written_size(value: &Written) -> u32
+    ensures { (scope : Scope) → result ≡ capped (length (written_code scope value.now)) }
+{
+    match value {
+        Written::Ordinal { value, .. } => expr_size(value),
+        Written::String { value } => whole_size(value),
+    }
+}
+
+/// How many components a value has, each of which is pushed, or the greatest number of 32 bits.
+pub fn whole_size(value: &Whole) -> u32
+    ensures { result ≡ capped (length_of value.now) }
+{
+    match value {
+        Whole::Text { characters, .. } => u32::try_from(characters.len()).unwrap_or(u32::MAX),
+    }
 }
 
 /// The same of the width alone.
 fn width_size(parameter: &WriteParameter) -> u32
     ensures { (scope : Scope) →
-        result ≡ capped (length (width_code scope parameter.now.width parameter.now.representation)) }
+        result ≡ capped (length (width_code scope parameter.now.width parameter.now.value)) }
 {
     match &parameter.width {
         None => 1,
@@ -339,6 +359,10 @@ fn expr_size(expr: &Expr) -> u32
             }
             size
         }
+        Expr::Compare { left, right, .. } => {
+            let both = whole_size(left).saturating_add(whole_size(right));
+            both.saturating_add(3)
+        }
     }
 }
 
@@ -347,9 +371,10 @@ fn monadic_size(operation: Monadic) -> u32
     ensures { result ≡ length (monadic_code operation) }
 {
     match operation {
-        Monadic::Plus => 0,
-        Monadic::Minus | Monadic::Not | Monadic::Abs | Monadic::Odd => 1,
+        Monadic::Plus | Monadic::Ord => 0,
+        Monadic::Minus | Monadic::Not | Monadic::Abs | Monadic::Odd | Monadic::Chr { .. } => 1,
         Monadic::Sqr { .. } => 2,
+        Monadic::Succ { .. } | Monadic::Pred { .. } => 3,
     }
 }
 
