@@ -1,5 +1,5 @@
 -- Well formed expressions, the code of a program and what it needs, computed from their definitions.
-use Rattle.std.proofs.Common.{◌≡◌, ℕ, ◌+◌, max, Bool, true, false, negsuc, pos, List, [], ◌∷◌, ◌++◌, Some, map, refl, ap, ◌∙◌}
+use Rattle.std.proofs.Common.{◌≡◌, ℕ, ◌+◌, max, Bool, true, false, negsuc, pos, List, [], ◌∷◌, ◌++◌, Some, None, map, refl, ap, ◌∙◌}
 use Rattle.std.specs.Prelude.{slice_get, sum, sum_by, length}
 use Rattle.std.specs.Global.{Vec}
 use Rattle.pcode_assembler.specs.declared.instr.Instr.{Instr}
@@ -10,9 +10,12 @@ use Rattle.typed_tree.specs.declared.tree.Variable.{Variable as Declared}
 use Rattle.typed_tree.specs.declared.tree.Representation.TheVariants as representation
 use Rattle.typed_tree.specs.declared.tree.WriteParameter.{WriteParameter}
 use Rattle.typed_tree.specs.declared.tree.Written.TheVariants.{Ordinal, String}
+use Rattle.typed_tree.specs.declared.tree.Whole.{Whole}
+use Rattle.typed_tree.specs.declared.tree.Whole.TheVariants.{Text}
+use Rattle.typed_tree.specs.declared.tree.Relation.TheVariants as relation
 use Rattle.typed_tree.specs.declared.tree.Expr.{Expr}
 use Rattle.typed_tree.specs.declared.tree.Expr.TheOpen.{Expr-F}
-use Rattle.typed_tree.specs.declared.tree.Expr.TheOpen.Expr-F.{Constant, Variable}
+use Rattle.typed_tree.specs.declared.tree.Expr.TheOpen.Expr-F.{Constant, Variable, Compare}
 use Rattle.typed_tree.specs.declared.tree.Link.{Link}
 use Rattle.typed_tree.specs.declared.tree.Expr.TheViews.{roll-Expr}
 use Rattle.typed_tree.specs.declared.tree.Expr.TheFolds.{fold-roll-Expr}
@@ -25,7 +28,7 @@ use Rattle.typed_tree.specs.WellFormed.{is_well_formed_expr, expr_is_well_formed
 use Rattle.code_generator.specs.declared.scope.Scope.{Scope}
 use Rattle.code_generator.specs.Code.{placed, Placed, check_positive, expr_code, expr_step, link_step, expr_depth, expr_depth_step, link_depth_step}
 use Rattle.code_generator.specs.Code.{parameter_depth, write_code, stmt_code, stmt_step, stmt_depth, stmt_depth_step, greatest, count, body_code, program_scope}
-use Rattle.code_generator.specs.Code.{program_code}
+use Rattle.code_generator.specs.Code.{program_code, row_length, parameter_code}
 use Rattle.code_generator.specs.Need.{expr_need, expr_need_step, link_need_step, parameter_need, stmt_need, stmt_need_step, body_need, program_need}
 
 -- with two variables and one site
@@ -97,6 +100,52 @@ b_need = fold-roll-Expr ℕ ℕ expr_need_step link_need_step (Variable (record 
 -- the value that is written by b : 7
 abbrev b_in_seven : WriteParameter
 b_in_seven = record { value = Ordinal b representation.Integer; width = Some (record { value = seven; site = 2 }) }
+
+-- the strings 'ab' and 'b!', whatever vectors hold their characters
+module _ (first other : Vec ℕ) (ab : first.items ≡ 97 ∷ 98 ∷ []) (bs : other.items ≡ 98 ∷ 33 ∷ []) where
+  abbrev left : Whole
+  left = Text 1 first
+
+  abbrev right : Whole
+  right = Text 3 other
+
+  abbrev compared : List ℕ → List ℕ → List Instr
+  compared cs ds =
+      map (λ c. instr.LoadConstant (pos c)) cs
+      ++ (map (λ c. instr.LoadConstant (pos c)) ds ++ (instr.Compare (row_length (length cs)) ∷ instr.LoadConstant (pos 0) ∷ instr.Less ∷ []))
+
+  -- 'ab' < 'b!'
+  abbrev less : Expr-F Expr Link
+  less = Compare 2 relation.Less left right
+
+  less_code : (scope : Scope) → expr_code scope (roll-Expr less) ≡ instr.LoadConstant (pos 97) ∷ instr.LoadConstant (pos 98) ∷ instr.LoadConstant (pos 98)
+      ∷ instr.LoadConstant (pos 33) ∷ instr.Compare 2 ∷ instr.LoadConstant (pos 0) ∷ instr.Less ∷ []
+  less_code scope =
+      fold-roll-Expr (List Instr) (List Instr) (expr_step scope) link_step less ∙ ap (λ cs. compared cs other.items) ab ∙ ap (compared (97 ∷ 98 ∷ [])) bs
+
+  less_depth : expr_depth (roll-Expr less) ≡ 4
+  less_depth =
+      fold-roll-Expr ℕ ℕ expr_depth_step link_depth_step less ∙ ap (λ cs. max (length cs + length other.items) 2) ab ∙ ap (λ cs. max (2 + length cs) 2) bs
+
+  less_need : expr_need (roll-Expr less) ≡ 29
+  less_need =
+      fold-roll-Expr ℕ ℕ expr_need_step link_need_step less ∙ ap (λ cs. 8 + length cs + 9 + (8 + length other.items)) ab ∙ ap (λ cs. 19 + (8 + length cs)) bs
+
+  -- written without a width
+  abbrev ab_alone : WriteParameter
+  ab_alone = record { value = String left; width = None }
+
+  ab_code : (scope : Scope) → parameter_code scope ab_alone ≡ instr.LoadConstant (pos 97) ∷ instr.LoadConstant (pos 98) ∷ instr.LoadConstant (pos 2)
+      ∷ instr.WriteString 2 ∷ []
+  ab_code scope =
+      ap (λ cs. map (λ c. instr.LoadConstant (pos c)) cs ++ (instr.LoadConstant (pos (row_length (length cs))) ∷ instr.WriteString (row_length (length cs)) ∷
+      [])) ab
+
+  ab_depth : parameter_depth ab_alone ≡ 3
+  ab_depth = ap (λ cs. max (length cs) (1 + length cs)) ab
+
+  ab_need : parameter_need ab_alone ≡ 10
+  ab_need = ap (λ cs. 8 + length cs + 0) ab
 
 -- begin a := 7; writeln(b : 7) end, whatever vectors hold the statements and the value
 module _ (becomes name : Place) (parameters : Vec WriteParameter) (writes : parameters.items ≡ b_in_seven ∷ []) where

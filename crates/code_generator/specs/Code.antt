@@ -1,10 +1,9 @@
 -- The code of a typed tree: of an expression (ISO 7185:1990, 6.7), of a statement (6.8) and of a program (6.10), as
 -- functions of the tree, of where in a frame its variables lie and, for a statement, of its place in the code. It does
 -- not say what the code does: that is for the machine to say.
-use Rattle.std.specs.Prelude.{ℕ, ℤ, pos, neg_ℤ, ◌+◌, ◌+ℤ◌, ◌-ℤ◌, max, min, Bool, true, false, List, [], ◌∷◌, ◌++◌}
-use Rattle.std.specs.Prelude.{Option, Some, None, length, map, slice_get, fold}
+use Rattle.std.specs.Prelude.{ℕ, ℤ, pos, neg_ℤ, ◌+◌, max, min, Bool, true, false, List, [], ◌∷◌, ◌++◌, Option, Some}
+use Rattle.std.specs.Prelude.{None, length, map, slice_get, fold}
 use Rattle.std.specs.Global.{Vec}
-use Rattle.std.specs.Int.{w32, saturate_signed}
 use Rattle.std.specs.List.{flat_map}
 use Rattle.std.specs.declared.alloc.Global.{Global}
 use Rattle.std.specs.declared.boxed.Box.{Box}
@@ -68,15 +67,12 @@ count n = min n 16777216
 abbrev pub row_length : ℕ → ℕ
 row_length n = min n 65536
 
--- a number as an operand, or the next one of 32 bits
-abbrev pub bound : ℤ → ℤ
-bound n = saturate_signed w32 n
-
 -- where a variable lies in its block's frame
 abbrev pub variable_offset : Scope → ℕ → ℕ
 variable_offset scope root = offset (scope.variables + root)
 
--- what an operation does to the value before it, checked
+-- what an operation does to the value before it, checked; succ and pred check the number beside it, which is out of
+-- range too where it wraps at 32 bits
 abbrev pub monadic_code : Monadic → List Instr
 monadic_code monadic.Plus = []
 monadic_code monadic.Minus = instr.Negate ∷ []
@@ -87,11 +83,9 @@ monadic_code monadic.Odd = instr.Odd ∷ []
 monadic_code monadic.Ord = []
 monadic_code (monadic.Chr no_char) = instr.CheckRange no_char (pos 0) (pos 127) ∷ []
 monadic_code (monadic.Succ no_successor last) =
-    instr.CheckRange no_successor (neg_ℤ (pos 2147483647)) (bound (last -ℤ pos 1)) ∷ instr.LoadConstant (pos 1)
-    ∷ instr.Add ∷ []
+    instr.LoadConstant (pos 1) ∷ instr.Add ∷ instr.CheckRange no_successor (neg_ℤ (pos 2147483647)) last ∷ []
 monadic_code (monadic.Pred no_predecessor first) =
-    instr.CheckRange no_predecessor (bound (first +ℤ pos 1)) (pos 2147483647) ∷ instr.LoadConstant (pos 1)
-    ∷ instr.Subtract ∷ []
+    instr.LoadConstant (pos 1) ∷ instr.Subtract ∷ instr.CheckRange no_predecessor first (pos 2147483647) ∷ []
 
 -- the instruction of a relation
 abbrev pub relation_instr : Relation → Instr
@@ -340,7 +334,7 @@ stmt_step (Case number site index constants arms) scope place =
 abbrev pub stmt_code : Stmt → Placed
 stmt_code = fold-Stmt Placed stmt_step
 
--- how many cells an operation on one operand needs at once
+-- how many cells an operation on one operand needs at once; succ and pred have a 1 beside it
 abbrev pub monadic_depth : Monadic → ℕ
 monadic_depth (monadic.Succ no_successor last) = 2
 monadic_depth (monadic.Pred no_predecessor first) = 2

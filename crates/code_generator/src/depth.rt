@@ -1,6 +1,6 @@
 ghost use Rattle.std.specs.Prelude.{◌≡◌, map};
-ghost use Rattle.code_generator.specs.Code.{arms_depth, expr_depth, greatest, monadic_depth, parameter_depth, stmt_depth};
-ghost use Rattle.code_generator.specs.Code.{width_depth, written_cells, written_depth};
+ghost use Rattle.code_generator.specs.Code.{arms_depth, expr_depth, greatest, monadic_depth, parameter_depth};
+ghost use Rattle.code_generator.specs.Code.{stmt_depth, width_depth, written_cells, written_depth};
 ghost use Rattle.code_generator.specs.Sizes.{capped};
 
 use crate::size::whole_size;

@@ -1,14 +1,14 @@
-ghost use Rattle.std.specs.Prelude.{◌≡◌, ◌≤◌, ◌+◌, ◌*◌, ℕ, List, [], ◌∷◌, ◌++◌, OnOk, length, map, vec_len};
-ghost use Rattle.code_generator.specs.Code.{arms_code, bound, compare_code, expr_code, for_begin, width_code, write_code};
+ghost use Rattle.std.specs.Prelude.{◌≡◌, ◌≤◌, ◌+◌, ◌*◌, ℕ, pos, List, [], ◌∷◌, ◌++◌, OnOk, length, map, vec_len};
+ghost use Rattle.code_generator.specs.Code.{arms_code, compare_code, expr_code, for_begin, width_code, write_code};
 ghost use Rattle.code_generator.specs.Code.{assign_code, dyadic_code, for_end, order_instr, range_check, variable_code};
 ghost use Rattle.code_generator.specs.Code.{check_positive, held_offset as offset_of_held, next_instr, variable_offset};
-ghost use Rattle.code_generator.specs.Code.{default_width, line_end_code, monadic_code, ordinal_width, parameter_code, relation_instr};
+ghost use Rattle.code_generator.specs.Code.{default_width, line_end_code, monadic_code, ordinal_width, parameter_code};
 ghost use Rattle.code_generator.specs.Code.{for_entry, for_next, holding, link_code, row_code, stmt_code, whole_code};
-ghost use Rattle.code_generator.specs.Code.{row_length as length_of_row, write_instr, written_code};
+ghost use Rattle.code_generator.specs.Code.{relation_instr, row_length as length_of_row, write_instr, written_code};
 ghost use Rattle.code_generator.specs.Emitted.{Emits, statements_code, statements_table};
-ghost use Rattle.pcode_assembler.specs.declared.instr.Instr.TheVariants.{CheckRange, Fail, Jump, JumpIfFalse, LoadConstant};
+ghost use Rattle.pcode_assembler.specs.declared.instr.Instr.TheVariants.{CheckRange, Fail, Jump, JumpIfFalse};
+ghost use Rattle.pcode_assembler.specs.declared.instr.Instr.TheVariants.{LoadConstant};
 ghost use Rattle.code_generator.specs.Sizes.{arms_table, capped, measured, table_of};
-ghost use Rattle.std.specs.Prelude.{ℤ, pos, ◌+ℤ◌, ◌-ℤ◌};
 ghost use Rattle.typed_tree.specs.WellFormed.{length_of};
 
 use crate::scope::Scope;
@@ -704,23 +704,26 @@ fn emit_monadic(code: &mut Vec<Instr>, operation: Monadic) -> Result<(), AllocEr
         Monadic::Odd => put(code, Instr::Odd),
         Monadic::Chr { no_char } => put(code, check_range(no_char, 0, LAST_CHAR)),
         Monadic::Succ { no_successor, last } => {
-            let check = check_range(no_successor, -MAXINT, last.saturating_sub(1));
-            put_step(code, check, Instr::Add)
+            let check = check_range(no_successor, -MAXINT, last);
+            put_step(code, Instr::Add, check)
         }
-        Monadic::Pred { no_predecessor, first } => {
-            let check = check_range(no_predecessor, first.saturating_add(1), MAXINT);
-            put_step(code, check, Instr::Subtract)
+        Monadic::Pred {
+            no_predecessor,
+            first,
+        } => {
+            let check = check_range(no_predecessor, first, MAXINT);
+            put_step(code, Instr::Subtract, check)
         }
     }
 }
 
-/// A check, and an instruction that it is for, which takes a 1 beside the number that is checked.
-fn put_step(code: &mut Vec<Instr>, check: Instr, step: Instr) -> Result<(), AllocError>
+/// What makes the number beside the one on top, and its check.
+fn put_step(code: &mut Vec<Instr>, step: Instr, check: Instr) -> Result<(), AllocError>
     ensures { OnOk result (
-        code.new.items ≡ code.old.items ++ check ∷ LoadConstant (pos 1) ∷ step ∷ []) }
+        code.new.items ≡ code.old.items ++ LoadConstant (pos 1) ∷ step ∷ check ∷ []) }
 {
     let one = Instr::LoadConstant { value: 1 };
-    code.extend_from_slice(&[check, one, step])
+    code.extend_from_slice(&[one, step, check])
 }
 
 /// What an operation does to the two values before it, checked.
