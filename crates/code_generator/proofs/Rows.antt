@@ -1,11 +1,10 @@
 -- Rows of numbers in cells: what the instructions that take them do to a store on top of which they are known, and that
 -- they compare and write them as the program does.
-use Rattle.std.proofs.Common.{◌≡◌, ℕ, ◌+◌, ◌-◌, ◌*◌, ◌%◌, ◌<◌, ◌≤◌, List, [], ◌∷◌, ◌++◌, length, map, take, drop, Ok, refl, sym, ap, ◌∙◌, arith}
+use Rattle.std.proofs.Common.{◌≡◌, ℕ, ◌+◌, ◌-◌, ◌*◌, ◌<◌, ◌≤◌, List, [], ◌∷◌, ◌++◌, length, map, take, drop, Ok, refl, sym, ap, ◌∙◌, arith}
 use Rattle.std.proofs.Common.{append_assoc, append-nil, length-append, Bool, true, false}
-use Rattle.std.specs.Prelude.{ℤ, pos, negsuc, int_lt, if◌then◌else◌, replicate, unsigned_abs}
-use Rattle.std.specs.Int.{w32, cast_unsigned}
+use Rattle.std.specs.Prelude.{ℤ, pos, negsuc, int_lt, if◌then◌else◌}
 use Rattle.std.proofs.Math.Seq.{take-append_seam, drop-append_seam}
-use Rattle.std.proofs.lemmas.List.{length-map, take_all}
+use Rattle.std.proofs.lemmas.List.{length-map}
 use Rattle.std.proofs.lemmas.Int.{ints}
 use Rattle.meaning.specs.Meaning.{order_of}
 use Rattle.meaning.specs.Integers as meant
@@ -15,7 +14,7 @@ use Rattle.stack_machine.specs.Deeds.{string_written}
 use Rattle.stack_machine.specs.Frames.{Frames, Attempt, has_room_after, ◌>>=◌, number, number_at, popped, pushed}
 use Rattle.stack_machine.specs.Rows as rows
 use Rattle.stack_machine.specs.Texts as texts
-use Rattle.code_generator.proofs.Acts.{framed, has_some, has_room, length_one, top_at}
+use Rattle.code_generator.proofs.Acts.{framed, has_some, has_room, top_at}
 use Rattle.code_generator.proofs.Numbers.{Fits}
 
 -- the cells of a row of numbers
