@@ -151,6 +151,10 @@ pub PassesOrLoses-then : {A E : Type 0} (answer : Result A E) (a b c : Ports) (x
 PassesOrLoses-then (Ok value) a b c xs ys h k = Passes-then a b c xs ys h k
 PassesOrLoses-then (Err error) a b c xs ys h k = Loses-then a b c.known xs ys h k
 
+-- the same bytes
+pub PassesOrLoses-is : {A E : Type 0} (answer : Result A E) (a b : Ports) (xs ys : List ℕ) → xs ≡ ys → PassesOrLoses answer a b xs → PassesOrLoses answer a b ys
+PassesOrLoses-is answer a b xs ys e h = subst (PassesOrLoses answer a b) e h
+
 -- a whole piece goes out: what was held back, and some bytes with it
 pub PassesOrLoses-piece : {A E : Type 0} (answer : Result A E) (a b : Ports) (bytes piece : List ℕ) → b.held ≡ [] → piece ≡ a.held ++ bytes
     → length piece ≡ 4096 → AppendsOrLoses answer a.known b.known piece → IfOk answer (λ _. Offers a.offered b.offered (piece_of (length piece)))

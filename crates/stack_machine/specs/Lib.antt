@@ -8,6 +8,7 @@ pub mod Laws
 pub mod Machine
 pub mod Output
 pub mod Ports
+pub mod Rows
 pub mod Run
 pub mod Texts
 pub mod View

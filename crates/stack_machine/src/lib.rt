@@ -4,10 +4,12 @@
 mod arithmetic;
 pub mod bytes;
 pub mod cell;
+mod form;
 mod halt;
 mod input;
 pub mod laws;
 pub mod machine;
 mod output;
+mod rows;
 pub mod stop;
 mod store;

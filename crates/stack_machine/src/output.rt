@@ -3,10 +3,13 @@ ghost use Rattle.std.specs.Prelude.{vec_len};
 ghost use Rattle.stack_machine.specs.declared.output.TheConstants.{PIECE};
 ghost use Rattle.stack_machine.specs.Halts.{failures_in};
 ghost use Rattle.stack_machine.specs.Texts as words;
+ghost use Rattle.stack_machine.specs.Texts.{characters};
 ghost use Rattle.stack_machine.specs.Ports.{AppendsOrLoses, Offers, PassesOrLoses, piece_of};
 
 use crate::arithmetic::is_true;
 use crate::bytes::Sink;
+use crate::cell::Cell;
+use crate::form::Form;
 use crate::halt::Halt;
 use itoa::Buffer;
 use std::alloc::{AllocError, Global};
@@ -106,9 +109,10 @@ impl Output {
         self.put_all(text, writer)
     }
 
-    /// Takes a number, set right in as many places as the width says, and never cut (ISO 7185:1990, 6.9.3.3).
-    pub fn put_integer<W: Sink>(
+    /// Takes a number in this form, set right in as many places as the width says.
+    pub fn put_value<W: Sink>(
         &mut self,
+        form: Form,
         value: i32,
         width: i32,
         writer: &mut W,
@@ -117,17 +121,31 @@ impl Output {
         ensures only { IsOkUnless result Halt.WriteFailed }
         ensures failures { W.failures writer.new ≡ W.failures writer.old + failures_in result }
         ensures bytes { PassesOrLoses result (ports (W.contents writer.old) (W.offered writer.old) self.old)
-            (ports (W.contents writer.new) (W.offered writer.new) self.new) (words.integer_text value width) }
+            (ports (W.contents writer.new) (W.offered writer.new) self.new) (words.text_of form value width) }
     {
-        let mut buffer = Buffer::new();
-        let text = buffer.format(value).as_bytes();
-        self.put_after_blanks(blanks_before(text.len(), width), text, writer)
+        match form {
+            Form::Integer => {
+                let mut buffer = Buffer::new();
+                let text = buffer.format(value).as_bytes();
+                self.put_after_blanks(blanks_before(text.len(), width), text, writer)
+            }
+            Form::Character => {
+                let text = [byte_of(value)];
+                self.put_after_blanks(blanks_before(1, width), &text, writer)
+            }
+            Form::Boolean => {
+                let text = word_of(value).as_bytes();
+                let shown = text.len().min(places_of(width));
+                self.put_after_blanks(blanks_before(text.len(), width), &text[..shown], writer)
+            }
+        }
     }
 
-    /// Takes the string of a Boolean value, `true` for every number but 0 (ISO 7185:1990, 6.9.3.5).
-    pub fn put_boolean<W: Sink>(
+    /// Takes the string of the characters in these cells, set right in as many places as the width says, or its
+    /// first characters where it is longer (ISO 7185:1990, 6.9.3.6).
+    pub fn put_string<W: Sink>(
         &mut self,
-        value: i32,
+        cells: &[Cell],
         width: i32,
         writer: &mut W,
     ) -> Result<(), Halt>
@@ -135,23 +153,26 @@ impl Output {
         ensures only { IsOkUnless result Halt.WriteFailed }
         ensures failures { W.failures writer.new ≡ W.failures writer.old + failures_in result }
         ensures bytes { PassesOrLoses result (ports (W.contents writer.old) (W.offered writer.old) self.old)
-            (ports (W.contents writer.new) (W.offered writer.new) self.new) (words.boolean_text value width) }
+            (ports (W.contents writer.new) (W.offered writer.new) self.new)
+            (words.string_text (characters cells.now) width) }
     {
-        let text = if is_true(value) { "true" } else { "false" };
-        self.put_string(text.as_bytes(), width, writer)
+        let shown = cells.len().min(places_of(width));
+        self.put_blanks(blanks_before(cells.len(), width), writer)?;
+        self.put_characters(&cells[..shown], writer)
     }
 
-    /// Takes a string, set right in as many places as the width says, or its first characters where it is
-    /// longer (ISO 7185:1990, 6.9.3.6).
-    fn put_string<W: Sink>(&mut self, text: &[u8], width: i32, writer: &mut W) -> Result<(), Halt>
+    /// Takes the characters in these cells in turn.
+    fn put_characters<W: Sink>(&mut self, cells: &[Cell], writer: &mut W) -> Result<(), Halt>
         requires { W.failures writer.old < 2 ^ 64 - 1 }
         ensures only { IsOkUnless result Halt.WriteFailed }
         ensures failures { W.failures writer.new ≡ W.failures writer.old + failures_in result }
         ensures bytes { PassesOrLoses result (ports (W.contents writer.old) (W.offered writer.old) self.old)
-            (ports (W.contents writer.new) (W.offered writer.new) self.new) (words.string_text text.now width) }
+            (ports (W.contents writer.new) (W.offered writer.new) self.new) (characters cells.now) }
     {
-        let shown = text.len().min(places_of(width));
-        self.put_after_blanks(blanks_before(text.len(), width), &text[..shown], writer)
+        for cell in cells {
+            self.put(byte_of(cell.value()), writer)?;
+        }
+        Ok(())
     }
 
     /// What it holds goes out, if it holds anything.
@@ -194,6 +215,20 @@ fn blanks_before(length: usize, width: i32) -> usize
     ensures { result ≡ words.blanks_of length width }
 {
     places_of(width).saturating_sub(length)
+}
+
+/// The string of a Boolean value, `true` for every number but 0 (ISO 7185:1990, 6.9.3.5).
+fn word_of(value: i32) -> &'static str
+    ensures { result.now ≡ words.word_of value }
+{
+    if is_true(value) { "true" } else { "false" }
+}
+
+/// The byte of a character: the lowest 8 bits of its number.
+fn byte_of(value: i32) -> u8
+    ensures { result ≡ words.byte_of value }
+{
+    (value.cast_unsigned() & 0xff) as u8
 }
 
 /// How many places a width has: none where it is below 1.

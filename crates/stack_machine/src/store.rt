@@ -1,11 +1,12 @@
 ghost use Rattle.std.specs.Prelude.{◌≡◌, ◌+◌, ◌-◌, ◌<◌, ◌≤◌, ◌++◌, nat_le, if◌then◌else◌, replicate, take, IfOk, OnOk};
-ghost use Rattle.std.specs.Prelude.{vec_len};
+ghost use Rattle.std.specs.Prelude.{vec_len, MatchResult, Ok, Err};
 ghost use Rattle.stack_machine.specs.declared.cell.Cell.TheVariants.{Undefined};
-ghost use Rattle.std.specs.List.{list_all};
 ghost use Rattle.stack_machine.specs.Frames as frames;
+ghost use Rattle.stack_machine.specs.Rows as rows;
 
 use crate::arithmetic::{Dyadic, Monadic, is_true, modulo, product, quotient};
 use crate::cell::Cell;
+use crate::rows::{all_defined, only_numbers, order};
 use crate::stop::MachineFault;
 use std::alloc::{AllocError, Global};
 
@@ -161,6 +162,46 @@ impl Store {
         Ok(())
     }
 
+    /// `cmp`: two rows of so many numbers give way to their order.
+    pub fn compare(&mut self, length: u32) -> Result<(), MachineFault>
+        ensures { Acts result (view self.old) (view self.new) (rows.compared length (view self.old)) }
+    {
+        let length = length as usize;
+        self.has(2 * length)?;
+        self.has_room_after(2 * length)?;
+        let left = self.row(2 * length, length);
+        let right = self.row(length, length);
+        only_numbers(left)?;
+        only_numbers(right)?;
+        let order = order(left, right);
+        self.replace(2 * length, Cell::Number(order));
+        Ok(())
+    }
+
+    /// `wrs`: the string on top, so many characters, and the width above it.
+    pub fn string(&self, length: u32) -> Result<(&[Cell], i32), MachineFault>
+        ensures within { IfOk result (λ _. self.now.frame + 4 + (length + 1) ≤ self.now.used) }
+        ensures value { MatchResult result
+            (λ found. rows.string length (view self.now) ≡ Ok (rows.values found.0.now, found.1))
+            (λ fault. rows.string length (view self.now) ≡ Err fault) }
+    {
+        let length = length as usize;
+        self.has(length + 1)?;
+        let characters = self.row(length + 1, length);
+        only_numbers(characters)?;
+        let width = self.number_at(1)?;
+        Ok((characters, width))
+    }
+
+    /// Pops so many cells.
+    pub fn pop(&mut self, count: usize)
+        requires { self.old.frame + 4 + count ≤ self.old.used }
+        ensures value { view self.new ≡ frames.popped count (view self.old) }
+        ensures size { self.new.size ≡ self.old.size }
+    {
+        self.used -= count;
+    }
+
     /// Pops two numbers and answers them, the lower one first.
     pub fn pop_two(&mut self) -> Result<(i32, i32), MachineFault>
         ensures value { result ≡ frames.top_two (view self.old) }
@@ -208,8 +249,7 @@ impl Store {
     {
         let length = length as usize;
         self.has(length)?;
-        let used = self.used;
-        Ok(all_defined(&self.cells.as_slice()[used - length..used]))
+        Ok(all_defined(self.row(length, length)))
     }
 
     /// `cka`: whether the sum of the topmost two numbers is an integer.
@@ -275,6 +315,16 @@ impl Store {
         ensures { result ≡ frames.number_at count (view self.now) }
     {
         number(self.cells[self.used - count])
+    }
+
+    /// So many cells, the first of which is so many from the top.
+    fn row(&self, place: usize, count: usize) -> &[Cell]
+        requires in_use { place ≤ self.now.used }
+        requires within { count ≤ place }
+        ensures { result.now ≡ rows.row place count (view self.now) }
+    {
+        let first = self.used - place;
+        &self.cells.as_slice()[first..first + count]
     }
 
     /// The topmost two numbers, which another may replace.
@@ -405,23 +455,6 @@ fn in_use(address: usize, used: usize) -> Result<usize, MachineFault>
         return Err(MachineFault::OutOfBounds);
     }
     Ok(address)
-}
-
-/// Whether all of these cells are defined.
-fn all_defined(cells: &[Cell]) -> bool
-    ensures { result ≡ list_all frames.is_defined cells.now }
-{
-    cells.iter().all(|cell| is_defined(*cell))
-}
-
-/// Whether the cell is defined.
-fn is_defined(cell: Cell) -> bool
-    ensures { result ≡ frames.is_defined cell }
-{
-    match cell {
-        Cell::Undefined => false,
-        Cell::Number(_) => true,
-    }
 }
 
 /// Whether the number is of the type integer.
