@@ -1,5 +1,5 @@
 -- The definitions on small rows, worked out by hand.
-use Rattle.std.proofs.Common.{◌≡◌, inl, inr, ℕ, ℤ, ap, refl, true, false, pos, negsuc, List, [], ◌∷◌, Option, Some, None, Box, Vec, Global, codes}
+use Rattle.std.proofs.Common.{◌≡◌, inl, inr, ℕ, ℤ, ap, refl, true, false, pos, negsuc, List, [], ◌∷◌, Option, Some, None, Box, Vec, Global, codes, map}
 use Rattle.std.proofs.Common.{if◌then◌else◌, slice_get}
 use Rattle.typed_tree.specs.declared.tree.Dyadic.{Dyadic}
 use Rattle.typed_tree.specs.declared.tree.Relation.{Relation}
@@ -11,7 +11,9 @@ use Rattle.typed_tree.specs.declared.tree.Relation.TheVariants.{Equal, Less}
 use Rattle.typed_tree.specs.declared.tree.Tree.{Tree}
 use Rattle.typed_tree.specs.declared.tree.Expr.{Expr}
 use Rattle.typed_tree.specs.declared.tree.Stmt.TheOpen.Stmt-F.{If}
-use Rattle.typed_tree.specs.declared.tree.WriteParameter.{WriteParameter}
+use Rattle.typed_tree.specs.declared.tree.Representation.{Representation}
+use Rattle.typed_tree.specs.declared.tree.Width.{Width}
+use Rattle.typed_tree.specs.declared.tree.Written.TheVariants.{Ordinal}
 use Rattle.types.specs.declared.form.OrdinalRange.{OrdinalRange}
 use Rattle.types.specs.declared.form.TypeId.{TypeId}
 use Rattle.meaning.specs.declared.outcome.Ending.{Ending}
@@ -21,10 +23,10 @@ use Rattle.meaning.specs.declared.store.Value.TheVariants.{Number}
 use Rattle.meaning.specs.Store.{Place, Step, Element, Environment, stored, written, undefined, overlap}
 use Rattle.meaning.specs.Integers.{is_integer_number}
 use Rattle.meaning.specs.Effect.{State, Reply, Gives, Stops, Action, Round, looped, ◌>>=◌, and_then, give, enter, fetch, store, undefine, use_turn, write}
-use Rattle.meaning.specs.Effect.{is_in, places, boolean_text, text_of}
+use Rattle.meaning.specs.Effect.{is_in, places, boolean_text, char_text, row_text, text_of}
 use Rattle.meaning.specs.Meaning.{Evaluation, Combination, Execution, effect_step, is_so, alternative_of, combined, while_round, repeat_round, for_between}
 use Rattle.meaning.specs.Meaning.{arm_of, Meaning, ended, link_step, in_turn, operated}
-use Rattle.meaning.specs.Meaning.{value_of, width_of, parameter_of, completed, first_state}
+use Rattle.meaning.specs.Meaning.{value_of, compared, order_of, default_width, width_of, written_of, completed, first_state}
 use Rattle.meaning.specs.Meaning.{home_of, program_environment}
 use Rattle.meaning.specs.Laws.{Extends}
 use Rattle.meaning.specs.Pending.{positive}
@@ -72,6 +74,29 @@ cut = refl
 
 set_right : boolean_text (pos 0) (pos 7) ≡ codes "  false"
 set_right = refl
+
+-- a character is never cut; a string is
+char_in_place : char_text (pos 65) (pos 3) ≡ codes "  A"
+char_in_place = refl
+
+char_without_width : char_text (pos 65) (pos 0) ≡ codes "A"
+char_without_width = refl
+
+string_cut : row_text (map pos (codes "Pascal")) (Number (pos 3)) ≡ codes "Pas"
+string_cut = refl
+
+string_set_right : row_text (map pos (codes "ab")) (Number (pos 4)) ≡ codes "  ab"
+string_set_right = refl
+
+-- 'abc' < 'abd', and 'B' comes before 'a'
+later_difference : compared Less (map pos (codes "abc")) (map pos (codes "abd")) ≡ Number (pos 1)
+later_difference = refl
+
+first_difference : compared Less (map pos (codes "ab")) (map pos (codes "Bz")) ≡ Number (pos 0)
+first_difference = refl
+
+same_strings : order_of (map pos (codes "ab")) (map pos (codes "ab")) ≡ pos 0
+same_strings = refl
 
 -- an input's last line end is supplied
 line_end_supplied : completed (codes "7") ≡ codes "7\n"
@@ -187,6 +212,22 @@ without_sign = refl
 negative_is_odd : told (operated monadic.Odd (Number (negsuc 2)) (first_state [] 0)) ≡ Value_of (Number (pos 1))
 negative_is_odd = refl
 
+-- chr takes 0 to 127; the last value has no successor, the first no predecessor
+last_char : told (operated (monadic.Chr 4) (Number (pos 127)) (first_state [] 0)) ≡ Value_of (Number (pos 127))
+last_char = refl
+
+no_char : told (operated (monadic.Chr 4) (Number (pos 128)) (first_state [] 0)) ≡ End_of (Error 4)
+no_char = refl
+
+successor_of_false : told (operated (monadic.Succ 4 (pos 1)) (Number (pos 0)) (first_state [] 0)) ≡ Value_of (Number (pos 1))
+successor_of_false = refl
+
+no_successor : told (operated (monadic.Succ 4 (pos 1)) (Number (pos 1)) (first_state [] 0)) ≡ End_of (Error 4)
+no_successor = refl
+
+no_predecessor : told (operated (monadic.Pred 4 (negsuc 2147483646)) (Number (negsuc 2147483646)) (first_state [] 0)) ≡ End_of (Error 4)
+no_predecessor = refl
+
 -- 1 div 0 = 1, with the division's site 3
 abbrev quotient_is_one : Evaluation
 quotient_is_one environment =
@@ -203,11 +244,11 @@ no_width : told (positive 6 (Number (pos 0)) (first_state [] 0)) ≡ End_of (Err
 no_width = refl
 
 -- where a value stops, its width isn't evaluated
-value_first : (parameter : WriteParameter) (environment : Environment) (s t : State) (end : Ending) → value_of parameter.value environment s ≡ Stops end t →
-    parameter_of parameter environment s ≡ Stops end t
-value_first parameter environment s t end stopped =
-    let width = width_of parameter.width parameter.representation environment in
-    ap (λ (r : Reply Value). and_then r (λ v. width >>= λ w. write (text_of parameter.representation v w))) stopped
+value_first : (value : Expr) (representation : Representation) (width : Option Width) (environment : Environment) (s t : State) (end : Ending) →
+    value_of value environment s ≡ Stops end t → written_of (Ordinal value representation) width environment s ≡ Stops end t
+value_first value representation width environment s t end stopped =
+    let wide = width_of width (default_width representation) environment in
+    ap (λ (r : Reply Value). and_then r (λ v. wide >>= λ w. write (text_of representation v w))) stopped
 
 -- in maxint + 1 + x the overflow is told, and the undefined x isn't reached; in maxint + x + 1 it is
 left_first : told (in_turn (link (dyadic.Plus 3) (operand (Number (pos 1))) ∷ link (dyadic.Plus 4) nothing_there ∷ []) nowhere (Number (pos 2147483647))
@@ -278,8 +319,8 @@ unfolding two_bytes
 turns_to_spare = inl refl
 
 -- whether the counter, the variable of root 0, is in this relation to a number
-abbrev compared : Relation → ℤ → Evaluation
-compared relation number environment = do
+abbrev counter_is : Relation → ℤ → Evaluation
+counter_is relation number environment = do
   v ← fetch (Some (place 0 [])) 7
   combined (dyadic.Relation relation) v (Number number)
 
@@ -297,10 +338,10 @@ from_zero round turns = ended (looped round tt (record (first_state [] turns) { 
 
 -- while the counter is less than a number, and until it is that number
 abbrev while_less : ℤ → Round (Unit {0})
-while_less number = while_round (compared Less number) counts nowhere
+while_less number = while_round (counter_is Less number) counts nowhere
 
 abbrev until_equal : ℤ → Round (Unit {0})
-until_equal number = repeat_round counts (compared Equal number) nowhere
+until_equal number = repeat_round counts (counter_is Equal number) nowhere
 
 -- a while tests before its first turn, and uses none where its condition is false at once
 no_turn_of_while : from_zero (while_less (pos 0)) 0 ≡ record { output = []; ending = Finished }

@@ -5,6 +5,7 @@ mod LeftToRight
 pub mod Loops
 mod Resuming
 mod Starting
+mod Strings
 pub mod Turns
 mod Unrolling
 mod Weights

@@ -1,6 +1,6 @@
 -- More turns only extend a run. For each action three facts: the output only grows, the turns only fall, and with more
 -- turns the action goes on from where it was with fewer.
-use Rattle.std.specs.Prelude.{int_div, int_le, not, if◌then◌else◌}
+use Rattle.std.specs.Prelude.{int_div, int_le, int_lt, not, if◌then◌else◌}
 use Rattle.std.specs.Int.{int_rem_euclid}
 use Rattle.std.specs.Ordering.{int_eq}
 use Rattle.std.proofs.Common.{◌≡◌, ◌≢◌, inl, inr, ℕ, zero, suc, ◌+◌, ◌≤◌, ℤ, pos, ◌+ℤ◌, ◌-ℤ◌, ◌*ℤ◌, arith}
@@ -14,14 +14,18 @@ use Rattle.typed_tree.specs.declared.tree.Dyadic.{Dyadic}
 use Rattle.typed_tree.specs.declared.tree.Dyadic.TheVariants as dyadic
 use Rattle.typed_tree.specs.declared.tree.Monadic.{Monadic}
 use Rattle.typed_tree.specs.declared.tree.Monadic.TheVariants as monadic
-use Rattle.typed_tree.specs.declared.tree.Representation.{Representation}
 use Rattle.typed_tree.specs.declared.tree.Width.{Width}
 use Rattle.typed_tree.specs.declared.tree.WriteParameter.{WriteParameter}
+use Rattle.typed_tree.specs.declared.tree.Written.{Written}
+use Rattle.typed_tree.specs.declared.tree.Written.TheVariants.{Ordinal, String}
+use Rattle.typed_tree.specs.declared.tree.Whole.{Whole}
+use Rattle.typed_tree.specs.declared.tree.Whole.TheVariants.{Text}
+use Rattle.typed_tree.specs.WellFormed.{length_of}
 use Rattle.typed_tree.specs.declared.tree.Expr.{Expr}
 use Rattle.typed_tree.specs.declared.tree.Link.{Link}
 use Rattle.typed_tree.specs.declared.tree.Stmt.{Stmt}
 use Rattle.typed_tree.specs.declared.tree.Expr.TheOpen.{Expr-F, Link-F}
-use Rattle.typed_tree.specs.declared.tree.Expr.TheOpen.Expr-F.{Constant, Variable, Monadic as MonadicOf, Chain}
+use Rattle.typed_tree.specs.declared.tree.Expr.TheOpen.Expr-F.{Constant, Variable, Monadic as MonadicOf, Chain, Compare}
 use Rattle.typed_tree.specs.declared.tree.Expr.TheFolds.{map-Expr, map-Link, fold-roll-Expr, fold-roll-Link, ind-Expr}
 use Rattle.typed_tree.specs.declared.tree.Stmt.TheOpen.{Stmt-F}
 use Rattle.typed_tree.specs.declared.tree.Stmt.TheOpen.Stmt-F.{Empty, Assign, Write, Compound, If, While, Repeat, For, Case}
@@ -30,13 +34,13 @@ use Rattle.meaning.specs.declared.outcome.Ending.{Ending}
 use Rattle.meaning.specs.declared.outcome.Ending.TheVariants as ending
 use Rattle.meaning.specs.declared.store.Value.{Value}
 use Rattle.meaning.specs.declared.store.Value.TheVariants.{Number}
-use Rattle.meaning.specs.Integers.{is_integer_number}
+use Rattle.meaning.specs.Integers.{is_integer_number, is_within}
 use Rattle.meaning.specs.Store.{Environment, Place, held}
 use Rattle.meaning.specs.Effect.{State, Reply, Gives, Stops, Action, Round, ◌>>=◌, and_then, give, stop, require, enter, take_turn, use_turn, another, looping}
 use Rattle.meaning.specs.Effect.{looped}
-use Rattle.meaning.specs.Effect.{fetched, fetch, store, undefine, write, is_in, is_positive, text_of}
+use Rattle.meaning.specs.Effect.{fetched, fetch, store, undefine, write, is_in, is_positive, row_text, text_of}
 use Rattle.meaning.specs.Meaning.{Evaluation, Combination, Execution, value_step, link_step, effect_step, whole, operated, combined, in_turn, all_of}
-use Rattle.meaning.specs.Meaning.{width_of, parameter_of, line_ended, is_so, turn_if, while_round, repeat_round, for_round, for_rounds, for_between, is_among}
+use Rattle.meaning.specs.Meaning.{compared, whole_of, default_width, width_of, written_of, parameter_of, line_ended, is_so, turn_if, while_round, repeat_round, for_round, for_rounds, for_between, is_among}
 use Rattle.meaning.specs.Meaning.{arm_of, number_of, value_of, link_of, effect_of, Meaning, run_of, run, ended}
 use Rattle.meaning.specs.Meaning.{program_environment, first_state}
 use Rattle.meaning.specs.Laws.{with_turns, reply_with_turns, state_after, Begins, Extends, TurnsGoOn, TurnsExtendTheOutput, EndingsStay}
@@ -226,6 +230,10 @@ extended_operated monadic.Not (Number a) = extended_give _
 extended_operated monadic.Abs (Number a) = extended_give _
 extended_operated (monadic.Sqr overflow) (Number a) = extended_whole overflow (a *ℤ a)
 extended_operated monadic.Odd (Number a) = extended_give _
+extended_operated monadic.Ord (Number a) = extended_give _
+extended_operated (monadic.Chr no_char) (Number a) = extended_tested (is_within (pos 0) (pos 127) a) no_char (Number a)
+extended_operated (monadic.Succ no_successor last) (Number a) = extended_tested (int_lt a last) no_successor (Number (a +ℤ pos 1))
+extended_operated (monadic.Pred no_predecessor first) (Number a) = extended_tested (int_lt first a) no_predecessor (Number (a -ℤ pos 1))
 
 extended_combined : (operation : Dyadic) (left right : Value) → Extended (combined operation left right)
 extended_combined (dyadic.Plus overflow) (Number a) (Number b) = extended_whole overflow (a +ℤ b)
@@ -252,6 +260,11 @@ extended_in_turn (link ∷ links) env v =
     extended_then (link_of link.0 env v) (λ w. in_turn (map link_of (map (λ l. l.0) links)) env w) (link.1 env v)
     (λ w. extended_in_turn links env w)
 
+-- the components of a whole value
+extended_components : (value : Whole) (env : Environment) → Extended (whole_of value env)
+extended_components (Text number characters) env =
+    extended_then (enter number env) (λ _. give (map pos characters.items)) (extended_enter number env) (λ _. extended_give (map pos characters.items))
+
 -- the expressions of one layer
 abbrev valued : Expr-F Expr Link → Evaluation
 valued y = value_step (map-Expr Expr Link Evaluation Combination value_of link_of y)
@@ -273,6 +286,12 @@ value-parts (MonadicOf number operation operand) env =
 value-parts (Chain first rest) env =
     extended_then (value_of first.value.0 env) (λ v. in_turn (map link_of (map (λ l. l.0) rest.items)) env v) (first.value.1 env)
     (λ v. extended_in_turn rest.items env v)
+value-parts (Compare number relation left right) env =
+    let behind : List ℤ → Action Value = λ a. enter number env >>= λ _. whole_of right env >>= λ b. give (compared relation a b) in
+    extended_then (whole_of left env) behind (extended_components left env)
+    (λ a. extended_then (enter number env) (λ _. whole_of right env >>= λ b. give (compared relation a b)) (extended_enter number env)
+    (λ _. extended_then (whole_of right env) (λ b. give (compared relation a b)) (extended_components right env)
+    (λ b. extended_give (compared relation a b))))
 
 link-parts : (y : Link-F ExtendedExpr ExtendedLink) (env : Environment) (left : Value) →
     Extended (linked (map-Link ExtendedExpr ExtendedLink Expr Link (λ e. e.0) (λ l. l.0) y) env left)
@@ -291,20 +310,28 @@ extended_value = ind-Expr
     (λ x y is env left. subst (λ (f : Combination). Extended (f env left))
     (sym (fold-roll-Link Evaluation Combination value_step link_step x ∙ ap linked (sym is))) (link-parts y env left))
 
-extended_width : (width : Option Width) (representation : Representation) (env : Environment) →
-    Extended (width_of width representation env)
-extended_width None representation env = extended_give _
-extended_width (Some width) representation env =
+extended_width : (width : Option Width) (default : ℤ) (env : Environment) → Extended (width_of width default env)
+extended_width None default env = extended_give _
+extended_width (Some width) default env =
     extended_then (value_of width.value env) (λ w. require (is_positive w) width.site >>= λ _. give w) (extended_value width.value env)
     (λ w. extended_tested (is_positive w) width.site w)
 
+extended_written : (value : Written) (width : Option Width) (env : Environment) → Extended (written_of value width env)
+extended_written (Ordinal value representation) width env =
+    let wide : Action Value = width_of width (default_width representation) env in
+    let written : Value → Value → Action (Unit {0}) = λ v w. write (text_of representation v w) in
+    extended_then (value_of value env) (λ v. wide >>= written v) (extended_value value env)
+    (λ v. extended_then wide (written v) (extended_width width (default_width representation) env)
+    (λ w. extended_write (text_of representation v w)))
+extended_written (String value) width env =
+    let wide : Action Value = width_of width (pos (length_of value)) env in
+    let written : List ℤ → Value → Action (Unit {0}) = λ components w. write (row_text components w) in
+    extended_then (whole_of value env) (λ components. wide >>= written components) (extended_components value env)
+    (λ components. extended_then wide (written components) (extended_width width (pos (length_of value)) env)
+    (λ w. extended_write (row_text components w)))
+
 extended_parameter : (parameter : WriteParameter) (env : Environment) → Extended (parameter_of parameter env)
-extended_parameter parameter env =
-    let width : Action Value = width_of parameter.width parameter.representation env in
-    let written : Value → Value → Action (Unit {0}) = λ v w. write (text_of parameter.representation v w) in
-    extended_then (value_of parameter.value env) (λ v. width >>= written v) (extended_value parameter.value env)
-    (λ v. extended_then width (written v) (extended_width parameter.width parameter.representation env)
-    (λ w. extended_write (text_of parameter.representation v w)))
+extended_parameter parameter = extended_written parameter.value parameter.width
 
 extended_parameters : (parameters : List WriteParameter) (env : Environment) → Extended (all_of (map parameter_of parameters) env)
 extended_parameters [] env = extended_give tt

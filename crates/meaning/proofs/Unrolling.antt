@@ -1,5 +1,5 @@
 -- Each form of an expression and of a statement, as the work that an interpreter has to do for it.
-use Rattle.std.proofs.Common.{◌≡◌, ℕ, ℤ, List, [], ◌∷◌, ◌++◌, Bool, true, false, Option, Some, None, Result, Bor, if◌then◌else◌, Box, Vec, Global, map, sym}
+use Rattle.std.proofs.Common.{◌≡◌, ℕ, ℤ, pos, List, [], ◌∷◌, ◌++◌, Bool, true, false, Option, Some, None, Result, Bor, if◌then◌else◌, Box, Vec, Global, map, sym}
 use Rattle.std.proofs.Common.{◌∙◌, ap, refl}
 use Rattle.place.specs.declared.Place.{Place as SourcePlace}
 use Rattle.typed_tree.specs.declared.tree.Access.{Access}
@@ -8,12 +8,19 @@ use Rattle.typed_tree.specs.declared.tree.Monadic.{Monadic}
 use Rattle.typed_tree.specs.declared.tree.RangeTest.{RangeTest}
 use Rattle.typed_tree.specs.declared.tree.Width.{Width}
 use Rattle.typed_tree.specs.declared.tree.WriteParameter.{WriteParameter}
+use Rattle.typed_tree.specs.declared.tree.Written.{Written}
+use Rattle.typed_tree.specs.declared.tree.Written.TheVariants.{Ordinal, String}
+use Rattle.typed_tree.specs.declared.tree.Whole.{Whole}
+use Rattle.typed_tree.specs.declared.tree.Whole.TheVariants.{Text}
+use Rattle.typed_tree.specs.declared.tree.Relation.{Relation}
+use Rattle.typed_tree.specs.declared.tree.Representation.{Representation}
+use Rattle.typed_tree.specs.WellFormed.{length_of}
 use Rattle.typed_tree.specs.declared.tree.Expr.{Expr}
 use Rattle.typed_tree.specs.declared.tree.Link.{Link}
 use Rattle.typed_tree.specs.declared.tree.Stmt.{Stmt}
 use Rattle.typed_tree.specs.declared.tree.Expr.TheVariants as expr
 use Rattle.typed_tree.specs.declared.tree.Stmt.TheVariants as stmt
-use Rattle.typed_tree.specs.declared.tree.Expr.TheOpen.Expr-F.{Variable as Variable-F, Monadic as Monadic-F, Chain as Chain-F}
+use Rattle.typed_tree.specs.declared.tree.Expr.TheOpen.Expr-F.{Variable as Variable-F, Monadic as Monadic-F, Chain as Chain-F, Compare as Compare-F}
 use Rattle.typed_tree.specs.declared.tree.Stmt.TheOpen.Stmt-F.{Empty as Empty-F, Assign as Assign-F, Write as Write-F, Compound as Compound-F, If as If-F}
 use Rattle.typed_tree.specs.declared.tree.Stmt.TheOpen.Stmt-F.{While as While-F, Repeat as Repeat-F, For as For-F, Case as Case-F}
 use Rattle.typed_tree.specs.declared.tree.Expr.TheFolds.{fold-roll-Expr, fold_out-Link}
@@ -23,13 +30,14 @@ use Rattle.meaning.specs.declared.store.Value.TheVariants.{Number}
 use Rattle.meaning.specs.declared.work.Work.{Work}
 use Rattle.meaning.specs.declared.work.Work.TheVariants as work
 use Rattle.meaning.specs.Store.{Environment, kept}
-use Rattle.meaning.specs.Effect.{State, Reply, Action, ◌>>=◌, and_then, give, require, enter, use_turn, another, looped}
-use Rattle.meaning.specs.Effect.{fetch, store, undefine, write, is_in, text_of}
+use Rattle.meaning.specs.Effect.{State, Reply, Gives, Action, ◌>>=◌, and_then, give, require, enter, use_turn, another, looped}
+use Rattle.meaning.specs.Effect.{fetch, store, undefine, write, is_in, row_text, text_of}
 use Rattle.meaning.specs.Meaning.{Evaluation, Combination, Execution, value_step, link_step, effect_step, operated, combined, in_turn, all_of}
-use Rattle.meaning.specs.Meaning.{width_of, parameter_of, line_ended, is_so, turn_if, for_between, arm_of, number_of, value_of, link_of, effect_of}
+use Rattle.meaning.specs.Meaning.{compared, whole_of, default_width, written_of, width_of, parameter_of, line_ended, is_so, turn_if, for_between, arm_of, number_of, value_of, link_of, effect_of}
 use Rattle.meaning.specs.Pending.{Resumption, pending_of, resumed, chosen, further, while_rounds, repeat_rounds, bounds_tested, value_before, counting}
 use Rattle.meaning.specs.Pending.{forgetting, turning, line_ending, linking, giving, with_top}
-use Rattle.meaning.specs.Pending.{positive, top_of, below_top}
+use Rattle.meaning.specs.Pending.{Agrees, components_of, positive, top_of, below_top, writing, writing_whole}
+use Rattle.meaning.specs.declared.interpreter.Run.{Run}
 use Rattle.meaning.proofs.Turns.{extended_value, extended_effect, extended_statements}
 use Rattle.meaning.proofs.Loops.{looped-rounds, while_uses, repeat_uses, counted_uses}
 use Rattle.meaning.proofs.Counts.{rounds_of, between-tested, turn-given}
@@ -44,6 +52,12 @@ value-Monadic : (n : ℕ) (operation : Monadic) (operand : Box Expr Global) (env
     value_of (expr.Monadic n operation operand) env ≡ (enter n env >>= λ _. value_of operand.value env >>= λ v. operated operation v)
 value-Monadic n operation operand env = ap (λ (e : Expr). value_of e env) (sym (expr.rolls-Monadic n operation operand))
     ∙ ap (λ (f : Evaluation). f env) (fold-roll-Expr Evaluation Combination value_step link_step (Monadic-F n operation operand))
+
+value-Compare : (n : ℕ) (r : Relation) (left right : Whole) (env : Environment) →
+    value_of (expr.Compare n r left right) env ≡
+    (whole_of left env >>= λ a. enter n env >>= λ _. whole_of right env >>= λ b. give (compared r a b))
+value-Compare n r left right env = ap (λ (e : Expr). value_of e env) (sym (expr.rolls-Compare n r left right))
+    ∙ ap (λ (f : Evaluation). f env) (fold-roll-Expr Evaluation Combination value_step link_step (Compare-F n r left right))
 
 pub value-Chain : (first : Box Expr Global) (rest : Vec Link Global) (env : Environment) →
     value_of (expr.Chain first rest) env ≡ (value_of first.value env >>= λ v. in_turn (map link_of rest.items) env v)
@@ -408,20 +422,56 @@ pub does-no-Parameters : (all : Bor (List WriteParameter)) (ends_line : Bool) �
 does-no-Parameters all ends_line none env works operands s =
     ap (λ (l : List WriteParameter). and_then (all_of (map parameter_of l) env s) (λ _. line_ending ends_line (pending_of env works) operands)) none
 
-pub does-Parameter : (parameter : Bor WriteParameter) (env : Environment) (works : List Work) (operands : List Value) (s : State) →
-    resumed env (work.Parameter parameter) (pending_of env works) operands s ≡
-    evaluated env parameter.now.value (work.Width parameter ∷ work.Write parameter.now.representation ∷ works) operands s
-does-Parameter parameter env works operands s =
-    let p = parameter.now in
-    let then_rest : Unit {0} → Action (Unit {0}) = λ _. pending_of env works operands in
-    let width : Action Value = width_of p.width p.representation env in
-    let written : Value → Value → Action (Unit {0}) = λ v w. write (text_of p.representation v w) in
-    and_then-and_then (value_of p.value env s) (λ v. width >>= written v) then_rest
-    ∙ and_then-same (value_of p.value env s) _ _ (λ v t. and_then-and_then (width t) (written v) then_rest)
+-- entering a whole value gives its components, and changes nothing that the interpreter keeps
+abbrev pub entered_whole : Whole → Environment → State → State
+entered_whole (Text number characters) = entered number
 
-pub does-Width : (parameter : Bor WriteParameter) (width : Width) → parameter.now.width ≡ Some width →
+given-whole : (value : Whole) (env : Environment) (s : State) → whole_of value env s ≡ Gives (components_of value) (entered_whole value env s)
+given-whole (Text number characters) env s = refl
+
+pub agrees-whole : (value : Whole) (env : Environment) (run : Run) (s : State) → Agrees env run s → Agrees env run (entered_whole value env s)
+agrees-whole (Text number characters) env run s agrees = agrees
+
+pub does-Compare : (n : ℕ) (r : Relation) (left right : Whole) (given : Expr) → given ≡ expr.Compare n r left right →
+    (env : Environment) (works : List Work) (operands : List Value) (s : State) → evaluated env given works operands s ≡
+    pending_of env works (compared r (components_of left) (components_of right) ∷ operands)
+    (entered_whole right env (entered n env (entered_whole left env s)))
+does-Compare n r left right given is env works operands s =
+    let then_rest : Value → Action (Unit {0}) = λ v. pending_of env works (v ∷ operands) in
+    let there : State = entered n env (entered_whole left env s) in
+    let compares : List ℤ → List ℤ → Action Value = λ a b. give (compared r a b) in
+    ap (λ (e : Expr). evaluated env e works operands s) is
+    ∙ ap (λ (a : Action Value). and_then (a s) then_rest) (value-Compare n r left right env)
+    ∙ ap (λ (a : Reply (List ℤ)). and_then (and_then a (λ a. enter n env >>= λ _. whole_of right env >>= compares a)) then_rest)
+    (given-whole left env s)
+    ∙ ap (λ (b : Reply (List ℤ)). and_then (and_then b (compares (components_of left))) then_rest) (given-whole right env there)
+
+pub does-Ordinal : (parameter : WriteParameter) (value : Expr) (representation : Representation) → parameter.value ≡ Ordinal value representation →
+    (env : Environment) (next : Resumption) (operands : List Value) (s : State) →
+    and_then (parameter_of parameter env s) (λ _. next operands) ≡ writing env value representation parameter.width next operands s
+does-Ordinal parameter value representation is env next operands s =
+    let then_rest : Unit {0} → Action (Unit {0}) = λ _. next operands in
+    let width : Action Value = width_of parameter.width (default_width representation) env in
+    let written : Value → Value → Action (Unit {0}) = λ v w. write (text_of representation v w) in
+    ap (λ (w : Written). and_then (written_of w parameter.width env s) then_rest) is
+    ∙ and_then-and_then (value_of value env s) (λ v. width >>= written v) then_rest
+    ∙ and_then-same (value_of value env s) _ _ (λ v t. and_then-and_then (width t) (written v) then_rest)
+
+pub does-String : (parameter : WriteParameter) (value : Whole) → parameter.value ≡ String value →
+    (env : Environment) (next : Resumption) (operands : List Value) (s : State) →
+    and_then (parameter_of parameter env s) (λ _. next operands) ≡
+    writing_whole env value parameter.width next operands (entered_whole value env s)
+does-String parameter value is env next operands s =
+    let then_rest : Unit {0} → Action (Unit {0}) = λ _. next operands in
+    let width : Action Value = width_of parameter.width (pos (length_of value)) env in
+    let written : List ℤ → Value → Action (Unit {0}) = λ components w. write (row_text components w) in
+    ap (λ (w : Written). and_then (written_of w parameter.width env s) then_rest) is
+    ∙ ap (λ (r : Reply (List ℤ)). and_then (and_then r (λ components. width >>= written components)) then_rest) (given-whole value env s)
+    ∙ and_then-and_then (width (entered_whole value env s)) (written (components_of value)) then_rest
+
+pub does-Width : (given : Option Width) (width : Width) → given ≡ Some width → (default : ℤ) →
     (env : Environment) (works : List Work) (operands : List Value) (s : State) →
-    resumed env (work.Width parameter) (pending_of env works) operands s ≡ evaluated env width.value (work.WidthTest width.site ∷ works) operands s
-does-Width parameter width is env works operands s =
-    ap (λ (o : Option Width). giving (width_of o parameter.now.representation env) (pending_of env works) operands s) is
+    giving (width_of given default env) (pending_of env works) operands s ≡ evaluated env width.value (work.WidthTest width.site ∷ works) operands s
+does-Width given width is default env works operands s =
+    ap (λ (o : Option Width). giving (width_of o default env) (pending_of env works) operands s) is
     ∙ and_then-and_then (value_of width.value env s) (positive width.site) (λ w. pending_of env works (w ∷ operands))

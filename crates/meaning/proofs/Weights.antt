@@ -3,11 +3,13 @@ use Rattle.std.proofs.Common.{◌≡◌, ℕ, zero, suc, ◌+◌, ◌≤◌, Lis
 use Rattle.std.proofs.Common.{ap, subst}
 use Rattle.typed_tree.specs.declared.tree.Width.{Width}
 use Rattle.typed_tree.specs.declared.tree.WriteParameter.{WriteParameter}
+use Rattle.typed_tree.specs.declared.tree.Written.{Written}
+use Rattle.typed_tree.specs.declared.tree.Written.TheVariants.{Ordinal, String}
 use Rattle.typed_tree.specs.declared.tree.Expr.{Expr}
 use Rattle.typed_tree.specs.declared.tree.Link.{Link}
 use Rattle.typed_tree.specs.declared.tree.Stmt.{Stmt}
 use Rattle.typed_tree.specs.declared.tree.Expr.TheOpen.{Expr-F, Link-F}
-use Rattle.typed_tree.specs.declared.tree.Expr.TheOpen.Expr-F.{Constant, Variable, Monadic, Chain}
+use Rattle.typed_tree.specs.declared.tree.Expr.TheOpen.Expr-F.{Constant, Variable, Monadic, Chain, Compare}
 use Rattle.typed_tree.specs.declared.tree.Expr.TheFolds.{map-Expr, map-Link, fold-roll-Expr, fold-roll-Link, fold_out-Link, ind-Expr}
 use Rattle.typed_tree.specs.declared.tree.Stmt.TheOpen.{Stmt-F}
 use Rattle.typed_tree.specs.declared.tree.Stmt.TheOpen.Stmt-F.{Empty, Assign, Write, Compound, If, While, Repeat, For, Case}
@@ -18,7 +20,7 @@ use Rattle.meaning.specs.declared.outcome.Ending.{Ending}
 use Rattle.meaning.specs.declared.work.Work.{Work}
 use Rattle.meaning.specs.declared.work.Work.TheVariants as work
 use Rattle.meaning.specs.Weight.{Weight, row_weight, rounds_weight, link_weight, expression_weight, weight_of_expression, weight_of_link, weight_of_width}
-use Rattle.meaning.specs.Weight.{weight_of_parameter, round_weight, for_weight, statement_weight, weight_of_statement, weight_of_alternative, weight_of}
+use Rattle.meaning.specs.Weight.{weight_of_written, weight_of_parameter, round_weight, for_weight, statement_weight, weight_of_statement, weight_of_alternative, weight_of}
 use Rattle.meaning.specs.Weight.{turn_weight}
 
 -- a weight that more turns never lower
@@ -68,6 +70,7 @@ expression-parts (Chain first rest) turns more =
     let left = first.value.1 turns more in
     let links = rising_links rest.items turns more in
     omega (arith, left, links)
+expression-parts (Compare number relation left right) turns more = omega arith
 
 link-parts : (y : Link-F RisingExpr RisingLink) → Rises (weighed_link (map-Link RisingExpr RisingLink Expr Link (λ e. e.0) (λ l. l.0) y))
 link-parts y turns more = y.operand.1 turns more
@@ -84,9 +87,13 @@ rising_width : (width : Option Width) → Rises (weight_of_width width)
 rising_width None turns more = omega arith
 rising_width (Some width) turns more = let inner = rising_expression width.value turns more in omega (arith, inner)
 
+rising_written : (value : Written) → Rises (weight_of_written value)
+rising_written (Ordinal value representation) turns more = rising_expression value turns more
+rising_written (String value) turns more = omega arith
+
 rising_parameter : (parameter : WriteParameter) → Rises (weight_of_parameter parameter)
 rising_parameter parameter turns more =
-    let value = rising_expression parameter.value turns more in
+    let value = rising_written parameter.value turns more in
     let width = rising_width parameter.width turns more in
     omega (arith, value, width)
 
@@ -201,9 +208,10 @@ rising_work (work.Next control direction value last body) =
 rising_work (work.Case site constants arms) = rising_row 1 weight_of_statement arms.now rising_statement
 rising_work (work.Parameters parameters ends_line) = rising_row 1 weight_of_parameter parameters.now rising_parameter
 rising_work (work.Parameter parameter) = rising_parameter parameter.now
-rising_work (work.Width parameter) = rising_width parameter.now.width
+rising_work (work.Width width representation) = rising_width width.now
 rising_work (work.WidthTest site) = λ turns more. omega arith
 rising_work (work.Write representation) = λ turns more. omega arith
+rising_work (work.WriteWhole value) = λ turns more. omega arith
 rising_work (work.Store root fits) = λ turns more. omega arith
 rising_work (work.Value expression) = rising_expression expression.now
 rising_work (work.Monadic operation) = λ turns more. omega arith

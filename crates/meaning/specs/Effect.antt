@@ -1,7 +1,7 @@
 -- What a piece of a program does: from a state to a reply, which gives a value or stops (ISO 7185:1990, 6.7, 6.8).
 -- It says nothing of how long that takes.
 use Rattle.std.specs.Prelude.{ℕ, zero, suc, ℤ, pos, negsuc, ◌-◌, ◌++◌, ◌&&◌, Bool, List, [], ◌∷◌, Option, Some, None}
-use Rattle.std.specs.Prelude.{if◌then◌else◌, int_le, length, replicate, take, codes}
+use Rattle.std.specs.Prelude.{if◌then◌else◌, int_le, length, map, replicate, take, codes}
 use Rattle.std.specs.Fmt.{signed_decimal}
 use Rattle.types.specs.declared.form.OrdinalRange.{OrdinalRange}
 use Rattle.typed_tree.specs.declared.tree.Representation.{Representation}
@@ -10,7 +10,7 @@ use Rattle.meaning.specs.declared.outcome.Ending.{Ending}
 use Rattle.meaning.specs.declared.outcome.Ending.TheVariants as ending
 use Rattle.meaning.specs.declared.store.Value.{Value}
 use Rattle.meaning.specs.declared.store.Value.TheVariants.{Number}
-use Rattle.meaning.specs.Integers.{is_integer_number, is_true, is_within}
+use Rattle.meaning.specs.Integers.{byte_of, is_integer_number, is_true, is_within}
 use Rattle.meaning.specs.Store.{Environment, Place, Store, held, kept, forgotten}
 
 -- an entry into the statement or expression with this number, for theorems alone
@@ -127,6 +127,10 @@ abbrev pub places : ℤ → ℕ
 places (pos n) = n
 places (negsuc n) = 0
 
+-- a character, set right in a width and never cut (6.9.3.2)
+abbrev pub char_text : ℤ → ℤ → List ℕ
+char_text n width = replicate (places width - 1) 32 ++ byte_of n ∷ []
+
 -- an integer, set right in a width and never cut (6.9.3.3)
 abbrev pub integer_text : ℤ → ℤ → List ℕ
 integer_text n width = replicate (places width - length (signed_decimal n)) 32 ++ signed_decimal n
@@ -139,7 +143,12 @@ string_text text width = replicate (places width - length text) 32 ++ take (plac
 abbrev pub boolean_text : ℤ → ℤ → List ℕ
 boolean_text n width = string_text (if is_true n then codes "true" else codes "false") width
 
+-- the components of a string, as they are written in a width
+abbrev pub row_text : List ℤ → Value → List ℕ
+row_text components (Number width) = string_text (map byte_of components) width
+
 -- a value as it is written in a width
 abbrev pub text_of : Representation → Value → Value → List ℕ
+text_of representation.Char (Number n) (Number width) = char_text n width
 text_of representation.Integer (Number n) (Number width) = integer_text n width
 text_of representation.Boolean (Number n) (Number width) = boolean_text n width

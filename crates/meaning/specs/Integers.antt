@@ -1,6 +1,7 @@
 -- Type integer (ISO 7185:1990, 6.4.2.2): -maxint to maxint, with maxint 2147483647; and the numbers of truth values.
 -- It says nothing of how numbers are kept.
-use Rattle.std.specs.Prelude.{ℤ, pos, neg_ℤ, Bool, true, false, not, Option, Some, None, if◌then◌else◌, int_le}
+use Rattle.std.specs.Prelude.{ℕ, ℤ, pos, neg_ℤ, Bool, true, false, not, Option, Some, None, if◌then◌else◌, int_le}
+use Rattle.std.specs.Prelude.{unsigned_abs}
 use Rattle.std.specs.Int.{int_max, int_rem_euclid}
 use Rattle.std.specs.Ordering.{int_eq}
 
@@ -36,3 +37,7 @@ is_odd n = int_eq (int_rem_euclid n (pos 2)) (pos 1)
 -- a number without its sign
 abbrev pub magnitude : ℤ → ℤ
 magnitude n = int_max n (neg_ℤ n)
+
+-- the byte of a number's lowest 8 bits: the number itself, if it is the code of a character
+abbrev pub byte_of : ℤ → ℕ
+byte_of n = unsigned_abs (int_rem_euclid n (pos 256))

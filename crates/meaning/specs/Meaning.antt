@@ -3,7 +3,8 @@
 -- after their operand, an operator after its right one.
 -- It says nothing of code, of cells, or of what an implementation does where memory runs out.
 use Rattle.std.specs.Prelude.{ℕ, ℤ, pos, ◌+ℤ◌, ◌-ℤ◌, ◌*ℤ◌, neg_ℤ, int_div, int_le, int_lt, Bool, true, false, ◌&&◌}
-use Rattle.std.specs.Prelude.{◌||◌, not, List, [], ◌∷◌, Option, Some, None, Vec, if◌then◌else◌, map, nat_eq, slice_get}
+use Rattle.std.specs.Prelude.{◌||◌, negsuc, not, List, [], ◌∷◌, Option, Some, None, Vec, if◌then◌else◌, map, nat_eq}
+use Rattle.std.specs.Prelude.{slice_get}
 use Rattle.std.specs.List.{list_any}
 use Rattle.std.specs.declared.alloc.Global.{Global}
 use Rattle.std.specs.declared.boxed.Box.{Box}
@@ -24,26 +25,32 @@ use Rattle.typed_tree.specs.declared.tree.Direction.{Direction}
 use Rattle.typed_tree.specs.declared.tree.RangeTest.{RangeTest}
 use Rattle.typed_tree.specs.declared.tree.Width.{Width}
 use Rattle.typed_tree.specs.declared.tree.WriteParameter.{WriteParameter}
+use Rattle.typed_tree.specs.declared.tree.Written.{Written}
+use Rattle.typed_tree.specs.declared.tree.Written.TheVariants.{Ordinal, String}
+use Rattle.typed_tree.specs.declared.tree.Whole.{Whole}
+use Rattle.typed_tree.specs.declared.tree.Whole.TheVariants.{Text}
 use Rattle.typed_tree.specs.declared.tree.Expr.{Expr}
 use Rattle.typed_tree.specs.declared.tree.Link.{Link}
 use Rattle.typed_tree.specs.declared.tree.Expr.TheOpen.{Expr-F, Link-F}
 use Rattle.typed_tree.specs.declared.tree.Expr.TheOpen.Expr-F.{Constant, Variable, Monadic as MonadicOf, Chain}
+use Rattle.typed_tree.specs.declared.tree.Expr.TheOpen.Expr-F.{Compare}
 use Rattle.typed_tree.specs.declared.tree.Expr.TheFolds.{fold-Expr, fold-Link}
 use Rattle.typed_tree.specs.declared.tree.Stmt.{Stmt}
 use Rattle.typed_tree.specs.declared.tree.Stmt.TheOpen.{Stmt-F}
 use Rattle.typed_tree.specs.declared.tree.Stmt.TheOpen.Stmt-F.{Empty, Assign, Write, Compound, If, While, Repeat, For}
 use Rattle.typed_tree.specs.declared.tree.Stmt.TheOpen.Stmt-F.{Case}
 use Rattle.typed_tree.specs.declared.tree.Stmt.TheFolds.{fold-Stmt}
+use Rattle.typed_tree.specs.WellFormed.{length_of}
 use Rattle.meaning.specs.declared.outcome.Ending.{Ending}
 use Rattle.meaning.specs.declared.outcome.Ending.TheVariants as ending
 use Rattle.meaning.specs.declared.store.Value.{Value}
 use Rattle.meaning.specs.declared.store.Value.TheVariants.{Number}
-use Rattle.meaning.specs.Integers.{is_integer_number, truth, is_true, is_odd, magnitude}
+use Rattle.meaning.specs.Integers.{is_integer_number, is_within, truth, is_true, is_odd, magnitude}
 use Rattle.meaning.specs.Store.{Environment, Place}
 use Rattle.meaning.specs.Counting.{has_values, value_behind}
 use Rattle.meaning.specs.Effect.{State, Reply, Gives, Stops, Action, Round, ◌>>=◌, give, stop, require, enter, use_turn}
 use Rattle.meaning.specs.Effect.{looped}
-use Rattle.meaning.specs.Effect.{fetch, store, undefine, write, is_in, is_positive, text_of}
+use Rattle.meaning.specs.Effect.{fetch, store, undefine, write, is_in, is_positive, row_text, text_of}
 
 -- what an expression does in an environment: it gives its value
 abbrev pub Evaluation : Type 0
@@ -60,7 +67,7 @@ whole overflow n = do
   give (Number n)
 
 -- an operation on one operand: a sign covers the whole first term (6.7.2.2), `not` (6.7.2.3), the functions abs and sqr
--- (6.6.6.2) and odd (6.6.6.5)
+-- (6.6.6.2), ord, chr, succ and pred (6.6.6.4), and odd (6.6.6.5)
 abbrev pub operated : Monadic → Value → Action Value
 operated monadic.Plus (Number n) = give (Number n)
 operated monadic.Minus (Number n) = give (Number (neg_ℤ n))
@@ -68,6 +75,16 @@ operated monadic.Not (Number n) = give (Number (truth (not (is_true n))))
 operated monadic.Abs (Number n) = give (Number (magnitude n))
 operated (monadic.Sqr overflow) (Number n) = whole overflow (n *ℤ n)
 operated monadic.Odd (Number n) = give (Number (truth (is_odd n)))
+operated monadic.Ord (Number n) = give (Number n)
+operated (monadic.Chr no_char) (Number n) = do
+  _ ← require (is_within (pos 0) (pos 127) n) no_char
+  give (Number n)
+operated (monadic.Succ no_successor last) (Number n) = do
+  _ ← require (int_lt n last) no_successor
+  give (Number (n +ℤ pos 1))
+operated (monadic.Pred no_predecessor first) (Number n) = do
+  _ ← require (int_lt first n) no_predecessor
+  give (Number (n -ℤ pos 1))
 
 -- a relation of two ordinals (6.7.2.5)
 abbrev pub relates : Relation → ℤ → ℤ → Bool
@@ -77,6 +94,24 @@ relates relation.Less a b = int_lt a b
 relates relation.Greater a b = int_lt b a
 relates relation.LessOrEqual a b = int_le a b
 relates relation.GreaterOrEqual a b = int_le b a
+
+-- the order of two rows of numbers, as -1, 0 or 1: the first difference decides, and a row comes before one that it
+-- begins
+abbrev pub order_of : List ℤ → List ℤ → ℤ
+order_of [] [] = pos 0
+order_of [] (b ∷ other) = negsuc 0
+order_of (a ∷ row) [] = pos 1
+order_of (a ∷ row) (b ∷ other) = if int_lt a b then negsuc 0 else (if int_lt b a then pos 1 else order_of row other)
+
+-- a relation of two strings, by the order of their components (6.7.2.5)
+abbrev pub compared : Relation → List ℤ → List ℤ → Value
+compared r row other = Number (truth (relates r (order_of row other) (pos 0)))
+
+-- the components of a whole value
+abbrev pub whole_of : Whole → Environment → Action (List ℤ)
+whole_of (Text number characters) env = do
+  _ ← enter number env
+  give (map pos characters.items)
 
 -- an operation on two operands: `div` cuts toward zero, and `mod` gives the remainder that is not negative (6.7.2.2);
 -- `and`, `or` (6.7.2.3)
@@ -123,6 +158,11 @@ value_step (MonadicOf number operation operand) env = do
 value_step (Chain first rest) env = do
   v ← first.value env
   in_turn rest.items env v
+value_step (Compare number relation left right) env = do
+  a ← whole_of left env
+  _ ← enter number env
+  b ← whole_of right env
+  give (compared relation a b)
 
 -- the value of an expression
 abbrev pub value_of : Expr → Evaluation
@@ -143,25 +183,34 @@ all_of (statement ∷ statements) env = do
   _ ← statement env
   all_of statements env
 
--- the width where none is given (6.9.3.1)
+-- the width of an ordinal where none is given (6.9.3.1)
 abbrev pub default_width : Representation → ℤ
+default_width representation.Char = pos 1
 default_width representation.Integer = pos 10
 default_width representation.Boolean = pos 5
 
--- the width of a value: it has to be at least 1
-abbrev pub width_of : Option Width → Representation → Evaluation
-width_of None representation env = give (Number (default_width representation))
-width_of (Some width) representation env = do
+-- the width of a value, or the one for where none is given: it has to be at least 1
+abbrev pub width_of : Option Width → ℤ → Evaluation
+width_of None default env = give (Number default)
+width_of (Some width) default env = do
   w ← value_of width.value env
   _ ← require (is_positive w) width.site
   give w
 
--- a value that is written: first it is evaluated, and then its width (6.9.3)
+-- a value that is written: first it is evaluated, and then its width (6.9.3), which is a string's length where none is
+-- given
+abbrev pub written_of : Written → Option Width → Execution
+written_of (Ordinal value representation) width env = do
+  v ← value_of value env
+  w ← width_of width (default_width representation) env
+  write (text_of representation v w)
+written_of (String value) width env = do
+  components ← whole_of value env
+  w ← width_of width (pos (length_of value)) env
+  write (row_text components w)
+
 abbrev pub parameter_of : WriteParameter → Execution
-parameter_of parameter env = do
-  v ← value_of parameter.value env
-  w ← width_of parameter.width parameter.representation env
-  write (text_of parameter.representation v w)
+parameter_of parameter = written_of parameter.value parameter.width
 
 -- a line end behind a writeln (6.9.4)
 abbrev pub line_ended : Bool → Action (Unit {0})

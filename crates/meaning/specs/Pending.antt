@@ -12,6 +12,11 @@ use Rattle.typed_tree.specs.declared.tree.Direction.TheVariants.{To, DownTo}
 use Rattle.typed_tree.specs.declared.tree.RangeTest.{RangeTest}
 use Rattle.typed_tree.specs.declared.tree.Expr.{Expr}
 use Rattle.typed_tree.specs.declared.tree.Stmt.{Stmt}
+use Rattle.typed_tree.specs.declared.tree.Whole.{Whole}
+use Rattle.typed_tree.specs.declared.tree.Whole.TheVariants.{Text}
+use Rattle.typed_tree.specs.declared.tree.Representation.{Representation}
+use Rattle.typed_tree.specs.declared.tree.Width.{Width}
+use Rattle.typed_tree.specs.WellFormed.{length_of}
 use Rattle.meaning.specs.declared.outcome.Ending.{Ending}
 use Rattle.meaning.specs.declared.outcome.Ending.TheVariants as ending
 use Rattle.meaning.specs.declared.store.Place.{Place as KeptPlace}
@@ -23,9 +28,10 @@ use Rattle.meaning.specs.declared.interpreter.Run.{Run}
 use Rattle.meaning.specs.contracts.store.PlaceOrd.TheImpl.{ghosts as places}
 use Rattle.meaning.specs.Store.{Environment, Place, Store, stored}
 use Rattle.meaning.specs.Effect.{State, Reply, Stops, Action, Round, ◌>>=◌, give, stop, require, use_turn}
-use Rattle.meaning.specs.Effect.{another, looped, store, undefine, write, is_in, is_positive, text_of}
+use Rattle.meaning.specs.Effect.{another, looped, store, undefine, write, is_in, is_positive, row_text}
+use Rattle.meaning.specs.Effect.{text_of}
 use Rattle.meaning.specs.Meaning.{Combination, Execution, completed, ended, home_of, operated, combined, value_of}
-use Rattle.meaning.specs.Meaning.{link_of}
+use Rattle.meaning.specs.Meaning.{default_width, link_of}
 use Rattle.meaning.specs.Meaning.{effect_of, all_of, width_of, parameter_of, line_ended, is_so, turn_if, while_round}
 use Rattle.meaning.specs.Meaning.{repeat_round}
 use Rattle.meaning.specs.Meaning.{for_between, is_among, arm_of, number_of}
@@ -100,6 +106,10 @@ abbrev pub positive : ℕ → Value → Action Value
 positive site w = do
   _ ← require (is_positive w) site
   give w
+
+-- the components of a whole value, which no entry changes
+abbrev pub components_of : Whole → List ℤ
+components_of (Text number characters) = map pos characters.items
 
 -- the operators of a chain, from left to right, whose value so far is the topmost operand
 abbrev pub linking : Environment → List Combination → Resumption → Resumption
@@ -203,11 +213,13 @@ resumed env (work.Parameters parameters ends_line) next operands = do
 resumed env (work.Parameter parameter) next operands = do
   _ ← parameter_of parameter.now env
   next operands
-resumed env (work.Width parameter) next operands =
-    giving (width_of parameter.now.width parameter.now.representation env) next operands
+resumed env (work.Width width representation) next operands =
+    giving (width_of width.now (default_width representation) env) next operands
 resumed env (work.WidthTest site) next operands = with_top (λ w. giving (positive site w) next) operands
 resumed env (work.Write representation) next operands =
     with_top (λ w rest. with_top (λ v below. write (text_of representation v w) >>= λ _. next below) rest) operands
+resumed env (work.WriteWhole value) next operands =
+    with_top (λ w below. write (row_text (components_of value.now) w) >>= λ _. next below) operands
 resumed env (work.Store root fits) next operands =
     with_top
     (λ v below. require (is_in fits.range v) fits.site >>= λ _. store (env root) v >>= λ _. next below)
@@ -222,6 +234,21 @@ resumed env (work.Combine operation) next operands =
 abbrev pub evaluating : Environment → Expr → Expr → Work → Resumption → Resumption
 evaluating env first second later next =
     giving (value_of first env) (giving (value_of second env) (resumed env later next))
+
+-- an ordinal is written, and then the rest
+abbrev pub writing : Environment → Expr → Representation → Option Width → Resumption → Resumption
+writing env value representation width next operands = do
+  v ← value_of value env
+  w ← width_of width (default_width representation) env
+  _ ← write (text_of representation v w)
+  next operands
+
+-- a string is written, and then the rest
+abbrev pub writing_whole : Environment → Whole → Option Width → Resumption → Resumption
+writing_whole env value width next operands = do
+  w ← width_of width (pos (length_of value)) env
+  _ ← write (row_text (components_of value) w)
+  next operands
 
 -- two pieces of work in a turn, and then the rest
 abbrev pub turning : Environment → Work → Work → Resumption → Resumption

@@ -7,10 +7,12 @@ use Rattle.std.specs.declared.alloc.Global.{Global}
 use Rattle.std.specs.declared.boxed.Box.{Box}
 use Rattle.typed_tree.specs.declared.tree.Width.{Width}
 use Rattle.typed_tree.specs.declared.tree.WriteParameter.{WriteParameter}
+use Rattle.typed_tree.specs.declared.tree.Written.{Written}
+use Rattle.typed_tree.specs.declared.tree.Written.TheVariants.{Ordinal, String}
 use Rattle.typed_tree.specs.declared.tree.Expr.{Expr}
 use Rattle.typed_tree.specs.declared.tree.Link.{Link}
 use Rattle.typed_tree.specs.declared.tree.Expr.TheOpen.{Expr-F, Link-F}
-use Rattle.typed_tree.specs.declared.tree.Expr.TheOpen.Expr-F.{Constant, Variable, Monadic, Chain}
+use Rattle.typed_tree.specs.declared.tree.Expr.TheOpen.Expr-F.{Constant, Variable, Monadic, Chain, Compare}
 use Rattle.typed_tree.specs.declared.tree.Expr.TheFolds.{fold-Expr, fold-Link}
 use Rattle.typed_tree.specs.declared.tree.Stmt.{Stmt}
 use Rattle.typed_tree.specs.declared.tree.Stmt.TheOpen.{Stmt-F}
@@ -38,6 +40,7 @@ expression_weight (Constant n v) turns = 1
 expression_weight (Variable a d) turns = 1
 expression_weight (Monadic n operation operand) turns = 2 + operand.value turns
 expression_weight (Chain first rest) turns = 1 + first.value turns + row_weight 2 rest.items turns
+expression_weight (Compare n relation left right) turns = 1
 
 abbrev pub weight_of_expression : Expr → Weight
 weight_of_expression = fold-Expr Weight Weight expression_weight link_weight
@@ -49,9 +52,13 @@ abbrev pub weight_of_width : Option Width → Weight
 weight_of_width None turns = 1
 weight_of_width (Some width) turns = 2 + weight_of_expression width.value turns
 
+abbrev pub weight_of_written : Written → Weight
+weight_of_written (Ordinal value representation) turns = weight_of_expression value turns
+weight_of_written (String value) turns = 0
+
 abbrev pub weight_of_parameter : WriteParameter → Weight
 weight_of_parameter parameter turns =
-    2 + weight_of_expression parameter.value turns + weight_of_width parameter.width turns
+    2 + weight_of_written parameter.value turns + weight_of_width parameter.width turns
 
 -- the statement behind `else`, or nothing
 abbrev pub alternative_weight : Option (Box Weight Global) → Weight
@@ -126,9 +133,10 @@ weight_of turns (work.Next control direction value last body) = 1 + for_weight (
 weight_of turns (work.Case site constants arms) = row_weight 1 (map weight_of_statement arms.now) turns
 weight_of turns (work.Parameters parameters ends_line) = row_weight 1 (map weight_of_parameter parameters.now) turns
 weight_of turns (work.Parameter parameter) = weight_of_parameter parameter.now turns
-weight_of turns (work.Width parameter) = weight_of_width parameter.now.width turns
+weight_of turns (work.Width width representation) = weight_of_width width.now turns
 weight_of turns (work.WidthTest site) = 1
 weight_of turns (work.Write representation) = 1
+weight_of turns (work.WriteWhole value) = 1
 weight_of turns (work.Store root fits) = 1
 weight_of turns (work.Value expression) = weight_of_expression expression.now turns
 weight_of turns (work.Monadic operation) = 1

@@ -1,26 +1,27 @@
 ghost use Rattle.std.specs.Prelude.{◌≡◌, ◌+◌, ◌≤◌, OnOk, IfOk, IfSome, [], ◌∷◌, ◌++◌, option_map, reverse, slice_get};
 ghost use Rattle.meaning.specs.Weight.{Lightens, pending_weight, turn_weight, weight_of, weight_of_expression};
+ghost use Rattle.meaning.specs.Weight.{weight_of_width};
 ghost use Rattle.meaning.specs.Effect.{fetch};
 ghost use Rattle.meaning.specs.Store.{Store, forgotten, held, kept};
 ghost use Rattle.meaning.specs.Pending.{Does, Finishes, StoreAgrees, answered, giving, line_ending, resumed, turning};
 ghost use Rattle.meaning.specs.Pending.{evaluating, forgetting, rest_of, place_seen};
-ghost use Rattle.meaning.specs.Pending.{top_of, below_top};
+ghost use Rattle.meaning.specs.Pending.{top_of, below_top, writing, writing_whole};
 ghost use Rattle.meaning.specs.Meaning.{home_of, meaning, run_of};
 
 use crate::arms::arm_at;
 use crate::operations::{
-    combined_value, number_of, operated_value, positive_width, tested_bounds, truth_of, value_in,
-    value_toward, width_by_default,
+    combined_value, compared_value, number_of, operated_value, positive_width, tested_bounds,
+    truth_of, value_in, value_toward, width_by_default,
 };
 use crate::outcome::{Ending, Outcome};
 use crate::store::{Ordinal, Place, Value};
-use crate::text::write_value;
+use crate::text::{write_in_length, write_value, write_whole};
 use crate::work::{Work, put};
 use std::alloc::{AllocError, Global};
 use std::collections::BTreeMap;
 use typed_tree::tree::{
-    Direction, Dyadic, Expr, Link, Monadic, RangeTest, Representation, Stmt, Tree, Variable,
-    WriteParameter,
+    Direction, Dyadic, Expr, Link, Monadic, RangeTest, Representation, Stmt, Tree, Variable, Whole,
+    Width, WriteParameter, Written,
 };
 
 /// What a program writes and how it ends, from an input and for a number of turns: each start of a
@@ -156,9 +157,13 @@ impl<'t> Run<'t, '_> {
                 ends_line,
             } => self.parameters(parameters, ends_line),
             Work::Parameter(parameter) => self.parameter(parameter),
-            Work::Width(parameter) => self.width(parameter),
+            Work::Width {
+                width,
+                representation,
+            } => self.width(width, representation),
             Work::WidthTest { site } => self.width_test(site),
             Work::Write(representation) => self.write(representation),
+            Work::WriteWhole(value) => self.write_whole(value),
             Work::Store { root, fits } => self.store(root, fits),
             Work::Value(expression) => self.value(expression),
             Work::Monadic(operation) => self.monadic(operation),
@@ -540,20 +545,75 @@ impl<'t> Run<'t, '_> {
         ensures fewer { Lightens (Work.Parameter parameter.entry) self.old result self.new }
         ensures does { Does (λ env. resumed env (Work.Parameter parameter.entry)) self.old result self.new }
     {
-        put(&mut self.pending, Work::Write(parameter.representation))?;
-        self.plan(Work::Value(&parameter.value), Work::Width(parameter))
+        match &parameter.value {
+            Written::Ordinal {
+                value,
+                representation,
+            } => self.ordinal(value, *representation, &parameter.width),
+            Written::String { value } => self.string(value, &parameter.width),
+        }
     }
 
-    fn width(&mut self, parameter: &'t WriteParameter) -> Result<Option<Ending>, AllocError>
-        ensures fewer { Lightens (Work.Width parameter.entry) self.old result self.new }
-        ensures does { Does (λ env. resumed env (Work.Width parameter.entry)) self.old result self.new }
+    // An ordinal that is written: its value, and then its width.
+    fn ordinal(
+        &mut self,
+        value: &'t Expr,
+        representation: Representation,
+        width: &'t Option<Width>,
+    ) -> Result<Option<Ending>, AllocError>
+        ensures weight { OnOk result (pending_weight self.new ≡ pending_weight self.old + 1
+            + weight_of_width width.now self.old.turns + weight_of_expression value.now self.old.turns) }
+        ensures does { Does (λ env. writing env value.now representation width.now) self.old result self.new }
     {
-        match &parameter.width {
+        put(&mut self.pending, Work::Write(representation))?;
+        self.plan(
+            Work::Value(value),
+            Work::Width {
+                width,
+                representation,
+            },
+        )
+    }
+
+    // A string that is written: in its width, or in its length.
+    fn string(
+        &mut self,
+        value: &'t Whole,
+        width: &'t Option<Width>,
+    ) -> Result<Option<Ending>, AllocError>
+        ensures weight { OnOk result (pending_weight self.new
+            ≤ pending_weight self.old + 1 + weight_of_width width.now self.old.turns) }
+        ensures does { Does (λ env. writing_whole env value.now width.now) self.old result self.new }
+    {
+        match width {
+            Some(width) => {
+                put(&mut self.pending, Work::WriteWhole(value))?;
+                self.plan(
+                    Work::Value(&width.value),
+                    Work::WidthTest { site: width.site },
+                )
+            }
+            None => {
+                write_in_length(&mut self.output, value)?;
+                Ok(None)
+            }
+        }
+    }
+
+    fn width(
+        &mut self,
+        width: &'t Option<Width>,
+        representation: Representation,
+    ) -> Result<Option<Ending>, AllocError>
+        ensures fewer { Lightens (Work.Width width.entry representation) self.old result self.new }
+        ensures does { Does (λ env. resumed env (Work.Width width.entry representation)) self.old result self.new }
+    {
+        match width {
             Some(width) => self.plan(
                 Work::Value(&width.value),
                 Work::WidthTest { site: width.site },
             ),
-            None => self.go_on(Ok(width_by_default(parameter.representation))),
+            None => self.go_on(Ok(width_by_default(representation))),
         }
     }
 
@@ -572,6 +632,15 @@ impl<'t> Run<'t, '_> {
         let width = self.popped();
         let value = self.popped();
         write_value(self.alloc, &mut self.output, representation, value, width)?;
+        Ok(None)
+    }
+
+    fn write_whole(&mut self, value: &'t Whole) -> Result<Option<Ending>, AllocError>
+        ensures weight { pending_weight self.new ≡ pending_weight self.old }
+        ensures does { Does (λ env. resumed env (Work.WriteWhole value.entry)) self.old result self.new }
+    {
+        let width = self.popped();
+        write_whole(&mut self.output, value, width)?;
         Ok(None)
     }
 
@@ -614,6 +683,12 @@ impl<'t> Run<'t, '_> {
                 ..
             } => self.plan(Work::Value(operand), Work::Monadic(*operation)),
             Expr::Chain { first, rest } => self.plan(Work::Value(first), Work::Links(rest)),
+            Expr::Compare {
+                relation,
+                left,
+                right,
+                ..
+            } => self.go_on(Ok(compared_value(*relation, left, right))),
         }
     }
 

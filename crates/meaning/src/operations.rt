@@ -1,16 +1,24 @@
-ghost use Rattle.std.specs.Prelude.{◌≡◌, pos};
+ghost use Rattle.std.specs.Prelude.{◌≡◌, map, pos};
 ghost use Rattle.meaning.specs.Effect.{is_in, is_positive};
-ghost use Rattle.meaning.specs.Meaning.{combined, default_width, is_so, number_of, operated, relates, whole};
-ghost use Rattle.meaning.specs.Pending.{Answers, bound_tested, bounds_tested, checked, positive, value_before};
+ghost use Rattle.meaning.specs.Meaning.{combined, compared, default_width, is_so, number_of, operated, order_of};
+ghost use Rattle.meaning.specs.Meaning.{relates, whole};
+ghost use Rattle.meaning.specs.Pending.{Answers, bound_tested, bounds_tested, checked, components_of, positive};
+ghost use Rattle.meaning.specs.Pending.{value_before};
 
 use crate::store::{Ordinal, Value};
-use typed_tree::tree::{Direction, Dyadic, Monadic, RangeTest, Relation, Representation};
+use std::cmp::Ordering;
+use typed_tree::tree::{Direction, Dyadic, Monadic, RangeTest, Relation, Representation, Whole};
 use types::OrdinalRange;
 
 // The default total widths (ISO 7185:1990, 6.9.3.1).
 const INTEGER_WIDTH: i32 = 10;
 
 const BOOLEAN_WIDTH: i32 = 5;
+
+const CHAR_WIDTH: i32 = 1;
+
+// The last value of type char (6.4.2.2).
+const LAST_CHAR: i32 = 127;
 
 // The least total width (6.9.3.1).
 const LEAST_WIDTH: i64 = 1;
@@ -27,6 +35,13 @@ pub fn operated_value(operation: Monadic, value: Value) -> Result<Value, u32>
         Monadic::Abs => Ok(Value::Number(number.magnitude())),
         Monadic::Sqr { overflow } => square_value(number, overflow),
         Monadic::Odd => Ok(Value::Number(Ordinal::truth(number.is_odd()))),
+        Monadic::Ord => Ok(Value::Number(number)),
+        Monadic::Chr { no_char } => char_value(number, no_char),
+        Monadic::Succ { no_successor, last } => successor_value(number, no_successor, last),
+        Monadic::Pred {
+            no_predecessor,
+            first,
+        } => predecessor_value(number, no_predecessor, first),
     }
 }
 
@@ -34,6 +49,36 @@ fn square_value(number: Ordinal, overflow: u32) -> Result<Value, u32>
     ensures { Answers (operated (Monadic.Sqr overflow) (Value.Number number)) result }
 {
     number.times(number).map(Value::Number).ok_or(overflow)
+}
+
+fn char_value(number: Ordinal, no_char: u32) -> Result<Value, u32>
+    ensures { Answers (operated (Monadic.Chr no_char) (Value.Number number)) result }
+{
+    if number.is_within(0, LAST_CHAR) {
+        Ok(Value::Number(number))
+    } else {
+        Err(no_char)
+    }
+}
+
+fn successor_value(number: Ordinal, no_successor: u32, last: i32) -> Result<Value, u32>
+    ensures { Answers (operated (Monadic.Succ no_successor last) (Value.Number number)) result }
+{
+    if number.is_less_than(Ordinal::new(last)) {
+        Ok(Value::Number(number.successor()))
+    } else {
+        Err(no_successor)
+    }
+}
+
+fn predecessor_value(number: Ordinal, no_predecessor: u32, first: i32) -> Result<Value, u32>
+    ensures { Answers (operated (Monadic.Pred no_predecessor first) (Value.Number number)) result }
+{
+    if Ordinal::new(first).is_less_than(number) {
+        Ok(Value::Number(number.predecessor()))
+    } else {
+        Err(no_predecessor)
+    }
 }
 
 /// The value of an operation on two operands, or the site of its error (ISO 7185:1990, 6.7.2).
@@ -73,6 +118,33 @@ fn modulus_value(left: Ordinal, right: Ordinal, by_zero_or_less: u32) -> Result<
         Ok(Value::Number(left.modulus(right)))
     } else {
         Err(by_zero_or_less)
+    }
+}
+
+/// The value of a relation of two strings (6.7.2.5).
+pub fn compared_value(relation: Relation, left: &Whole, right: &Whole) -> Value
+    ensures { result ≡ compared relation (components_of left.now) (components_of right.now) }
+{
+    let Whole::Text {
+        characters: row,
+        ..
+    } = left;
+    let Whole::Text {
+        characters: other,
+        ..
+    } = right;
+    let order = order_between(row, other);
+    Value::Number(Ordinal::truth(is_related(relation, order, Ordinal::new(0))))
+}
+
+// The order of two rows of bytes, as -1, 0 or 1.
+fn order_between(row: &[u8], other: &[u8]) -> Ordinal
+    ensures { result ≡ order_of (map pos row.now) (map pos other.now) }
+{
+    match row.cmp(other) {
+        Ordering::Less => Ordinal::new(-1),
+        Ordering::Equal => Ordinal::new(0),
+        Ordering::Greater => Ordinal::new(1),
     }
 }
 
@@ -183,6 +255,7 @@ pub fn width_by_default(representation: Representation) -> Value
     ensures { result ≡ Value.Number (default_width representation) }
 {
     Value::Number(Ordinal::new(match representation {
+        Representation::Char => CHAR_WIDTH,
         Representation::Integer => INTEGER_WIDTH,
         Representation::Boolean => BOOLEAN_WIDTH,
     }))

@@ -1,9 +1,9 @@
-ghost use Rattle.std.specs.Prelude.{◌≡◌, ◌≢◌, ◌+ℤ◌, ◌-ℤ◌, ◌*ℤ◌, ◌≤ℤ◌, ℤ, pos, neg_ℤ, int_div, int_le, int_lt};
+ghost use Rattle.std.specs.Prelude.{◌≡◌, ◌≢◌, ◌+ℤ◌, ◌-ℤ◌, ◌*ℤ◌, ◌<ℤ◌, ◌≤ℤ◌, ℤ, pos, neg_ℤ, int_div, int_le, int_lt};
 ghost use Rattle.std.specs.Prelude.{if◌then◌else◌, Option};
 ghost use Rattle.std.specs.Int.{int_rem_euclid};
 ghost use Rattle.std.specs.Ordering.{int_eq};
-ghost use Rattle.meaning.specs.Integers.{integer_or_none, is_integer_number, is_odd, is_true, is_within, magnitude};
-ghost use Rattle.meaning.specs.Integers.{truth};
+ghost use Rattle.meaning.specs.Integers.{byte_of, integer_or_none, is_integer_number, is_odd, is_true, is_within};
+ghost use Rattle.meaning.specs.Integers.{magnitude, truth};
 
 use std::marker::Model;
 
@@ -78,6 +78,33 @@ impl Ordinal {
         ensures { result ≡ is_integer_number self }
     {
         -2_147_483_647 <= self.number && self.number <= 2_147_483_647
+    }
+
+    /// The byte of its lowest 8 bits.
+    pub(crate) fn byte(self) -> u8
+        ensures { result ≡ byte_of self }
+    {
+        u8::try_from(self.number.rem_euclid(256)).unwrap_or(0)
+    }
+
+    /// The ordinal after one that isn't the greatest.
+    pub(crate) fn successor(self) -> Ordinal
+        requires { self <ℤ pos 2147483648 }
+        ensures { result ≡ self +ℤ pos 1 }
+    {
+        Ordinal {
+            number: self.number + 1,
+        }
+    }
+
+    /// The ordinal before one that isn't the least.
+    pub(crate) fn predecessor(self) -> Ordinal
+        requires { neg_ℤ (pos 2147483648) <ℤ self }
+        ensures { result ≡ self -ℤ pos 1 }
+    {
+        Ordinal {
+            number: self.number - 1,
+        }
     }
 
     /// The sum, if it is of type integer.

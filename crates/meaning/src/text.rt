@@ -1,9 +1,11 @@
-ghost use Rattle.std.specs.Prelude.{◌≡◌, ◌++◌, OnOk, replicate};
-ghost use Rattle.meaning.specs.Effect.{boolean_text, integer_text, places, string_text, text_of};
+ghost use Rattle.std.specs.Prelude.{◌≡◌, ◌++◌, OnOk, length, map, pos, replicate};
+ghost use Rattle.typed_tree.specs.WellFormed.{length_of};
+ghost use Rattle.meaning.specs.Effect.{boolean_text, char_text, integer_text, places, row_text, string_text, text_of};
+ghost use Rattle.meaning.specs.Pending.{components_of};
 
 use crate::store::{Ordinal, Value};
 use std::alloc::{AllocError, Global};
-use typed_tree::tree::Representation;
+use typed_tree::tree::{Representation, Whole};
 
 /// Writes a value in a width (ISO 7185:1990, 6.9.3).
 pub fn write_value(
@@ -18,9 +20,55 @@ pub fn write_value(
     let Value::Number(number) = value;
     let Value::Number(width) = width;
     match representation {
+        Representation::Char => write_char(output, number, width),
         Representation::Integer => write_integer(alloc, output, number, width),
         Representation::Boolean => write_boolean(output, number, width),
     }
+}
+
+/// Writes a string in a width (ISO 7185:1990, 6.9.3.6).
+pub fn write_whole(output: &mut Vec<u8>, value: &Whole, width: Value) -> Result<(), AllocError>
+    ensures { OnOk result (output.new.items ≡ output.old.items ++ row_text (components_of value.now) width) }
+{
+    let Whole::Text { characters, .. } = value;
+    let Value::Number(width) = width;
+    write_characters(output, characters, width)
+}
+
+/// Writes a string in its own length.
+pub fn write_in_length(output: &mut Vec<u8>, value: &Whole) -> Result<(), AllocError>
+    ensures { OnOk result (output.new.items
+        ≡ output.old.items ++ row_text (components_of value.now) (Value.Number (pos (length_of value.now)))) }
+{
+    let Whole::Text { characters, .. } = value;
+    write_all(output, characters)
+}
+
+fn write_characters(
+    output: &mut Vec<u8>,
+    characters: &[u8],
+    width: Ordinal,
+) -> Result<(), AllocError>
+    ensures { OnOk result (output.new.items
+        ≡ output.old.items ++ row_text (map pos characters.now) (Value.Number width)) }
+{
+    write_string(output, characters, width)
+}
+
+fn write_all(output: &mut Vec<u8>, characters: &[u8]) -> Result<(), AllocError>
+    ensures { OnOk result (output.new.items
+        ≡ output.old.items ++ row_text (map pos characters.now) (Value.Number (pos (length characters.now)))) }
+{
+    output.extend_from_slice(characters)
+}
+
+// A character is set right in its width and never cut.
+fn write_char(output: &mut Vec<u8>, number: Ordinal, width: Ordinal) -> Result<(), AllocError>
+    ensures { OnOk result (output.new.items ≡ output.old.items ++ char_text number width) }
+{
+    indent(output, places_in(width).saturating_sub(1))?;
+    output.push(number.byte())?;
+    Ok(())
 }
 
 // An integer is set right in its width and never cut.

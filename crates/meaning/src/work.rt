@@ -2,7 +2,8 @@ ghost use Rattle.std.specs.Prelude.{◌≡◌, [], ◌∷◌, ◌++◌, OnOk};
 
 use std::alloc::AllocError;
 use typed_tree::tree::{
-    Direction, Dyadic, Expr, Link, Monadic, RangeTest, Representation, Stmt, WriteParameter,
+    Direction, Dyadic, Expr, Link, Monadic, RangeTest, Representation, Stmt, Whole, Width,
+    WriteParameter,
 };
 
 /// Work that a run has still to do. What it needs lies on the stack of values.
@@ -77,14 +78,19 @@ pub enum Work<'t> {
         ends_line: bool,
     },
     Parameter(&'t WriteParameter),
-    /// The width of a parameter, whose value is topmost.
-    Width(&'t WriteParameter),
+    /// The width of an ordinal that is written, whose value is topmost.
+    Width {
+        width: &'t Option<Width>,
+        representation: Representation,
+    },
     /// Tests the topmost value as a width.
     WidthTest {
         site: u32,
     },
     /// Writes a value, whose width is topmost, right above it.
     Write(Representation),
+    /// Writes a whole value, whose width is topmost.
+    WriteWhole(&'t Whole),
     /// Tests the topmost value and stores it.
     Store {
         root: u32,

@@ -74,6 +74,10 @@ returns-in-Width-clause-does c = does_as c.args.self.now c.width.new.self c.args
 pub returns-in-WidthTest-clause-does : goal.returns-in-WidthTest-clause-does
 returns-in-WidthTest-clause-does c = does_as c.args.self.now c.width_test.new.self c.args.work _ c.width_test.result c.in-WidthTest.is c.width_test.ensures.does
 
+pub returns-in-WriteWhole-clause-does : goal.returns-in-WriteWhole-clause-does
+returns-in-WriteWhole-clause-does c =
+    does_as c.args.self.now c.write_whole.new.self c.args.work _ c.write_whole.result c.in-WriteWhole.is c.write_whole.ensures.does
+
 pub returns-in-Store-clause-does : goal.returns-in-Store-clause-does
 returns-in-Store-clause-does c = does_as c.args.self.now c.store.new.self c.args.work _ c.store.result c.in-Store.is c.store.ensures.does
 

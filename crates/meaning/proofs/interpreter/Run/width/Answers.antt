@@ -1,4 +1,5 @@
 use Rattle.std.proofs.Common.{reverse}
+use Rattle.meaning.specs.Meaning.{default_width}
 use Rattle.meaning.proofs.Resuming.{continues_as}
 use Rattle.meaning.proofs.Unrolling.{does-Width}
 use Rattle.meaning.proofs.interpreter.Run.width.Goals as goal
@@ -7,5 +8,5 @@ pub returns-in-Some-clause-does : goal.returns-in-Some-clause-does
 returns-in-Some-clause-does c = λ env s agrees.
     let old = c.args.self.now in
     continues_as env old c.plan.new.self _ _ c.plan.result
-    (does-Width c.args.parameter c.in-Some.width c.in-Some.is env (reverse old.pending.items) (reverse old.values.items) s)
+    (does-Width c.args.width.now c.in-Some.width c.in-Some.is (default_width c.args.representation) env (reverse old.pending.items) (reverse old.values.items) s)
     (c.plan.ensures.does env s agrees)
