@@ -40,13 +40,13 @@ use Rattle.stack_machine.specs.Frames as frames
 use Rattle.stack_machine.specs.Frames.{Attempt}
 use Rattle.stack_machine.specs.Rows as rows
 use Rattle.stack_machine.specs.Machine.{State, obeyed, and_then, checked, with_frames}
-use Rattle.code_generator.specs.Code.{joined, variable_offset, monadic_code, dyadic_code, relation_instr, variable_code, width_code, check_positive, expr_code}
-use Rattle.code_generator.specs.Code.{link_code, expr_step, link_step, expr_depth, link_depth, expr_depth_step, link_depth_step, width_depth, monadic_depth}
-use Rattle.code_generator.specs.Code.{compare_code, default_width, row_length}
+use Rattle.code_emitter.specs.Code.{joined, variable_offset, monadic_code, dyadic_code, relation_instr, variable_code, width_code, check_positive, expr_code}
+use Rattle.code_emitter.specs.Code.{link_code, expr_step, link_step, expr_depth, link_depth, expr_depth_step, link_depth_step, width_depth, monadic_depth}
+use Rattle.code_emitter.specs.Code.{compare_code, default_width, row_length}
 use Rattle.typed_tree.specs.WellFormed.{all_hold, monadic_is_well_formed, dyadic_is_well_formed, expr_is_well_formed, link_is_well_formed, is_well_formed_expr}
 use Rattle.typed_tree.specs.WellFormed.{is_well_formed_link, is_well_formed_width, is_whole, are_characters, length_of}
 use Rattle.check_remover.specs.Strip.{moved}
-use Rattle.code_generator.proofs.Pieces.{start_within}
+use Rattle.code_emitter.proofs.Pieces.{start_within}
 use Rattle.code_generator.proofs.Reach.{StandsAt, Stands, stands_front, stands_back, Comes, comes_less, comes_on, stays_here}
 use Rattle.code_generator.proofs.Rows.{cells_of, length-cells_of, compares, same_order, order_fits}
 use Rattle.code_generator.proofs.Setting.{Setting, on, Based, linked, Here, acts, passes, fails, Evaluates, gives, evaluates_from, then_evaluates}
