@@ -34,10 +34,10 @@ module _ (frame limit size : ℕ) where
   abbrev pub framed : List Cell → Frames
   framed cells = record { cells = cells; frame = frame; limit = limit; size = size }
 
-  has_some : (count : ℕ) (cells : List Cell) → frame + 4 + count ≤ length cells → has count (framed cells) ≡ Ok tt
+  pub has_some : (count : ℕ) (cells : List Cell) → frame + 4 + count ≤ length cells → has count (framed cells) ≡ Ok tt
   has_some count cells h = ap (λ b. unless_fault b Underflow) (le-leb (frame + 4 + count) (length cells) h)
 
-  has_room : (count : ℕ) (cells : List Cell) → length cells - count < limit → has_room_after count (framed cells) ≡ Ok tt
+  pub has_room : (count : ℕ) (cells : List Cell) → length cells - count < limit → has_room_after count (framed cells) ≡ Ok tt
   has_room count cells h = ap (λ b. unless_fault b OutOfBounds) (lt-ltb (length cells - count) limit h)
 
   in_use_is : (address used : ℕ) → address < used → in_use address used ≡ Ok address
@@ -58,7 +58,7 @@ module _ (frame limit size : ℕ) where
 
   module _ (below : List Cell) (linked : frame + 4 ≤ length below) where
     -- the topmost cell
-    top_at : (cell : Cell) → slice_get (below ++ cell ∷ []) (length (below ++ cell ∷ []) - 1) ≡ Some cell
+    pub top_at : (cell : Cell) → slice_get (below ++ cell ∷ []) (length (below ++ cell ∷ []) - 1) ≡ Some cell
     top_at cell =
         let e : length (below ++ cell ∷ []) - 1 ≡ length below = omega (arith, length_one below cell) in
         ap (slice_get (below ++ cell ∷ [])) e ∙ slice_get_seam below cell []

@@ -1,10 +1,11 @@
 -- The code of an expression leaves its value on top, or stops as the expression does.
 use Rattle.std.proofs.Common.{◌≡◌, ℕ, ◌+◌, ◌<◌, ◌≤◌, max, List, [], ◌∷◌, ◌++◌, length, map, Option, Some, None, Ok, refl, sym, ap, ◌∙◌, subst, arith}
-use Rattle.std.proofs.Common.{length-append, append_assoc, Bool, true, false}
+use Rattle.std.proofs.Common.{length-append, append_assoc, append-nil, Bool, true, false}
 use Rattle.std.specs.Prelude.{ℤ, pos, neg_ℤ, ◌+ℤ◌, ◌-ℤ◌, ◌*ℤ◌, int_le, int_lt, int_div, unsigned_abs, nat_lt, not, ◌&&◌, ◌||◌, fold}
 use Rattle.std.specs.Int.{w32, cast_signed, int_rem_euclid, int_wrapping_add, int_wrapping_sub, int_wrapping_mul, int_wrapping_div, int_wrapping_neg}
 use Rattle.std.specs.Ordering.{int_eq}
-use Rattle.std.proofs.lemmas.Bool.{ltb-true, and_parts}
+use Rattle.std.proofs.lemmas.Bool.{eqb-true, leb-true, ltb-true, and_parts}
+use Rattle.std.proofs.lemmas.List.{length-map}
 use Rattle.pcode_assembler.specs.declared.instr.Instr.{Instr}
 use Rattle.pcode_assembler.specs.declared.instr.Instr.TheVariants as instr
 use Rattle.typed_tree.specs.declared.tree.Access.{Access}
@@ -14,13 +15,14 @@ use Rattle.typed_tree.specs.declared.tree.Dyadic.{Dyadic}
 use Rattle.typed_tree.specs.declared.tree.Dyadic.TheVariants as dyadic
 use Rattle.typed_tree.specs.declared.tree.Relation.{Relation}
 use Rattle.typed_tree.specs.declared.tree.Relation.TheVariants as relation
-use Rattle.typed_tree.specs.declared.tree.Representation.{Representation}
-use Rattle.typed_tree.specs.declared.tree.Representation.TheVariants as representation
 use Rattle.typed_tree.specs.declared.tree.Width.{Width}
+use Rattle.typed_tree.specs.declared.tree.Written.{Written}
+use Rattle.typed_tree.specs.declared.tree.Whole.{Whole}
+use Rattle.typed_tree.specs.declared.tree.Whole.TheVariants.{Text}
 use Rattle.typed_tree.specs.declared.tree.Expr.{Expr}
 use Rattle.typed_tree.specs.declared.tree.Link.{Link}
 use Rattle.typed_tree.specs.declared.tree.Expr.TheOpen.{Expr-F, Link-F}
-use Rattle.typed_tree.specs.declared.tree.Expr.TheOpen.Expr-F.{Constant, Variable, Monadic as MonadicOf, Chain}
+use Rattle.typed_tree.specs.declared.tree.Expr.TheOpen.Expr-F.{Constant, Variable, Monadic as MonadicOf, Chain, Compare}
 use Rattle.typed_tree.specs.declared.tree.Expr.TheViews.{roll-Expr, roll-Link}
 use Rattle.typed_tree.specs.declared.tree.Expr.TheFolds.{fold-Expr, fold-Link, map-Expr, map-Link, fold-roll-Expr, fold-roll-Link, ind-Expr}
 use Rattle.meaning.specs.declared.store.Value.{Value}
@@ -29,31 +31,31 @@ use Rattle.meaning.specs.Store as meant
 use Rattle.meaning.specs.Store.{Environment, held, stored}
 use Rattle.meaning.specs.Effect as effect
 use Rattle.meaning.specs.Effect.{Reply, Gives, Action, ◌>>=◌, fetched, require, give}
-use Rattle.meaning.specs.Meaning.{Evaluation, Combination, value_of, link_of, value_step, operated, combined, relates, in_turn, width_of}
+use Rattle.meaning.specs.Meaning.{Evaluation, Combination, value_of, link_of, value_step, operated, combined, relates, in_turn, width_of, order_of}
 use Rattle.meaning.specs.Meaning as meaning
-use Rattle.meaning.specs.Integers.{magnitude, truth}
+use Rattle.meaning.specs.Integers.{is_within, magnitude, truth}
 use Rattle.stack_machine.specs.declared.cell.Cell.{Cell}
 use Rattle.stack_machine.specs.declared.cell.Cell.TheVariants.{Undefined, Number}
 use Rattle.stack_machine.specs.Frames as frames
 use Rattle.stack_machine.specs.Frames.{Attempt}
+use Rattle.stack_machine.specs.Rows as rows
 use Rattle.stack_machine.specs.Machine.{State, obeyed, and_then, checked, with_frames}
-use Rattle.code_generator.specs.Code.{joined, variable_offset, monadic_code, dyadic_code, relation_instr, variable_code, width_code, check_positive, expr_code}
-use Rattle.code_generator.specs.Code.{link_code, expr_step, link_step, expr_depth, link_depth, expr_depth_step, link_depth_step, width_depth}
+use Rattle.code_emitter.specs.Code.{joined, variable_offset, monadic_code, dyadic_code, relation_instr, variable_code, width_code, check_positive, expr_code}
+use Rattle.code_emitter.specs.Code.{link_code, expr_step, link_step, expr_depth, link_depth, expr_depth_step, link_depth_step, width_depth, monadic_depth}
+use Rattle.code_emitter.specs.Code.{compare_code, default_width, row_length}
 use Rattle.typed_tree.specs.WellFormed.{all_hold, monadic_is_well_formed, dyadic_is_well_formed, expr_is_well_formed, link_is_well_formed, is_well_formed_expr}
-use Rattle.typed_tree.specs.WellFormed.{is_well_formed_link, is_well_formed_width}
+use Rattle.typed_tree.specs.WellFormed.{is_well_formed_link, is_well_formed_width, is_whole, are_characters, length_of}
 use Rattle.check_remover.specs.Strip.{moved}
-use Rattle.code_generator.proofs.Reach.{StandsAt, Stands, stands_front, stands_back, Comes, stays_here}
+use Rattle.code_emitter.proofs.Pieces.{start_within}
+use Rattle.code_generator.proofs.Reach.{StandsAt, Stands, stands_front, stands_back, Comes, comes_less, comes_on, stays_here}
+use Rattle.code_generator.proofs.Rows.{cells_of, length-cells_of, compares, same_order, order_fits}
 use Rattle.code_generator.proofs.Setting.{Setting, on, Based, linked, Here, acts, passes, fails, Evaluates, gives, evaluates_from, then_evaluates}
 use Rattle.code_generator.proofs.Alike.{cell_of, HasFit, cell_within, alike_above, base_is, direct_lies}
 use Rattle.code_generator.proofs.Acts.{framed, length_one, pushes, loads, defines, on_one_is, is_in_range, is_not_zero, squares, sums, differs, multiplies}
 use Rattle.code_generator.proofs.Acts.{on_two_is, divides, leaves}
 use Rattle.code_generator.proofs.Numbers.{Fits, sum_is, difference_is, product_is, fits_negated, negated_is, fits_magnitude, magnitude_is, fits_quotient}
-use Rattle.code_generator.proofs.Numbers.{quotient_is, fits_remainder, fits_truth, same_truth, same_test, same_positive}
-
--- the start of a greatest number is no more than it
-pub start_within : (d : ℕ) (ds : List ℕ) → d ≤ fold max d ds
-start_within d [] = omega arith
-start_within d (e ∷ ds) = let r = start_within (max d e) ds in omega arith
+use Rattle.code_generator.proofs.Numbers.{quotient_is, fits_remainder, fits_truth, same_truth, same_test, same_positive, fits_next, fits_previous, same_below}
+use Rattle.code_generator.proofs.Numbers.{same_above, same_char}
 
 module _ (g : Setting) where
   abbrev variables : ℕ
@@ -227,28 +229,95 @@ module _ (g : Setting) where
     truth_given apply test here rule =
         one_given apply (λ v. frames.truth (test v)) (truth (test n)) here rule (same_truth (test n)) (subst Fits (same_truth (test n)) (fits_truth (test n)))
 
-    operated_runs : (operation : Monadic) → Stands g.target place (monadic_code operation) → monadic_is_well_formed variables sites operation ≡ true
-        → Evaluates g s.turns (on g one place s.output) held (place + length (monadic_code operation)) (operated operation (value.Number n) s)
-    operated_runs monadic.Plus stands well =
+    -- nothing changes
+    left_as_it_is : Evaluates g s.turns (on g one place s.output) held (place + 0) (give (value.Number n) s)
+    left_as_it_is =
         let e : place ≡ place + 0 = omega arith in
         gives g 0 _ base held (place + 0) n s based
         (subst (λ p. Comes g.target 0 (on g one place s.output) (on g one p s.output)) e (stays_here g.target (on g one place s.output))) fit room
-    operated_runs monadic.Minus stands well =
+
+    -- a test of a number that is meant where the test holds
+    step_tested : (check : Instr) (site : ℕ) (d c : ℤ) (there : ℕ) (good : Bool) → StandsAt g.target there check (g.target.is_open site)
+        → moved g.target.to check ≡ check
+        → obeyed g.target.sites check (fetched_at (cells ++ Number d ∷ []) there s.output) ≡ checked g.target.sites site
+        (fetched_at (cells ++ Number d ∷ []) there s.output) (Ok good)
+        → (good ≡ true → (d ≡ c) × Fits c) → site < sites
+        → Evaluates g s.turns (on g (cells ++ Number d ∷ []) there s.output) held (there + 1)
+        (effect.and_then (require good site s) (λ _. give (value.Number c)))
+    step_tested check site d c there true stands same rule does within =
+        let e = does refl in
+        gives g 0 _ base held (there + 1) c s based
+        (subst (λ v. Comes g.target 0 (on g (cells ++ Number d ∷ []) there s.output) (on g (cells ++ Number v ∷ []) (there + 1) s.output)) e.0
+        (passes g check (cells ++ Number d ∷ []) there site s.output (Ok true) same rule stands refl)) e.1 room
+    step_tested check site d c there false stands same rule does within =
+        fails g check (cells ++ Number d ∷ []) there site s.output (Ok false) same rule s.turns stands within refl
+
+    -- a step to the number beside it, which is tested then
+    stepped_runs : (step check : Instr) (site : ℕ) (f : ℤ → ℤ → ℤ) (c : ℤ) (good : Bool) → Here g place (instr.LoadConstant (pos 1))
+        → Here g (place + 1) step → StandsAt g.target (place + 1 + 1) check (g.target.is_open site)
+        → ((m : State) → obeyed g.target.sites step m ≡ and_then (frames.on_two f m.frames) (with_frames m)) → moved g.target.to check ≡ check
+        → obeyed g.target.sites check (fetched_at (cells ++ Number (f n (pos 1)) ∷ []) (place + 1 + 1) s.output) ≡ checked g.target.sites site
+        (fetched_at (cells ++ Number (f n (pos 1)) ∷ []) (place + 1 + 1) s.output) (Ok good)
+        → (good ≡ true → (f n (pos 1) ≡ c) × Fits c) → site < sites → g.below + length held + 2 ≤ g.limit
+        → Evaluates g s.turns (on g one place s.output) held (place + 3) (effect.and_then (require good site s) (λ _. give (value.Number c)))
+    stepped_runs step check site f c good at1 at2 at3 rule same rule' does within deep =
+        let full = based.full in
+        let two = one ++ Number (pos 1) ∷ [] in
+        let after = cells ++ Number (f n (pos 1)) ∷ [] in
+        let pushed = acts g (instr.LoadConstant (pos 1)) one two place s.output _ at1 refl
+        (pushes g.running.frame g.limit g.size one (pos 1) (omega (arith, length_one cells (Number n), length-append base held))) in
+        let stepped = acts g step two after (place + 1) s.output (frames.on_two f (frames_of two)) at2 (rule (fetched_at two (place + 1) s.output))
+        (on_two_is g.running.frame g.limit g.size cells within_frame n (pos 1) f below_limit) in
+        let p : place + 1 + 1 + 1 ≡ place + 3 = omega arith in
+        subst (λ q. Evaluates g s.turns (on g one place s.output) held q (effect.and_then (require good site s) (λ _. give (value.Number c)))) p
+        (evaluates_from g 2 s.turns _ _ held (place + 1 + 1 + 1) (effect.and_then (require good site s) (λ _. give (value.Number c)))
+        (comes_on g.target 1 1 _ _ _ pushed stepped) (step_tested check site (f n (pos 1)) c (place + 1 + 1) good at3 same rule' does within))
+
+    operated_runs : (operation : Monadic) → Stands g.target place (monadic_code operation) → monadic_is_well_formed variables sites operation ≡ true
+        → g.below + length held + monadic_depth operation ≤ g.limit
+        → Evaluates g s.turns (on g one place s.output) held (place + length (monadic_code operation)) (operated operation (value.Number n) s)
+    operated_runs monadic.Plus stands well deep = left_as_it_is
+    operated_runs monadic.Minus stands well deep =
         one_given instr.Negate (int_wrapping_neg w32) (neg_ℤ n) stands.0 refl (negated_is n fit) (fits_negated n fit)
-    operated_runs monadic.Not stands well = truth_given instr.Not (λ v. not (frames.is_true v)) stands.0 refl
-    operated_runs monadic.Abs stands well =
+    operated_runs monadic.Not stands well deep = truth_given instr.Not (λ v. not (frames.is_true v)) stands.0 refl
+    operated_runs monadic.Abs stands well deep =
         one_given instr.Absolute (λ v. cast_signed w32 (unsigned_abs v)) (magnitude n) stands.0 refl (magnitude_is n fit) (fits_magnitude n fit)
-    operated_runs (monadic.Sqr overflow) stands well =
+    operated_runs (monadic.Sqr overflow) stands well deep =
         result_runs (instr.CheckSquare overflow) instr.Square overflow place one base held (n *ℤ n) (int_wrapping_mul w32 n n) s _ _ stands.0 stands.1.0 refl
         refl refl
         (squares g.running.frame g.limit g.size cells within_frame n)
         (on_one_is g.running.frame g.limit g.size cells within_frame (λ v. int_wrapping_mul w32 v v) n below_limit) (product_is n n fit fit)
         (ltb-true overflow sites well) based room
-    operated_runs monadic.Odd stands well = truth_given instr.Odd frames.is_odd stands.0 refl
+    operated_runs monadic.Odd stands well deep = truth_given instr.Odd frames.is_odd stands.0 refl
+    operated_runs monadic.Ord stands well deep = left_as_it_is
+    operated_runs (monadic.Chr no_char) stands well deep =
+        tested_runs (instr.CheckRange no_char (pos 0) (pos 127)) no_char place base held n s _ (is_within (pos 0) (pos 127) n) stands.0 refl refl
+        (is_in_range g.running.frame g.limit g.size cells within_frame (pos 0) (pos 127) n ∙ ap Ok (same_char n)) (ltb-true no_char sites well) based room fit
+    operated_runs (monadic.Succ no_successor last) stands well deep =
+        let parts = and_parts (nat_lt no_successor sites) (is_whole last) well in
+        let good : Fits last = record { is = parts.1 } in
+        let low = neg_ℤ (pos 2147483647) in
+        let m = int_wrapping_add w32 n (pos 1) in
+        let tested = is_in_range g.running.frame g.limit g.size cells within_frame low last m ∙ ap Ok (same_below n last fit good) in
+        stepped_runs instr.Add (instr.CheckRange no_successor low last) no_successor (int_wrapping_add w32) (n +ℤ pos 1) (int_lt n last) stands.0 stands.1.0
+        stands.1.1.0 (λ m. refl) refl (ap (checked g.target.sites no_successor (fetched_at (cells ++ Number m ∷ []) (place + 1 + 1) s.output)) tested)
+        (λ less. let f = fits_next n last fit good less in (sum_is n (pos 1) fit (record { is = refl }) f, f))
+        (ltb-true no_successor sites parts.0) deep
+    operated_runs (monadic.Pred no_predecessor first) stands well deep =
+        let parts = and_parts (nat_lt no_predecessor sites) (is_whole first) well in
+        let good : Fits first = record { is = parts.1 } in
+        let high = pos 2147483647 in
+        let m = int_wrapping_sub w32 n (pos 1) in
+        let tested = is_in_range g.running.frame g.limit g.size cells within_frame first high m ∙ ap Ok (same_above n first fit good) in
+        stepped_runs instr.Subtract (instr.CheckRange no_predecessor first high) no_predecessor (int_wrapping_sub w32) (n -ℤ pos 1) (int_lt first n) stands.0
+        stands.1.0 stands.1.1.0 (λ m. refl) refl
+        (ap (checked g.target.sites no_predecessor (fetched_at (cells ++ Number m ∷ []) (place + 1 + 1) s.output)) tested)
+        (λ more. let f = fits_previous n first fit good more in (difference_is n (pos 1) fit (record { is = refl }) f, f))
+        (ltb-true no_predecessor sites parts.0) deep
 
   -- an operation on one operand
   monadic_runs : (number : ℕ) (operation : Monadic) (c : List Instr) (depth : ℕ) (well : Bool) (v : Evaluation) → RunsAs c depth well v
-      → RunsAs (c ++ monadic_code operation) depth (monadic_is_well_formed variables sites operation && well)
+      → RunsAs (c ++ monadic_code operation) (max depth (monadic_depth operation)) (monadic_is_well_formed variables sites operation && well)
       (λ e. effect.enter number e >>= λ _. v e >>= operated operation)
   monadic_runs number operation c depth well v runs place base held s stands good based room =
       let s' : effect.State = record s { visited = s.visited ++ record { number = number; environment = g.environment; store = s.store } ∷ [] } in
@@ -258,8 +327,8 @@ module _ (g : Setting) where
       let rest = stands_back g.target place c (monadic_code operation) stands in
       subst (λ p. Evaluates g s.turns (on g (base ++ held) place s.output) held p (effect.and_then (v g.environment s') (operated operation))) e
       (then_evaluates g s.turns _ held held (place + length c) (place + length c + length (monadic_code operation)) (v g.environment s') (operated operation)
-      (runs place base held s' (stands_front g.target place c (monadic_code operation) stands) parts.1 based room)
-      (λ base2 n s2 based2 fit2 room2. operated_runs (place + length c) base2 held n s2 based2 room2 fit2 operation rest parts.0))
+      (runs place base held s' (stands_front g.target place c (monadic_code operation) stands) parts.1 based (omega arith))
+      (λ base2 n s2 based2 fit2 room2. operated_runs (place + length c) base2 held n s2 based2 room2 fit2 operation rest parts.0 (omega arith)))
 
   -- two numbers give way to a third
   module _ (place : ℕ) (base held : List Cell) (a b : ℤ) (s : effect.State) (based : Based g s.store base) (room : g.below + length held < g.limit)
@@ -338,6 +407,87 @@ module _ (g : Setting) where
     combined_runs dyadic.And stands well = truths_given instr.And (λ x y. frames.is_true x && frames.is_true y) stands.0 refl
     combined_runs dyadic.Or stands well = truths_given instr.Or (λ x y. frames.is_true x || frames.is_true y) stands.0 refl
     combined_runs (dyadic.Relation r) stands well = relation_runs r stands
+
+  -- characters are pushed, the first one first
+  pub characters_come : (characters : List ℕ) (place : ℕ) (cells : List Cell) (output : List ℕ)
+      → Stands g.target place (map (λ c. instr.LoadConstant (pos c)) characters) → length cells + length characters ≤ g.limit
+      → Comes g.target 0 (on g cells place output) (on g (cells ++ cells_of (map pos characters)) (place + length characters) output)
+  characters_come [] place cells output stands room =
+      let e : place ≡ place + 0 = omega arith in
+      subst (λ p. Comes g.target 0 (on g cells place output) (on g (cells ++ []) p output)) e
+      (subst (λ cs. Comes g.target 0 (on g cells place output) (on g cs place output)) (sym (append-nil cells)) (stays_here g.target _))
+  characters_come (c ∷ characters) place cells output stands room =
+      let one = cells ++ Number (pos c) ∷ [] in
+      let long = length_one cells (Number (pos c)) in
+      let rest = cells_of (map pos characters) in
+      let e : place + 1 + length characters ≡ place + length (c ∷ characters) = omega arith in
+      let first = acts g (instr.LoadConstant (pos c)) cells one place output _ stands.0 refl
+      (pushes g.running.frame g.limit g.size cells (pos c) (omega arith)) in
+      let others = characters_come characters (place + 1) one output stands.1 (omega arith) in
+      let all = comes_less g.target 0 (1 + 0) _ _ (omega arith) (comes_on g.target 1 0 _ _ _ first others) in
+      subst (λ cs. Comes g.target 0 (on g cells place output) (on g cs (place + length (c ∷ characters)) output))
+      (append_assoc cells (Number (pos c) ∷ []) rest)
+      (subst (λ p. Comes g.target 0 (on g cells place output) (on g (one ++ rest) p output)) e all)
+
+  -- a length that is no greater than the greatest
+  pub same_length : (characters : List ℕ) → are_characters characters ≡ true → length characters ≡ row_length (length characters)
+  same_length characters well = let few = leb-true (length characters) 65536 (and_parts _ _ well).0 in omega arith
+
+  -- two strings are compared
+  compare_runs : (number : ℕ) (r : Relation) (left right : Whole)
+      → RunsAs (compare_code r left right) (max (length_of left + length_of right) 2) (expr_is_well_formed variables sites (Compare number r left right))
+      (value_step (Compare number r left right))
+  compare_runs number r (Text a left) (Text b right) place base held s stands good based room =
+      let entered : ℕ → effect.State → effect.State = λ entry t. record t
+      { visited = t.visited ++ record { number = entry; environment = g.environment; store = t.store } ∷ [] } in
+      let s' = entered b (entered number (entered a s)) in
+      let c = map (λ x. instr.LoadConstant (pos x)) left.items in
+      let d = map (λ x. instr.LoadConstant (pos x)) right.items in
+      let n = length left.items in
+      let m = row_length n in
+      let relate = instr.LoadConstant (pos 0) ∷ relation_instr r ∷ [] in
+      let last = instr.Compare m ∷ relate in
+      let parts = and_parts (are_characters left.items) _ good in
+      let parts' = and_parts (are_characters right.items) _ parts.1 in
+      let same = same_length left.items parts.0 in
+      let as_long : n ≡ length right.items = eqb-true n (length right.items) parts'.1 in
+      let numbers = map pos left.items in
+      let others = map pos right.items in
+      let long = length-map left.items pos in
+      let long' = length-map right.items pos in
+      let cells = base ++ held in
+      let one = cells ++ cells_of numbers in
+      let both = one ++ cells_of others in
+      let full = based.full in
+      let few = length-append base held in
+      let in_frame = linked g s.store base held based in
+      let first_codes = length-map left.items (λ x. instr.LoadConstant (pos x)) in
+      let other_codes = length-map right.items (λ x. instr.LoadConstant (pos x)) in
+      let behind = stands_back g.target place c (d ++ last) stands in
+      let here = place + n in
+      let there = here + length right.items in
+      let stands1 : Stands g.target here (d ++ last) = subst (λ l. Stands g.target (place + l) (d ++ last)) first_codes behind in
+      let stands2 : Stands g.target there last = subst (λ l. Stands g.target (here + l) last) other_codes (stands_back g.target here d last stands1) in
+      let pushed = characters_come left.items place cells s.output (stands_front g.target place c (d ++ last) stands) (omega arith) in
+      let pushed' = characters_come right.items here one s.output (stands_front g.target here d last stands1)
+      (omega (arith, length-append cells (cells_of numbers), length-cells_of numbers)) in
+      let order = rows.order numbers others in
+      let ordered = cells ++ Number order ∷ [] in
+      let is_order : order ≡ order_of numbers others = same_order numbers others (long ∙ as_long ∙ sym long') in
+      let compared = acts g (instr.Compare m) both ordered there s.output _ stands2.0 refl
+      (compares g.running.frame g.limit g.size cells in_frame numbers others m (long ∙ same) (long' ∙ sym as_long ∙ same) (omega arith)) in
+      let zero = acts g (instr.LoadConstant (pos 0)) ordered (ordered ++ Number (pos 0) ∷ []) (there + 1) s.output _ stands2.1.0 refl
+      (pushes g.running.frame g.limit g.size ordered (pos 0) (omega (arith, length_one cells (Number order)))) in
+      let fit : Fits order = subst Fits (sym is_order) (order_fits numbers others) in
+      let zero_fits : Fits (pos 0) = record { is = refl } in
+      let based' : Based g s'.store base = record { full = based.full; alike = based.alike } in
+      let related = relation_runs (there + 1 + 1) base held order (pos 0) s' based' (omega arith) fit zero_fits r stands2.1.1 in
+      let all = comes_on g.target 0 2 _ _ _ pushed (comes_on g.target 0 2 _ _ _ pushed' (comes_on g.target 1 1 _ _ _ compared zero)) in
+      let whole = evaluates_from g 2 s.turns _ _ held (there + 1 + 1 + 1) (give (value.Number (truth (relates r order (pos 0)))) s') all related in
+      let e : there + 1 + 1 + 1 ≡ place + length (c ++ (d ++ last)) = omega (arith, length-append c (d ++ last), length-append d last) in
+      subst (λ p. Evaluates g s.turns (on g cells place s.output) held p (give (value.Number (truth (relates r (order_of numbers others) (pos 0)))) s')) e
+      (subst (λ o. Evaluates g s.turns (on g cells place s.output) held (there + 1 + 1 + 1) (give (value.Number (truth (relates r o (pos 0)))) s')) is_order
+      whole)
 
   -- what is held with one number more on top, over the same cells
   pub one_held : (base held : List Cell) (a : ℤ) → base ++ (held ++ Number a ∷ []) ≡ (base ++ held) ++ Number a ∷ []
@@ -470,6 +620,7 @@ module _ (g : Setting) where
   expr_layer (Chain first rest) =
       rolled_expr (map-Expr ((e : Expr) × ExprRuns e) ((l : Link) × LinkRuns l) Expr Link (λ e. e.0) (λ l. l.0) (Chain first rest))
       (chain_runs first.value rest.items)
+  expr_layer (Compare number r left right) = rolled_expr (Compare number r left right) (compare_runs number r left right)
 
   link_layer : (y : Link-F ((e : Expr) × ExprRuns e) ((l : Link) × LinkRuns l))
       → LinkRuns (roll-Link (map-Link ((e : Expr) × ExprRuns e) ((l : Link) × LinkRuns l) Expr Link (λ e. e.0) (λ l. l.0) y))
@@ -484,18 +635,12 @@ module _ (g : Setting) where
       ind-Expr ExprRuns LinkRuns (λ x y is. subst (λ z. ExprRuns (roll-Expr z)) is (expr_layer y))
       (λ x y is. subst (λ z. LinkRuns (roll-Link z)) is (link_layer y))
 
-  -- the width where none is given
-  default_runs : (representation : Representation) (place : ℕ) (base held : List Cell) (s : effect.State)
-      → Stands g.target place (width_code g.scope None representation) → Based g s.store base → g.below + length held + 1 ≤ g.limit
-      → Evaluates g s.turns (on g (base ++ held) place s.output) held (place + 1) (width_of None representation g.environment s)
-  default_runs representation.Integer place base held s stands based room = number_runs (pos 10) place base held s stands.0 (record { is = refl }) based room
-  default_runs representation.Boolean place base held s stands based room = number_runs (pos 5) place base held s stands.0 (record { is = refl }) based room
-
-  -- the code of a width leaves it on top, or stops as the width does
-  pub width_runs : (width : Option Width) (representation : Representation)
-      → RunsAs (width_code g.scope width representation) (width_depth width) (is_well_formed_width variables sites width) (width_of width representation)
-  width_runs None representation place base held s stands good based room = default_runs representation place base held s stands based room
-  width_runs (Some width) representation place base held s stands good based room =
+  -- the code of a width leaves it on top, or stops as the width does; a value has this one where none is given
+  pub width_runs : (width : Option Width) (v : Written) (default : ℤ) → default_width v ≡ instr.LoadConstant default → Fits default
+      → RunsAs (width_code g.scope width v) (width_depth width) (is_well_formed_width variables sites width) (width_of width default)
+  width_runs None v default is fit place base held s stands good based room =
+      number_runs default place base held s (subst (λ i. Stands g.target place (i ∷ [])) is stands).0 fit based room
+  width_runs (Some width) v default is fit place base held s stands good based room =
       let c = expr_code g.scope width.value in
       let check = check_positive width.site in
       let parts = and_parts (nat_lt width.site sites) (is_well_formed_expr variables sites width.value) good in

@@ -22,8 +22,8 @@ use Rattle.stack_machine.specs.Deeds.{jumped_if_false}
 use Rattle.stack_machine.specs.Frames.{Frames, Attempt, is_true}
 use Rattle.stack_machine.specs.Machine.{State, obeyed, and_then, checked, with_frames, with_place, error_of}
 use Rattle.check_remover.specs.Strip.{moved}
-use Rattle.code_generator.specs.declared.scope.Scope.{Scope}
-use Rattle.code_generator.specs.Code.{variable_offset}
+use Rattle.code_emitter.specs.declared.scope.Scope.{Scope}
+use Rattle.code_emitter.specs.Code.{variable_offset}
 use Rattle.code_generator.specs.Follows.{StopsAs}
 use Rattle.code_generator.specs.Tables.{site_table, in_plain_numbers}
 use Rattle.code_generator.proofs.Reach.{Target, StandsAt, Comes, Stops, comes_on, comes_less, stays_here, comes_by, stops_on, stops_by}

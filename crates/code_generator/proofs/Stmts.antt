@@ -7,7 +7,8 @@ use Rattle.std.specs.List.{flat_map}
 use Rattle.std.specs.Ordering.{int_eq}
 use Rattle.check_remover.specs.Strip.{stays}
 use Rattle.std.specs.Fmt.{signed_decimal}
-use Rattle.std.proofs.lemmas.Bool.{ltb-true, and_parts}
+use Rattle.std.proofs.lemmas.Bool.{leb-true, ltb-true, and_parts}
+use Rattle.std.proofs.lemmas.List.{length-map}
 use Rattle.pcode_assembler.specs.declared.instr.Instr.{Instr}
 use Rattle.pcode_assembler.specs.declared.instr.Instr.TheVariants as instr
 use Rattle.place.specs.declared.Place.{Place as SourcePlace}
@@ -19,7 +20,11 @@ use Rattle.typed_tree.specs.declared.tree.Direction.{Direction}
 use Rattle.typed_tree.specs.declared.tree.Direction.TheVariants as direction
 use Rattle.typed_tree.specs.declared.tree.Representation.{Representation}
 use Rattle.typed_tree.specs.declared.tree.Representation.TheVariants as representation
+use Rattle.typed_tree.specs.declared.tree.Width.{Width}
 use Rattle.typed_tree.specs.declared.tree.WriteParameter.{WriteParameter}
+use Rattle.typed_tree.specs.declared.tree.Written.{Written}
+use Rattle.typed_tree.specs.declared.tree.Written.TheVariants.{Ordinal, String}
+use Rattle.typed_tree.specs.declared.tree.Whole.TheVariants.{Text}
 use Rattle.typed_tree.specs.declared.tree.Expr.{Expr}
 use Rattle.typed_tree.specs.declared.tree.Stmt.{Stmt}
 use Rattle.typed_tree.specs.declared.tree.Stmt.TheOpen.{Stmt-F}
@@ -35,6 +40,7 @@ use Rattle.meaning.specs.Effect as effect
 use Rattle.meaning.specs.Effect.{Reply, Gives, Action, Round, ◌>>=◌, require, give}
 use Rattle.meaning.specs.Meaning.{Execution, is_so, turn_if, while_round, repeat_round, for_round, for_rounds, for_between, is_among, arm_of, number_of}
 use Rattle.meaning.specs.Meaning.{alternative_of, value_of, width_of, effect_of, effect_step, parameter_of, all_of, line_ended}
+use Rattle.meaning.specs.Meaning.{default_width as default_width_of}
 use Rattle.stack_machine.specs.declared.cell.Cell.{Cell}
 use Rattle.stack_machine.specs.declared.cell.Cell.TheVariants.{Undefined, Number}
 use Rattle.stack_machine.specs.declared.arithmetic.Dyadic.TheVariants as dyadic
@@ -43,23 +49,25 @@ use Rattle.stack_machine.specs.Frames.{Attempt}
 use Rattle.stack_machine.specs.Machine as machine
 use Rattle.stack_machine.specs.Machine.{State, with_text}
 use Rattle.stack_machine.specs.Texts as texts
-use Rattle.code_generator.specs.declared.scope.Scope.{Scope}
-use Rattle.code_generator.specs.Code.{Placed, placed, if_code, if_else_code, while_code, repeat_code, for_code, for_entry, for_begin, for_next, for_end}
-use Rattle.code_generator.specs.Code.{holding, held_offset, order_instr, next_instr, row_code, arms_code, case_code, count, greatest, variable_offset}
-use Rattle.code_generator.specs.Code.{expr_code, width_code, write_instr, parameter_code, line_end_code, write_code, stmt_code, stmt_step, stmt_depth}
-use Rattle.code_generator.specs.Code.{stmt_depth_step, arms_depth, expr_depth, parameter_depth}
+use Rattle.code_emitter.specs.declared.scope.Scope.{Scope}
+use Rattle.code_emitter.specs.Code.{Placed, placed, if_code, if_else_code, while_code, repeat_code, for_code, for_entry, for_begin, for_next, for_end}
+use Rattle.code_emitter.specs.Code.{holding, held_offset, order_instr, next_instr, row_code, arms_code, case_code, count, greatest, variable_offset}
+use Rattle.code_emitter.specs.Code.{expr_code, width_code, write_instr, parameter_code, line_end_code, write_code, stmt_code, stmt_step, stmt_depth}
+use Rattle.code_emitter.specs.Code.{stmt_depth_step, arms_depth, expr_depth, parameter_depth, width_depth, default_width, ordinal_instr, ordinal_width}
+use Rattle.code_emitter.specs.Code.{row_length}
 use Rattle.typed_tree.specs.WellFormed.{all_hold, is_well_formed_expr, is_well_formed_width, is_well_formed_parameter, is_well_formed_test, is_well_formed_stmt}
-use Rattle.typed_tree.specs.WellFormed.{stmt_is_well_formed}
+use Rattle.typed_tree.specs.WellFormed.{stmt_is_well_formed, are_characters}
 use Rattle.code_generator.proofs.Reach.{Stands, StandsAt, stands_front, stands_back, Comes, comes_less, comes_on, stays_here}
 use Rattle.code_generator.proofs.Setting.{Setting, on, Based, linked, Here, goes_on, jumps, branches_on, behind_executes, passes, fails, Executes, done}
 use Rattle.code_generator.proofs.Setting.{executes_from, then_executes, then_leaves, after_value}
 use Rattle.code_generator.proofs.Loops.{Rounds, RoundRuns, rounds_on, then_rounds, value_rounds, turned, loops, reset, rounds_from_reset, executes_from_reset}
 use Rattle.code_generator.proofs.Held.{slot, stores_variable, variable_kept, variable_forgotten, loads_held, stores_held, decides, begins, steps, leaves, tests}
 use Rattle.code_generator.proofs.Held.{compares_row, last_is, next_fits, one_fits}
-use Rattle.code_generator.proofs.Pieces.{length-For}
+use Rattle.code_emitter.proofs.Pieces.{length-For, start_within}
 use Rattle.code_generator.proofs.Acts.{framed, length_one, is_in_range, writes}
-use Rattle.code_generator.proofs.Numbers.{Fits, same_range, sum_is, difference_is}
-use Rattle.code_generator.proofs.Exprs.{start_within, expr_runs, width_runs, one_held}
+use Rattle.code_generator.proofs.Numbers.{Fits, fits_by_abs, same_range, sum_is, difference_is}
+use Rattle.code_generator.proofs.Rows.{cells_of, length-cells_of, same_byte, same_bytes, writes_string}
+use Rattle.code_generator.proofs.Exprs.{characters_come, expr_runs, one_held, same_length, width_runs}
 
 -- what the machine writes in a width is what the program writes
 same_integer_text : (n width : ℤ) → texts.integer_text n width ≡ effect.integer_text n width
@@ -73,6 +81,21 @@ same_string_text text (pos w) = refl
 same_string_text text (negsuc w) =
     let none : 0 ≡ 0 - length text = omega arith in
     ap (λ blanks. replicate blanks 32 ++ take 0 text) none
+
+same_char_text : (n width : ℤ) → Fits n → texts.char_text n width ≡ effect.char_text n width
+same_char_text n (pos w) fit = ap (λ byte. replicate (w - 1) 32 ++ byte ∷ []) (same_byte n fit)
+same_char_text n (negsuc w) fit = ap (λ byte. byte ∷ []) (same_byte n fit)
+
+-- the width of an ordinal where none is given
+same_default : (r : Representation) → instr.LoadConstant (ordinal_width r) ≡ instr.LoadConstant (default_width_of r)
+same_default representation.Char = refl
+same_default representation.Integer = refl
+same_default representation.Boolean = refl
+
+default_fits : (r : Representation) → Fits (default_width_of r)
+default_fits representation.Char = record { is = refl }
+default_fits representation.Integer = record { is = refl }
+default_fits representation.Boolean = record { is = refl }
 
 -- what holds of each element
 abbrev Each : {X : Type 0} → (X → Type 0) → List X → Type 0
@@ -164,57 +187,115 @@ module _ (g : Setting) where
   text_runs write text place cells after output attempt here rule does =
       goes_on g write cells after place output (output ++ text) here (rule ∙ ap (λ r. machine.and_then r (with_text (fetched_at cells place output))) does)
 
-  written_runs : (r : Representation) (place : ℕ) (cells : List Cell) (n w : ℤ) (output : List ℕ) → Stands g.target place (write_instr r ∷ [])
+  ordinal_writes : (r : Representation) (place : ℕ) (cells : List Cell) (n w : ℤ) (output : List ℕ) → Fits n → Stands g.target place (ordinal_instr r ∷ [])
       → g.running.frame + 4 ≤ length cells
       → Comes g.target 1 (on g ((cells ++ Number n ∷ []) ++ Number w ∷ []) place output)
       (on g cells (place + 1) (output ++ effect.text_of r (value.Number n) (value.Number w)))
-  written_runs representation.Integer place cells n w output stands in_frame =
+  ordinal_writes representation.Char place cells n w output fit stands in_frame =
+      let two = (cells ++ Number n ∷ []) ++ Number w ∷ [] in
+      subst (λ t. Comes g.target 1 (on g two place output) (on g cells (place + 1) (output ++ t))) (same_char_text n w fit)
+      (text_runs instr.WriteChar (texts.char_text n w) place two cells output _ stands.0 refl
+      (writes g.running.frame g.limit g.size cells in_frame n w texts.char_text))
+  ordinal_writes representation.Integer place cells n w output fit stands in_frame =
       let two = (cells ++ Number n ∷ []) ++ Number w ∷ [] in
       subst (λ t. Comes g.target 1 (on g two place output) (on g cells (place + 1) (output ++ t))) (same_integer_text n w)
       (text_runs instr.WriteInteger (texts.integer_text n w) place two cells output _ stands.0 refl
       (writes g.running.frame g.limit g.size cells in_frame n w texts.integer_text))
-  written_runs representation.Boolean place cells n w output stands in_frame =
+  ordinal_writes representation.Boolean place cells n w output fit stands in_frame =
       let two = (cells ++ Number n ∷ []) ++ Number w ∷ [] in
       subst (λ t. Comes g.target 1 (on g two place output) (on g cells (place + 1) (output ++ t)))
       (same_string_text (if frames.is_true n then codes "true" else codes "false") w)
       (text_runs instr.WriteBoolean (texts.boolean_text n w) place two cells output _ stands.0 refl
       (writes g.running.frame g.limit g.size cells in_frame n w texts.boolean_text))
 
+  string_writes : (length_of_it : ℕ) (characters : List ℕ) (place : ℕ) (cells : List Cell) (w : ℤ) (output : List ℕ) → length characters ≡ length_of_it
+      → Stands g.target place (instr.WriteString length_of_it ∷ []) → g.running.frame + 4 ≤ length cells
+      → Comes g.target 1 (on g ((cells ++ cells_of (map pos characters)) ++ Number w ∷ []) place output)
+      (on g cells (place + 1) (output ++ effect.row_text (map pos characters) (value.Number w)))
+  string_writes n characters place cells w output long stands in_frame =
+      let row = map pos characters in
+      let string = (cells ++ cells_of row) ++ Number w ∷ [] in
+      subst (λ t. Comes g.target 1 (on g string place output) (on g cells (place + 1) (output ++ t)))
+      (same_string_text (map texts.byte_of row) w ∙ ap (λ bytes. effect.string_text bytes w) (same_bytes characters))
+      (text_runs (instr.WriteString n) (texts.string_text (map texts.byte_of row) w) place string cells output _ stands.0 refl
+      (writes_string g.running.frame g.limit g.size cells in_frame row w n (length-map characters pos ∙ long)))
+
+  -- a width above the cells of a value, with which it gives way to a text
+  width_writes : (width : Option Width) (v : Written) (default : ℤ) (row : List ℤ) (text : Value → List ℕ) (place : ℕ) (base held : List Cell)
+      (s : effect.State) → default_width v ≡ instr.LoadConstant default → Fits default
+      → Stands g.target place (width_code g.scope width v ++ (write_instr v ∷ [])) → is_well_formed_width variables sites width ≡ true → Based g s.store base
+      → g.below + length held + (width_depth width + length row) ≤ g.limit
+      → ((there : ℕ) (cells : List Cell) (w : ℤ) (output : List ℕ) → Stands g.target there (write_instr v ∷ []) → g.running.frame + 4 ≤ length cells
+      → Comes g.target 1 (on g ((cells ++ cells_of row) ++ Number w ∷ []) there output) (on g cells (there + 1) (output ++ text (value.Number w))))
+      → Executes g s.turns (on g ((base ++ held) ++ cells_of row) place s.output) held (place + length (width_code g.scope width v) + 1)
+      (effect.and_then (width_of width default g.environment s) (λ w. effect.write (text w)))
+  width_writes width v default row text place base held s is fit stands good based deep writes =
+      let wide = width_code g.scope width v in
+      let writing = write_instr v ∷ [] in
+      let more = held ++ cells_of row in
+      let long = length-append held (cells_of row) in
+      let next : Value → Action (Unit {0}) = λ w. effect.write (text w) in
+      let end = place + length wide + 1 in
+      let runs = width_runs g width v default is fit place base more s (stands_front g.target place wide writing stands) good based
+      (omega (arith, length-cells_of row)) in
+      subst (λ cells. Executes g s.turns (on g cells place s.output) held end (effect.and_then (width_of width default g.environment s) next))
+      (sym (append_assoc base held (cells_of row)))
+      (after_value g s.turns _ more held (place + length wide) end (width_of width default g.environment s) next runs
+      (λ base2 w u based2 fit2.
+      subst (λ cells. Executes g u.turns (on g (cells ++ Number w ∷ []) (place + length wide) u.output) held end (next (value.Number w) u))
+      (append_assoc base2 held (cells_of row))
+      (done g 1 _ base2 held end (record u { output = u.output ++ text (value.Number w) }) (record { full = based2.full; alike = based2.alike })
+      (writes (place + length wide) (base2 ++ held) w u.output (stands_back g.target place wide writing stands) (linked g u.store base2 held based2)))))
+
   -- a value that is written, and its width
   abbrev ParameterRuns : WriteParameter → Type 0
   ParameterRuns p =
       ExecutesAs (λ scope _. parameter_code scope p) (parameter_depth p) (is_well_formed_parameter variables sites p) (parameter_of p)
 
-  parameter_runs : (p : WriteParameter) → ParameterRuns p
-  parameter_runs p place base held s stands good based high deep =
-      let c = expr_code g.scope p.value in
-      let wide = width_code g.scope p.width p.representation in
-      let writing = write_instr p.representation ∷ [] in
-      let parts = and_parts (is_well_formed_expr variables sites p.value) (is_well_formed_width variables sites p.width) good in
+  written_runs : (v : Written) (width : Option Width) → ParameterRuns (record { value = v; width = width })
+  written_runs (Ordinal v r) width place base held s stands good based high deep =
+      let c = expr_code g.scope v in
+      let wide = width_code g.scope width (Ordinal v r) in
+      let writing = ordinal_instr r ∷ [] in
+      let parts = and_parts (is_well_formed_expr variables sites v) (is_well_formed_width variables sites width) good in
       let behind = stands_back g.target place c (wide ++ writing) stands in
-      let last = stands_back g.target (place + length c) wide writing behind in
       let e : place + length c + length wide + 1 ≡ place + length (c ++ (wide ++ writing)) = omega
       (arith, length-append c (wide ++ writing), length-append wide writing) in
-      let next : Value → Action (Unit {0}) = λ v. width_of p.width p.representation g.environment >>= λ w. effect.write (effect.text_of p.representation v w) in
-      subst (λ q. Executes g s.turns (on g (base ++ held) place s.output) held q (effect.and_then (value_of p.value g.environment s) next)) e
-      (after_value g s.turns _ held held (place + length c) (place + length c + length wide + 1) (value_of p.value g.environment s) next
-      (expr_runs g p.value place base held s (stands_front g.target place c (wide ++ writing) stands) parts.0 based (omega arith))
+      let default = default_width_of r in
+      let next : Value → Action (Unit {0}) = λ x. width_of width default g.environment >>= λ w. effect.write (effect.text_of r x w) in
+      subst (λ q. Executes g s.turns (on g (base ++ held) place s.output) held q (effect.and_then (value_of v g.environment s) next)) e
+      (after_value g s.turns _ held held (place + length c) (place + length c + length wide + 1) (value_of v g.environment s) next
+      (expr_runs g v place base held s (stands_front g.target place c (wide ++ writing) stands) parts.0 based (omega arith))
       (λ base2 n t based2 fit.
-      let one = length_one held (Number n) in
-      let writes : Value → Action (Unit {0}) = λ w. effect.write (effect.text_of p.representation (value.Number n) w) in
-      let width = width_runs g p.width p.representation (place + length c) base2 (held ++ Number n ∷ []) t
-      (stands_front g.target (place + length c) wide writing behind) parts.1 based2 (omega arith) in
-      subst (λ cells. Executes g t.turns (on g cells (place + length c) t.output) held (place + length c + length wide + 1)
-      (effect.and_then (width_of p.width p.representation g.environment t) writes)) (one_held g base2 held n)
-      (after_value g t.turns _ (held ++ Number n ∷ []) held (place + length c + length wide) (place + length c + length wide + 1)
-      (width_of p.width p.representation g.environment t) writes width
-      (λ base3 w u based3 fit'.
-      subst (λ cells. Executes g u.turns (on g (cells ++ Number w ∷ []) (place + length c + length wide) u.output) held (place + length c + length wide + 1)
-      (writes (value.Number w) u)) (sym (one_held g base3 held n))
-      (done g 1 _ base3 held (place + length c + length wide + 1)
-      (record u { output = u.output ++ effect.text_of p.representation (value.Number n) (value.Number w) })
-      (record { full = based3.full; alike = based3.alike })
-      (written_runs p.representation (place + length c + length wide) (base3 ++ held) n w u.output last (linked g u.store base3 held based3)))))))
+      width_writes width (Ordinal v r) default (n ∷ []) (effect.text_of r (value.Number n)) (place + length c) base2 held t (same_default r) (default_fits r)
+      behind parts.1 based2 (omega arith) (λ there cells w output here in_frame. ordinal_writes r there cells n w output fit here in_frame)))
+  written_runs (String (Text number characters)) width place base held s stands good based high deep =
+      let s1 : effect.State = record s { visited = s.visited ++ record { number = number; environment = g.environment; store = s.store } ∷ [] } in
+      let v : Written = String (Text number characters) in
+      let n = length characters.items in
+      let row = map pos characters.items in
+      let c = map (λ x. instr.LoadConstant (pos x)) characters.items in
+      let wide = width_code g.scope width v in
+      let writing = instr.WriteString (row_length n) ∷ [] in
+      let parts = and_parts (are_characters characters.items) (is_well_formed_width variables sites width) good in
+      let few = leb-true n 65536 (and_parts _ _ parts.0).0 in
+      let same = same_length g characters.items parts.0 in
+      let codes = length-map characters.items (λ x. instr.LoadConstant (pos x)) in
+      let behind = subst (λ l. Stands g.target (place + l) (wide ++ writing)) codes (stands_back g.target place c (wide ++ writing) stands) in
+      let e : place + n + length wide + 1 ≡ place + length (c ++ (wide ++ writing)) = omega
+      (arith, length-append c (wide ++ writing), length-append wide writing) in
+      let full = based.full in
+      let pushed = characters_come g characters.items place (base ++ held) s.output (stands_front g.target place c (wide ++ writing) stands)
+      (omega (arith, length-append base held)) in
+      let next : Value → Action (Unit {0}) = λ w. effect.write (effect.row_text row w) in
+      let wrote = width_writes width v (pos n) row (effect.row_text row) (place + n) base held s1 (ap (λ m. instr.LoadConstant (pos m)) (sym same))
+      (fits_by_abs (pos n) (omega arith)) behind parts.1 (record { full = based.full; alike = based.alike }) (omega (arith, length-map characters.items pos))
+      (λ there cells w output here in_frame. string_writes (row_length n) characters.items there cells w output same here in_frame) in
+      subst (λ q. Executes g s.turns (on g (base ++ held) place s.output) held q (effect.and_then (width_of width (pos n) g.environment s1) next)) e
+      (executes_from g 0 s.turns _ _ held (place + n + length wide + 1) (effect.and_then (width_of width (pos n) g.environment s1) next) pushed wrote)
+
+  parameter_runs : (p : WriteParameter) → ParameterRuns p
+  parameter_runs p = written_runs p.value p.width
 
   -- nothing to do
   nothing_runs : (place : ℕ) (base held : List Cell) (s : effect.State) → Based g s.store base

@@ -1,37 +1,21 @@
-ghost use Rattle.std.specs.Prelude.{◌≡◌, ◌+◌, ◌≤◌, ◌<◌, ◌↔◌, true, length, ◌++◌, IfOk, OnOk, vec_len};
+ghost use Rattle.std.specs.Prelude.{◌≡◌, ◌<◌, ◌↔◌, true, length, IfOk};
 ghost use Rattle.std.specs.List.{list_all};
 ghost use Rattle.pcode_assembler.specs.Bounds.{in_bounds};
-ghost use Rattle.code_generator.specs.Code.{block_code, count, program_code, program_scope};
-ghost use Rattle.code_generator.specs.Emitted.{Emits};
+ghost use Rattle.code_emitter.specs.Code.{program_code};
 ghost use Rattle.code_generator.specs.Follows.{Follows};
-ghost use Rattle.code_generator.specs.Sizes.{measured, table_of};
 ghost use Rattle.code_generator.specs.Tables.{point_table, site_table};
 ghost use Rattle.typed_tree.specs.WellFormed.{IsWellFormed};
 
-use crate::depth::needed_by;
-use crate::emit::{emit_stmt, put};
 use crate::fault::GenFault;
-use crate::scope::Scope;
-use crate::size::{measure, program_size};
-use crate::sizes::Sizes;
 use crate::tables::{points_of, sites_of};
+use code_emitter::program::instructions_of;
 use pcode_assembler::code::Code;
-use pcode_assembler::instr::Instr;
-use std::alloc::{AllocError, Global};
-use typed_tree::tree::{Stmt, Tree};
+use std::alloc::Global;
+use typed_tree::tree::Tree;
 
-/// The most instructions that a code may have.
-const MOST: u32 = 1000000;
-
-/// How many cells a frame has before its variables.
-const LINKS: u32 = 4;
-
-/// The most cells that a frame or an evaluation is given.
-const MOST_CELLS: u32 = 16777216;
-
-/// The code of the program: its frame with its variables and as many cells further as its evaluation needs,
-/// its body, and the end of the run. Each check has its site, and the text of a code has room for each operand.
-/// For every input and every number of cells the code follows the program, if the tree is well formed.
+/// The code of the program: its instructions, and the tables of the tree's sites and points. Each check has its site,
+/// and the text of a code has room for each operand. For every input and every number of cells the code follows the
+/// program, if the tree is well formed.
 pub fn generate(alloc: Global, tree: &Tree) -> Result<Code, GenFault>
     ensures instructions { IfOk result (λ code. code.instructions.items ≡ program_code tree.now) }
     ensures too_large { (result ≡ Err GenFault.TooLarge) ↔ (1000000 < length (program_code tree.now)) }
@@ -40,100 +24,12 @@ pub fn generate(alloc: Global, tree: &Tree) -> Result<Code, GenFault>
     ensures points { IfOk result (λ code. code.points.items ≡ point_table tree.now.points.items) }
     ensures follows { IfOk result (λ code. IsWellFormed tree.now → Follows code tree.now) }
 {
-    let size = program_size(tree);
-    if size > MOST {
+    let Some(instructions) = instructions_of(alloc, tree)? else {
         return Err(GenFault::TooLarge);
-    }
+    };
     Ok(Code {
         sites: sites_of(alloc, tree.sites.as_slice())?,
         points: points_of(alloc, tree.points.as_slice())?,
-        instructions: instructions_of(alloc, tree, size)?,
+        instructions,
     })
-}
-
-/// The instructions of the program, for which there is room at once.
-fn instructions_of(alloc: Global, tree: &Tree, size: u32) -> Result<Vec<Instr>, AllocError>
-    requires { length (program_code tree.now) ≤ 1000000 }
-    ensures { IfOk result (λ code. code.items ≡ program_code tree.now) }
-{
-    let mut code = Vec::with_capacity(alloc, size as usize)?;
-    let variables = variable_count(tree);
-    match tree.blocks.first() {
-        Some(program) => emit_program(alloc, &mut code, variables, &program.body)?,
-        None => put(
-            &mut code,
-            Instr::Enter {
-                variables,
-                evaluation: 0,
-            },
-        )?,
-    }
-    put(&mut code, Instr::Stop)?;
-    Ok(code)
-}
-
-/// The instructions of the program's block with so many variables, by the sizes of its statements.
-fn emit_program(
-    alloc: Global,
-    code: &mut Vec<Instr>,
-    variables: u32,
-    body: &Stmt,
-) -> Result<(), AllocError>
-    requires { variables ≤ 16777216 }
-    ensures { length code.old.items
-        + length (block_code variables body.now (program_scope variables) (length code.old.items))
-        ≤ 4294967295 → OnOk result (code.new.items
-        ≡ code.old.items ++ block_code variables body.now (program_scope variables) (length code.old.items)) }
-{
-    let mut sizes = Vec::new(alloc);
-    measure(&mut sizes, body)?;
-    emit_block(
-        code,
-        variables,
-        scope_of_program(variables),
-        &mut Sizes::new(sizes.as_slice()),
-        body,
-    )
-}
-
-/// The instructions of a block with so many variables, where the sizes are those of its statements.
-fn emit_block(
-    code: &mut Vec<Instr>,
-    variables: u32,
-    scope: Scope,
-    sizes: &mut Sizes,
-    body: &Stmt,
-) -> Result<(), AllocError>
-    ensures { Emits result code.old.items code.new.items sizes.old sizes.new
-        (block_code variables body.now scope (length code.old.items)) (table_of (measured body.now scope)) }
-{
-    let evaluation = needed_by(body).min(MOST_CELLS);
-    put(
-        code,
-        Instr::Enter {
-            variables,
-            evaluation,
-        },
-    )?;
-    emit_stmt(code, scope, sizes, body)
-}
-
-/// The scope of the program's block: its variables lie behind the four links of the frame, and nothing is held above.
-fn scope_of_program(variables: u32) -> Scope
-    requires { variables ≤ 16777216 }
-    ensures { result ≡ program_scope variables }
-{
-    Scope {
-        variables: LINKS,
-        above: LINKS + variables,
-        height: 0,
-    }
-}
-
-/// How many variables the program has, or the most cells of a frame.
-fn variable_count(tree: &Tree) -> u32
-    ensures { result ≡ count (vec_len tree.now.variables) }
-{
-    let variables = u32::try_from(tree.variables.len()).unwrap_or(u32::MAX);
-    variables.min(MOST_CELLS)
 }

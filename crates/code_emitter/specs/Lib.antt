@@ -1,0 +1,4 @@
+pub mod Code
+pub mod Emitted
+pub mod Need
+pub mod Sizes

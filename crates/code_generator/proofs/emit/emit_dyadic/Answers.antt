@@ -1,5 +1,0 @@
-use Rattle.std.proofs.Common.{rules}
-use Rattle.code_generator.proofs.emit.emit_dyadic.Goals as goal
-
-pub returns-in-Plus : goal.returns-in-Plus
-returns-in-Plus c = search rules
