@@ -101,7 +101,8 @@ static CHOICES: [(u8, &[&str]); 26] = [
     (
         b'N',
         &[
-            "maxint", "1", "(2 - 3)", "46341", "a", "i", "V", "V", "k", "succ(k)", "pred(V)", "ord(Y)", "ord(E)",
+            "maxint", "1", "(2 - 3)", "46341", "a", "i", "V", "V", "k", "succ(k)", "pred(V)",
+            "ord(Y)", "ord(E)",
         ],
     ),
     (b'V', &["a", "b", "c"]),
@@ -110,7 +111,15 @@ static CHOICES: [(u8, &[&str]); 26] = [
     (
         b'Y',
         &[
-            "F", "F", "F", "'a'", "''''", "chr(V)", "chr(ord(F) + 1)", "succ(F)", "pred(F)",
+            "F",
+            "F",
+            "F",
+            "'a'",
+            "''''",
+            "chr(V)",
+            "chr(ord(F) + 1)",
+            "succ(F)",
+            "pred(F)",
         ],
     ),
     (b'E', &["h", "h", "red", "blue", "succ(h)", "pred(h)"]),
@@ -119,7 +128,15 @@ static CHOICES: [(u8, &[&str]); 26] = [
     (
         b'B',
         &[
-            "T", "not U", "(ULU)", "odd(J)", "(JRJ)", "(JRJ)", "(YRY)", "(ERE)", "('ab' R 'ac')",
+            "T",
+            "not U",
+            "(ULU)",
+            "odd(J)",
+            "(JRJ)",
+            "(JRJ)",
+            "(YRY)",
+            "(ERE)",
+            "('ab' R 'ac')",
         ],
     ),
     (b'U', &["T", "not T", "(TLT)", "odd(J)", "(JRJ)", "(JRJ)"]),

@@ -268,10 +268,7 @@ pub enum Expr {
 #[derive(Drop)]
 pub enum Whole {
     /// Two or more characters, 65,536 at most, each of 0 to 127.
-    Text {
-        number: u32,
-        characters: Vec<u8>,
-    },
+    Text { number: u32, characters: Vec<u8> },
 }
 
 /// An operator of a chain, and its right operand.
