@@ -7,8 +7,8 @@ use std::test::Fail;
 use test_words::machines::{CHECKED, run_told};
 use test_words::rows::all_hold;
 
-/// Instructions, and what a run of them writes, behind it how it stops. Before them a frame of three undefined variables
-/// begins, at the cells 4 to 6, with room for six cells more; behind them the run is finished.
+/// Instructions, and what a run of them writes, behind it how it stops. Before them a frame of three undefined
+/// variables begins, at the cells 4 to 6, with room for six cells more; behind them the run is finished.
 type Row = (&'static [Instr], &'static str);
 
 fn row_told(alloc: Global, row: &&'static [Instr]) -> Result<String, Fail> {
