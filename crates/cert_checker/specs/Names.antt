@@ -1,23 +1,30 @@
 -- What a certificate may name of a program: its blocks, its loops, each under its block, and its variables
--- (ISO 7185:1990, 6.2.2, 6.8.3.6). It does not say that what is claimed of them holds.
+-- (ISO 7185:1990, 6.2.2, 6.5, 6.8.3.6). It does not say that what is claimed of them holds.
 use Rattle.std.specs.Prelude.{ℕ, Bool, false, ◌&&◌, Option, Some, None, length, nat_eq, nat_lt, slice_get}
 use Rattle.std.specs.List.{list_all}
 use Rattle.typed_tree.specs.declared.tree.Tree.{Tree}
 use Rattle.typed_tree.specs.declared.tree.Loop.{Loop}
-use Rattle.domain.specs.declared.facts.Fact.{Fact}
-use Rattle.domain.specs.declared.facts.Fact.TheVariants.{Range, Defined, Order}
 use Rattle.certificate.specs.declared.Certificate.{Certificate}
 use Rattle.certificate.specs.declared.LoopClaims.{LoopClaims}
 use Rattle.certificate.specs.declared.Section.{Section}
+use Rattle.certificate.specs.declared.facts.Path.{Path}
+use Rattle.certificate.specs.declared.facts.Fact.{Fact}
+use Rattle.certificate.specs.declared.facts.Fact.TheVariants.{Range, Defined, Stretch, Order}
 
 -- a variable is one of the program's
 abbrev pub is_variable : Tree → ℕ → Bool
 is_variable tree root = nat_lt root (length tree.variables.items)
 
--- a fact names variables of the program
+-- a path names an entire variable of the program: no variable is a record, so none has a field, and none is an array,
+-- so none has elements
+abbrev pub path_is_known : Tree → Path → Bool
+path_is_known tree path = is_variable tree path.root && nat_eq (length path.steps.items) 0
+
+-- a fact names variables of the program; and no array is there for a stretch
 abbrev pub fact_is_known : Tree → Fact → Bool
-fact_is_known tree (Range root range) = is_variable tree root
-fact_is_known tree (Defined root) = is_variable tree root
+fact_is_known tree (Range path range) = path_is_known tree path
+fact_is_known tree (Defined path) = path_is_known tree path
+fact_is_known tree (Stretch path first last) = false
 fact_is_known tree (Order root other number) = is_variable tree root && is_variable tree other
 
 -- a loop is there, and stands in a block

@@ -1,10 +1,9 @@
 ghost use Rattle.std.specs.Prelude.{◌≡◌, slice_get};
 ghost use Rattle.std.specs.List.{list_all};
 ghost use Rattle.cert_checker.specs.Names.{claims_are_known, fact_is_known, is_known, is_variable, section_is_known};
-ghost use Rattle.cert_checker.specs.Names.{stands_in};
+ghost use Rattle.cert_checker.specs.Names.{path_is_known, stands_in};
 
-use certificate::{Certificate, LoopClaims, Section};
-use domain::facts::Fact;
+use certificate::{Certificate, Fact, LoopClaims, Path, Section};
 use typed_tree::tree::Tree;
 
 /// Whether a certificate names blocks, loops and variables of the program alone, each loop under its block.
@@ -72,10 +71,18 @@ fn fact_is_known(tree: &Tree, fact: &Fact) -> bool
     ensures { result ≡ fact_is_known tree.now fact.now }
 {
     match fact {
-        Fact::Range { root, .. } => is_variable(tree, *root),
-        Fact::Defined { root } => is_variable(tree, *root),
+        Fact::Range { path, .. } => path_is_known(tree, path),
+        Fact::Defined { path } => path_is_known(tree, path),
+        Fact::Stretch { .. } => false,
         Fact::Order { root, other, .. } => is_variable(tree, *root) && is_variable(tree, *other),
     }
+}
+
+/// Whether a path names an entire variable: no variable has fields or elements.
+fn path_is_known(tree: &Tree, path: &Path) -> bool
+    ensures { result ≡ path_is_known tree.now path.now }
+{
+    is_variable(tree, path.root) && path.steps.is_empty()
 }
 
 fn is_variable(tree: &Tree, root: u32) -> bool

@@ -1,16 +1,21 @@
 -- The claims of a certificate by the numbers of the loops; and lists that are made element by element.
-use Rattle.std.proofs.Common.{arith, ◌≡◌, ◌∙◌, sym, ap, refl, ℕ, ◌+◌, ◌<◌, ◌≤◌, Bool, true, false, cond, nat_eq, List, [], ◌∷◌, ◌++◌, Option, Some, None}
+use Rattle.std.proofs.Common.{arith, ◌≡◌, ◌∙◌, sym, ap, refl, ℕ, ◌+◌, ◌<◌, ◌≤◌, Bool, true, false, cond, nat_eq, ◌&&◌, List, [], ◌∷◌, ◌++◌, Option, Some, None}
 use Rattle.std.proofs.Common.{length, map, drop, drop-cons, take, get_or, replicate, add-one, suc, subst}
 use Rattle.std.proofs.lemmas.List.{drop_all, ext_get_or, get_or-map, get_or-replicate, length-map, length-replicate, map-append, take_more}
+use Rattle.std.proofs.lemmas.List.Elements.{filter_map-append}
 use Rattle.std.proofs.lemmas.List.FromFn.{length-map-range_with_len, get_or-map-range_with_len}
-use Rattle.std.specs.List.{range_with_len}
+use Rattle.std.specs.List.{cons_option, list_all, range_with_len}
 use denote.Ref.{Bor}
 use Rattle.certificate.specs.declared.Certificate.{Certificate}
 use Rattle.certificate.specs.declared.LoopClaims.{LoopClaims as KeptClaims}
 use Rattle.certificate.specs.declared.Section.{Section as KeptSection}
-use Rattle.certificate.specs.Contents.{LoopClaims, Section, contents, loop_of, section_of}
-use Rattle.structured_states.specs.Loops.{claims_of, claims_on, found_among, found_in, no_claims, or_else}
-use Rattle.structured_states.specs.View.{AreFound, found_as, said_claims}
+use Rattle.domain.specs.Facts.{Fact}
+use Rattle.abstract_state.specs.Loops.{gives_all}
+use Rattle.abstract_state.specs.State.{State}
+use Rattle.certificate.specs.declared.facts.Fact.{Fact as KeptFact}
+use Rattle.certificate.specs.Contents.{LoopClaims, Section, contents, loop_of, said_fact, section_of}
+use Rattle.structured_states.specs.Loops.{claims_of, claims_on, found_among, found_in, no_claims, or_else, plain, plain_facts}
+use Rattle.structured_states.specs.View.{AreFound, found_as, gives_some, said_claims}
 
 pub item-cut : {X : Type 0} (items : List X) (i : ℕ) (x : X) → i < length items → x ≡ get_or items i x → drop i items ≡ x ∷ drop (i + 1) items
 item-cut items i x inside is = rw add-one (drop-cons items i x inside ∙ ap (λ y. y ∷ drop (suc i) items) (sym is))
@@ -110,3 +115,28 @@ all-found certificate count rows found =
     ∙ ap claims_of
     (found.each number known ∙ ap (λ f. or_else (found_as f) (found_in number (contents certificate))) (get_or-replicate count number None None below))
     ∙ sym (get_or-map-range_with_len (claims_on certificate) 0 count number number no_claims below (omega arith)))
+
+-- ---- claims that a state keeps
+
+given_one : (state : State) (claim : Option Fact) (facts : List Fact)
+    → gives_all state (cons_option claim facts) ≡ (gives_some state claim && gives_all state facts)
+given_one state None facts = refl
+given_one state (Some fact) facts = refl
+
+-- the claims that are kept are given exactly where each claim is given or isn't kept
+pub all_given : (state : State) (claims : List KeptFact)
+    → list_all (λ claim. gives_some state (plain (said_fact claim))) claims ≡ gives_all state (plain_facts (map said_fact claims))
+all_given state [] = refl
+all_given state (claim ∷ claims) =
+    ap (λ rest. gives_some state (plain (said_fact claim)) && rest) (all_given state claims)
+    ∙ sym (given_one state (plain (said_fact claim)) (plain_facts (map said_fact claims)))
+
+-- one claim more
+pub kept_more : (claims : List KeptFact) (i : ℕ) (claim : KeptFact) (kept : List Fact) (fact : Option Fact) → i < length claims → claim ≡ get_or claims i claim
+    → kept ≡ plain_facts (map said_fact (take i claims)) → fact ≡ plain (said_fact claim)
+    → kept ++ cons_option fact [] ≡ plain_facts (map said_fact (take (i + 1) claims))
+kept_more claims i claim kept fact inside is kept_is fact_is =
+    ap (λ front. front ++ cons_option fact []) kept_is
+    ∙ ap (λ f. plain_facts (map said_fact (take i claims)) ++ cons_option f []) fact_is
+    ∙ sym (filter_map-append plain (map said_fact (take i claims)) (said_fact claim ∷ []))
+    ∙ ap plain_facts (mapped-more said_fact claims i claim inside is)

@@ -2,7 +2,7 @@
 -- It does not say that a loop keeps to that.
 use Rattle.std.specs.Prelude.{ℕ, List, [], ◌∷◌, ◌++◌, Option, Some, None, Bool, not, if◌then◌else◌, filter, map, nat_eq}
 use Rattle.std.specs.Prelude.{length, slice_get, slice_index_or}
-use Rattle.std.specs.List.{list_all, range_with_len}
+use Rattle.std.specs.List.{filter_map, list_all, range_with_len}
 use Rattle.types.specs.declared.form.OrdinalRange.{OrdinalRange}
 use Rattle.types.specs.declared.form.TypeForm.{TypeForm}
 use Rattle.types.specs.Types.{range_of}
@@ -12,8 +12,8 @@ use Rattle.typed_tree.specs.declared.tree.Variable.{Variable}
 use Rattle.certificate.specs.declared.Certificate.{Certificate}
 use Rattle.certificate.specs.Contents.{LoopClaims, Section, contents}
 use Rattle.domain.specs.Interval.{Interval, vacant}
-use Rattle.domain.specs.Facts.{Fact, said}
-use Rattle.abstract_state.specs.State.{integer, limits_of}
+use Rattle.domain.specs.Facts.{Fact, Range, Defined, Stretch, Order}
+use Rattle.abstract_state.specs.State.{integer, is_entire, limits_of}
 use Rattle.abstract_state.specs.Loops.{is_among}
 
 -- what is claimed of a loop: the variables that it changes, and facts that hold whenever a turn begins
@@ -25,10 +25,20 @@ pub record Claims : Type 0 where
 abbrev pub no_claims : Claims
 no_claims = record { changes = []; facts = [] }
 
+-- a claim as the checker goes by it: there are no arrays and records, so none of a part of a variable or of a stretch
+abbrev pub plain : Fact → Option Fact
+plain (Range path range) = if is_entire path.steps then Some (Range path range) else None
+plain (Defined path) = if is_entire path.steps then Some (Defined path) else None
+plain (Stretch path first last) = None
+plain (Order root other number) = Some (Order root other number)
+
+abbrev pub plain_facts : List Fact → List Fact
+plain_facts facts = filter_map plain facts
+
 -- what is claimed, if anything is
 abbrev pub claims_of : Option LoopClaims → Claims
 claims_of None = no_claims
-claims_of (Some one) = record { changes = one.changes; facts = map said one.facts }
+claims_of (Some one) = record { changes = one.changes; facts = plain_facts one.facts }
 
 -- the claims on the loop of a number among those on several
 abbrev pub found_among : ℕ → List LoopClaims → Option LoopClaims

@@ -1,8 +1,10 @@
 -- The loops and ways of the program as the definitions see them. It does not say what is known of them.
-use Rattle.std.specs.Prelude.{ℕ, ◌≡◌, ◌<◌, Bool, false, List, Option, Some, None, get_or, length, nat_eq}
+use Rattle.std.specs.Prelude.{ℕ, ◌≡◌, ◌<◌, Bool, true, false, List, Option, Some, None, get_or, length, nat_eq}
 use denote.Ref.{Bor}
 use Rattle.certificate.specs.declared.LoopClaims.{LoopClaims as KeptClaims}
 use Rattle.certificate.specs.Contents.{LoopClaims, loop_of}
+use Rattle.domain.specs.Facts.{Fact}
+use Rattle.abstract_state.specs.State.{State, gives_fact}
 use Rattle.abstract_state.specs.View.{said_form}
 use Rattle.structured_states.specs.declared.rounds.Round.{Round as KeptRound}
 use Rattle.structured_states.specs.declared.ways.End.{End as KeptEnd}
@@ -18,6 +20,11 @@ found_as (Some claims) = Some (loop_of claims.now)
 -- what they claim of a loop
 abbrev pub said_claims : Option (Bor KeptClaims) → Claims
 said_claims claims = claims_of (found_as claims)
+
+-- a state gives a claim, if the checker goes by it
+abbrev pub gives_some : State → Option Fact → Bool
+gives_some state None = true
+gives_some state (Some fact) = gives_fact state fact
 
 -- claims were found for loops by their numbers: where some were known before, those stay
 pub record AreFound (old new : List (Option (Bor KeptClaims))) (found : ℕ → Option LoopClaims) : Type 0 where

@@ -3,5 +3,6 @@
 #![tactic(auto)]
 
 pub mod cases;
+mod kept_claims;
 pub mod rounds;
 pub mod ways;

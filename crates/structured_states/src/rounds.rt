@@ -8,6 +8,7 @@ ghost use Rattle.structured_states.specs.Loops.{all_claims, all_limits, claims_a
 ghost use Rattle.structured_states.specs.Loops.{limits_at, touched, type_limits};
 ghost use Rattle.structured_states.specs.View.{AreFound, head_round, is_own, kept_round, said_claims};
 
+use crate::kept_claims::{are_given, plain_facts};
 use abstract_state::{State, limits};
 use certificate::{Certificate, LoopClaims};
 use domain::facts::Fact;
@@ -73,12 +74,12 @@ impl<'a> Round<'a> {
     }
 
     /// The facts of its claims.
-    fn facts(&self) -> &'a [Fact]
-        ensures { map said result.now ≡ (said_claims self.now.claims).facts }
+    fn facts(&self, alloc: Global) -> Result<Vec<Fact>, AllocError>
+        ensures { IfOk result (λ facts. map said facts.items ≡ (said_claims self.now.claims).facts) }
     {
         match self.claims {
-            None => &[],
-            Some(claims) => &claims.facts,
+            None => Ok(Vec::new(alloc)),
+            Some(claims) => plain_facts(alloc, &claims.facts),
         }
     }
 
@@ -86,7 +87,10 @@ impl<'a> Round<'a> {
     pub fn is_given(&self, state: &State) -> bool
         ensures { result ≡ gives_all (viewed state.now) (said_claims self.now.claims).facts }
     {
-        state.gives_all(self.facts())
+        match self.claims {
+            None => true,
+            Some(claims) => are_given(state, &claims.facts),
+        }
     }
 
     /// Brings a state to its head.
@@ -101,7 +105,8 @@ impl<'a> Round<'a> {
     {
         let controls = self.all_controls(alloc)?;
         let touched = self.all_touched(alloc, &controls)?;
-        state.head(limits, &touched, &controls, self.facts())
+        let facts = self.facts(alloc)?;
+        state.head(limits, &touched, &controls, &facts)
     }
 
     /// Its control variables, and the variables that its claims list.
