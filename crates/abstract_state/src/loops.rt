@@ -2,7 +2,7 @@ ghost use Rattle.std.specs.Prelude.{◌≡◌, IfOk, map, slice_index_or};
 ghost use Rattle.domain.specs.Facts.{said};
 ghost use Rattle.domain.specs.Interval.{vacant};
 ghost use Rattle.abstract_state.specs.State.{gives_fact};
-ghost use Rattle.abstract_state.specs.Loops.{after_turns, all_forgotten, all_touched, gives_all, head, replaced};
+ghost use Rattle.abstract_state.specs.Loops.{after_turns, all_forgotten, all_touched, head, replaced};
 ghost use Rattle.abstract_state.specs.Loops.{with_claim, with_claims, with_forgotten, with_touched, with_undefined};
 ghost use Rattle.abstract_state.specs.View.{said_form, viewed};
 
@@ -92,18 +92,6 @@ impl State {
                 number: *number,
             })),
         }
-    }
-
-    /// Whether each claim is given.
-    pub fn gives_all(&self, claims: &[Fact]) -> bool
-        ensures { result ≡ gives_all (viewed self.now) (map said claims.now) }
-    {
-        for claim in claims {
-            if !self.gives(claim) {
-                return false;
-            }
-        }
-        true
     }
 
     /// Whether a fact is given; a dead state gives each.

@@ -36,7 +36,7 @@ static TEXTS: [(&str, (u8, u64)); 15] = [
 ];
 
 /// Lines below `pcert 1`, `proc 0` and `loop 0`, which have the lines 1 to 3, and the fault of the text.
-static LINES: [(&str, (u8, u64)); 42] = [
+static LINES: [(&str, (u8, u64)); 45] = [
     ("change v0\n", (0, 0)),
     ("change v999999\n", (0, 0)),
     ("change v1000000\n", (4, 4)),
@@ -67,9 +67,12 @@ static LINES: [(&str, (u8, u64)); 42] = [
     ("fact range v0 0\n", (2, 4)),
     ("fact range v0 0 1 2\n", (2, 4)),
     ("fact range v1000000 0 01\n", (2, 4)),
-    ("fact range v0[] 0 1\n", (2, 4)),
+    ("fact range v0[] 0 1\n", (0, 0)),
+    ("fact range v0.f[] 0 1\n", (0, 0)),
+    ("fact defined v0[]\n", (2, 4)),
     ("fact defined v0\n", (0, 0)),
-    ("fact defined v0 1 2\n", (2, 4)),
+    ("fact defined v0 1 2\n", (0, 0)),
+    ("fact defined v0 v1+0 v1-0\n", (4, 4)),
     ("fact order v0 v1 -3\n", (0, 0)),
     ("fact order v0 1 -3\n", (2, 4)),
     ("fact range v0 0 1\nfact range v0 0 2\n", (3, 5)),
