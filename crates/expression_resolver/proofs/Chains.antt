@@ -1,29 +1,43 @@
 -- Chains of operators, and the one actual of a function: how their typing goes on from that of their parts.
-use Rattle.std.proofs.Common.{◌≡◌, List, [], ◌∷◌, ◌++◌, length, map, get_or, Option, option_map, Ok, Err, Box, Vec, inl, inr, refl, sym, ap, ◌∙◌, arith}
+use Rattle.std.proofs.Common.{◌≡◌, List, [], ◌∷◌, ◌++◌, length, map, get_or, true, false, ◌||◌, nat_eq, Option, Some, is_none, option_map, Ok, Err}
+use Rattle.std.proofs.Common.{Box, Vec, Result, inl, inr, refl, sym, ap, ap₂, subst, ◌∙◌, arith, append-nil}
+use Rattle.std.specs.Prelude.{flat_map, MatchResult}
+use Rattle.std.proofs.lemmas.List.{length-map}
+use Rattle.std.proofs.lemmas.Bool.{ne_eqb}
 use Rattle.std.specs.declared.alloc.Global.{Global}
 use Rattle.place.specs.declared.Place.{Place}
-use Rattle.syntax_tree.specs.declared.Expr.{Expr}
+use Rattle.syntax_tree.specs.declared.Expr.{Expr as SyntaxExpr}
 use Rattle.syntax_tree.specs.declared.Link.{Link}
 use Rattle.syntax_tree.specs.declared.Actual.{Actual}
 use Rattle.syntax_tree.specs.declared.Expr.TheVariants as syntax
 use Rattle.syntax_tree.specs.declared.Expr.TheViews.{out-Actual}
-use Rattle.types.specs.declared.form.TypeId.{TypeId}
 use Rattle.typed_tree.specs.declared.fault.TypeFault.{TypeFault}
 use Rattle.typed_tree.specs.declared.fault.TypeFault.TheVariants as fault
 use Rattle.typed_tree.specs.declared.site.SiteKind.{SiteKind}
-use Rattle.typed_tree.specs.Look.{Look, Begins, Ends}
-use Rattle.typing.specs.Passing.{Passed, Passing, after, and_then, behind_marks, pure, mark, ◌>>=◌, ◌>>◌}
+use Rattle.typed_tree.specs.declared.tree.Expr.{Expr}
+use Rattle.typed_tree.specs.declared.tree.Whole.{Whole}
+use Rattle.typed_tree.specs.Look.{Look, Begins, Ends, look_expr, look_link, look_whole}
+use Rattle.typed_tree.specs.WellFormed.{length_of}
+use Rattle.typing.specs.declared.typed.Typed.{Typed}
+use Rattle.typing.specs.Passing.{Passed, Checked, After, after, and_then, behind_marks, pure, mark, given, ◌>>=◌, ◌>>◌}
+use Rattle.typing.specs.Steps.{fits}
 use Rattle.typing.specs.Outcomes.{IsFault}
-use Rattle.typing.specs.Expressions.{Typed, typed, Written, WrittenLink, expression, written_link, written_actual, chain, links, only, without_width}
-use Rattle.typed_tree.proofs.Looks.{look_linked}
-use Rattle.typing.proofs.Written.{typing_chain, typing_link, typing_actual}
+use Rattle.typing.specs.Expressions.{Written, WrittenLink, expression, written_link, written_actual, chain, links, only, without_width, typed}
+use Rattle.typing.specs.Expressions.{typed_string}
+use Rattle.typing.proofs.Rows.{behind_both, behind_fault}
+use Rattle.typing.proofs.Written.{typing_chain, typing_actual}
+use Rattle.expression_resolver.specs.declared.typed.Value.TheVariants.{Ordinal, Whole as WholeOf}
+use Rattle.expression_resolver.specs.declared.typed.TypedExpr.{TypedExpr}
+use Rattle.expression_resolver.specs.declared.typed.TypedLink.{TypedLink}
+use Rattle.expression_resolver.specs.declared.typed.TypedLinks.{TypedLinks}
+use Rattle.expression_resolver.specs.Made.{operators, typed_of, look_value, look_behind, value_length, MakesTyped, IsChainOf, IsComparisonOf}
 
 -- ---- the one actual
 
-pub one_alone : (actuals : List Actual) (actual : Actual) → length actuals ≡ 1 → actual ≡ get_or actuals 0 actual → actuals ≡ actual ∷ []
-one_alone [] actual one is = absurd (omega (arith, one))
-one_alone (first ∷ []) actual one is = ap (λ a. a ∷ []) (sym is)
-one_alone (first ∷ second ∷ rest) actual one is = absurd (omega (arith, one))
+pub one_alone : {A : Type 0} (xs : List A) (x : A) → length xs ≡ 1 → x ≡ get_or xs 0 x → xs ≡ x ∷ []
+one_alone [] x one is = absurd (omega (arith, one))
+one_alone (first ∷ []) x one is = ap (λ a. a ∷ []) (sym is)
+one_alone (first ∷ second ∷ rest) x one is = absurd (omega (arith, one))
 
 pub only_is : (place : Place) (actual : Actual)
     → only place (map written_actual (actual ∷ []))
@@ -40,66 +54,147 @@ pub ruleset only_one = (one_alone, only_is, not_one)
 
 -- ---- chains
 
--- the operators behind a first operand
-behind_first : List WrittenLink → Typed → Passing Typed
-behind_first rest f = do
-  type_id ← links f.type_id rest
-  mark Ends
-  pure (typed type_id f.site)
-
 module _ (first : Written) (rest : List WrittenLink) (lead : Option SiteKind) (old : Passed) where
   chain_goes : chain first rest lead old
-      ≡ behind_marks (Begins ∷ []) (and_then (first.typing lead old) (λ a. behind_marks a.look (behind_first rest a.answer a.passed)))
-  unfolding chain behind_first
+      ≡ behind_marks (Begins ∷ []) (and_then (first.typing lead old) (λ a. behind_marks a.look (operators first.first a.answer rest a.passed)))
+  unfolding chain operators
   chain_goes = refl
 
-  first_stops : (why : TypeFault) → first.typing lead old ≡ Err why → chain first rest lead old ≡ Err why
-  first_stops why stops = chain_goes ∙ ap (λ r. behind_marks (Begins ∷ []) (and_then r (λ a. behind_marks a.look (behind_first rest a.answer a.passed)))) stops
-
-  module _ (f : Typed) (look : Look) (now : Passed) (passes : first.typing lead old ≡ Ok (after f look now)) where
-    chain_on : chain first rest lead old ≡ behind_marks (Begins ∷ []) (behind_marks look (behind_first rest f now))
-    chain_on = chain_goes ∙ ap (λ r. behind_marks (Begins ∷ []) (and_then r (λ a. behind_marks a.look (behind_first rest a.answer a.passed)))) passes
-
-    rest_stops : (why : TypeFault) → links f.type_id rest now ≡ Err why → chain first rest lead old ≡ Err why
-    unfolding behind_first
-    rest_stops why stops =
-        chain_on
-        ∙ ap (λ r. behind_marks (Begins ∷ []) (behind_marks look
-        (and_then r (λ b. behind_marks b.look ((mark Ends >> pure (typed b.answer f.site)) b.passed))))) stops
-
-    chain_ends : (type_id : TypeId) (operators : Look) (new : Passed) → links f.type_id rest now ≡ Ok (after type_id operators new)
-        → chain first rest lead old ≡ Ok (after (typed type_id f.site) (Begins ∷ (look ++ (operators ++ (Ends ∷ [])))) new)
-    unfolding behind_first
-    chain_ends type_id operators new passes =
-        chain_on
-        ∙ ap (λ r. behind_marks (Begins ∷ []) (behind_marks look
-        (and_then r (λ b. behind_marks b.look ((mark Ends >> pure (typed b.answer f.site)) b.passed))))) passes
-
--- the same of a written chain
-module _ (w : Expr) (first : Box Expr Global) (rest : Vec Link Global) (is : w ≡ syntax.Chain first rest) (lead : Option SiteKind) (old : Passed)
-    (operand : Expr) (value : operand ≡ first.value) where
-  written_chain : (expression w).typing lead old ≡ chain (expression operand) (map written_link rest.items) lead old
+-- a written chain
+module _ (w : SyntaxExpr) (first : Box SyntaxExpr Global) (rest : Vec Link Global) (is : w ≡ syntax.Chain first rest) (lead : Option SiteKind) (old : Passed)
+    (operand : SyntaxExpr) (value : operand ≡ first.value) where
+  written_chain : (expression w).typing lead old
+      ≡ behind_marks (Begins ∷ []) (and_then ((expression operand).typing lead old)
+      (λ a. behind_marks a.look (operators (expression operand).first a.answer (map written_link rest.items) a.passed)))
   written_chain =
       ap (λ e. e.typing lead old) (ap expression is ∙ typing_chain first rest)
       ∙ ap (λ e. chain (expression e) (map written_link rest.items) lead old) (sym value)
+      ∙ chain_goes (expression operand) (map written_link rest.items) lead old
 
+  -- its first operand is refused
   pub stops_at_first : (why : TypeFault) → IsFault ((expression operand).typing lead old) why → IsFault ((expression w).typing lead old) why
   stops_at_first why (inl memory) = inl memory
-  stops_at_first why (inr stops) = inr (written_chain ∙ first_stops (expression operand) (map written_link rest.items) lead old why stops)
+  stops_at_first why (inr stops) = inr (
+      written_chain
+      ∙ ap (λ r. behind_marks (Begins ∷ []) (and_then r
+      (λ a. behind_marks a.look (operators (expression operand).first a.answer (map written_link rest.items) a.passed)))) stops)
 
-  module _ (operators : List Link) (items : operators ≡ rest.items) (f : Typed) (look : Look) (now : Passed)
-      (passes : (expression operand).typing lead old ≡ Ok (after f look now)) where
-    pub stops_at_rest : (why : TypeFault) → IsFault (links f.type_id (map written_link operators) now) why → IsFault ((expression w).typing lead old) why
-    stops_at_rest why (inl memory) = inl memory
-    stops_at_rest why (inr stops) = inr (
-        written_chain ∙ rest_stops (expression operand) (map written_link rest.items) lead old f look now passes why
-        (ap (λ l. links f.type_id (map written_link l) now) (sym items) ∙ stops))
+  -- it goes on behind its first operand
+  pub goes_on : (f : Typed) (look : Look) (now : Passed) (place : Place) (behind : List Link) → place ≡ (expression first.value).first → behind ≡ rest.items
+      → (expression operand).typing lead old ≡ Ok (after f look now)
+      → (expression w).typing lead old ≡ behind_marks (Begins ∷ look) (operators place f (map written_link behind) now)
+  goes_on f look now place behind at items passes =
+      written_chain
+      ∙ ap (λ r. behind_marks (Begins ∷ []) (and_then r
+      (λ a. behind_marks a.look (operators (expression operand).first a.answer (map written_link rest.items) a.passed)))) passes
+      ∙ behind_both (Begins ∷ []) look (operators (expression operand).first f (map written_link rest.items) now)
+      ∙ ap (λ l. behind_marks (Begins ∷ look) (operators (expression operand).first f (map written_link l) now)) (sym items)
+      ∙ ap (λ p. behind_marks (Begins ∷ look) (operators p f (map written_link behind) now)) (ap (λ e. (expression e).first) value ∙ sym at)
 
-    pub passes_chain : (type_id : TypeId) (looks : Look) (new : Passed) → links f.type_id (map written_link operators) now ≡ Ok (after type_id looks new)
-        → (expression w).typing lead old ≡ Ok (after (typed type_id f.site) (Begins ∷ (look ++ (looks ++ (Ends ∷ [])))) new)
-    passes_chain type_id looks new ends =
-        written_chain ∙ chain_ends (expression operand) (map written_link rest.items) lead old f look now passes type_id looks new
-        (ap (λ l. links f.type_id (map written_link l) now) (sym items) ∙ ends)
+-- ---- the operators behind a first operand
 
--- an operator and its right operand
-pub ruleset linked = (typing_link, look_linked)
+module _ (place : Place) (f : Typed) (rest : List WrittenLink) (now : Passed) where
+  -- they are too many for a string
+  pub rest_refused : (is_none f.length || nat_eq (length rest) 1) ≡ false → operators place f rest now ≡ Err (fault.Mismatch place)
+  unfolding operators
+  rest_refused many = ap (λ b. (given (fits b place f) >> (links f rest >>= (λ t. mark Ends >> pure t))) now) many
+
+  module _ (few : (is_none f.length || nat_eq (length rest) 1) ≡ true) where
+    operators_go : operators place f rest now ≡ behind_marks [] (and_then (links f rest now) (λ a. behind_marks a.look ((mark Ends >> pure a.answer) a.passed)))
+    unfolding operators
+    operators_go = ap (λ b. (given (fits b place f) >> (links f rest >>= (λ t. mark Ends >> pure t))) now) few
+
+    -- one of them is refused
+    pub rest_stops : (why : TypeFault) → IsFault (links f rest now) why → IsFault (operators place f rest now) why
+    rest_stops why (inl memory) = inl memory
+    rest_stops why (inr stops) = inr (
+        operators_go ∙ ap (λ r. behind_marks [] (and_then r (λ a. behind_marks a.look ((mark Ends >> pure a.answer) a.passed)))) stops)
+
+    -- they end the chain
+    pub rest_ends : (t : Typed) (look : Look) (new : Passed) → links f rest now ≡ Ok (after t look new)
+        → operators place f rest now ≡ Ok (after t (look ++ (Ends ∷ [])) new)
+    rest_ends t look new passes =
+        operators_go ∙ ap (λ r. behind_marks [] (and_then r (λ a. behind_marks a.look ((mark Ends >> pure a.answer) a.passed)))) passes
+
+-- ---- an ordinal, and the operators behind it
+
+module _ (place : Place) (first : TypedExpr) (left : Typed) (same : left ≡ typed_of first) (rest : List Link) (now : Passed) where
+  -- what the chain is
+  abbrev goes : Checked (After Typed)
+  goes = behind_marks (Begins ∷ look_value first.value) (operators place (typed_of first) (map written_link rest) now)
+
+  module _ (value : Expr) (is : first.value ≡ Ordinal value) where
+    abbrev before : Typed
+    before = typed left.type_id left.site
+
+    behind_ordinal : goes ≡ behind_marks (Begins ∷ look_expr value) (operators place before (map written_link rest) now)
+    behind_ordinal =
+        ap (λ v. behind_marks (Begins ∷ look_value v)
+        (operators place (record { type_id = first.type_id; length = value_length v; site = first.site }) (map written_link rest) now)) is
+        ∙ ap (λ (l : Typed). behind_marks (Begins ∷ look_expr value) (operators place (typed l.type_id l.site) (map written_link rest) now)) (sym same)
+
+    pub ordinal_stops : (why : TypeFault) → IsFault (links before (map written_link rest) now) why → IsFault goes why
+    ordinal_stops why stops = subst (λ o. IsFault o why) (sym behind_ordinal) (
+        behind_fault (Begins ∷ look_expr value) (operators place before (map written_link rest) now) why
+        (rest_stops place before (map written_link rest) now refl why stops))
+
+    pub ordinal_made : (rows : TypedLinks) (new : Passed) (moved : Expr) (made : Result TypedExpr TypeFault)
+        → links before (map written_link rest) now ≡ Ok (after (typed rows.type_id left.site) (flat_map look_link rows.links.items) new)
+        → moved ≡ value → MatchResult made (IsChainOf moved left.site rows) (λ why. why ≡ fault.Memory) → MakesTyped goes made new
+    ordinal_made rows new moved (Err why) passes same_value memory = inl memory
+    ordinal_made rows new moved (Ok made) passes same_value chain_of =
+        behind_ordinal ∙ ap (λ v. behind_marks (Begins ∷ look_expr v) (operators place before (map written_link rest) now)) (sym same_value)
+        ∙ ap (behind_marks (Begins ∷ look_expr moved))
+        (rest_ends place before (map written_link rest) now refl (typed rows.type_id left.site) (flat_map look_link rows.links.items) new passes)
+        ∙ ap₂ (λ t look. Ok (after t look new)) (sym chain_of.is) (sym chain_of.looks)
+
+  -- ---- a string, and the operator behind it
+
+  module _ (value : Whole) (is : first.value ≡ WholeOf value) where
+    as_long : typed_of first ≡ typed_string first.type_id (length_of value) first.site
+    as_long = ap (λ v. record { type_id = first.type_id; length = value_length v; site = first.site }) is
+
+    is_long : is_none (typed_of first).length ≡ false
+    is_long = ap (λ t. is_none t.length) as_long
+
+    too_many : ¬ (length rest ≡ 1) → (is_none (typed_of first).length || nat_eq (length (map written_link rest)) 1) ≡ false
+    too_many several =
+        ap (λ b. b || nat_eq (length (map written_link rest)) 1) is_long ∙ ap (λ n. nat_eq n 1) (length-map rest written_link)
+        ∙ ne_eqb (length rest) 1 several
+
+    pub string_refused : ¬ (length rest ≡ 1) → IsFault goes (fault.Mismatch place)
+    string_refused several =
+        behind_fault (Begins ∷ look_value first.value) (operators place (typed_of first) (map written_link rest) now) (fault.Mismatch place)
+        (inr (rest_refused place (typed_of first) (map written_link rest) now (too_many several)))
+
+    module _ (written : Link) (alone : rest ≡ written ∷ []) where
+      behind_string : goes ≡ behind_marks (Begins ∷ look_value first.value) (operators place left (written_link written ∷ []) now)
+      behind_string =
+          ap (λ l. behind_marks (Begins ∷ look_value first.value) (operators place (typed_of first) (map written_link l) now)) alone
+          ∙ ap (λ l. behind_marks (Begins ∷ look_value first.value) (operators place l (written_link written ∷ []) now)) (sym same)
+
+      few : (is_none left.length || nat_eq 1 1) ≡ true
+      few = ap (λ t. is_none t.length || nat_eq 1 1) same ∙ ap (λ b. b || nat_eq 1 1) is_long
+
+      pub string_stops : (why : TypeFault) → IsFault (written_link written left now) why → IsFault goes why
+      string_stops why (inl memory) = inl memory
+      string_stops why (inr stops) = subst (λ o. IsFault o why) (sym behind_string) (
+          behind_fault (Begins ∷ look_value first.value) (operators place left (written_link written ∷ []) now) why
+          (rest_stops place left (written_link written ∷ []) now few why
+          (inr (ap (λ r. and_then r (λ a. behind_marks a.look (links a.answer [] a.passed))) stops))))
+
+      pub string_made : (relation : TypedLink) (new : Passed) (moved : Whole) (made : TypedExpr)
+          → written_link written left now ≡ Ok (after (typed relation.type_id left.site) (look_behind left.length relation) new)
+          → moved ≡ value → IsComparisonOf moved left.site relation made → goes ≡ Ok (after (typed_of made) (look_value made.value) new)
+      string_made relation new moved made passes same_value comparison_of =
+          behind_string
+          ∙ ap (behind_marks (Begins ∷ look_value first.value))
+          (rest_ends place left (written_link written ∷ []) now few (typed relation.type_id left.site) (look_behind left.length relation) new
+          (ap (λ r. and_then r (λ a. behind_marks a.look (links a.answer [] a.passed))) passes
+          ∙ ap (λ look. Ok (after (typed relation.type_id left.site) look new)) (append-nil (look_behind left.length relation))))
+          ∙ ap (λ v. Ok (after (typed relation.type_id left.site) ((Begins ∷ look_value v) ++ (look_behind left.length relation ++ (Ends ∷ []))) new)) is
+          ∙ ap (λ n. Ok (after (typed relation.type_id left.site) (Begins ∷ (look_whole value ++ (look_behind n relation ++ (Ends ∷ [])))) new))
+          (ap (λ t. t.length) (same ∙ as_long))
+          ∙ ap (λ v. Ok (after (typed relation.type_id left.site)
+          (Begins ∷ (look_whole v ++ (look_behind (Some (length_of v)) relation ++ (Ends ∷ [])))) new)) (sym same_value)
+          ∙ ap₂ (λ t look. Ok (after t look new)) (sym comparison_of.is) (sym comparison_of.looks)

@@ -1,37 +1,98 @@
--- How the answers are what typing says of expressions: what is made of a form has the type and the leading site that
--- typing answers, and looks so. It says nothing of what typing answers.
-use Rattle.std.specs.Prelude.{◌≡◌, List, [], ◌∷◌, ◌++◌, flat_map, Result}
+-- How the answers are what typing says of expressions: what is made of a form has the type, the length and the leading
+-- site that typing answers, and looks so. It says nothing of what typing answers.
+use Rattle.std.specs.Prelude.{◌≡◌, ℕ, Bool, true, false, ◌||◌, List, [], ◌∷◌, ◌++◌, flat_map, length, nat_eq, Result}
+use Rattle.std.specs.Prelude.{Option, Some, None, is_none}
+use Rattle.place.specs.declared.Place.{Place}
 use Rattle.syntax_tree.specs.declared.Actual.{Actual}
 use Rattle.syntax_tree.specs.declared.Expr.{Expr as SyntaxExpr}
 use Rattle.syntax_tree.specs.declared.Expr.TheViews.{out-Actual}
 use Rattle.typed_tree.specs.declared.fault.TypeFault.{TypeFault}
-use Rattle.types.specs.declared.form.TypeId.{TypeId}
-use Rattle.typed_tree.specs.Look.{Begins, Ends, look_expr, look_link}
-use Rattle.typing.specs.Passing.{Passed, Checked, After}
-use Rattle.typing.specs.Expressions.{Typed, typed}
+use Rattle.typed_tree.specs.declared.tree.Dyadic.{Dyadic}
+use Rattle.typed_tree.specs.declared.tree.Dyadic.TheVariants as dyadic
+use Rattle.typed_tree.specs.declared.tree.Expr.{Expr}
+use Rattle.typed_tree.specs.declared.tree.Whole.{Whole}
+use Rattle.typed_tree.specs.Look.{Look, Begins, Operator, Compared, Ends, look_expr, look_link, look_whole}
+use Rattle.typed_tree.specs.WellFormed.{length_of}
+use Rattle.typing.specs.declared.typed.Typed.{Typed}
+use Rattle.typing.specs.Passing.{Passed, Passing, Checked, After, given, mark, pure, ◌>>=◌, ◌>>◌}
+use Rattle.typing.specs.Steps.{fits}
+use Rattle.typing.specs.Expressions.{WrittenLink, typed, links, are_alike}
 use Rattle.typing.specs.Outcomes.{Makes}
-use Rattle.expression_resolver.specs.declared.typed.Typed.{Typed as MadeExpr}
+use Rattle.expression_resolver.specs.declared.typed.Value.{Value}
+use Rattle.expression_resolver.specs.declared.typed.Value.TheVariants.{Ordinal, Whole as WholeOf}
+use Rattle.expression_resolver.specs.declared.typed.TypedExpr.{TypedExpr}
 use Rattle.expression_resolver.specs.declared.typed.TypedLink.{TypedLink}
 use Rattle.expression_resolver.specs.declared.typed.TypedLinks.{TypedLinks}
 
+-- how what stands for a value looks
+abbrev pub look_value : Value → Look
+look_value (Ordinal value) = look_expr value
+look_value (WholeOf value) = look_whole value
+
+-- how many characters it has, where it is a string
+abbrev pub value_length : Value → Option ℕ
+value_length (Ordinal value) = None
+value_length (WholeOf value) = Some (length_of value)
+
+-- what an expression is
+abbrev pub typed_of : TypedExpr → Typed
+typed_of made = record { type_id = made.type_id; length = value_length made.value; site = made.site }
+
 -- an expression
-abbrev pub MakesTyped : Checked (After Typed) → Result MadeExpr TypeFault → Passed → Type 0
-MakesTyped = Makes (λ t. typed t.type_id t.site) (λ t. look_expr t.expression)
+abbrev pub MakesTyped : Checked (After Typed) → Result TypedExpr TypeFault → Passed → Type 0
+MakesTyped = Makes typed_of (λ made. look_value made.value)
 
--- an operator and its right operand, by the type of its result
-abbrev pub MakesLink : Checked (After TypeId) → Result TypedLink TypeFault → Passed → Type 0
-MakesLink = Makes (λ t. t.type_id) (λ t. look_link t.link)
+-- how two strings look that are compared, behind the right one
+abbrev pub look_compared : Option ℕ → Option ℕ → Look
+look_compared (Some left) (Some right) = Compared left right ∷ []
+look_compared left right = []
 
--- the operators of a chain
-abbrev pub MakesLinks : Checked (After TypeId) → Result TypedLinks TypeFault → Passed → Type 0
-MakesLinks = Makes (λ t. t.type_id) (λ t. flat_map look_link t.links.items)
+-- how an operator and its right operand look, where such a value stands before it
+abbrev pub look_behind : Option ℕ → TypedLink → Look
+look_behind left made =
+    Operator made.number made.operation ∷ (look_value made.operand ++ look_compared left (value_length made.operand))
 
--- a chain of a first operand and the operators behind it
-pub record IsChainOf (first : MadeExpr) (rest : TypedLinks) (made : MadeExpr) : Type 0 where
-  pub looks : look_expr made.expression
-      ≡ Begins ∷ (look_expr first.expression ++ (flat_map look_link rest.links.items ++ (Ends ∷ [])))
-  pub type_id : made.type_id ≡ rest.type_id
-  pub site : made.site ≡ first.site
+-- an operator and its right operand, where such a value stands before it
+abbrev pub MakesLink : Typed → Checked (After Typed) → Result TypedLink TypeFault → Passed → Type 0
+MakesLink left = Makes (λ made. typed made.type_id left.site) (look_behind left.length)
+
+abbrev pub is_relation : Dyadic → Bool
+is_relation (dyadic.Relation relation) = true
+is_relation other = false
+
+-- on both sides are ordinals, or strings and a relation between them
+pub record IsLinkBehind (left : Typed) (made : TypedLink) : Type 0 where
+  pub alike : are_alike left.length (value_length made.operand) ≡ true
+  pub relation : is_none left.length ≡ false → is_relation made.operation ≡ true
+
+-- a relation, with a string on its right
+pub record IsRelationOfStrings (made : TypedLink) : Type 0 where
+  pub string : is_none (value_length made.operand) ≡ false
+  pub relation : is_relation made.operation ≡ true
+
+-- the operators of a chain, behind an ordinal with this leading site
+abbrev pub MakesLinks : Option ℕ → Checked (After Typed) → Result TypedLinks TypeFault → Passed → Type 0
+MakesLinks site = Makes (λ made. typed made.type_id site) (λ made. flat_map look_link made.links.items)
+
+-- what a chain is behind its first operand, which begins at the place
+unfoldable pub operators : Place → Typed → List WrittenLink → Passing Typed
+operators place f rest = do
+  given (fits (is_none f.length || nat_eq (length rest) 1) place f)
+  t ← links f rest
+  mark Ends
+  pure t
+
+-- a chain of a first operand, an ordinal with this leading site, and the operators behind it
+pub record IsChainOf (first : Expr) (site : Option ℕ) (rest : TypedLinks) (made : TypedExpr) : Type 0 where
+  pub looks : look_value made.value
+      ≡ Begins ∷ (look_expr first ++ (flat_map look_link rest.links.items ++ (Ends ∷ [])))
+  pub is : typed_of made ≡ typed rest.type_id site
+
+-- the relation of a first string, with this leading site, and the one behind it
+pub record IsComparisonOf (left : Whole) (site : Option ℕ) (relation : TypedLink) (made : TypedExpr) : Type 0 where
+  pub looks : look_value made.value
+      ≡ Begins ∷ (look_whole left ++ (look_behind (Some (length_of left)) relation ++ (Ends ∷ [])))
+  pub is : typed_of made ≡ typed relation.type_id site
 
 -- the value of the only actual
 abbrev pub IsOnly : List Actual → SyntaxExpr → Type 0

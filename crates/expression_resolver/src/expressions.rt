@@ -1,21 +1,21 @@
 ghost use Rattle.std.specs.Prelude.{◌≡◌, ◌∷◌, Ok, Err, IfOk, MatchResult, map};
-ghost use Rattle.scopes.specs.declared.denotation.Denotation.TheVariants as denotes;
-ghost use Rattle.typed_tree.specs.declared.fault.TypeFault.TheVariants.{Memory};
-ghost use Rattle.typed_tree.specs.Look.{Operation, look_expr};
+ghost use Rattle.typed_tree.specs.Look.{Begins};
+ghost use Rattle.typing.specs.Passing.{behind_marks};
 ghost use Rattle.typing.specs.Expressions as spec;
-ghost use Rattle.expression_resolver.specs.Made.{MakesTyped, MakesLink, MakesLinks, IsChainOf, IsOnly};
+ghost use Rattle.expression_resolver.specs.Made.{typed_of, look_value, operators};
+ghost use Rattle.expression_resolver.specs.Made.{MakesTyped, MakesLink, MakesLinks, IsLinkBehind, IsOnly};
 
-use crate::typed::{Typed, TypedLink, TypedLinks};
+use crate::operators::{chain, comparison, in_chain, monadic};
+use crate::typed::{TypedExpr, TypedLink, TypedLinks, Value};
 use place::Place;
 use scopes::Denotation;
-use std::alloc::Global;
 use syntax_tree as syntax;
 use typed_tree::fault::TypeFault;
 use typed_tree::site::SiteKind;
-use typed_tree::tree::{Access, Expr, Link, Monadic};
+use typed_tree::tree::{Access, Expr, Monadic, Whole};
 use types::{TypeId, TypeTable};
-use typing::Typer;
-use typing::rules::{as_function, function_type, sign_operation};
+use typing::rules::{as_function, sign_operation};
+use typing::{Typed, Typer, characters};
 
 /// An expression, by the kind of its leading site.
 #[cycle(expressions)]
@@ -24,20 +24,21 @@ pub fn expression(
     typer: &mut Typer,
     written: &syntax::Expr,
     lead: Option<SiteKind>,
-) -> Result<Typed, TypeFault>
+) -> Result<TypedExpr, TypeFault>
     ensures { MakesTyped ((spec.expression written.now).typing lead typer.old) result typer.new }
 {
     match written {
         syntax::Expr::Number { value, place } => number(typer, *value, *place, lead),
         syntax::Expr::Name(name) => named(typer, name, lead),
+        syntax::Expr::String { text, place } => string(typer, text, *place, lead),
         syntax::Expr::Call { name, actuals } => call(typer, name, actuals, lead),
         syntax::Expr::Parenthesized { open, inner } => parenthesized(typer, *open, inner, lead),
         syntax::Expr::Not { place, operand } => negation(typer, *place, operand, lead),
         syntax::Expr::Signed { sign, place, term } => signed(typer, *sign, *place, term, lead),
         syntax::Expr::Chain { first, rest } => {
+            let place = first_place(first);
             let first = expression(typer, first, lead)?;
-            let rest = links(typer, first.type_id, rest)?;
-            chain(typer.alloc, first, rest)
+            behind_first(typer, place, first, rest)
         }
     }
 }
@@ -49,7 +50,7 @@ fn number(
     value: u32,
     place: Place,
     lead: Option<SiteKind>,
-) -> Result<Typed, TypeFault>
+) -> Result<TypedExpr, TypeFault>
     ensures { MakesTyped (spec.number value place lead typer.old) result typer.new }
 {
     typer.pass(place);
@@ -58,16 +59,64 @@ fn number(
         return Err(TypeFault::Mismatch(place));
     };
     let number = typer.enter()?;
-    Ok(Typed {
-        expression: Expr::Constant { number, value },
+    Ok(TypedExpr {
+        value: Value::Ordinal(Expr::Constant { number, value }),
         type_id: TypeTable::INTEGER,
+        site,
+    })
+}
+
+// A string (6.1.7).
+#[tactic(auto, unfolding(typing::specs::Expressions::string))]
+fn string(
+    typer: &mut Typer,
+    text: &[u8],
+    place: Place,
+    lead: Option<SiteKind>,
+) -> Result<TypedExpr, TypeFault>
+    ensures { MakesTyped (spec.string text.now place lead typer.old) result typer.new }
+{
+    typer.pass(place);
+    let site = typer.behind(lead, place)?;
+    let characters = characters(typer.alloc, place, text)?;
+    spelled(typer, place, site, characters)
+}
+
+// The value of a string: one character is a constant of type char, more are a string of a type of its own.
+#[tactic(auto, unfolding(typing::specs::Expressions::spelled))]
+fn spelled(
+    typer: &mut Typer,
+    place: Place,
+    site: Option<u32>,
+    characters: Vec<u8>,
+) -> Result<TypedExpr, TypeFault>
+    ensures { MakesTyped (spec.spelled place site characters.items typer.old) result typer.new }
+{
+    if let [character] = characters.as_slice() {
+        let value = i32::from(*character);
+        let number = typer.enter()?;
+        return Ok(TypedExpr {
+            value: Value::Ordinal(Expr::Constant { number, value }),
+            type_id: TypeTable::CHAR,
+            site,
+        });
+    }
+    let type_id = typer.string_type(place, characters.len())?;
+    let number = typer.enter()?;
+    Ok(TypedExpr {
+        value: Value::Whole(Whole::Text { number, characters }),
+        type_id,
         site,
     })
 }
 
 // A name as an expression.
 #[tactic(auto, unfolding(typing::specs::Expressions::named))]
-fn named(typer: &mut Typer, name: &syntax::Name, lead: Option<SiteKind>) -> Result<Typed, TypeFault>
+fn named(
+    typer: &mut Typer,
+    name: &syntax::Name,
+    lead: Option<SiteKind>,
+) -> Result<TypedExpr, TypeFault>
     ensures { MakesTyped (spec.named name.now lead typer.old) result typer.new }
 {
     let denotation = typer.find(name)?;
@@ -81,15 +130,25 @@ fn denoted(
     denotation: Denotation,
     place: Place,
     lead: Option<SiteKind>,
-) -> Result<Typed, TypeFault>
+) -> Result<TypedExpr, TypeFault>
     ensures { MakesTyped (spec.denoted denotation place lead typer.old) result typer.new }
 {
     match denotation {
         Denotation::Constant { value, type_id } => {
             let site = typer.behind(lead, place)?;
             let number = typer.enter()?;
-            Ok(Typed {
-                expression: Expr::Constant { number, value },
+            Ok(TypedExpr {
+                value: Value::Ordinal(Expr::Constant { number, value }),
+                type_id,
+                site,
+            })
+        }
+        Denotation::Text { number, type_id } => {
+            let site = typer.behind(lead, place)?;
+            let characters = typer.text_at(number)?;
+            let number = typer.enter()?;
+            Ok(TypedExpr {
+                value: Value::Whole(Whole::Text { number, characters }),
                 type_id,
                 site,
             })
@@ -101,8 +160,8 @@ fn denoted(
                 number: typer.enter()?,
                 root,
             };
-            Ok(Typed {
-                expression: Expr::Variable { access, defined },
+            Ok(TypedExpr {
+                value: Value::Ordinal(Expr::Variable { access, defined }),
                 type_id: typer.host(type_id),
                 site,
             })
@@ -121,13 +180,13 @@ fn parenthesized(
     bracket: Place,
     inner: &syntax::Expr,
     lead: Option<SiteKind>,
-) -> Result<Typed, TypeFault>
+) -> Result<TypedExpr, TypeFault>
     ensures { MakesTyped (spec.parenthesized bracket (spec.expression inner.now) lead typer.old) result typer.new }
 {
     typer.pass(bracket);
     let site = typer.behind(lead, bracket)?;
     let inner = expression(typer, inner, None)?;
-    Ok(Typed { site, ..inner })
+    Ok(TypedExpr { site, ..inner })
 }
 
 // `not` and its operand.
@@ -138,18 +197,15 @@ fn negation(
     place: Place,
     operand: &syntax::Expr,
     lead: Option<SiteKind>,
-) -> Result<Typed, TypeFault>
+) -> Result<TypedExpr, TypeFault>
     ensures { MakesTyped (spec.negation place (spec.expression operand.now) lead typer.old) result typer.new }
 {
     typer.pass(place);
     let site = typer.behind(lead, place)?;
     let number = typer.enter()?;
-    let operand = expression(typer, operand, None)?;
-    if !operand.type_id.same(TypeTable::BOOLEAN) {
-        return Err(TypeFault::Mismatch(place));
-    }
-    Ok(Typed {
-        expression: monadic(typer.alloc, number, Monadic::Not, operand.expression)?,
+    let operand = expression(typer, operand, None)?.of(TypeTable::BOOLEAN, place)?;
+    Ok(TypedExpr {
+        value: monadic(typer.alloc, number, Monadic::Not, operand)?,
         type_id: TypeTable::BOOLEAN,
         site,
     })
@@ -164,74 +220,96 @@ fn signed(
     place: Place,
     term: &syntax::Expr,
     lead: Option<SiteKind>,
-) -> Result<Typed, TypeFault>
+) -> Result<TypedExpr, TypeFault>
     ensures { MakesTyped (spec.signed sign place (spec.expression term.now) lead typer.old) result typer.new }
 {
     typer.pass(place);
     let site = typer.behind(lead, place)?;
     let number = typer.enter()?;
-    let term = expression(typer, term, None)?;
-    if !term.type_id.same(TypeTable::INTEGER) {
-        return Err(TypeFault::Mismatch(place));
-    }
-    Ok(Typed {
-        expression: monadic(typer.alloc, number, sign_operation(sign), term.expression)?,
+    let term = expression(typer, term, None)?.of(TypeTable::INTEGER, place)?;
+    Ok(TypedExpr {
+        value: monadic(typer.alloc, number, sign_operation(sign), term)?,
         type_id: TypeTable::INTEGER,
         site,
     })
 }
 
-// Operators of one precedence behind a first operand.
-#[tactic(auto, using(typed_tree::proofs::Looks::look_chain))]
-fn chain(alloc: Global, first: Typed, rest: TypedLinks) -> Result<Typed, TypeFault>
-    ensures { MatchResult result (IsChainOf first rest) (λ why. why ≡ Memory) }
+// The operators of a chain behind a first operand, which begins at the place. A string is an operand of one operator
+// alone.
+#[cycle(expressions)]
+fn behind_first(
+    typer: &mut Typer,
+    place: Place,
+    first: TypedExpr,
+    rest: &[syntax::Link],
+) -> Result<TypedExpr, TypeFault>
+    ensures { MakesTyped (behind_marks (Begins ∷ look_value first.value)
+        (operators place (typed_of first) (map spec.written_link rest.now) typer.old)) result typer.new }
 {
-    Ok(Typed {
-        expression: Expr::Chain {
-            first: Box::new(alloc, first.expression)?,
-            rest: rest.links,
-        },
-        type_id: rest.type_id,
-        site: first.site,
-    })
+    let left = first.typed();
+    match first.value {
+        Value::Ordinal(value) => {
+            let rest = links(typer, left.type_id, left.site, rest)?;
+            chain(typer.alloc, value, left.site, rest)
+        }
+        Value::Whole(value) => {
+            let [written] = rest else {
+                return Err(TypeFault::Mismatch(place));
+            };
+            let relation = link(typer, left, written)?;
+            Ok(comparison(value, left.site, relation))
+        }
+    }
 }
 
-// The operators of a chain, whose value so far is of type `left`.
+// The operators of a chain, behind an ordinal of type `left` with this leading site.
 #[cycle(expressions)]
-fn links(typer: &mut Typer, left: TypeId, rest: &[syntax::Link]) -> Result<TypedLinks, TypeFault>
-    ensures { MakesLinks (spec.links left (map spec.written_link rest.now) typer.old) result typer.new }
+fn links(
+    typer: &mut Typer,
+    left: TypeId,
+    site: Option<u32>,
+    rest: &[syntax::Link],
+) -> Result<TypedLinks, TypeFault>
+    ensures { MakesLinks site (spec.links (spec.typed left site) (map spec.written_link rest.now) typer.old) result
+        typer.new }
 {
     let mut links = Vec::with_capacity(typer.alloc, rest.len())?;
     let mut type_id = left;
     for written in rest {
-        let next = link(typer, type_id, written)?;
-        links.push(next.link)?;
+        let before = Typed {
+            type_id,
+            length: None,
+            site,
+        };
+        let next = link(typer, before, written)?;
         type_id = next.type_id;
+        links.push(in_chain(next))?;
     }
     Ok(TypedLinks { links, type_id })
 }
 
-// An operator and its right operand, where a value of type `left` stands before it.
+// An operator and its right operand, where such a value stands before it.
 #[cycle(expressions)]
-#[tactic(auto, using(crate::proofs::Chains::linked), unfolding(typing::specs::Expressions::link))]
-fn link(typer: &mut Typer, left: TypeId, written: &syntax::Link) -> Result<TypedLink, TypeFault>
-    ensures { MakesLink (spec.written_link written.now left typer.old) result typer.new }
+#[tactic(auto, using(crate::proofs::Operands::linked), unfolding(typing::specs::Expressions::link))]
+fn link(typer: &mut Typer, left: Typed, written: &syntax::Link) -> Result<TypedLink, TypeFault>
+    ensures made { MakesLink left (spec.written_link written.now left typer.old) result typer.new }
+    ensures fits { IfOk result (IsLinkBehind left) }
 {
     let operation = typer.operation(written.operator, written.place)?;
     let number = typer.enter()?;
     let operand = expression(typer, &written.operand, None)?;
     let type_id = typer
-        .result_type(written.operator, left, operand.type_id)
+        .result_type(written.operator, left, operand.typed())
         .ok_or(TypeFault::Mismatch(written.place))?;
-    let link = Link {
+    Ok(TypedLink {
         number,
         operation,
-        operand: operand.expression,
-    };
-    Ok(TypedLink { link, type_id })
+        operand: operand.value,
+        type_id,
+    })
 }
 
-// The call of a function, whose argument is an integer.
+// The call of a function.
 #[cycle(expressions)]
 #[tactic(auto, unfolding(typing::specs::Expressions::call))]
 fn call(
@@ -239,7 +317,7 @@ fn call(
     name: &syntax::Name,
     actuals: &[syntax::Actual],
     lead: Option<SiteKind>,
-) -> Result<Typed, TypeFault>
+) -> Result<TypedExpr, TypeFault>
     ensures { MakesTyped (spec.call name.now (map spec.written_actual actuals.now) lead typer.old) result typer.new }
 {
     let denotation = typer.find(name)?;
@@ -248,13 +326,13 @@ fn call(
     let site = typer.behind(lead, name.place)?;
     let number = typer.enter()?;
     let actual = only(name.place, actuals)?;
+    let place = first_place(actual);
     let argument = expression(typer, actual, None)?;
-    if !argument.type_id.same(TypeTable::INTEGER) {
-        return Err(TypeFault::Mismatch(first_place(actual)));
-    }
-    Ok(Typed {
-        expression: monadic(typer.alloc, number, operation, argument.expression)?,
-        type_id: function_type(function),
+    let (operation, type_id) = typer.applied(function, operation, place, argument.typed())?;
+    let argument = argument.ordinal(place)?;
+    Ok(TypedExpr {
+        value: monadic(typer.alloc, number, operation, argument)?,
+        type_id,
         site,
     })
 }
@@ -279,20 +357,6 @@ fn only<'e, 'a>(
     Ok(&actual.value)
 }
 
-// An operation on an operand.
-#[tactic(auto, using(typed_tree::proofs::Looks::look_monadic))]
-fn monadic(alloc: Global, number: u32, operation: Monadic, operand: Expr) -> Result<Expr, TypeFault>
-    ensures { MatchResult result
-        (λ made. look_expr made ≡ Operation number operation ∷ look_expr operand)
-        (λ why. why ≡ Memory) }
-{
-    Ok(Expr::Monadic {
-        number,
-        operation,
-        operand: Box::new(alloc, operand)?,
-    })
-}
-
 /// Where an expression begins.
 #[tactic(auto, using(typing::proofs::Written::written_expressions))]
 pub fn first_place(written: &syntax::Expr) -> Place
@@ -300,6 +364,7 @@ pub fn first_place(written: &syntax::Expr) -> Place
 {
     match written {
         syntax::Expr::Number { place, .. }
+        | syntax::Expr::String { place, .. }
         | syntax::Expr::Not { place, .. }
         | syntax::Expr::Signed { place, .. } => *place,
         syntax::Expr::Name(name) | syntax::Expr::Call { name, .. } => name.place,

@@ -2,7 +2,8 @@
 #![tactic(auto)]
 
 mod expressions;
+mod operators;
 mod typed;
 
 pub use expressions::{expression, first_place};
-pub use typed::Typed;
+pub use typed::{TypedExpr, Value};

@@ -1,10 +1,14 @@
-use Rattle.std.proofs.Common.{rules, ◌≡◌, Ok, ◌∷◌, ◌++◌, []}
-use Rattle.std.specs.Prelude.{flat_map}
-use Rattle.typed_tree.specs.Look.{Begins, Ends, look_expr, look_link}
-use Rattle.typing.specs.Passing.{after}
-use Rattle.typing.specs.Expressions.{typed, expression}
+use Rattle.std.proofs.Common.{rules, ◌≡◌, ◌∷◌, length, map, refl, sym, ap, subst, ◌∙◌, arith}
+use Rattle.syntax_tree.specs.declared.Expr.TheViews.{out-Link}
+use Rattle.typed_tree.specs.Look.{Begins}
+use Rattle.typing.specs.Passing.{behind_marks}
+use Rattle.typing.specs.Expressions.{expression, written_link}
+use Rattle.typing.specs.Expressions as spec
 use Rattle.typing.specs.Outcomes.{IsFault}
-use Rattle.expression_resolver.proofs.Chains.{stops_at_first, stops_at_rest, passes_chain}
+use Rattle.expression_resolver.specs.Made.{typed_of, look_value, operators, MakesTyped}
+use Rattle.expression_resolver.proofs.Chains.{one_alone, stops_at_first, goes_on, ordinal_stops, ordinal_made, string_refused, string_stops, string_made}
+use Rattle.typed_tree.specs.declared.fault.TypeFault.TheVariants.{Mismatch}
+use Rattle.expression_resolver.proofs.Operands.{was_some, fits_behind}
 use Rattle.expression_resolver.proofs.expressions.+expressions.Goals as goal
 
 -- ---- a chain
@@ -14,26 +18,70 @@ expression-returns-in_err-first-in-Chain t c =
     let why = c.in_err-first-in-Chain.field-0.0 in
     let stops : IsFault ((expression c.args.written.now).typing c.args.lead c.args.typer.now) why =
     stops_at_first c.args.written.now c.in-Chain.first c.in-Chain.rest c.in-Chain.is c.args.lead c.args.typer.now
-    c.deref-in-Chain.result.now c.deref-in-Chain.ensures why c.in_err-first-in-Chain.ensures in
+    c.deref-in-Chain-2.result.now c.deref-in-Chain-2.ensures why c.in_err-first-in-Chain.ensures in
     search rules
 
-pub expression-returns-in_err-rest-in-Chain : goal.expression-returns-in_err-rest-in-Chain
-expression-returns-in_err-rest-in-Chain t c =
-    let why = c.in_err-rest-in-Chain.field-0.0 in
-    let stops : IsFault ((expression c.args.written.now).typing c.args.lead c.args.typer.now) why =
-    stops_at_rest c.args.written.now c.in-Chain.first c.in-Chain.rest c.in-Chain.is c.args.lead c.args.typer.now
-    c.deref-in-Chain.result.now c.deref-in-Chain.ensures c.deref-in-Chain-2.result.now c.deref-in-Chain-2.ensures.value
-    _ _ _ c.in_ok-first-in-Chain.ensures why c.in_err-rest-in-Chain.ensures in
+pub expression-returns-in_ok-first-in-Chain : goal.expression-returns-in_ok-first-in-Chain
+expression-returns-in_ok-first-in-Chain t c =
+    let at : c.first_place-place.result ≡ (expression c.in-Chain.first.value).first =
+    c.first_place-place.ensures ∙ ap (λ e. (expression e).first) c.deref-in-Chain.ensures in
+    subst (λ o. MakesTyped o c.behind_first.result c.behind_first.new.typer)
+    (sym (goes_on c.args.written.now c.in-Chain.first c.in-Chain.rest c.in-Chain.is c.args.lead c.args.typer.now
+    c.deref-in-Chain-2.result.now c.deref-in-Chain-2.ensures _ _ _ c.first_place-place.result c.deref-in-Chain-3.result.now at
+    c.deref-in-Chain-3.ensures.value c.in_ok-first-in-Chain.ensures))
+    c.behind_first.ensures
+
+-- ---- the operators behind an ordinal
+
+pub behind_first-returns-in_err-rest-in-Ordinal : goal.behind_first-returns-in_err-rest-in-Ordinal
+behind_first-returns-in_err-rest-in-Ordinal t c =
+    let first = c.args.first in
+    let why = c.in_err-rest-in-Ordinal.field-0.0 in
+    let stops : IsFault (behind_marks (Begins ∷ look_value first.value)
+    (operators c.args.place (typed_of first) (map written_link c.args.rest.now) c.args.typer.now)) why =
+    ordinal_stops c.args.place first c.typed-left.result c.typed-left.ensures c.args.rest.now c.args.typer.now c.in-Ordinal.value c.in-Ordinal.is why
+    c.in_err-rest-in-Ordinal.ensures in
     search rules
 
-pub expression-returns-in_ok-rest-in-Chain : goal.expression-returns-in_ok-rest-in-Chain
-expression-returns-in_ok-rest-in-Chain t c =
-    let first = c.in_ok-first-in-Chain.first in
-    let rest = c.in_ok-rest-in-Chain.rest in
-    let passes : (expression c.args.written.now).typing c.args.lead c.args.typer.now
-    ≡ Ok (after (typed rest.type_id first.site)
-    (Begins ∷ (look_expr first.expression ++ (flat_map look_link rest.links.items ++ (Ends ∷ [])))) c.links.new.typer) =
-    passes_chain c.args.written.now c.in-Chain.first c.in-Chain.rest c.in-Chain.is c.args.lead c.args.typer.now
-    c.deref-in-Chain.result.now c.deref-in-Chain.ensures c.deref-in-Chain-2.result.now c.deref-in-Chain-2.ensures.value
-    _ _ _ c.in_ok-first-in-Chain.ensures _ _ _ c.in_ok-rest-in-Chain.ensures in
+pub behind_first-returns-in_ok-rest-in-Ordinal : goal.behind_first-returns-in_ok-rest-in-Ordinal
+behind_first-returns-in_ok-rest-in-Ordinal t c =
+    ordinal_made c.args.place c.args.first c.typed-left.result c.typed-left.ensures c.args.rest.now c.args.typer.now c.in-Ordinal.value c.in-Ordinal.is
+    c.in_ok-rest-in-Ordinal.rest c.links.new.typer _ c.chain.result c.in_ok-rest-in-Ordinal.ensures c.in-Ordinal.value-is c.chain.ensures
+
+-- ---- the operator behind a string
+
+pub behind_first-returns-in_default : goal.behind_first-returns-in_default
+behind_first-returns-in_default t c =
+    let first = c.args.first in
+    let refused : ¬ (length c.args.rest.now ≡ 1) → IsFault (behind_marks (Begins ∷ look_value first.value)
+    (operators c.args.place (typed_of first) (map written_link c.args.rest.now) c.args.typer.now)) (Mismatch c.args.place) =
+    string_refused c.args.place first c.typed-left.result c.typed-left.ensures c.args.rest.now c.args.typer.now c.in-Whole.value c.in-Whole.is in
     search rules
+
+pub behind_first-returns-in_err-relation-in-Whole : goal.behind_first-returns-in_err-relation-in-Whole
+behind_first-returns-in_err-relation-in-Whole t c =
+    let first = c.args.first in
+    let why = c.in_err-relation-in-Whole.field-0.0 in
+    let one : length c.args.rest.now ≡ 1 = omega (arith, c.in-len1.len_at_least, c.in-len1.len_below) in
+    let stops : IsFault (behind_marks (Begins ∷ look_value first.value)
+    (operators c.args.place (typed_of first) (map written_link c.args.rest.now) c.args.typer.now)) why =
+    string_stops c.args.place first c.typed-left.result c.typed-left.ensures c.args.rest.now c.args.typer.now c.in-Whole.value c.in-Whole.is
+    c.written-item.result (one_alone c.args.rest.now c.written-item.result one c.written-item.is) why c.in_err-relation-in-Whole.ensures.made in
+    search rules
+
+pub behind_first-returns-in_ok-relation-in-Whole : goal.behind_first-returns-in_ok-relation-in-Whole
+behind_first-returns-in_ok-relation-in-Whole t c =
+    let one : length c.args.rest.now ≡ 1 = omega (arith, c.in-len1.len_at_least, c.in-len1.len_below) in
+    string_made c.args.place c.args.first c.typed-left.result c.typed-left.ensures c.args.rest.now c.args.typer.now c.in-Whole.value c.in-Whole.is
+    c.written-item.result (one_alone c.args.rest.now c.written-item.result one c.written-item.is) c.in_ok-relation-in-Whole.relation c.link.new.typer _
+    c.comparison.result c.in_ok-relation-in-Whole.ensures.made c.in-Whole.value-is c.comparison.ensures
+
+-- ---- an operator and its right operand
+
+pub link-returns-clause-fits : goal.link-returns-clause-fits
+link-returns-clause-fits t c =
+    let types = c.expression.new.typer.types in
+    let operator = (out-Link c.args.written.now).operator in
+    fits_behind types c.args.left c.in_ok-operand.operand operator _ _ _ _ c.in_ok-operation.ensures refl
+    (ap (spec.result_type types operator c.args.left) (sym c.typed.ensures) ∙ sym c.result_type.ensures
+    ∙ was_some c.result_type.result c.in_ok-type_id.type_id _ (sym c.ok_or.ensures.value ∙ c.in_ok-type_id.was))
