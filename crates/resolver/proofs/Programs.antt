@@ -26,7 +26,7 @@ use Rattle.typing.specs.Outcomes.{IsFault}
 use Rattle.typing.specs.Statements.{statement, compound}
 use Rattle.typing.specs.Typing.{typing, statement_part}
 use Rattle.typing.specs.Sound.{IsTyped, IsLeft, stands}
-use Rattle.typing_laws.specs.Lawful.{AreScalar, Lawful}
+use Rattle.typing_laws.specs.Lawful.{BeginWithRequired, HaveScalarVariables, Lawful}
 use Rattle.typing_laws.proofs.Programs.{typing_is_lawful}
 use Rattle.declarations.specs.Declared.{declared}
 use Rattle.resolver.specs.Made.{IsResolved}
@@ -147,8 +147,12 @@ module _ (program : Program) (tree : Tree) (resolved : IsResolved program tree) 
   pub has_no_points : tree.points.items ≡ []
   has_no_points = is_left.points
 
-  pub has_scalars : AreScalar tree.types
-  has_scalars = subst AreScalar (sym is_left.types) lawful.types
+  pub has_types : BeginWithRequired tree.types × HaveScalarVariables tree.variables.items tree.types
+  has_types = (
+    subst BeginWithRequired (sym is_left.types) lawful.types,
+    subst (HaveScalarVariables tree.variables.items) (sym is_left.types)
+        (subst (λ variables. HaveScalarVariables variables passed.types) (sym is_left.variables) lawful.scalar),
+  )
 
   pub has_one_block : length tree.blocks.items ≡ 1
   has_one_block = ap length resolved.blocks
@@ -191,4 +195,4 @@ module _ (program : Program) (tree : Tree) (resolved : IsResolved program tree) 
 
 -- all of these
 pub ruleset has_it_all =
-    (is_typed, ids_in_order, has_no_points, has_scalars, has_one_block, has_few_sites, is_numbered, loops_are_numbered, sites_by_place, is_well_formed)
+    (is_typed, ids_in_order, has_no_points, has_types, has_one_block, has_few_sites, is_numbered, loops_are_numbered, sites_by_place, is_well_formed)

@@ -13,9 +13,10 @@ use Rattle.typed_tree.specs.declared.tree.Expr.{Expr}
 use Rattle.typed_tree.specs.declared.tree.Stmt.{Stmt}
 use Rattle.typed_tree.specs.declared.tree.WriteParameter.{WriteParameter}
 use Rattle.typed_tree.specs.declared.tree.Width.{Width}
+use Rattle.typed_tree.specs.declared.tree.Written.{Written}
 use Rattle.types.specs.declared.form.TypeId.{TypeId}
-use Rattle.typed_tree.specs.Look.{Look, Fits, If, Then, Else, Do, For, Case, look_expr, look_stmt}
-use Rattle.typed_tree.specs.Look.{look_parameter, look_width}
+use Rattle.typed_tree.specs.Look.{Look, Mark, Fits, If, Then, Else, Do, For, Case, look_expr, look_stmt}
+use Rattle.typed_tree.specs.Look.{look_written, look_parameter, look_width}
 use Rattle.typing.specs.Passing.{Passed, Checked, After, after}
 use Rattle.typing.specs.Outcomes.{IsFault, Makes}
 use Rattle.typing.specs.Sound.{IsTyped}
@@ -95,6 +96,12 @@ MakesAlternative = Makes (λ made. tt) look_else
 -- the values that are written
 abbrev pub MakesValues : Checked (After (List Actual)) → Result (Bor (List Actual)) TypeFault → Passed → Type 0
 MakesValues = Makes (λ values. values.now) (λ values. [])
+
+-- what is written, of something that looks so, where a mark behind that tells how
+pub record IsWrittenAs (form : Option Mark) (look : Look) (made : Written) : Type 0 where
+  pub one : Mark
+  pub is : form ≡ Some one
+  pub looks : look_written made ≡ look ++ (one ∷ [])
 
 -- a value that is written, with its width
 abbrev pub MakesParameter : Checked (After (Unit {0})) → Result WriteParameter TypeFault → Passed → Type 0

@@ -26,15 +26,16 @@ pub(crate) fn case_head(
 {
     let site = typer.site(SiteKind::Case, place)?;
     let number = typer.enter()?;
+    let first = first_place(index);
     let made = expression(typer, index, None)?;
-    if !typer.is_ordinal(made.type_id) {
-        return Err(TypeFault::Mismatch(first_place(index)));
+    if !typer.is_ordinal(made.typed()) {
+        return Err(TypeFault::Mismatch(first));
     }
     Ok(CaseHead {
         number,
         site,
-        index: made.expression,
         type_id: made.type_id,
+        index: made.ordinal(first)?,
     })
 }
 
@@ -70,7 +71,7 @@ fn constant_row(
     Ok(row)
 }
 
-// A constant before an arm, which is of the index's type and none of those before it.
+// A constant before an arm, an ordinal, which is of the index's type and none of those before it.
 #[tactic(auto, unfolding(typing::specs::Statements::case_constant))]
 fn case_constant(
     typer: &mut Typer,
@@ -81,12 +82,13 @@ fn case_constant(
     ensures typed { Takes (spec.case_constant type_id seen.old.keys written.now typer.old) result typer.new }
     ensures seen { IfOk result (λ value. seen.new.keys ≡ seen.old.keys ++ value ∷ []) }
 {
-    let (value, own) = typer.constant(written)?;
+    let fault = TypeFault::CaseConstant(constant_place(written));
+    let (value, own) = typer.ordinal_constant(written)?.ok_or(fault)?;
     if !typer.compatible(type_id, own) {
-        return Err(TypeFault::CaseConstant(constant_place(written)));
+        return Err(fault);
     }
     if !seen.insert(value)? {
-        return Err(TypeFault::CaseConstant(constant_place(written)));
+        return Err(fault);
     }
     Ok(value)
 }

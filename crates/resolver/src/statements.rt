@@ -1,23 +1,26 @@
-ghost use Rattle.std.specs.Prelude.{◌≡◌, Some, map, option_map};
+ghost use Rattle.std.specs.Prelude.{◌≡◌, Some, None, MatchResult, map, option_map};
 ghost use Rattle.syntax_tree.specs.Places.{arms_of};
+ghost use Rattle.typed_tree.specs.declared.fault.TypeFault.TheVariants.{Mismatch};
 ghost use Rattle.typing.specs.Passing.{each, behind_marks};
 ghost use Rattle.typing.specs.Expressions.{expression, written_actual};
 ghost use Rattle.typing.specs.Statements as spec;
 ghost use Rattle.typing.specs.Outcomes.{Takes};
+ghost use Rattle.expression_resolver.specs.Made.{typed_of, look_value};
 ghost use Rattle.resolver.specs.Made.{MakesStmt, MakesStmts, MakesBoxed, MakesAlternative, MakesCondition, MakesTested};
 ghost use Rattle.resolver.specs.Made.{MakesBound, MakesForHead, for_head_look, MakesParameter, MakesParameters};
 ghost use Rattle.resolver.specs.Made.{MakesWidth, MakesOwnWidth, MakesValues, MakesCaseHead, case_head_look};
+ghost use Rattle.resolver.specs.Made.{IsWrittenAs};
 
 use crate::cases::{case_head, case_row};
 use crate::typed::{Bound, CaseHead, ForHead, Rows};
-use expression_resolver::{expression, first_place};
+use expression_resolver::{TypedExpr, Value, expression, first_place};
 use indexmap::IndexSet;
 use place::Place;
 use scopes::RequiredProcedure;
 use syntax_tree as syntax;
 use typed_tree::fault::TypeFault;
 use typed_tree::site::SiteKind;
-use typed_tree::tree::{Access, Expr, RangeTest, Stmt, Width, WriteParameter};
+use typed_tree::tree::{Access, Expr, RangeTest, Stmt, Width, WriteParameter, Written};
 use types::{TypeId, TypeTable};
 use typing::Typer;
 use typing::rules::{as_procedure, as_variable, ends_line, is_output, way};
@@ -267,10 +270,10 @@ fn bound(typer: &mut Typer, type_id: TypeId, written: &syntax::Expr) -> Result<B
     let site = typer.site(SiteKind::Subrange, place)?;
     let value = expression(typer, written, None)?;
     let range = typer
-        .fitting(type_id, value.type_id)
+        .fitting(type_id, value.typed())
         .ok_or(TypeFault::Mismatch(place))?;
     Ok(Bound {
-        value: value.expression,
+        value: value.ordinal(place)?,
         fits: RangeTest { site, range },
     })
 }
@@ -280,11 +283,7 @@ fn bound(typer: &mut Typer, type_id: TypeId, written: &syntax::Expr) -> Result<B
 fn condition(typer: &mut Typer, written: &syntax::Expr) -> Result<Expr, TypeFault>
     ensures { MakesCondition (spec.condition (expression written.now) typer.old) result typer.new }
 {
-    let condition = expression(typer, written, None)?;
-    if !condition.type_id.same(TypeTable::BOOLEAN) {
-        return Err(TypeFault::Mismatch(first_place(written)));
-    }
-    Ok(condition.expression)
+    expression(typer, written, None)?.of(TypeTable::BOOLEAN, first_place(written))
 }
 
 // The statement behind `else`, if there is one.
@@ -333,14 +332,14 @@ fn assignment(
     let site = typer.site(SiteKind::Subrange, becomes)?;
     let value = expression(typer, value, None)?;
     let range = typer
-        .fitting(type_id, value.type_id)
+        .fitting(type_id, value.typed())
         .ok_or(TypeFault::Mismatch(becomes))?;
     Ok(Stmt::Assign {
         number,
         becomes,
         target,
         fits: RangeTest { site, range },
-        value: value.expression,
+        value: value.ordinal(becomes)?,
     })
 }
 
@@ -445,14 +444,37 @@ fn parameter(typer: &mut Typer, written: &syntax::Actual) -> Result<WriteParamet
     ensures { MakesParameter (spec.parameter (written_actual written.now) typer.old) result typer.new }
 {
     let value = expression(typer, &written.value, None)?;
-    let representation = typer
-        .representation(value.type_id)
-        .ok_or(TypeFault::Mismatch(first_place(&written.value)))?;
+    let value = written_value(typer, value, first_place(&written.value))?;
     Ok(WriteParameter {
-        value: value.expression,
-        representation,
+        value,
         width: width(typer, &written.width)?,
     })
+}
+
+// What is written: an ordinal, as its type wants it, or a string.
+fn written_value(typer: &Typer, made: TypedExpr, place: Place) -> Result<Written, TypeFault>
+    ensures { MatchResult result
+        (IsWrittenAs (spec.written_as typer.now.types (typed_of made)) (look_value made.value))
+        (λ why. (spec.written_as typer.now.types (typed_of made) ≡ None) × (why ≡ Mismatch place)) }
+{
+    let TypedExpr { value, type_id, .. } = made;
+    match value {
+        Value::Ordinal(value) => {
+            let representation = typer
+                .representation(type_id)
+                .ok_or(TypeFault::Mismatch(place))?;
+            Ok(Written::Ordinal {
+                value,
+                representation,
+            })
+        }
+        Value::Whole(value) => {
+            if !typer.is_string(type_id) {
+                return Err(TypeFault::Mismatch(place));
+            }
+            Ok(Written::String { value })
+        }
+    }
 }
 
 // The width of a value, if there is one.
@@ -472,13 +494,10 @@ fn total_width(typer: &mut Typer, written: &syntax::Expr) -> Result<Width, TypeF
     ensures { MakesOwnWidth (spec.width (Some (expression written.now)) typer.old) result typer.new }
 {
     let place = first_place(written);
-    let value = expression(typer, written, Some(SiteKind::Width))?;
-    if !value.type_id.same(TypeTable::INTEGER) {
-        return Err(TypeFault::Mismatch(place));
-    }
-    let site = value.site.ok_or(TypeFault::Mismatch(place))?;
+    let made = expression(typer, written, Some(SiteKind::Width))?;
+    let site = made.site;
     Ok(Width {
-        value: value.expression,
-        site,
+        value: made.of(TypeTable::INTEGER, place)?,
+        site: site.ok_or(TypeFault::Mismatch(place))?,
     })
 }

@@ -1,5 +1,5 @@
 -- Types of a table that take one cell, and texts that are characters: they stay so while others are added.
-use Rattle.std.proofs.Common.{◌≡◌, ℕ, zero, suc, ◌<◌, true, List, [], ◌∷◌, ◌++◌, length, Some, slice_get, get_or, refl, sym, ap, ◌∙◌, arith, length-append}
+use Rattle.std.proofs.Common.{◌≡◌, ℕ, zero, suc, ◌<◌, true, List, [], ◌∷◌, ◌++◌, length, Some, slice_get, get_or, refl, sym, ap, ◌∙◌, arith, length-append, append-nil, append_assoc}
 use Rattle.std.proofs.lemmas.List.{length-map}
 use Rattle.types.specs.declared.form.TypeForm.{TypeForm}
 use Rattle.types.specs.declared.form.TypeId.{TypeId}
@@ -7,6 +7,7 @@ use Rattle.types.specs.declared.table.Entry.{Entry}
 use Rattle.types.specs.Types.{integer, boolean, char, cells_of, counted, entry_cells, form_cells, required_forms}
 use Rattle.types.proofs.Counts.{counted_more, forms_of_counted, form_of}
 use Rattle.typed_tree.specs.WellFormed.{are_characters}
+use Rattle.typing_laws.specs.Lawful.{BeginWithRequired}
 use Rattle.typing_laws.proofs.WholeRanges.{HaveWholeRanges}
 
 -- ---- types of one cell
@@ -15,14 +16,16 @@ pub record TakesOne (types : List TypeForm) (id : TypeId) : Type 0 where
   pub there : id.index < length types
   pub one : cells_of types id ≡ 1
 
--- the required types do
+-- the required types do, which stand before all others
 pub record AreRequired (types : List TypeForm) : Type 0 where
+  pub begin : BeginWithRequired types
   pub integers : TakesOne types integer
   pub booleans : TakesOne types boolean
   pub chars : TakesOne types char
 
 pub required_take : AreRequired required_forms
 required_take = record {
+  begin = ([], refl);
   integers = record { there = omega arith; one = refl };
   booleans = record { there = omega arith; one = refl };
   chars = record { there = omega arith; one = refl };
@@ -70,17 +73,28 @@ takes_new types form one =
 
 -- a table with the types of another, and perhaps more
 pub record AreLater (old new : List TypeForm) : Type 0 where
+  pub added : List TypeForm
+  pub types : new ≡ old ++ added
   pub whole : HaveWholeRanges old → HaveWholeRanges new
   pub kept : (id : TypeId) → TakesOne old id → TakesOne new id
 
 pub the_same : {types : List TypeForm} → AreLater types types
-the_same = record { whole = λ whole. whole; kept = λ id takes. takes }
+the_same {types} = record { added = []; types = sym (append-nil types); whole = λ whole. whole; kept = λ id takes. takes }
 
 pub later_still : {old now new : List TypeForm} → AreLater old now → AreLater now new → AreLater old new
-later_still f g = record { whole = λ whole. g.whole (f.whole whole); kept = λ id takes. g.kept id (f.kept id takes) }
+later_still {old} f g = record {
+  added = f.added ++ g.added;
+  types = g.types ∙ ap (λ types. types ++ g.added) f.types ∙ append_assoc old f.added g.added;
+  whole = λ whole. g.whole (f.whole whole);
+  kept = λ id takes. g.kept id (f.kept id takes);
+}
 
 pub required_later : {old new : List TypeForm} → AreLater old new → AreRequired old → AreRequired new
 required_later later r = record {
+  begin = (
+    r.begin.0 ++ later.added,
+    later.types ∙ ap (λ types. types ++ later.added) r.begin.1 ∙ append_assoc required_forms r.begin.0 later.added,
+  );
   integers = later.kept integer r.integers;
   booleans = later.kept boolean r.booleans;
   chars = later.kept char r.chars;

@@ -479,6 +479,8 @@ add_type_keeps place form = record {
   keeps = λ s a is from.
       let x = type_added place form s a is in
       let later : AreLater s.types (s.types ++ form ∷ []) = record {
+        added = form ∷ [];
+        types = refl;
         whole = λ whole. whole_more s.types form whole from.1.whole;
         kept = λ id takes. takes_more s.types form id takes;
       } in

@@ -15,7 +15,7 @@ use Rattle.typing_laws.specs.Lawful.{HaveScalarVariables, Lawful}
 use Rattle.typing_laws.proofs.Covers.{Covers, covers_more, covers_behind, covers_skip}
 use Rattle.typing_laws.proofs.Ordered.{covers_by_place}
 use Rattle.typing_laws.proofs.WholeRanges.{required_have}
-use Rattle.typing_laws.proofs.Cells.{TakesOne, required_take, no_texts}
+use Rattle.typing_laws.proofs.Cells.{TakesOne, required_take, required_later, no_texts}
 use Rattle.typing_laws.proofs.Grown.{Fine, Grown}
 use Rattle.typing_laws.proofs.Steps.{Does, Anything, split, split_behind, last, mark_does}
 use Rattle.typing_laws.proofs.Statements.{compound_does, statements_lawful}
@@ -66,6 +66,7 @@ grown_lawful program s a r g = record {
   few_variables = omega (arith, kept, r.declared, r.room);
   declared = ap (list_all (λ variable. nat_eq variable.block 0)) g.variables_kept ∙ r.by_program;
   few_sites = g.few_sites;
+  types = (required_later g.types r.required).begin;
   scalar =
       subst (λ variables. HaveScalarVariables variables a.passed.types) (sym g.variables_kept)
       (cells s.variables (variables_later g.types s.variables r.one_cell));

@@ -1,6 +1,6 @@
 -- What strings do: a string has at most as many characters as a type has cells, and its type leaves all others as they are.
 use Rattle.std.proofs.Common.{◌≡◌, ℕ, ℤ, ◌*◌, Bool, true, false, ◌&&◌, not, nat_le, nat_lt, List, [], ◌∷◌, ◌++◌, length, Option, Some, None}
-use Rattle.std.proofs.Common.{Result, Ok, Err, if◌then◌else◌, ok_or, pos, refl, sym, ap, ap₂, subst, ◌∙◌, arith, slice_get, append-nil}
+use Rattle.std.proofs.Common.{Result, Ok, Err, if◌then◌else◌, ok_or, pos, refl, sym, ap, ap₂, subst, ◌∙◌, arith, slice_get, append-nil, append_assoc}
 use Rattle.std.specs.Prelude.{◌==◌, ◌-ℤ◌, ◌+ℤ◌}
 use Rattle.std.specs.List.{list_all}
 use Rattle.std.specs.Option.{option_and_then}
@@ -140,6 +140,8 @@ string_type_is place n s a one is =
     subst (IsStringType n s) z.2 (record {
       same = refl;
       later = record {
+        added = form (pos n) ∷ array ∷ [];
+        types = append_assoc s.types (form (pos n) ∷ []) (array ∷ []);
         whole = λ whole. whole_more (s.types ++ form (pos n) ∷ []) array (whole_more s.types (form (pos n)) whole fit.0) tt;
         kept = λ id takes. takes_more (s.types ++ form (pos n) ∷ []) array id (takes_more s.types (form (pos n)) id takes);
       };

@@ -1,18 +1,22 @@
 -- What a typed program has: by how its typed tree looks, and by what is known behind it. It says nothing of what the
 -- program does.
-use Rattle.std.specs.Prelude.{◌≡◌, ◌≤◌, List, All, true, nat_eq, length, Ok}
+use Rattle.std.specs.Prelude.{◌≡◌, ◌≤◌, ◌++◌, List, All, true, nat_eq, length, Ok}
 use Rattle.std.specs.List.{range_with_len, list_all}
 use Rattle.place.specs.Place.{ArePlacesInOrder}
 use Rattle.syntax_tree.specs.declared.Program.{Program}
 use Rattle.syntax_tree.specs.Places.{program_places}
 use Rattle.types.specs.declared.form.TypeForm.{TypeForm}
-use Rattle.types.specs.Types.{cells_of, most_cells}
+use Rattle.types.specs.Types.{cells_of, most_cells, required_forms}
 use Rattle.typed_tree.specs.declared.tree.Variable.{Variable}
 use Rattle.typed_tree.specs.Ids.{AreByPlace}
 use Rattle.typed_tree.specs.Look.{entries_of_look, loops_of_look, is_formed_mark}
 use Rattle.typing.specs.Passing.{After}
 use Rattle.typing.specs.Steps.{most_sites, most_entries}
 use Rattle.typing.specs.Typing.{typing}
+
+-- the required types, and then a program's own
+abbrev pub BeginWithRequired : List TypeForm → Type 0
+BeginWithRequired types = (own : List TypeForm) × (types ≡ required_forms ++ own)
 
 -- the type of each variable takes one cell
 abbrev pub HaveScalarVariables : List Variable → List TypeForm → Type 0
@@ -31,6 +35,7 @@ pub record Lawful (program : Program) (a : After (Unit {0})) : Type 0 where
   -- until routines declare others, the program's block declares each variable
   pub declared : list_all (λ variable. nat_eq variable.block 0) a.passed.variables ≡ true
   pub few_sites : length a.passed.sites ≤ most_sites
+  pub types : BeginWithRequired a.passed.types
   -- until variables are of structured types, each takes one cell
   pub scalar : HaveScalarVariables a.passed.variables a.passed.types
   -- its sites stand by place and then by kind, if its places stand in order
