@@ -23,7 +23,7 @@ use Rattle.abstract_state.specs.declared.state.State.{State as Kept}
 use Rattle.abstract_state.specs.View.{viewed}
 use Rattle.abstract_state.specs.Conditions.{bound_form}
 use Rattle.abstract_state.specs.State.{State, joined_states, limits_of}
-use Rattle.expression_checker.specs.Walk.{Context, Walked, Walking, tested, fitting, ◌>>=◌, give}
+use Rattle.expression_checker.specs.Walk.{Context, Walked, Walking, fitting, ◌>>=◌, give}
 use Rattle.expression_checker.specs.Walk.{enter, value_walk, followed, numbers_of}
 use Rattle.expression_checker.specs.Walk.{first_breach, IsBreachOf}
 use Rattle.cert_checker.specs.Walk.{assign, change, statement_walk, all_of, assignment, block_walk, branches, breach_unless, facts_given, first_context}

@@ -13,9 +13,9 @@ use Rattle.certificate.specs.declared.claim.LineFault.{LineFault}
 use Rattle.certificate.specs.declared.claim.LineFault.TheVariants.{NotInGrammar}
 use Rattle.certificate.specs.Bounds.{bound_of, bound_words, is_sign, offset, offset_of, plus_at}
 use Rattle.certificate.specs.Contents.{is_bound, is_constant, is_small}
-use Rattle.certificate.specs.Words.{◌>>=◌, behind, both, constant_of, negative_of, positive_of, variable, variable_of}
-use Rattle.certificate.proofs.Numerals.{behind_some, below_zero, bound_ok, constant_again, constant_spelled, negative_again, negative_spelled, no_beginning}
-use Rattle.certificate.proofs.Numerals.{not_below_zero, ok_is, own, positive_again, positive_spelled, when_ok}
+use Rattle.certificate.specs.Words.{◌>>=◌, behind, both, constant_of, lowered_of, positive_of, variable, variable_of}
+use Rattle.certificate.proofs.Numerals.{behind_some, below_zero, bound_ok, constant_again, constant_spelled, lowered_again, lowered_read, negative_spelled}
+use Rattle.certificate.proofs.Numerals.{no_beginning, not_below_zero, ok_is, own, positive_again, positive_spelled, when_ok}
 use Rattle.certificate.proofs.WordLaws.{are_above, above_append, both_ok, byte_above, constant_above, small_is, variable_above, variable_again}
 use Rattle.certificate.proofs.WordLaws.{variable_spelled}
 
@@ -34,9 +34,9 @@ offset_spelled word z e =
           let number = positive_spelled found.0 z found.2 in
           (behind_some (codes "+") word found.0 found.1 ∙ ap (λ digits. 43 ∷ digits) number.0 ∙ plus_offset z number.1, number.2)
       | inr minus ↦
-          elim (when_ok (behind (codes "-") word) negative_of (Err NotInGrammar) z minus) [
+          elim (when_ok (behind (codes "-") word) lowered_of (Err NotInGrammar) z minus) [
             | inl found ↦
-                let number = negative_spelled found.0 z found.2 in
+                let number = negative_spelled found.0 z (lowered_read found.0 z found.2) in
                 (behind_some (codes "-") word found.0 found.1 ∙ number.0 ∙ signed_offset z number.1, number.2)
             | inr fault ↦ absurd cc
           ]
@@ -69,7 +69,7 @@ bound_spelled word bound e =
 
 offset_again : (z : ℤ) → is_constant z ≡ true → offset_of (offset z) ≡ Ok z
 offset_again (pos n) fits = ap offset_of (sym (plus_offset (pos n) (not_below_zero n))) ∙ positive_again n fits
-offset_again (negsuc n) fits = negative_again n fits
+offset_again (negsuc n) fits = lowered_again n fits
 
 -- a text without a sign
 abbrev are_signless : List ℕ → Bool

@@ -17,7 +17,7 @@ use Rattle.std.proofs.lemmas.Str.Parse.{IsNumeralModel, numerals_by_fold}
 use Rattle.certificate.specs.declared.claim.LineFault.{LineFault}
 use Rattle.certificate.specs.declared.claim.LineFault.TheVariants.{NotInGrammar, OutOfRange}
 use Rattle.certificate.specs.Contents.{is_constant}
-use Rattle.certificate.specs.Words.{◌>>=◌, at_most, behind, constant_of, is_number, maxint, negative, negative_of, positive_of, value_of, value_up_to, when}
+use Rattle.certificate.specs.Words.{◌>>=◌, at_most, behind, constant_of, is_number, lowered, lowered_of, maxint, negative, negative_of, positive_of, value_of, value_up_to, when}
 
 abbrev value_after : ℕ → List ℕ → ℕ
 value_after n digits = fold (λ value digit. value * 10 + (digit - 48)) n digits
@@ -133,6 +133,15 @@ negative_spelled digits z e =
     let sign = negative_is number.0 z number.2 spelled.1 in
     (ap (λ digits. 45 ∷ digits) spelled.0 ∙ sign.0, sign.1, sign.2)
 
+lowered_is : (n : ℕ) (z : ℤ) → lowered n ≡ Ok z → negative n ≡ Ok z
+lowered_is zero z e = absurd cc
+lowered_is (suc n) z e = e
+
+pub lowered_read : (digits : List ℕ) (z : ℤ) → lowered_of digits ≡ Ok z → negative_of digits ≡ Ok z
+lowered_read digits z e =
+    let number = bound_ok (at_most maxint digits) lowered z e in
+    ap (λ magnitude. magnitude >>= negative) number.1 ∙ lowered_is number.0 z number.2
+
 pub positive_spelled : (digits : List ℕ) (z : ℤ) → positive_of digits ≡ Ok z
     → (digits ≡ signed_decimal z) × (int_lt z (pos 0) ≡ false) × (is_constant z ≡ true)
 positive_spelled digits z e =
@@ -163,6 +172,11 @@ no_first byte (first ∷ more) other some digits =
 -- what digits say behind a minus, or without one
 pub negative_again : (n : ℕ) → is_constant (negsuc n) ≡ true → negative_of (decimal (suc n)) ≡ Ok (negsuc n)
 negative_again n fits =
+    let low = (constant_is (negsuc n) fits).0 in
+    rw (at_most-again maxint (suc n) (omega (arith, ints)) (omega (arith, ints))) refl
+
+pub lowered_again : (n : ℕ) → is_constant (negsuc n) ≡ true → lowered_of (decimal (suc n)) ≡ Ok (negsuc n)
+lowered_again n fits =
     let low = (constant_is (negsuc n) fits).0 in
     rw (at_most-again maxint (suc n) (omega (arith, ints)) (omega (arith, ints))) refl
 

@@ -7,7 +7,7 @@ use Rattle.std.specs.List.{position_or_len}
 use Rattle.domain.specs.Facts.{Bound, Number, Plus}
 use Rattle.certificate.specs.declared.claim.LineFault.{LineFault}
 use Rattle.certificate.specs.declared.claim.LineFault.TheVariants.{NotInGrammar}
-use Rattle.certificate.specs.Words.{◌>>=◌, behind, both, constant_of, negative_of, positive_of, variable}
+use Rattle.certificate.specs.Words.{◌>>=◌, behind, both, constant_of, lowered_of, positive_of, variable}
 use Rattle.certificate.specs.Words.{variable_of, when}
 
 -- ---- how a bound is spelled
@@ -26,7 +26,7 @@ bound_words (Plus root number) = variable root ++ offset number
 -- a number behind its sign
 abbrev pub offset_of : List ℕ → Result ℤ LineFault
 offset_of word =
-    when (behind (codes "+") word) positive_of (when (behind (codes "-") word) negative_of (Err NotInGrammar))
+    when (behind (codes "+") word) positive_of (when (behind (codes "-") word) lowered_of (Err NotInGrammar))
 
 abbrev pub is_sign : ℕ → Bool
 is_sign byte = byte == 43 || byte == 45

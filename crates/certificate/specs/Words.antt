@@ -87,6 +87,14 @@ positive_of digits = at_most maxint digits >>= λ magnitude. Ok (pos magnitude)
 abbrev pub negative_of : List ℕ → Result ℤ LineFault
 negative_of digits = at_most maxint digits >>= negative
 
+-- the same of a magnitude by which a bound lies below a variable; 0 is out of its range
+abbrev pub lowered : ℕ → Result ℤ LineFault
+lowered zero = Err OutOfRange
+lowered (suc n) = Ok (neg_ℤ (pos (suc n)))
+
+abbrev pub lowered_of : List ℕ → Result ℤ LineFault
+lowered_of digits = at_most maxint digits >>= lowered
+
 -- a number with or without a minus
 abbrev pub constant_of : List ℕ → Result ℤ LineFault
 constant_of word = when (behind (codes "-") word) negative_of (positive_of word)

@@ -134,6 +134,16 @@ pub(crate) fn negative_of(digits: &[u8]) -> Result<i32, LineFault>
     }
 }
 
+/// The same of a magnitude by which a bound lies below a variable: at least 1.
+pub(crate) fn lowered_of(digits: &[u8]) -> Result<i32, LineFault>
+    ensures { result ≡ spec.lowered_of digits.now }
+{
+    match at_most(MAXINT, digits)? {
+        0 => Err(LineFault::OutOfRange),
+        magnitude => Ok(-(magnitude as i32)),
+    }
+}
+
 /// The value of a number that is at most the limit.
 fn at_most(limit: u32, word: &[u8]) -> Result<u32, LineFault>
     ensures { result ≡ spec.at_most limit word.now }
