@@ -1,5 +1,5 @@
 -- Chains of operators, and the one actual of a function: how their typing goes on from that of their parts.
-use Rattle.std.proofs.Common.{◌≡◌, List, [], ◌∷◌, ◌++◌, length, map, get_or, true, false, ◌||◌, nat_eq, Option, Some, is_none, option_map, Ok, Err}
+use Rattle.std.proofs.Common.{◌≡◌, List, [], ◌∷◌, ◌++◌, length, map, get_or, Bool, true, false, ◌||◌, nat_eq, Option, Some, is_none, option_map, Ok, Err}
 use Rattle.std.proofs.Common.{Box, Vec, Result, inl, inr, refl, sym, ap, ap₂, subst, ◌∙◌, arith, append-nil}
 use Rattle.std.specs.Prelude.{flat_map, MatchResult}
 use Rattle.std.proofs.lemmas.List.{length-map}
@@ -19,7 +19,7 @@ use Rattle.typed_tree.specs.declared.tree.Whole.{Whole}
 use Rattle.typed_tree.specs.Look.{Look, Begins, Ends, look_expr, look_link, look_whole}
 use Rattle.typed_tree.specs.WellFormed.{length_of}
 use Rattle.typing.specs.declared.typed.Typed.{Typed}
-use Rattle.typing.specs.Passing.{Passed, Checked, After, after, and_then, behind_marks, pure, mark, given, ◌>>=◌, ◌>>◌}
+use Rattle.typing.specs.Passing.{Passed, Checked, After, after, and_then, behind_marks, pure, mark, given, ◌>>◌}
 use Rattle.typing.specs.Steps.{fits}
 use Rattle.typing.specs.Outcomes.{IsFault}
 use Rattle.typing.specs.Expressions.{Written, WrittenLink, expression, written_link, written_actual, chain, links, only, without_width, typed}
@@ -93,28 +93,45 @@ module _ (w : SyntaxExpr) (first : Box SyntaxExpr Global) (rest : Vec Link Globa
 
 -- ---- the operators behind a first operand
 
+pub nothing : {A : Type 0} (xs : List A) → length xs ≡ 0 → xs ≡ []
+nothing [] none = refl
+nothing (x ∷ xs) none = absurd (omega (arith, none))
+
+same_passed : {A : Type 0} {one two : A} {look more : Look} {old new : Passed}
+    → ◌≡◌ {A = Checked (After A)} (Ok (after one look old)) (Ok (after two more new)) → old ≡ new
+same_passed {one = one} {two} {look} {more} {old} {new} is = let same : after one look old ≡ after two more new = cc in ap (λ a. a.passed) same
+
 module _ (place : Place) (f : Typed) (rest : List WrittenLink) (now : Passed) where
-  -- they are too many for a string
-  pub rest_refused : (is_none f.length || nat_eq (length rest) 1) ≡ false → operators place f rest now ≡ Err (fault.Mismatch place)
+  operators_go : operators place f rest now
+      ≡ and_then (links f rest now) (λ a. behind_marks a.look
+      ((given (fits (is_none f.length || nat_eq (length rest) 1) place a.answer) >> (mark Ends >> pure a.answer)) a.passed))
   unfolding operators
-  rest_refused many = ap (λ b. (given (fits b place f) >> (links f rest >>= (λ t. mark Ends >> pure t))) now) many
+  operators_go = refl
 
-  module _ (few : (is_none f.length || nat_eq (length rest) 1) ≡ true) where
-    operators_go : operators place f rest now ≡ behind_marks [] (and_then (links f rest now) (λ a. behind_marks a.look ((mark Ends >> pure a.answer) a.passed)))
-    unfolding operators
-    operators_go = ap (λ b. (given (fits b place f) >> (links f rest >>= (λ t. mark Ends >> pure t))) now) few
+  -- one of them is refused
+  pub rest_stops : (why : TypeFault) → IsFault (links f rest now) why → IsFault (operators place f rest now) why
+  rest_stops why (inl memory) = inl memory
+  rest_stops why (inr stops) = inr (
+      operators_go
+      ∙ ap (λ r. and_then r (λ a. behind_marks a.look
+      ((given (fits (is_none f.length || nat_eq (length rest) 1) place a.answer) >> (mark Ends >> pure a.answer)) a.passed))) stops)
 
-    -- one of them is refused
-    pub rest_stops : (why : TypeFault) → IsFault (links f rest now) why → IsFault (operators place f rest now) why
-    rest_stops why (inl memory) = inl memory
-    rest_stops why (inr stops) = inr (
-        operators_go ∙ ap (λ r. behind_marks [] (and_then r (λ a. behind_marks a.look ((mark Ends >> pure a.answer) a.passed)))) stops)
+  module _ (t : Typed) (look : Look) (new : Passed) (passes : links f rest now ≡ Ok (after t look new)) where
+    behind_rest : (few : Bool) → (is_none f.length || nat_eq (length rest) 1) ≡ few
+        → operators place f rest now ≡ behind_marks look ((given (fits few place t) >> (mark Ends >> pure t)) new)
+    behind_rest few is =
+        operators_go
+        ∙ ap (λ r. and_then r (λ a. behind_marks a.look
+        ((given (fits (is_none f.length || nat_eq (length rest) 1) place a.answer) >> (mark Ends >> pure a.answer)) a.passed))) passes
+        ∙ ap (λ b. behind_marks look ((given (fits b place t) >> (mark Ends >> pure t)) new)) is
 
     -- they end the chain
-    pub rest_ends : (t : Typed) (look : Look) (new : Passed) → links f rest now ≡ Ok (after t look new)
-        → operators place f rest now ≡ Ok (after t (look ++ (Ends ∷ [])) new)
-    rest_ends t look new passes =
-        operators_go ∙ ap (λ r. behind_marks [] (and_then r (λ a. behind_marks a.look ((mark Ends >> pure a.answer) a.passed)))) passes
+    pub rest_ends : (is_none f.length || nat_eq (length rest) 1) ≡ true → operators place f rest now ≡ Ok (after t (look ++ (Ends ∷ [])) new)
+    rest_ends few = behind_rest true few
+
+    -- they are too many for a string
+    pub rest_refused : (is_none f.length || nat_eq (length rest) 1) ≡ false → operators place f rest now ≡ Err (fault.Mismatch place)
+    rest_refused many = behind_rest false many
 
 -- ---- an ordinal, and the operators behind it
 
@@ -136,7 +153,7 @@ module _ (place : Place) (first : TypedExpr) (left : Typed) (same : left ≡ typ
     pub ordinal_stops : (why : TypeFault) → IsFault (links before (map written_link rest) now) why → IsFault goes why
     ordinal_stops why stops = subst (λ o. IsFault o why) (sym behind_ordinal) (
         behind_fault (Begins ∷ look_expr value) (operators place before (map written_link rest) now) why
-        (rest_stops place before (map written_link rest) now refl why stops))
+        (rest_stops place before (map written_link rest) now why stops))
 
     pub ordinal_made : (rows : TypedLinks) (new : Passed) (moved : Expr) (made : Result TypedExpr TypeFault)
         → links before (map written_link rest) now ≡ Ok (after (typed rows.type_id left.site) (flat_map look_link rows.links.items) new)
@@ -145,7 +162,7 @@ module _ (place : Place) (first : TypedExpr) (left : Typed) (same : left ≡ typ
     ordinal_made rows new moved (Ok made) passes same_value chain_of =
         behind_ordinal ∙ ap (λ v. behind_marks (Begins ∷ look_expr v) (operators place before (map written_link rest) now)) (sym same_value)
         ∙ ap (behind_marks (Begins ∷ look_expr moved))
-        (rest_ends place before (map written_link rest) now refl (typed rows.type_id left.site) (flat_map look_link rows.links.items) new passes)
+        (rest_ends place before (map written_link rest) now (typed rows.type_id left.site) (flat_map look_link rows.links.items) new passes refl)
         ∙ ap₂ (λ t look. Ok (after t look new)) (sym chain_of.is) (sym chain_of.looks)
 
   -- ---- a string, and the operator behind it
@@ -162,39 +179,69 @@ module _ (place : Place) (first : TypedExpr) (left : Typed) (same : left ≡ typ
         ap (λ b. b || nat_eq (length (map written_link rest)) 1) is_long ∙ ap (λ n. nat_eq n 1) (length-map rest written_link)
         ∙ ne_eqb (length rest) 1 several
 
-    pub string_refused : ¬ (length rest ≡ 1) → IsFault goes (fault.Mismatch place)
-    string_refused several =
+    -- there is none
+    pub string_alone : length rest ≡ 0 → IsFault goes (fault.Mismatch place)
+    string_alone none =
         behind_fault (Begins ∷ look_value first.value) (operators place (typed_of first) (map written_link rest) now) (fault.Mismatch place)
-        (inr (rest_refused place (typed_of first) (map written_link rest) now (too_many several)))
+        (inr (rest_refused place (typed_of first) (map written_link rest) now (typed_of first) [] now
+        (ap (λ l. links (typed_of first) (map written_link l) now) (nothing rest none)) (too_many (λ one. absurd (omega (arith, one, none))))))
 
-    module _ (written : Link) (alone : rest ≡ written ∷ []) where
-      behind_string : goes ≡ behind_marks (Begins ∷ look_value first.value) (operators place left (written_link written ∷ []) now)
-      behind_string =
-          ap (λ l. behind_marks (Begins ∷ look_value first.value) (operators place (typed_of first) (map written_link l) now)) alone
-          ∙ ap (λ l. behind_marks (Begins ∷ look_value first.value) (operators place l (written_link written ∷ []) now)) (sym same)
-
-      few : (is_none left.length || nat_eq 1 1) ≡ true
-      few = ap (λ t. is_none t.length || nat_eq 1 1) same ∙ ap (λ b. b || nat_eq 1 1) is_long
-
+    module _ (written : Link) (more : List Link) (all : rest ≡ written ∷ more) where
+      -- the first one is refused
       pub string_stops : (why : TypeFault) → IsFault (written_link written left now) why → IsFault goes why
       string_stops why (inl memory) = inl memory
-      string_stops why (inr stops) = subst (λ o. IsFault o why) (sym behind_string) (
-          behind_fault (Begins ∷ look_value first.value) (operators place left (written_link written ∷ []) now) why
-          (rest_stops place left (written_link written ∷ []) now few why
-          (inr (ap (λ r. and_then r (λ a. behind_marks a.look (links a.answer [] a.passed))) stops))))
+      string_stops why (inr stops) =
+          behind_fault (Begins ∷ look_value first.value) (operators place (typed_of first) (map written_link rest) now) why
+          (rest_stops place (typed_of first) (map written_link rest) now why
+          (inr (ap (λ l. links (typed_of first) (map written_link l) now) all ∙ ap (λ f. links f (map written_link (written ∷ more)) now) (sym same)
+          ∙ ap (λ r. and_then r (λ a. behind_marks a.look (links a.answer (map written_link more) a.passed))) stops)))
 
-      pub string_made : (relation : TypedLink) (new : Passed) (moved : Whole) (made : TypedExpr)
-          → written_link written left now ≡ Ok (after (typed relation.type_id left.site) (look_behind left.length relation) new)
-          → moved ≡ value → IsComparisonOf moved left.site relation made → goes ≡ Ok (after (typed_of made) (look_value made.value) new)
-      string_made relation new moved made passes same_value comparison_of =
-          behind_string
-          ∙ ap (behind_marks (Begins ∷ look_value first.value))
-          (rest_ends place left (written_link written ∷ []) now few (typed relation.type_id left.site) (look_behind left.length relation) new
-          (ap (λ r. and_then r (λ a. behind_marks a.look (links a.answer [] a.passed))) passes
-          ∙ ap (λ look. Ok (after (typed relation.type_id left.site) look new)) (append-nil (look_behind left.length relation))))
-          ∙ ap (λ v. Ok (after (typed relation.type_id left.site) ((Begins ∷ look_value v) ++ (look_behind left.length relation ++ (Ends ∷ []))) new)) is
-          ∙ ap (λ n. Ok (after (typed relation.type_id left.site) (Begins ∷ (look_whole value ++ (look_behind n relation ++ (Ends ∷ [])))) new))
-          (ap (λ t. t.length) (same ∙ as_long))
-          ∙ ap (λ v. Ok (after (typed relation.type_id left.site)
-          (Begins ∷ (look_whole v ++ (look_behind (Some (length_of v)) relation ++ (Ends ∷ [])))) new)) (sym same_value)
-          ∙ ap₂ (λ t look. Ok (after t look new)) (sym comparison_of.is) (sym comparison_of.looks)
+      module _ (relation : TypedLink) (there : Passed)
+          (passes : written_link written left now ≡ Ok (after (typed relation.type_id left.site) (look_behind left.length relation) there)) where
+        behind_relation : links (typed_of first) (map written_link rest) now
+            ≡ behind_marks (look_behind left.length relation) (links (typed relation.type_id left.site) (map written_link more) there)
+        behind_relation =
+            ap (λ l. links (typed_of first) (map written_link l) now) all ∙ ap (λ f. links f (map written_link (written ∷ more)) now) (sym same)
+            ∙ ap (λ r. and_then r (λ a. behind_marks a.look (links a.answer (map written_link more) a.passed))) passes
+
+        -- one behind it is refused
+        pub more_stop : (why : TypeFault) → IsFault (links (typed relation.type_id left.site) (map written_link more) there) why → IsFault goes why
+        more_stop why stops =
+            behind_fault (Begins ∷ look_value first.value) (operators place (typed_of first) (map written_link rest) now) why
+            (rest_stops place (typed_of first) (map written_link rest) now why (subst (λ o. IsFault o why) (sym behind_relation)
+            (behind_fault (look_behind left.length relation) (links (typed relation.type_id left.site) (map written_link more) there) why stops)))
+
+        module _ (rows : TypedLinks) (new : Passed)
+            (others : links (typed relation.type_id left.site) (map written_link more) there
+            ≡ Ok (after (typed rows.type_id left.site) (flat_map look_link rows.links.items) new)) where
+          -- there are more
+          pub more_refused : ¬ (length more ≡ 0) → IsFault goes (fault.Mismatch place)
+          more_refused several =
+              behind_fault (Begins ∷ look_value first.value) (operators place (typed_of first) (map written_link rest) now) (fault.Mismatch place)
+              (inr (rest_refused place (typed_of first) (map written_link rest) now (typed rows.type_id left.site)
+              (look_behind left.length relation ++ flat_map look_link rows.links.items) new
+              (behind_relation ∙ ap (behind_marks (look_behind left.length relation)) others)
+              (too_many (λ one. several (omega (arith, one, ap length all))))))
+
+          -- it is alone
+          pub string_made : (moved : Whole) (made : TypedExpr) → more ≡ [] → moved ≡ value → IsComparisonOf moved left.site relation made
+              → goes ≡ Ok (after (typed_of made) (look_value made.value) new)
+          string_made moved made none same_value comparison_of =
+              let nothing : ◌≡◌ {A = Checked (After Typed)} (Ok (after (typed relation.type_id left.site) [] there))
+              (Ok (after (typed rows.type_id left.site) (flat_map look_link rows.links.items) new)) =
+              sym (ap (λ l. links (typed relation.type_id left.site) (map written_link l) there) none) ∙ others in
+              let still : there ≡ new = same_passed nothing in
+              ap (behind_marks (Begins ∷ look_value first.value))
+              (rest_ends place (typed_of first) (map written_link rest) now (typed relation.type_id left.site) (look_behind left.length relation) there
+              (behind_relation
+              ∙ ap (λ l. behind_marks (look_behind left.length relation) (links (typed relation.type_id left.site) (map written_link l) there)) none
+              ∙ ap (λ look. Ok (after (typed relation.type_id left.site) look there)) (append-nil (look_behind left.length relation)))
+              (ap (λ b. b || nat_eq (length (map written_link rest)) 1) is_long ∙ ap (λ n. nat_eq n 1) (length-map rest written_link)
+              ∙ ap (λ l. nat_eq (length l) 1) (all ∙ ap (λ l. written ∷ l) none)))
+              ∙ ap (λ v. Ok (after (typed relation.type_id left.site) ((Begins ∷ look_value v) ++ (look_behind left.length relation ++ (Ends ∷ []))) there)) is
+              ∙ ap (λ n. Ok (after (typed relation.type_id left.site) (Begins ∷ (look_whole value ++ (look_behind n relation ++ (Ends ∷ [])))) there))
+              (ap (λ t. t.length) (same ∙ as_long))
+              ∙ ap (λ v. Ok (after (typed relation.type_id left.site)
+              (Begins ∷ (look_whole v ++ (look_behind (Some (length_of v)) relation ++ (Ends ∷ [])))) there)) (sym same_value)
+              ∙ ap₂ (λ t look. Ok (after t look there)) (sym comparison_of.is) (sym comparison_of.looks)
+              ∙ ap (λ n. Ok (after (typed_of made) (look_value made.value) n)) still

@@ -77,8 +77,8 @@ MakesLinks site = Makes (λ made. typed made.type_id site) (λ made. flat_map lo
 -- what a chain is behind its first operand, which begins at the place
 unfoldable pub operators : Place → Typed → List WrittenLink → Passing Typed
 operators place f rest = do
-  given (fits (is_none f.length || nat_eq (length rest) 1) place f)
   t ← links f rest
+  given (fits (is_none f.length || nat_eq (length rest) 1) place t)
   mark Ends
   pure t
 

@@ -253,10 +253,15 @@ fn behind_first(
             chain(typer.alloc, value, left.site, rest)
         }
         Value::Whole(value) => {
-            let [written] = rest else {
+            let Some((written, more)) = rest.split_first() else {
                 return Err(TypeFault::Mismatch(place));
             };
             let relation = link(typer, left, written)?;
+            // What an operator behind it breaks comes first; the parser makes no such chain.
+            links(typer, relation.type_id, left.site, more)?;
+            if !more.is_empty() {
+                return Err(TypeFault::Mismatch(place));
+            }
             Ok(comparison(value, left.site, relation))
         }
     }

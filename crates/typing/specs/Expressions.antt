@@ -233,8 +233,8 @@ unfoldable pub chain : Written → List WrittenLink → Option SiteKind → Pass
 chain first rest lead = do
   mark Begins
   f ← first.typing lead
-  given (fits (is_none f.length || nat_eq (length rest) 1) first.first f)
   t ← links f rest
+  given (fits (is_none f.length || nat_eq (length rest) 1) first.first t)
   mark Ends
   pure t
 

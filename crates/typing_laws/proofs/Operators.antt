@@ -177,8 +177,8 @@ module _ (variables : ℕ) where
     types = λ least lead is.
         quietly (mark_does Begins refl refl (λ n h. refl)) λ _ now _ _.
         joins (covers_both 2 places others) (law.types now lead is) λ f met _ known.
-        quietly (given_does (fits (is_none f.length || nat_eq (length ls) 1) first.first f)) λ _ next later _.
-        last (more next f (known_later f.site met next later known)) λ t there _ known.
+        last (more met f known) λ t there _ known.
+        quietly (given_does (fits (is_none f.length || nat_eq (length ls) 1) first.first t)) λ _ next later _.
         quietly (mark_does Ends refl refl (λ n h. refl)) λ _ m further _.
         pure_does t (λ n h. known_later t.site there n (omega arith) known);
   }

@@ -1,3 +1,4 @@
+use Rattle.std.proofs.lemmas.Bool.Decides.{nat_tests}
 use Rattle.std.proofs.Common.{rules, ◌≡◌, ◌∷◌, length, map, refl, sym, ap, subst, ◌∙◌, arith}
 use Rattle.syntax_tree.specs.declared.Expr.TheViews.{out-Link}
 use Rattle.typed_tree.specs.Look.{Begins}
@@ -6,8 +7,8 @@ use Rattle.typing.specs.Expressions.{expression, written_link}
 use Rattle.typing.specs.Expressions as spec
 use Rattle.typing.specs.Outcomes.{IsFault}
 use Rattle.expression_resolver.specs.Made.{typed_of, look_value, operators, MakesTyped}
-use Rattle.expression_resolver.proofs.Chains.{one_alone, stops_at_first, goes_on, ordinal_stops, ordinal_made, string_refused, string_stops, string_made}
-use Rattle.typed_tree.specs.declared.fault.TypeFault.TheVariants.{Mismatch}
+use Rattle.expression_resolver.proofs.Chains.{stops_at_first, goes_on, ordinal_stops, ordinal_made}
+use Rattle.expression_resolver.proofs.Chains.{nothing, string_alone, string_stops, more_stop, more_refused, string_made}
 use Rattle.expression_resolver.proofs.Operands.{was_some, fits_behind}
 use Rattle.expression_resolver.proofs.expressions.+expressions.Goals as goal
 
@@ -52,29 +53,44 @@ behind_first-returns-in_ok-rest-in-Ordinal t c =
 
 pub behind_first-returns-in_default : goal.behind_first-returns-in_default
 behind_first-returns-in_default t c =
-    let first = c.args.first in
-    let refused : ¬ (length c.args.rest.now ≡ 1) → IsFault (behind_marks (Begins ∷ look_value first.value)
-    (operators c.args.place (typed_of first) (map written_link c.args.rest.now) c.args.typer.now)) (Mismatch c.args.place) =
-    string_refused c.args.place first c.typed-left.result c.typed-left.ensures c.args.rest.now c.args.typer.now c.in-Whole.value c.in-Whole.is in
-    search rules
+    string_alone c.args.place c.args.first c.typed-left.result c.typed-left.ensures c.args.rest.now c.args.typer.now c.in-Whole.value c.in-Whole.is
+    c.in_default.ensures.cases
 
 pub behind_first-returns-in_err-relation-in-Whole : goal.behind_first-returns-in_err-relation-in-Whole
 behind_first-returns-in_err-relation-in-Whole t c =
     let first = c.args.first in
     let why = c.in_err-relation-in-Whole.field-0.0 in
-    let one : length c.args.rest.now ≡ 1 = omega (arith, c.in-len1.len_at_least, c.in-len1.len_below) in
     let stops : IsFault (behind_marks (Begins ∷ look_value first.value)
     (operators c.args.place (typed_of first) (map written_link c.args.rest.now) c.args.typer.now)) why =
     string_stops c.args.place first c.typed-left.result c.typed-left.ensures c.args.rest.now c.args.typer.now c.in-Whole.value c.in-Whole.is
-    c.written-item.result (one_alone c.args.rest.now c.written-item.result one c.written-item.is) why c.in_err-relation-in-Whole.ensures.made in
+    c.in-Some.written.now c.in-Some.more.now c.in-Some.ensures.cases.0 why c.in_err-relation-in-Whole.ensures.made in
     search rules
 
-pub behind_first-returns-in_ok-relation-in-Whole : goal.behind_first-returns-in_ok-relation-in-Whole
-behind_first-returns-in_ok-relation-in-Whole t c =
-    let one : length c.args.rest.now ≡ 1 = omega (arith, c.in-len1.len_at_least, c.in-len1.len_below) in
+pub behind_first-returns-in_err-links-in-Whole : goal.behind_first-returns-in_err-links-in-Whole
+behind_first-returns-in_err-links-in-Whole t c =
+    let first = c.args.first in
+    let why = c.in_err-links-in-Whole.field-0.0 in
+    let stops : IsFault (behind_marks (Begins ∷ look_value first.value)
+    (operators c.args.place (typed_of first) (map written_link c.args.rest.now) c.args.typer.now)) why =
+    more_stop c.args.place first c.typed-left.result c.typed-left.ensures c.args.rest.now c.args.typer.now c.in-Whole.value c.in-Whole.is
+    c.in-Some.written.now c.in-Some.more.now c.in-Some.ensures.cases.0 c.in_ok-relation-in-Whole.relation c.link.new.typer
+    c.in_ok-relation-in-Whole.ensures.made why c.in_err-links-in-Whole.ensures in
+    search rules
+
+pub behind_first-returns-then-not-is_empty : goal.behind_first-returns-then-not-is_empty
+behind_first-returns-then-not-is_empty t c =
+    let several : ¬ (length c.in-Some.more.now ≡ 0) = grind (arith, nat_tests, c.if-not-is_empty.true, c.is_empty.ensures) in
+    more_refused c.args.place c.args.first c.typed-left.result c.typed-left.ensures c.args.rest.now c.args.typer.now c.in-Whole.value c.in-Whole.is
+    c.in-Some.written.now c.in-Some.more.now c.in-Some.ensures.cases.0 c.in_ok-relation-in-Whole.relation c.link.new.typer
+    c.in_ok-relation-in-Whole.ensures.made c.in_ok-links-in-Whole.field-0 c.links-in-Whole.new.typer c.in_ok-links-in-Whole.ensures several
+
+pub behind_first-returns-else-not-is_empty : goal.behind_first-returns-else-not-is_empty
+behind_first-returns-else-not-is_empty t c =
+    let none : length c.in-Some.more.now ≡ 0 = grind (arith, nat_tests, c.if-not-is_empty.false, c.is_empty.ensures) in
     string_made c.args.place c.args.first c.typed-left.result c.typed-left.ensures c.args.rest.now c.args.typer.now c.in-Whole.value c.in-Whole.is
-    c.written-item.result (one_alone c.args.rest.now c.written-item.result one c.written-item.is) c.in_ok-relation-in-Whole.relation c.link.new.typer _
-    c.comparison.result c.in_ok-relation-in-Whole.ensures.made c.in-Whole.value-is c.comparison.ensures
+    c.in-Some.written.now c.in-Some.more.now c.in-Some.ensures.cases.0 c.in_ok-relation-in-Whole.relation c.link.new.typer
+    c.in_ok-relation-in-Whole.ensures.made c.in_ok-links-in-Whole.field-0 c.links-in-Whole.new.typer c.in_ok-links-in-Whole.ensures
+    _ c.comparison.result (nothing c.in-Some.more.now none) c.in-Whole.value-is c.comparison.ensures
 
 -- ---- an operator and its right operand
 
