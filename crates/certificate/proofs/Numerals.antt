@@ -17,7 +17,8 @@ use Rattle.std.proofs.lemmas.Str.Parse.{IsNumeralModel, numerals_by_fold}
 use Rattle.certificate.specs.declared.claim.LineFault.{LineFault}
 use Rattle.certificate.specs.declared.claim.LineFault.TheVariants.{NotInGrammar, OutOfRange}
 use Rattle.certificate.specs.Contents.{is_constant}
-use Rattle.certificate.specs.Words.{◌>>=◌, at_most, behind, constant_of, is_number, lowered, lowered_of, maxint, negative, negative_of, positive_of, value_of, value_up_to, when}
+use Rattle.certificate.specs.Words.{◌>>=◌, at_most, behind, constant_of, is_number, lowered, lowered_of, maxint, negative, negative_of, positive_of}
+use Rattle.certificate.specs.Words.{value_of, value_up_to, when}
 
 abbrev value_after : ℕ → List ℕ → ℕ
 value_after n digits = fold (λ value digit. value * 10 + (digit - 48)) n digits
