@@ -130,8 +130,7 @@ impl Output {
                 self.put_after_blanks(blanks_before(text.len(), width), text, writer)
             }
             Form::Character => {
-                let text = [byte_of(value)];
-                self.put_after_blanks(blanks_before(1, width), &text, writer)
+                self.put_after_blanks(blanks_before(1, width), &[byte_of(value)], writer)
             }
             Form::Boolean => {
                 let text = word_of(value).as_bytes();

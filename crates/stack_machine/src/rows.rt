@@ -6,11 +6,11 @@ ghost use Rattle.stack_machine.specs.Rows as rows;
 use crate::cell::Cell;
 use crate::stop::MachineFault;
 
-/// A fault where one of these cells isn't a number.
+/// A fault where one of these cells isn't a number. Kept out of the run loop, whose registers it would take.
+#[inline(never)]
 #[tactic(auto, using(crate::proofs::Characters::numbers_tested))]
 pub fn only_numbers(row: &[Cell]) -> Result<(), MachineFault>
-    ensures { MatchResult result
-        (λ _. rows.numbers row.now ≡ Ok (rows.values row.now))
+    ensures { MatchResult result (λ _. rows.numbers row.now ≡ Ok (rows.values row.now))
         (λ fault. rows.numbers row.now ≡ Err fault) }
 {
     if all_numbers(row) {
@@ -19,8 +19,8 @@ pub fn only_numbers(row: &[Cell]) -> Result<(), MachineFault>
     Err(MachineFault::WrongKind)
 }
 
-/// How a row of numbers stands to another of its length: -1, 0 or 1, by their first difference
-/// (ISO 7185:1990, 6.7.2.5).
+/// How a row of numbers stands to another: -1, 0 or 1, by their first difference (ISO 7185:1990, 6.7.2.5).
+#[inline(never)]
 pub fn order(left: &[Cell], right: &[Cell]) -> i32
     ensures { result ≡ rows.order (rows.values left.now) (rows.values right.now) }
 {

@@ -1,4 +1,5 @@
-ghost use Rattle.std.specs.Prelude.{◌≡◌, ◌+◌, ◌<◌, ◌≤◌, IfOk};
+ghost use Rattle.std.specs.Prelude.{◌≡◌, ◌+◌, ◌<◌, ◌≤◌, length, IfOk};
+ghost use Rattle.std.specs.List.{copy_within};
 ghost use Rattle.stack_machine.specs.Addresses as addresses;
 ghost use Rattle.stack_machine.specs.Frames as frames;
 
@@ -14,8 +15,7 @@ impl Store {
         ensures { Acts result (view self.old) (view self.new) (addresses.load_address level offset (view self.old)) }
     {
         self.has_room_after(0)?;
-        let used = self.used;
-        let frame = self.base(level, used)? as i32;
+        let frame = self.base(level, self.used)? as i32;
         self.replace(0, Cell::Number(frame.wrapping_add_unsigned(offset)));
         Ok(())
     }
@@ -81,7 +81,7 @@ impl Store {
         }
         let address = self.number_at(1)?;
         let place = row_place(address, count, used)?;
-        self.cells.copy_within(place..place + count, used);
+        copy_row(self.cells.as_mut_slice(), place, count, used);
         self.used = used + count;
         Ok(())
     }
@@ -95,7 +95,7 @@ impl Store {
         let first = self.used - count;
         let address = self.number_at(count + 1)?;
         let place = row_place(address, count, first - 1)?;
-        self.cells.copy_within(first..first + count, place);
+        copy_row(self.cells.as_mut_slice(), first, count, place);
         self.used = first - 1;
         Ok(())
     }
@@ -113,4 +113,13 @@ fn row_place(address: i32, count: usize, used: usize) -> Result<usize, MachineFa
     let place = address_of(address, used)?;
     in_use(place + (count - 1), used)?;
     Ok(place)
+}
+
+/// Copies so many cells from one place to another. Kept out of the run loop, whose registers it would take.
+#[inline(never)]
+fn copy_row(cells: &mut [Cell], from: usize, count: usize, to: usize)
+    requires { (from + count ≤ length cells.old) × (to + count ≤ length cells.old) }
+    ensures { cells.new ≡ copy_within cells.old from (from + count) to }
+{
+    cells.copy_within(from..from + count, to);
 }

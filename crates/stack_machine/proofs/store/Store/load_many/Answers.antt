@@ -1,5 +1,7 @@
-use Rattle.std.proofs.Common.{arith, ap, refl, rules, sym, ◌∙◌, ◌+◌, ◌-◌, ◌<◌, ◌≤◌, length, take, Ok}
+use Rattle.std.proofs.Common.{◌≡◌, arith, ap, refl, rules, sym, ◌∙◌, ◌+◌, ◌-◌, ◌<◌, ◌≤◌, length, take, Ok}
+use Rattle.std.specs.List.{copy_within}
 use Rattle.std.proofs.lemmas.Int.{to_z-of_z}
+use Rattle.std.proofs.lemmas.List.{with_items_is}
 use Rattle.std.specs.Int.{w32}
 use mir.Val.{SFits}
 use Rattle.stack_machine.specs.View.{view}
@@ -16,6 +18,10 @@ returns c =
     let fits : SFits w32 address = search rules in
     let in_row : s.used ≤ length s.cells.items = omega arith in
     let some : 1 ≤ s.used = omega (arith, c.in_ok-has.ensures.within) in
+    let place = c.in_ok-place.place in
+    let same : length c.copy_row.new.cells ≡ s.cells.len = search rules in
+    let copied = with_items_is s.cells c.copy_row.new.cells same
+    ∙ c.copy_row.ensures ∙ ap (λ xs. copy_within xs place (place + count) (s.used - 1)) c.as_mut_slice.ensures.value in
     let len = length_used s.cells.items s.used in_row in
     let used = length (take s.used s.cells.items) in
     let room : 0 < count → used - 1 + count ≤ s.limit = λ more. elim c.else-count-gt0.branch as (λ _. used - 1 + count ≤ s.limit) [
@@ -25,6 +31,6 @@ returns c =
       load_many-used s.cells.items s.used s.frame s.limit s.size count c.in_ok-place.place address in_row some
           c.in_ok-place.ensures.within c.in_ok-has.ensures.value (room_for count (view s) room) c.in_ok-address.ensures
           (simp to_z-of_z at c.in_ok-place.ensures.value)
-          ∙ ap (λ cs. Ok (record (view s) { cells = take (s.used - 1 + count) cs })) (sym c.copy_within.ensures.items),
+          ∙ ap (λ cs. Ok (record (view s) { cells = take (s.used - 1 + count) cs })) (sym copied),
       refl,
     )
