@@ -1,6 +1,6 @@
 -- The places that a syntax tree keeps, in the order of the text: of names, numbers, strings, operators, signs, `:=` and
--- `..`, of the opening parenthesis of an expression, of the words `if`, `while`, `repeat`, `for` and `case`, and of the
--- last `end`.
+-- `..`, of the opening parenthesis of an expression, of the bracket or comma before an index, of the words `if`,
+-- `while`, `repeat`, `for`, `case`, `array` and `record`, and of the last `end`.
 -- It says nothing of what stands there.
 use Rattle.std.specs.Prelude.{List, [], ◌∷◌, ◌++◌, Option, Some, None, map, flat_map}
 use Rattle.std.specs.declared.alloc.Global.{Global}
@@ -10,7 +10,12 @@ use Rattle.place.specs.declared.Place.{Place}
 use Rattle.syntax_tree.specs.declared.Name.{Name}
 use Rattle.syntax_tree.specs.declared.TypeDefinition.{TypeDefinition}
 use Rattle.syntax_tree.specs.declared.TypeDenoter.{TypeDenoter}
-use Rattle.syntax_tree.specs.declared.TypeDenoter.TheVariants as denoter
+use Rattle.syntax_tree.specs.declared.TypeDenoter.TheOpen.{TypeDenoter-F}
+use Rattle.syntax_tree.specs.declared.TypeDenoter.TheOpen.TypeDenoter-F.{Name as NamedType, Enumerated, Subrange}
+use Rattle.syntax_tree.specs.declared.TypeDenoter.TheOpen.TypeDenoter-F.{Array, Record}
+use Rattle.syntax_tree.specs.declared.TypeDenoter.TheFolds.{fold-TypeDenoter}
+use Rattle.syntax_tree.specs.declared.Selector.{Selector}
+use Rattle.syntax_tree.specs.declared.Selector.TheVariants.{Index, Field}
 use Rattle.syntax_tree.specs.declared.VariableGroup.{VariableGroup}
 use Rattle.syntax_tree.specs.declared.ConstantDefinition.{ConstantDefinition}
 use Rattle.syntax_tree.specs.declared.Constant.{Constant}
@@ -24,7 +29,7 @@ use Rattle.syntax_tree.specs.declared.Actual.{Actual}
 use Rattle.syntax_tree.specs.declared.Link.{Link}
 use Rattle.syntax_tree.specs.declared.Expr.TheOpen.{Expr-F, Actual-F, Link-F}
 use Rattle.syntax_tree.specs.declared.Expr.TheOpen.Expr-F.{Number, Name as NameOf, Call as CallOf, Parenthesized, Not}
-use Rattle.syntax_tree.specs.declared.Expr.TheOpen.Expr-F.{Signed, Chain, String as StringOf}
+use Rattle.syntax_tree.specs.declared.Expr.TheOpen.Expr-F.{Signed, Chain, String as StringOf, Component}
 use Rattle.syntax_tree.specs.declared.Expr.TheFolds.{fold-Expr, fold-Actual, fold-Link}
 use Rattle.syntax_tree.specs.declared.Stmt.{Stmt}
 use Rattle.syntax_tree.specs.declared.Stmt.TheOpen.{Stmt-F}
@@ -37,6 +42,13 @@ Places = List Place
 -- several rows as one
 abbrev pub joined_places : List Places → Places
 joined_places rows = flat_map (λ row. row) rows
+
+-- the places of selectors, with those of the index expressions
+abbrev pub selector_places : List Selector → List Places → Places
+selector_places [] rows = joined_places rows
+selector_places (Field name ∷ selectors) rows = name.place ∷ selector_places selectors rows
+selector_places (Index place joined ∷ selectors) [] = place ∷ selector_places selectors []
+selector_places (Index place joined ∷ selectors) (row ∷ rows) = place ∷ (row ++ selector_places selectors rows)
 
 abbrev pub link_step : Link-F Places Places Places → Places
 link_step link = link.place ∷ link.operand
@@ -51,6 +63,7 @@ actual_step actual = actual.value ++ width_places actual.width
 abbrev pub expression_step : Expr-F Places Places Places → Places
 expression_step (Number value place) = place ∷ []
 expression_step (NameOf name) = name.place ∷ []
+expression_step (Component name selectors indexes) = name.place ∷ selector_places selectors.items indexes.items
 expression_step (StringOf text place) = place ∷ []
 expression_step (CallOf name actuals) = name.place ∷ joined_places actuals.items
 expression_step (Parenthesized bracket inner) = bracket ∷ inner.value
@@ -98,7 +111,8 @@ arm_places arm = flat_map constant_places arm.0 ++ arm.1
 
 abbrev pub statement_step : Stmt-F Places → Places
 statement_step Empty = []
-statement_step (Assign name becomes value) = name.place ∷ becomes ∷ expr_places value
+statement_step (Assign name selectors indexes becomes value) =
+    name.place ∷ (selector_places selectors.items (map expr_places indexes.items) ++ (becomes ∷ expr_places value))
 statement_step (Call name actuals) = name.place ∷ flat_map actual_places actuals.items
 statement_step (Compound statements) = joined_places statements.items
 statement_step (If place condition consequence alternative) =
@@ -117,10 +131,26 @@ stmt_places = fold-Stmt Places statement_step
 abbrev pub name_places : List Name → Places
 name_places names = map (λ name. name.place) names
 
+-- groups of fields: the n-th row of names stands before the n-th denoter
+abbrev pub fields_of : {A : Type 0} → List (Vec Name Global) → List A → List (List Name × A)
+fields_of [] denoters = []
+fields_of (row ∷ rows) [] = []
+fields_of (row ∷ rows) (denoter ∷ denoters) = (row.items, denoter) ∷ fields_of rows denoters
+
+abbrev pub field_places : List Name × Places → Places
+field_places field = name_places field.0 ++ field.1
+
+abbrev pub denoter_step : TypeDenoter-F Places → Places
+denoter_step (NamedType name) = name.place ∷ []
+denoter_step (Enumerated constants) = name_places constants.items
+denoter_step (Subrange first between last) = constant_places first ++ between ∷ constant_places last
+denoter_step (Array packed place indexes element) = place ∷ (joined_places indexes.items ++ element.value)
+denoter_step (Record packed place names denoters semicolon) =
+    place ∷ flat_map field_places (fields_of names.items denoters.items)
+
+-- the places of what denotes a type
 abbrev pub denoter_places : TypeDenoter → Places
-denoter_places (denoter.Name name) = name.place ∷ []
-denoter_places (denoter.Enumerated constants) = name_places constants.items
-denoter_places (denoter.Subrange first between last) = constant_places first ++ between ∷ constant_places last
+denoter_places = fold-TypeDenoter Places denoter_step
 
 -- the places of a constant definition
 abbrev pub definition_places : ConstantDefinition → Places

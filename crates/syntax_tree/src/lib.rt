@@ -92,15 +92,44 @@ pub enum TypeDenoter<'a> {
         between: Place,
         last: Constant<'a>,
     },
+    /// `array [indexes] of element`, perhaps packed (6.4.3.2), with the place of the word `array`: one or more index
+    /// types.
+    Array {
+        packed: bool,
+        place: Place,
+        indexes: Vec<TypeDenoter<'a>>,
+        element: Box<TypeDenoter<'a>>,
+    },
+    /// `record` fields `end`, perhaps packed (6.4.3.3), with the place of the word `record`: groups of fields, the n-th
+    /// row of one or more names before the n-th denoter, and perhaps a semicolon behind the last.
+    Record {
+        packed: bool,
+        place: Place,
+        names: Vec<Vec<Name<'a>>>,
+        denoters: Vec<TypeDenoter<'a>>,
+        semicolon: bool,
+    },
+}
+
+/// What selects a component of a variable (6.5.3).
+#[derive(Clone, Copy)]
+pub enum Selector<'a> {
+    /// An index expression, the next of those that stand beside, in brackets of its own, or joined to the index before
+    /// it by a comma; with the place of the opening bracket or of the comma.
+    Index { place: Place, joined: bool },
+    /// The field of a name.
+    Field(Name<'a>),
 }
 
 /// A statement (6.8).
 #[derive(Drop)]
 pub enum Stmt<'a> {
     Empty,
-    /// `name := value`, with the place of `:=`.
+    /// `name selectors := value`, with the place of `:=`; an index expression for each selector that is an index.
     Assign {
         name: Name<'a>,
+        selectors: Vec<Selector<'a>>,
+        indexes: Vec<Expr<'a>>,
         becomes: Place,
         value: Expr<'a>,
     },
@@ -193,8 +222,14 @@ pub enum Expr<'a> {
         value: u32,
         place: Place,
     },
-    /// A variable, a constant or a call without actuals.
+    /// An entire variable, a constant or a call without actuals.
     Name(Name<'a>),
+    /// A component of a variable (6.5.3): one or more selectors, and an index expression for each that is an index.
+    Component {
+        name: Name<'a>,
+        selectors: Vec<Selector<'a>>,
+        indexes: Vec<Expr<'a>>,
+    },
     /// A string with its apostrophes (6.1.7).
     String {
         text: &'a [u8],
