@@ -131,11 +131,11 @@ module _ (fields none : Vec Field Global) (name other : Vec ℕ Global) (is_name
   array_of_empty_records = rw are_none refl
 
   -- a field is found by its name
-  second_field : field_of with_record (number 13) (codes "row") ≡ Some (1, number 7)
-  second_field = rw (are, is_name, is_other) refl
+  second_field : field_of with_record (number 13) (codes "row") ≡ Some (record { position = 1; offset = 1; type_id = number 7 })
+  second_field = simp (are, is_name, is_other)
 
   no_field : field_of with_record (number 13) (codes "column") ≡ None
-  no_field = rw (are, is_name, is_other) refl
+  no_field = simp (are, is_name, is_other)
 
   no_record : field_of with_record (number 14) (codes "row") ≡ None
   no_record = refl

@@ -1,8 +1,8 @@
 -- The rules of types (ISO 7185:1990, 6.4.2 to 6.4.6) over a table of types and their numbers there: the values of an
--- ordinal type, host types, strings, compatible and assignment compatible types, the fields of a record, the cells that
--- a variable takes, and the forms that may be added. They say nothing of which type a denoter denotes.
+-- ordinal type, host types, strings, compatible and assignment compatible types, the cells that a variable takes, the
+-- fields of a record, the elements of an array, and the forms that may be added. They say nothing of which type a denoter denotes.
 use Rattle.std.specs.Prelude.{ℕ, ◌+◌, ◌*◌, nat_eq, nat_lt, ℤ, pos, negsuc, neg_ℤ, ◌+ℤ◌, ◌-ℤ◌, int_lt}
-use Rattle.std.specs.Prelude.{List, [], ◌∷◌, ◌++◌, length, fold, sum_by, slice_get, bytes_eq}
+use Rattle.std.specs.Prelude.{List, [], ◌∷◌, ◌++◌, length, fold, sum_by, slice_get, take, bytes_eq}
 use Rattle.std.specs.Prelude.{Bool, true, false, ◌&&◌, ◌||◌, if◌then◌else◌, Option, Some, None, is_some, ok_or}
 use Rattle.std.specs.Prelude.{Result, Ok, Err}
 use Rattle.std.specs.Option.{option_and_then}
@@ -12,6 +12,8 @@ use Rattle.types.specs.declared.form.TypeForm.{TypeForm}
 use Rattle.types.specs.declared.form.TypeForm.TheVariants.{Integer, Boolean, Char, Enumeration, Subrange, Array, Record}
 use Rattle.types.specs.declared.form.TypeId.{TypeId}
 use Rattle.types.specs.declared.form.OrdinalRange.{OrdinalRange}
+use Rattle.types.specs.declared.form.RecordField.{RecordField}
+use Rattle.types.specs.declared.form.ArrayElement.{ArrayElement}
 use Rattle.types.specs.declared.refusal.TypeRefusal.{TypeRefusal}
 use Rattle.types.specs.declared.refusal.TypeRefusal.TheVariants as refusal
 use Rattle.types.specs.declared.table.Entry.{Entry}
@@ -107,20 +109,6 @@ is_compatible types first second =
 abbrev pub is_assignable : List TypeForm → TypeId → TypeId → Bool
 is_assignable types target value = is_compatible types target value
 
--- the field of a name among those from a place on
-abbrev pub field_among : ℕ → List Field → List ℕ → Option (ℕ × TypeId)
-field_among place [] name = None
-field_among place (field ∷ fields) name =
-    if bytes_eq field.name.items name then Some (place, field.type_id) else field_among (place + 1) fields name
-
-abbrev pub field_in : List ℕ → Option TypeForm → Option (ℕ × TypeId)
-field_in name (Some (Record packed fields)) = field_among 0 fields.items name
-field_in name other = None
-
--- the field of a record that has a name: its place from 0, and its type (6.5.3.3)
-abbrev pub field_of : List TypeForm → TypeId → List ℕ → Option (ℕ × TypeId)
-field_of types id name = field_in name (form_at types id)
-
 -- how many values a range has
 abbrev pub values_in : OrdinalRange → ℕ
 values_in range = natural (range.last -ℤ range.first +ℤ pos 1)
@@ -164,6 +152,60 @@ counted types = fold count_next [] types
 -- the cells that a variable of the type takes
 abbrev pub cells_of : List TypeForm → TypeId → ℕ
 cells_of types id = cells_at (counted types) id
+
+-- the field of a name among those from a place on, before which others take so many cells
+abbrev pub field_among : List Entry → ℕ → ℕ → List Field → List ℕ → Option RecordField
+field_among entries position offset [] name = None
+field_among entries position offset (field ∷ fields) name =
+    if bytes_eq field.name.items name
+    then Some (record { position = position; offset = offset; type_id = field.type_id })
+    else field_among entries (position + 1) (offset + cells_at entries field.type_id) fields name
+
+abbrev pub field_in : List Entry → List ℕ → Option TypeForm → Option RecordField
+field_in entries name (Some (Record packed fields)) = field_among entries 0 0 fields.items name
+field_in entries name other = None
+
+-- the types before one, of which it is made, with their cells
+abbrev pub before : List TypeForm → TypeId → List Entry
+before types id = counted (take id.index types)
+
+abbrev pub own_field : TypeId → Option RecordField → Option RecordField
+own_field id None = None
+own_field id (Some field) = if nat_lt field.type_id.index id.index then Some field else None
+
+-- the field of a record that has a name (6.5.3.3); its type stands before the record
+abbrev pub field_of : List TypeForm → TypeId → List ℕ → Option RecordField
+field_of types id name = own_field id (field_in (before types id) name (form_at types id))
+
+-- the fields from a place on, before which others take so many cells, each where it lies
+abbrev pub placed_fields : List Entry → ℕ → ℕ → List Field → List RecordField
+placed_fields entries position offset [] = []
+placed_fields entries position offset (field ∷ fields) =
+    record { position = position; offset = offset; type_id = field.type_id }
+    ∷ placed_fields entries (position + 1) (offset + cells_at entries field.type_id) fields
+
+abbrev pub fields_in : List Entry → Option TypeForm → List RecordField
+fields_in entries (Some (Record packed fields)) = placed_fields entries 0 0 fields.items
+fields_in entries other = []
+
+-- the field at a place from 0 in its record
+abbrev pub field_at : List TypeForm → TypeId → ℕ → Option RecordField
+field_at types id position = own_field id (slice_get (fields_in (before types id) (form_at types id)) position)
+
+abbrev pub elements : List Entry → (id index element : TypeId) → Option OrdinalRange → Option ArrayElement
+elements entries id index element None = None
+elements entries id index element (Some range) =
+    if nat_lt index.index id.index && nat_lt element.index id.index
+    then Some (record { index = index; range = range; type_id = element; cells = cells_at entries element })
+    else None
+
+abbrev pub element_in : List TypeForm → List Entry → TypeId → Option TypeForm → Option ArrayElement
+element_in types entries id (Some (Array packed index element)) = elements entries id index element (range_of types index)
+element_in types entries id other = None
+
+-- the elements of an array (6.5.3.2); their type and that of the indexes stand before the array
+abbrev pub element_of : List TypeForm → TypeId → Option ArrayElement
+element_of types id = element_in types (before types id) id (form_at types id)
 
 -- a type takes no more cells
 abbrev pub most_cells : ℕ

@@ -1,5 +1,5 @@
 ghost use Rattle.std.specs.Prelude.{◌≡◌};
-ghost use Rattle.types.specs.Types.{field_among, form_range, is_same, values_in};
+ghost use Rattle.types.specs.Types.{form_range, is_same, values_in};
 
 /// What a type is made of (ISO 7185:1990, 6.4), its parts by their numbers in a table.
 #[derive(Drop)]
@@ -68,16 +68,34 @@ pub struct Field {
     pub type_id: TypeId,
 }
 
-/// The field of a name among those of a record: its place from 0, and its type.
-pub(crate) fn field_among(fields: &[Field], name: &[u8]) -> Option<(usize, TypeId)>
-    ensures { result ≡ field_among 0 fields.now name.now }
-{
-    for (position, field) in fields.iter().enumerate() {
-        if field.name.as_slice() == name {
-            return Some((position, field.type_id));
-        }
-    }
-    None
+/// A field where it lies in its record.
+#[derive(Clone, Copy)]
+pub struct RecordField {
+    /// Its place from 0 among the fields.
+    pub position: usize,
+    /// How many cells the fields before it take.
+    pub offset: u32,
+    pub type_id: TypeId,
+}
+
+/// The elements of an array: one for each value of the index type.
+#[derive(Clone, Copy)]
+pub struct ArrayElement {
+    pub index: TypeId,
+    /// The values of the index type.
+    pub range: OrdinalRange,
+    pub type_id: TypeId,
+    /// How many cells an element takes.
+    pub cells: u32,
+}
+
+/// A step from a structured value to a component of it (6.5.3).
+#[derive(Clone, Copy, PartialEq, Eq, PartialOrd, Ord)]
+pub enum Step {
+    /// To the element at this index.
+    Element(i32),
+    /// To the field at this place from 0 in its record.
+    Field(usize),
 }
 
 /// A type of a table, by its number there.

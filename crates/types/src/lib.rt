@@ -5,6 +5,6 @@ mod form;
 mod refusal;
 mod table;
 
-pub use form::{Field, MAXINT, OrdinalRange, TypeForm, TypeId};
+pub use form::{ArrayElement, Field, MAXINT, OrdinalRange, RecordField, Step, TypeForm, TypeId};
 pub use refusal::TypeRefusal;
 pub use table::{MOST_CELLS, TypeTable};

@@ -6,7 +6,7 @@ ghost use Rattle.types.specs.Types.{required_forms, values_at};
 ghost use Rattle.types.specs.declared.form.TypeForm.{TypeForm};
 ghost use Rattle.types.specs.declared.refusal.TypeRefusal.TheVariants.{Memory};
 
-use crate::form::{Field, OrdinalRange, TypeForm, TypeId, field_among};
+use crate::form::{Field, OrdinalRange, TypeForm, TypeId};
 use crate::refusal::TypeRefusal;
 use std::alloc::{AllocError, Global};
 use std::marker::Model;
@@ -36,8 +36,8 @@ impl Model for TypeTable {
 }
 
 impl TypeTable {
-    ghost use Rattle.types.specs.Types.{cells_of, field_of, host_of, is_assignable, is_compatible, is_ordinal};
-    ghost use Rattle.types.specs.Types.{is_string, range_of, string_length};
+    ghost use Rattle.types.specs.Types.{cells_of, host_of, is_assignable, is_compatible};
+    ghost use Rattle.types.specs.Types.{is_ordinal, is_string, range_of, string_length};
 
     /// The type integer in each table.
     pub const INTEGER: TypeId = TypeId { index: 0 };
@@ -149,16 +149,6 @@ impl TypeTable {
         match self.entries.get(id.index) {
             None => 1,
             Some(entry) => entry.cells,
-        }
-    }
-
-    /// The field of a record that has this name in small letters: its place from 0, and its type (6.5.3.3).
-    pub fn field(&self, id: TypeId, name: &[u8]) -> Option<(usize, TypeId)>
-        ensures { result ≡ field_of self.now id name.now }
-    {
-        match self.form(id)? {
-            TypeForm::Record { fields, .. } => field_among(fields, name),
-            _ => None,
         }
     }
 }
