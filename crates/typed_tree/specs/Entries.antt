@@ -1,16 +1,17 @@
 -- The entries of a typed tree in the order of entry (ISO 7185:1990, 6.7, 6.8):
 -- each statement, the empty one too, each factor, sign and operator between operands, and each variable left of `:=`.
 -- It says nothing of what happens at an entry.
-use Rattle.std.specs.Prelude.{ℕ, ◌++◌, List, [], ◌∷◌, Option, Some, None, flat_map}
+use Rattle.std.specs.Prelude.{ℕ, ◌++◌, List, [], ◌∷◌, Option, Some, None, flat_map, map}
 use Rattle.std.specs.declared.alloc.Global.{Global}
 use Rattle.std.specs.declared.boxed.Box.{Box}
 use Rattle.typed_tree.specs.declared.tree.Tree.{Tree}
+use Rattle.typed_tree.specs.declared.tree.Access.{Access}
 use Rattle.typed_tree.specs.declared.tree.Width.{Width}
 use Rattle.typed_tree.specs.declared.tree.WriteParameter.{WriteParameter}
 use Rattle.typed_tree.specs.declared.tree.Written.{Written}
 use Rattle.typed_tree.specs.declared.tree.Written.TheVariants.{Ordinal, String}
 use Rattle.typed_tree.specs.declared.tree.Whole.{Whole}
-use Rattle.typed_tree.specs.declared.tree.Whole.TheVariants.{Text}
+use Rattle.typed_tree.specs.declared.tree.Whole.TheVariants.{Text, Variable as VariableOf}
 use Rattle.typed_tree.specs.declared.tree.Expr.{Expr}
 use Rattle.typed_tree.specs.declared.tree.Expr.TheOpen.{Expr-F, Link-F}
 use Rattle.typed_tree.specs.declared.tree.Expr.TheOpen.Expr-F.{Constant, Variable, Monadic as MonadicOf, Chain}
@@ -19,16 +20,21 @@ use Rattle.typed_tree.specs.declared.tree.Expr.TheFolds.{fold-Expr}
 use Rattle.typed_tree.specs.declared.tree.Stmt.{Stmt}
 use Rattle.typed_tree.specs.declared.tree.Stmt.TheOpen.{Stmt-F}
 use Rattle.typed_tree.specs.declared.tree.Stmt.TheOpen.Stmt-F.{Empty, Assign, Write, Compound, If, While, Repeat, For}
-use Rattle.typed_tree.specs.declared.tree.Stmt.TheOpen.Stmt-F.{Case}
+use Rattle.typed_tree.specs.declared.tree.Stmt.TheOpen.Stmt-F.{Case, Copy}
 use Rattle.typed_tree.specs.declared.tree.Stmt.TheFolds.{fold-Stmt}
 
 -- several rows as one
 abbrev pub joined : {A : Type 0} → List (List A) → List A
 joined rows = flat_map (λ row. row) rows
 
--- the number of a whole value's entry
-abbrev pub entries_of_whole : Whole → List ℕ
-entries_of_whole (Text number characters) = number ∷ []
+-- an access is entered before its index expressions
+abbrev pub access_entries : Access → List (List ℕ) → List ℕ
+access_entries access indexes = access.number ∷ joined indexes
+
+-- the numbers of a whole value's entries, with those of its index expressions
+abbrev pub whole_entries : Whole → List (List ℕ) → List ℕ
+whole_entries (Text number characters) indexes = number ∷ []
+whole_entries (VariableOf access type_id cells defined) indexes = access_entries access indexes
 
 -- an operator is entered before its right operand
 abbrev pub link_entries : Link-F (List ℕ) (List ℕ) → List ℕ
@@ -36,14 +42,19 @@ link_entries link = link.number ∷ link.operand
 
 abbrev pub expression_entries : Expr-F (List ℕ) (List ℕ) → List ℕ
 expression_entries (Constant number value) = number ∷ []
-expression_entries (Variable access defined) = access.number ∷ []
+expression_entries (Variable access indexes defined) = access_entries access indexes.items
 expression_entries (MonadicOf number operation operand) = number ∷ operand.value
 expression_entries (Chain first rest) = first.value ++ joined rest.items
-expression_entries (Compare number relation left right) = entries_of_whole left ++ (number ∷ entries_of_whole right)
+expression_entries (Compare number relation left left_indexes right right_indexes) =
+    whole_entries left left_indexes.items ++ (number ∷ whole_entries right right_indexes.items)
 
 -- the numbers of an expression's entries
 abbrev pub entries_of_expression : Expr → List ℕ
 entries_of_expression = fold-Expr (List ℕ) (List ℕ) expression_entries link_entries
+
+-- the same of the index expressions of an access, or of a whole value
+abbrev pub index_entries : List Expr → List (List ℕ)
+index_entries = map entries_of_expression
 
 abbrev pub entries_of_width : Option Width → List ℕ
 entries_of_width None = []
@@ -52,7 +63,7 @@ entries_of_width (Some width) = entries_of_expression width.value
 -- the numbers of the entries of a value that is written
 abbrev pub entries_of_written : Written → List ℕ
 entries_of_written (Ordinal value representation) = entries_of_expression value
-entries_of_written (String value) = entries_of_whole value
+entries_of_written (String value indexes) = whole_entries value (index_entries indexes.items)
 
 -- the same, and of its width
 abbrev pub entries_of_parameter : WriteParameter → List ℕ
@@ -65,7 +76,11 @@ alternative_entries (Some entries) = entries.value
 
 abbrev pub statement_entries : Stmt-F (List ℕ) → List ℕ
 statement_entries (Empty number) = number ∷ []
-statement_entries (Assign number becomes target fits value) = number ∷ target.number ∷ entries_of_expression value
+statement_entries (Assign number becomes target indexes fits value) =
+    number ∷ (access_entries target (index_entries indexes.items) ++ entries_of_expression value)
+statement_entries (Copy number becomes target indexes type_id value value_indexes) =
+    number
+    ∷ (access_entries target (index_entries indexes.items) ++ whole_entries value (index_entries value_indexes.items))
 statement_entries (Write number name parameters ends_line) = number ∷ flat_map entries_of_parameter parameters.items
 statement_entries (Compound number statements) = number ∷ joined statements.items
 statement_entries (If number condition consequence alternative) =

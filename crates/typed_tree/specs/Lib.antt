@@ -3,4 +3,5 @@ pub mod Ids
 pub mod Entries
 pub mod Look
 pub mod Loops
+pub mod Accesses
 pub mod WellFormed

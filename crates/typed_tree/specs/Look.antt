@@ -1,13 +1,18 @@
 -- How a typed tree looks: its forms in the order of the text, each told by what is decided of it: its number in the
 -- order of entry, the variable, the operation, its sites and places. What encloses others tells where it ends, so two
 -- trees that look alike are alike. It says nothing of which tree a program has.
-use Rattle.std.specs.Prelude.{ℕ, ℤ, ◌++◌, ◌&&◌, Bool, true, List, [], ◌∷◌, Option, Some, None, Vec, flat_map, nat_lt}
-use Rattle.std.specs.Prelude.{nat_eq}
+use Rattle.std.specs.Prelude.{ℕ, ℤ, ◌++◌, ◌&&◌, Bool, true, List, [], ◌∷◌, Option, Some, None, Vec, flat_map, map, nat_lt}
+use Rattle.std.specs.Prelude.{nat_eq, length}
 use Rattle.std.specs.List.{list_all}
 use Rattle.std.specs.declared.alloc.Global.{Global}
 use Rattle.std.specs.declared.boxed.Box.{Box}
 use Rattle.place.specs.declared.Place.{Place}
 use Rattle.typed_tree.specs.declared.tree.Tree.{Tree}
+use Rattle.types.specs.declared.form.TypeForm.{TypeForm}
+use Rattle.types.specs.declared.form.TypeId.{TypeId}
+use Rattle.typed_tree.specs.declared.tree.Access.{Access as VariableAccess}
+use Rattle.typed_tree.specs.declared.tree.Selector.{Selector}
+use Rattle.typed_tree.specs.declared.tree.Variable.{Variable as DeclaredVariable}
 use Rattle.typed_tree.specs.declared.tree.Block.{Block}
 use Rattle.typed_tree.specs.declared.tree.Monadic.{Monadic}
 use Rattle.typed_tree.specs.declared.tree.Dyadic.{Dyadic}
@@ -20,7 +25,7 @@ use Rattle.typed_tree.specs.declared.tree.WriteParameter.{WriteParameter}
 use Rattle.typed_tree.specs.declared.tree.Written.{Written as WrittenValue}
 use Rattle.typed_tree.specs.declared.tree.Written.TheVariants.{Ordinal, String}
 use Rattle.typed_tree.specs.declared.tree.Whole.{Whole}
-use Rattle.typed_tree.specs.declared.tree.Whole.TheVariants.{Text as TextOf}
+use Rattle.typed_tree.specs.declared.tree.Whole.TheVariants.{Text as TextOf, Variable as WholeOf}
 use Rattle.typed_tree.specs.declared.tree.Expr.{Expr}
 use Rattle.typed_tree.specs.declared.tree.Link.{Link}
 use Rattle.typed_tree.specs.declared.tree.Expr.TheOpen.{Expr-F, Link-F}
@@ -33,17 +38,24 @@ use Rattle.typed_tree.specs.declared.tree.Stmt.TheOpen.{Stmt-F}
 use Rattle.typed_tree.specs.declared.tree.Stmt.TheOpen.Stmt-F.{Empty as EmptyOf, Assign as AssignOf, Write as WriteOf}
 use Rattle.typed_tree.specs.declared.tree.Stmt.TheOpen.Stmt-F.{Compound as CompoundOf, If as IfOf, While as WhileOf}
 use Rattle.typed_tree.specs.declared.tree.Stmt.TheOpen.Stmt-F.{Repeat as RepeatOf, For as ForOf, Case as CaseOf}
+use Rattle.typed_tree.specs.declared.tree.Stmt.TheOpen.Stmt-F.{Copy as CopyOf}
 use Rattle.typed_tree.specs.declared.tree.Stmt.TheFolds.{fold-Stmt}
 use Rattle.typed_tree.specs.Entries.{joined}
-use Rattle.typed_tree.specs.WellFormed.{is_whole, are_characters, length_of, monadic_is_well_formed}
-use Rattle.typed_tree.specs.WellFormed.{dyadic_is_well_formed, is_well_formed_test}
+use Rattle.typed_tree.specs.WellFormed.{is_whole, are_characters, length_of, type_of, monadic_is_well_formed}
+use Rattle.typed_tree.specs.WellFormed.{dyadic_is_well_formed, is_well_formed_test, leads_to_ordinal, leads_to_whole}
+use Rattle.typed_tree.specs.WellFormed.{is_value_of, may_copy}
 
 -- a form, or where one ends; numbers are those of entries, roots those of variables
 pub data Mark : Type 0 where
   -- its number and its value
   Constant : ℕ → ℤ → Mark
-  -- its number, its root, and the site of its test
-  Variable : ℕ → ℕ → ℕ → Mark
+  -- the number of an access; its index expressions stand behind it
+  Access : ℕ → Mark
+  -- the value of what is accessed, an ordinal: the variable's root, the selectors, how many index expressions they take,
+  -- and the site of the test
+  Value : ℕ → List Selector → ℕ → ℕ → Mark
+  -- the same of a structured type: this type, and how many cells its value has
+  WholeValue : ℕ → List Selector → ℕ → TypeId → ℕ → ℕ → Mark
   -- the number of an operation on the operand behind it
   Operation : ℕ → Mark
   -- the operation on the operand before it
@@ -57,8 +69,14 @@ pub data Mark : Type 0 where
   Empty : ℕ → Mark
   -- an assignment, with the place of `:=`
   Assign : ℕ → Place → Mark
-  -- the variable left of `:=`: its number and its root
-  Target : ℕ → ℕ → Mark
+  -- what is accessed left of `:=`, an ordinal: the variable's root, the selectors, and how many index expressions they
+  -- take
+  Target : ℕ → List Selector → ℕ → Mark
+  -- the same of a structured type
+  WholeTarget : ℕ → List Selector → ℕ → TypeId → Mark
+  -- the value before it is copied to a target of a type: its own type, if it isn't told by its length alone, and how
+  -- many cells it has
+  Copied : TypeId → Option TypeId → ℕ → Mark
   -- the test of the value before it
   Fits : RangeTest → Mark
   -- a write, with the place of its name; or a writeln, which ends the line
@@ -95,22 +113,30 @@ pub data Mark : Type 0 where
 abbrev pub Look : Type 0
 Look = List Mark
 
-abbrev pub look_whole : Whole → Look
-look_whole (TextOf number characters) = Text number characters.items ∷ []
+-- an access: its number, its index expressions, and what is done with it
+abbrev pub access_look : VariableAccess → List Look → Mark → Look
+access_look access indexes does = Access access.number ∷ (joined indexes ++ (does ∷ []))
+
+abbrev pub whole_look : Whole → List Look → Look
+whole_look (TextOf number characters) indexes = Text number characters.items ∷ []
+whole_look (WholeOf access type_id cells defined) indexes =
+    access_look access indexes
+    (WholeValue access.root access.selectors.items (length indexes) type_id cells defined)
 
 abbrev pub link_look : Link-F Look Look → Look
 link_look link = Operator link.number link.operation ∷ link.operand
 
 abbrev pub expression_look : Expr-F Look Look → Look
 expression_look (ConstantOf number value) = Constant number value ∷ []
-expression_look (VariableOf access defined) = Variable access.number access.root defined ∷ []
+expression_look (VariableOf access indexes defined) =
+    access_look access indexes.items (Value access.root access.selectors.items (length indexes.items) defined)
 expression_look (MonadicOf number operation operand) = Operation number ∷ (operand.value ++ (Applied operation ∷ []))
 expression_look (ChainOf first rest) = Begins ∷ (first.value ++ (joined rest.items ++ (Ends ∷ [])))
-expression_look (CompareOf number relation left right) =
+expression_look (CompareOf number relation left left_indexes right right_indexes) =
     Begins
-    ∷ (look_whole left
+    ∷ (whole_look left left_indexes.items
     ++ (Operator number (dyadic.Relation relation)
-    ∷ (look_whole right ++ (Compared (length_of left) (length_of right) ∷ Ends ∷ []))))
+    ∷ (whole_look right right_indexes.items ++ (Compared (length_of left) (length_of right) ∷ Ends ∷ []))))
 
 -- how an expression looks
 abbrev pub look_expr : Expr → Look
@@ -120,6 +146,18 @@ look_expr = fold-Expr Look Look expression_look link_look
 abbrev pub look_link : Link → Look
 look_link = fold-Link Look Look expression_look link_look
 
+-- how the index expressions of an access look
+abbrev pub look_indexes : List Expr → List Look
+look_indexes = map look_expr
+
+-- how a whole value looks
+abbrev pub look_whole : Whole → List Expr → Look
+look_whole value indexes = whole_look value (look_indexes indexes)
+
+-- how an access looks with which this is done
+abbrev pub look_access : VariableAccess → List Expr → Mark → Look
+look_access access indexes does = access_look access (look_indexes indexes) does
+
 abbrev pub look_width : Option TotalWidth → Look
 look_width None = []
 look_width (Some width) = look_expr width.value ++ (Width width.site ∷ [])
@@ -127,7 +165,7 @@ look_width (Some width) = look_expr width.value ++ (Width width.site ∷ [])
 -- how a value that is written looks
 abbrev pub look_written : WrittenValue → Look
 look_written (Ordinal value representation) = look_expr value ++ (Written representation ∷ [])
-look_written (String value) = look_whole value ++ (WrittenString ∷ [])
+look_written (String value indexes) = look_whole value indexes.items ++ (WrittenString ∷ [])
 
 -- the same with its width
 abbrev pub look_parameter : WriteParameter → Look
@@ -146,8 +184,15 @@ arms_look (row ∷ rows) (arm ∷ arms) = Arm row.items ∷ (arm ++ arms_look ro
 
 abbrev pub statement_look : Stmt-F Look → Look
 statement_look (EmptyOf number) = Empty number ∷ []
-statement_look (AssignOf number becomes target fits value) =
-    Assign number becomes ∷ Target target.number target.root ∷ (look_expr value ++ (Fits fits ∷ []))
+statement_look (AssignOf number becomes target indexes fits value) =
+    Assign number becomes
+    ∷ (look_access target indexes.items (Target target.root target.selectors.items (length indexes.items))
+    ++ (look_expr value ++ (Fits fits ∷ [])))
+statement_look (CopyOf number becomes target indexes type_id value value_indexes) =
+    Assign number becomes
+    ∷ (look_access target indexes.items
+    (WholeTarget target.root target.selectors.items (length indexes.items) type_id)
+    ++ (look_whole value value_indexes.items ++ (Copied type_id (type_of value) (length_of value) ∷ [])))
 statement_look (WriteOf number name parameters ends_line) =
     Write number name ends_line ∷ (flat_map look_parameter parameters.items ++ (Ends ∷ []))
 statement_look (CompoundOf number statements) = Compound number ∷ (joined statements.items ++ (Ends ∷ []))
@@ -179,7 +224,9 @@ tree_look tree = flat_map look_block tree.blocks.items
 -- the number of an entry
 abbrev pub mark_entries : Mark → List ℕ
 mark_entries (Constant number value) = number ∷ []
-mark_entries (Variable number root defined) = number ∷ []
+mark_entries (Access number) = number ∷ []
+mark_entries (Value root selectors indexes defined) = []
+mark_entries (WholeValue root selectors indexes type_id cells defined) = []
 mark_entries (Operation number) = number ∷ []
 mark_entries (Applied operation) = []
 mark_entries Begins = []
@@ -187,7 +234,9 @@ mark_entries (Operator number operation) = number ∷ []
 mark_entries Ends = []
 mark_entries (Empty number) = number ∷ []
 mark_entries (Assign number becomes) = number ∷ []
-mark_entries (Target number root) = number ∷ []
+mark_entries (Target root selectors indexes) = []
+mark_entries (WholeTarget root selectors indexes type_id) = []
+mark_entries (Copied type_id source cells) = []
 mark_entries (Fits fits) = []
 mark_entries (Write number name ends_line) = number ∷ []
 mark_entries (Text number characters) = number ∷ []
@@ -223,34 +272,45 @@ mark_loops other = []
 abbrev pub loops_of_look : Look → List ℕ
 loops_of_look = flat_map mark_loops
 
--- with so many variables and so many sites, a form alone is well formed
-abbrev pub is_formed_mark : ℕ → ℕ → Mark → Bool
-is_formed_mark variables sites (Constant number value) = is_whole value
-is_formed_mark variables sites (Variable number root defined) = nat_lt root variables && nat_lt defined sites
-is_formed_mark variables sites (Operation number) = true
-is_formed_mark variables sites (Applied operation) = monadic_is_well_formed variables sites operation
-is_formed_mark variables sites Begins = true
-is_formed_mark variables sites (Operator number operation) = dyadic_is_well_formed variables sites operation
-is_formed_mark variables sites Ends = true
-is_formed_mark variables sites (Empty number) = true
-is_formed_mark variables sites (Assign number becomes) = true
-is_formed_mark variables sites (Target number root) = nat_lt root variables
-is_formed_mark variables sites (Fits fits) = is_well_formed_test variables sites fits
-is_formed_mark variables sites (Write number name ends_line) = true
-is_formed_mark variables sites (Text number characters) = are_characters characters
-is_formed_mark variables sites (Compared left right) = nat_eq left right
-is_formed_mark variables sites (Written representation) = true
-is_formed_mark variables sites WrittenString = true
-is_formed_mark variables sites (Width site) = nat_lt site sites
-is_formed_mark variables sites (Compound number) = true
-is_formed_mark variables sites (If number) = true
-is_formed_mark variables sites Then = true
-is_formed_mark variables sites Else = true
-is_formed_mark variables sites (While number loop_number place) = true
-is_formed_mark variables sites Do = true
-is_formed_mark variables sites (Repeat number loop_number place) = true
-is_formed_mark variables sites Until = true
-is_formed_mark variables sites (For number loop_number place control direction) = nat_lt control variables
-is_formed_mark variables sites (Case number site) = nat_lt site sites
-is_formed_mark variables sites (Arm constants) = list_all is_whole constants
-is_formed_mark variables sites (BlockEnds end) = true
+-- with these variables and types, and so many sites, a form alone is well formed
+abbrev pub is_formed_mark : List DeclaredVariable → List TypeForm → ℕ → Mark → Bool
+is_formed_mark variables types sites (Constant number value) = is_whole value
+is_formed_mark variables types sites (Access number) = true
+is_formed_mark variables types sites (Value root selectors indexes defined) =
+    leads_to_ordinal variables types sites root selectors indexes && nat_lt defined sites
+is_formed_mark variables types sites (WholeValue root selectors indexes type_id cells defined) =
+    leads_to_whole variables types sites type_id root selectors indexes
+    && (is_value_of variables types sites type_id cells && nat_lt defined sites)
+is_formed_mark variables types sites (Operation number) = true
+is_formed_mark variables types sites (Applied operation) = monadic_is_well_formed variables types sites operation
+is_formed_mark variables types sites Begins = true
+is_formed_mark variables types sites (Operator number operation) = dyadic_is_well_formed variables types sites operation
+is_formed_mark variables types sites Ends = true
+is_formed_mark variables types sites (Empty number) = true
+is_formed_mark variables types sites (Assign number becomes) = true
+is_formed_mark variables types sites (Target root selectors indexes) =
+    leads_to_ordinal variables types sites root selectors indexes
+is_formed_mark variables types sites (WholeTarget root selectors indexes type_id) =
+    leads_to_whole variables types sites type_id root selectors indexes
+is_formed_mark variables types sites (Copied type_id source cells) =
+    may_copy variables types sites type_id source cells
+is_formed_mark variables types sites (Fits fits) = is_well_formed_test variables types sites fits
+is_formed_mark variables types sites (Write number name ends_line) = true
+is_formed_mark variables types sites (Text number characters) = are_characters characters
+is_formed_mark variables types sites (Compared left right) = nat_eq left right
+is_formed_mark variables types sites (Written representation) = true
+is_formed_mark variables types sites WrittenString = true
+is_formed_mark variables types sites (Width site) = nat_lt site sites
+is_formed_mark variables types sites (Compound number) = true
+is_formed_mark variables types sites (If number) = true
+is_formed_mark variables types sites Then = true
+is_formed_mark variables types sites Else = true
+is_formed_mark variables types sites (While number loop_number place) = true
+is_formed_mark variables types sites Do = true
+is_formed_mark variables types sites (Repeat number loop_number place) = true
+is_formed_mark variables types sites Until = true
+is_formed_mark variables types sites (For number loop_number place control direction) =
+    leads_to_ordinal variables types sites control [] 0
+is_formed_mark variables types sites (Case number site) = nat_lt site sites
+is_formed_mark variables types sites (Arm constants) = list_all is_whole constants
+is_formed_mark variables types sites (BlockEnds end) = true

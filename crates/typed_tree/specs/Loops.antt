@@ -8,7 +8,7 @@ use Rattle.typed_tree.specs.declared.tree.Loop.{Loop}
 use Rattle.typed_tree.specs.declared.tree.Stmt.{Stmt}
 use Rattle.typed_tree.specs.declared.tree.Stmt.TheOpen.{Stmt-F}
 use Rattle.typed_tree.specs.declared.tree.Stmt.TheOpen.Stmt-F.{Empty, Assign, Write, Compound, If, While, Repeat, For}
-use Rattle.typed_tree.specs.declared.tree.Stmt.TheOpen.Stmt-F.{Case}
+use Rattle.typed_tree.specs.declared.tree.Stmt.TheOpen.Stmt-F.{Case, Copy}
 use Rattle.typed_tree.specs.declared.tree.Stmt.TheFolds.{fold-Stmt}
 
 -- what stands inside a statement
@@ -44,7 +44,8 @@ controlled control inside = record { loops = inside.loops; controls = control âˆ
 
 abbrev pub statement_inside : Stmt-F Inside â†’ Inside
 statement_inside (Empty number) = no_loop
-statement_inside (Assign number becomes target fits value) = no_loop
+statement_inside (Assign number becomes target indexes fits value) = no_loop
+statement_inside (Copy number becomes target indexes type_id value value_indexes) = no_loop
 statement_inside (Write number name parameters ends_line) = no_loop
 statement_inside (Compound number statements) = all_inside statements.items
 statement_inside (If number condition consequence alternative) =

@@ -46,13 +46,24 @@ pub struct Variable {
     pub type_id: TypeId,
 }
 
-/// A variable access (ISO 7185:1990, 6.5.1): an entry of its own.
-#[derive(Clone, Copy)]
+/// A variable access (ISO 7185:1990, 6.5.1): an entry of its own. Its index expressions stand beside it.
+#[derive(Drop)]
 pub struct Access {
     /// Its number in the order of entry over the program.
     pub number: u32,
     /// The root number of the variable.
     pub root: u32,
+    /// From the variable to the component that is accessed; none where that is the variable itself.
+    pub selectors: Vec<Selector>,
+}
+
+/// What selects a component of a structured variable (6.5.3).
+#[derive(Clone, Copy)]
+pub enum Selector {
+    /// The element at the next index, which is tested (index); an element takes so many cells.
+    Element { fits: RangeTest, cells: u32 },
+    /// The field at this place from 0 in its record; the fields before it take so many cells.
+    Field { position: usize, offset: u32 },
 }
 
 /// A test that an ordinal lies in the range of a type, at a site.
@@ -69,13 +80,25 @@ pub enum Stmt {
     Empty {
         number: u32,
     },
-    /// The target is accessed, then comes the value, then its test (subrange), with the place of `:=`.
+    /// The target, an ordinal, is accessed, then comes the value, then its test (subrange), with the place of `:=`.
     Assign {
         number: u32,
         becomes: Place,
         target: Access,
+        indexes: Vec<Expr>,
         fits: RangeTest,
         value: Expr,
+    },
+    /// The target, of a structured type, is accessed, and then comes the value, whose components are copied in their
+    /// order; with the place of `:=`.
+    Copy {
+        number: u32,
+        becomes: Place,
+        target: Access,
+        indexes: Vec<Expr>,
+        type_id: TypeId,
+        value: Whole,
+        value_indexes: Vec<Expr>,
     },
     /// A write or writeln, with the place of its name: each parameter is written before the next is evaluated; a
     /// writeln ends the line behind them.
@@ -162,6 +185,7 @@ pub enum Written {
     },
     String {
         value: Whole,
+        indexes: Vec<Expr>,
     },
 }
 
@@ -239,9 +263,10 @@ pub enum Expr {
         number: u32,
         value: i32,
     },
-    /// The value of a variable, tested at the site `defined` (undefined variable).
+    /// The value of a variable or of a component, an ordinal, tested at the site `defined` (undefined variable).
     Variable {
         access: Access,
+        indexes: Vec<Expr>,
         defined: u32,
     },
     Monadic {
@@ -260,15 +285,25 @@ pub enum Expr {
         number: u32,
         relation: Relation,
         left: Whole,
+        left_indexes: Vec<Expr>,
         right: Whole,
+        right_indexes: Vec<Expr>,
     },
 }
 
-/// A value of a string type (6.4.3.2), an entry of its own.
+/// A value of a structured type (6.4.3), an entry of its own. Its index expressions stand beside it.
 #[derive(Drop)]
 pub enum Whole {
-    /// Two or more characters, 65,536 at most, each of 0 to 127.
+    /// A string of two or more characters, 65,536 at most, each of 0 to 127; nothing counts as an index of it.
     Text { number: u32, characters: Vec<u8> },
+    /// The value of a variable or of a component: so many cells, one for each scalar component, all of which are tested
+    /// at the site `defined` (undefined variable).
+    Variable {
+        access: Access,
+        type_id: TypeId,
+        cells: u32,
+        defined: u32,
+    },
 }
 
 /// An operator of a chain, and its right operand.
