@@ -4,6 +4,7 @@ use Rattle.std.specs.Prelude.{ℕ, zero, suc, ℤ, pos, negsuc, ◌-◌, ◌++�
 use Rattle.std.specs.Prelude.{if◌then◌else◌, int_le, length, map, replicate, take, codes}
 use Rattle.std.specs.Fmt.{signed_decimal}
 use Rattle.types.specs.declared.form.OrdinalRange.{OrdinalRange}
+use Rattle.types.specs.declared.form.Step.{Step}
 use Rattle.typed_tree.specs.declared.tree.Representation.{Representation}
 use Rattle.typed_tree.specs.declared.tree.Representation.TheVariants as representation
 use Rattle.meaning.specs.declared.outcome.Ending.{Ending}
@@ -11,7 +12,7 @@ use Rattle.meaning.specs.declared.outcome.Ending.TheVariants as ending
 use Rattle.meaning.specs.declared.store.Value.{Value}
 use Rattle.meaning.specs.declared.store.Value.TheVariants.{Number}
 use Rattle.meaning.specs.Integers.{byte_of, is_integer_number, is_true, is_within}
-use Rattle.meaning.specs.Store.{Environment, Place, Store, held, kept, forgotten}
+use Rattle.meaning.specs.Store.{Environment, Place, Store, held, kept, forgotten, part}
 
 -- an entry into the statement or expression with this number, for theorems alone
 pub record Visit : Type 0 where
@@ -102,9 +103,29 @@ fetched (Some v) site = give v
 abbrev pub fetch : Option Place → ℕ → Action Value
 fetch place site s = fetched (held s.store place) site s
 
+-- the number of a value
+abbrev pub number_of : Value → ℤ
+number_of (Number n) = n
+
+-- the numbers at the components of a place, in their order, or an error at the site where one of them is undefined
+abbrev pub fetch_all : Option Place → List (List Step) → ℕ → Action (List ℤ)
+fetch_all place [] site = give []
+fetch_all place (steps ∷ components) site = do
+  v ← fetch (part place steps) site
+  numbers ← fetch_all place components site
+  give (number_of v ∷ numbers)
+
 -- a value is written to a place, if there is one
 abbrev pub store : Option Place → Value → Action (Unit {0})
 store place v s = Gives tt (record s { store = kept s.store place v })
+
+-- numbers are written to the components of a place, in their order
+abbrev pub store_all : Option Place → List (List Step) → List ℤ → Action (Unit {0})
+store_all place [] numbers = give tt
+store_all place (steps ∷ components) [] = give tt
+store_all place (steps ∷ components) (n ∷ numbers) = do
+  _ ← store (part place steps) (Number n)
+  store_all place components numbers
 
 -- what a place holds becomes undefined, if there is a place
 abbrev pub undefine : Option Place → Action (Unit {0})

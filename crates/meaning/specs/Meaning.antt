@@ -8,7 +8,12 @@ use Rattle.std.specs.Prelude.{slice_get}
 use Rattle.std.specs.List.{list_any}
 use Rattle.std.specs.declared.alloc.Global.{Global}
 use Rattle.std.specs.declared.boxed.Box.{Box}
+use Rattle.types.specs.declared.form.Step.TheVariants as step
+use Rattle.types.specs.Components.{components_of}
 use Rattle.typed_tree.specs.declared.tree.Tree.{Tree}
+use Rattle.typed_tree.specs.declared.tree.Access.{Access}
+use Rattle.typed_tree.specs.declared.tree.Selector.{Selector}
+use Rattle.typed_tree.specs.declared.tree.Selector.TheVariants.{Element, Field}
 use Rattle.typed_tree.specs.declared.tree.Block.{Block}
 use Rattle.typed_tree.specs.declared.tree.Variable.{Variable as DeclaredVariable}
 use Rattle.std.specs.Int.{int_rem_euclid}
@@ -28,7 +33,7 @@ use Rattle.typed_tree.specs.declared.tree.WriteParameter.{WriteParameter}
 use Rattle.typed_tree.specs.declared.tree.Written.{Written}
 use Rattle.typed_tree.specs.declared.tree.Written.TheVariants.{Ordinal, String}
 use Rattle.typed_tree.specs.declared.tree.Whole.{Whole}
-use Rattle.typed_tree.specs.declared.tree.Whole.TheVariants.{Text}
+use Rattle.typed_tree.specs.declared.tree.Whole.TheVariants.{Text, Variable as VariableOf}
 use Rattle.typed_tree.specs.declared.tree.Expr.{Expr}
 use Rattle.typed_tree.specs.declared.tree.Link.{Link}
 use Rattle.typed_tree.specs.declared.tree.Expr.TheOpen.{Expr-F, Link-F}
@@ -38,7 +43,7 @@ use Rattle.typed_tree.specs.declared.tree.Expr.TheFolds.{fold-Expr, fold-Link}
 use Rattle.typed_tree.specs.declared.tree.Stmt.{Stmt}
 use Rattle.typed_tree.specs.declared.tree.Stmt.TheOpen.{Stmt-F}
 use Rattle.typed_tree.specs.declared.tree.Stmt.TheOpen.Stmt-F.{Empty, Assign, Write, Compound, If, While, Repeat, For}
-use Rattle.typed_tree.specs.declared.tree.Stmt.TheOpen.Stmt-F.{Case}
+use Rattle.typed_tree.specs.declared.tree.Stmt.TheOpen.Stmt-F.{Case, Copy}
 use Rattle.typed_tree.specs.declared.tree.Stmt.TheFolds.{fold-Stmt}
 use Rattle.typed_tree.specs.WellFormed.{length_of}
 use Rattle.meaning.specs.declared.outcome.Ending.{Ending}
@@ -46,11 +51,12 @@ use Rattle.meaning.specs.declared.outcome.Ending.TheVariants as ending
 use Rattle.meaning.specs.declared.store.Value.{Value}
 use Rattle.meaning.specs.declared.store.Value.TheVariants.{Number}
 use Rattle.meaning.specs.Integers.{is_integer_number, is_within, truth, is_true, is_odd, magnitude}
-use Rattle.meaning.specs.Store.{Environment, Place}
+use Rattle.meaning.specs.Store.{Environment, Place, part}
 use Rattle.meaning.specs.Counting.{has_values, value_behind}
 use Rattle.meaning.specs.Effect.{State, Reply, Gives, Stops, Action, Round, ◌>>=◌, give, stop, require, enter, use_turn}
 use Rattle.meaning.specs.Effect.{looped}
-use Rattle.meaning.specs.Effect.{fetch, store, undefine, write, is_in, is_positive, row_text, text_of}
+use Rattle.meaning.specs.Effect.{fetch, fetch_all, store, store_all, undefine, write, is_in, is_positive, number_of}
+use Rattle.meaning.specs.Effect.{row_text, text_of}
 
 -- what an expression does in an environment: it gives its value
 abbrev pub Evaluation : Type 0
@@ -107,11 +113,32 @@ order_of (a ∷ row) (b ∷ other) = if int_lt a b then negsuc 0 else (if int_lt
 abbrev pub compared : Relation → List ℤ → List ℤ → Value
 compared r row other = Number (truth (relates r (order_of row other) (pos 0)))
 
--- the components of a whole value
-abbrev pub whole_of : Whole → Environment → Action (List ℤ)
-whole_of (Text number characters) env = do
+-- the place of the component to which selectors lead from a place: each index is evaluated and tested at once, from left
+-- to right (6.5.3); an index that isn't there leads to no place
+abbrev pub selected : List Selector → List Evaluation → Environment → Option Place → Action (Option Place)
+selected [] indexes env place = give place
+selected (Field position offset ∷ selectors) indexes env place =
+    selected selectors indexes env (part place (step.Field position ∷ []))
+selected (Element fits cells ∷ selectors) [] env place = give None
+selected (Element fits cells ∷ selectors) (index ∷ indexes) env place = do
+  v ← index env
+  _ ← require (is_in fits.range v) fits.site
+  selected selectors indexes env (part place (step.Element (number_of v) ∷ []))
+
+-- the place that is accessed (6.5.1)
+abbrev pub accessed : Access → List Evaluation → Environment → Action (Option Place)
+accessed access indexes env = do
+  _ ← enter access.number env
+  selected access.selectors.items indexes env (env.variables access.root)
+
+-- the numbers of the scalar components of a whole value
+abbrev pub whole_of : Whole → List Evaluation → Environment → Action (List ℤ)
+whole_of (Text number characters) indexes env = do
   _ ← enter number env
   give (map pos characters.items)
+whole_of (VariableOf access type_id cells defined) indexes env = do
+  place ← accessed access indexes env
+  fetch_all place (components_of env.types type_id) defined
 
 -- an operation on two operands: `div` cuts toward zero, and `mod` gives the remainder that is not negative (6.7.2.2);
 -- `and`, `or` (6.7.2.3)
@@ -148,9 +175,9 @@ abbrev pub value_step : Expr-F Evaluation Combination → Evaluation
 value_step (Constant number value) env = do
   _ ← enter number env
   give (Number value)
-value_step (Variable access defined) env = do
-  _ ← enter access.number env
-  fetch (env access.root) defined
+value_step (Variable access indexes defined) env = do
+  place ← accessed access indexes.items env
+  fetch place defined
 value_step (MonadicOf number operation operand) env = do
   _ ← enter number env
   v ← operand.value env
@@ -158,10 +185,10 @@ value_step (MonadicOf number operation operand) env = do
 value_step (Chain first rest) env = do
   v ← first.value env
   in_turn rest.items env v
-value_step (Compare number relation left right) env = do
-  a ← whole_of left env
+value_step (Compare number relation left left_indexes right right_indexes) env = do
+  a ← whole_of left left_indexes.items env
   _ ← enter number env
-  b ← whole_of right env
+  b ← whole_of right right_indexes.items env
   give (compared relation a b)
 
 -- the value of an expression
@@ -171,6 +198,10 @@ value_of = fold-Expr Evaluation Combination value_step link_step
 -- what an operator of a chain does, with its right operand
 abbrev pub link_of : Link → Combination
 link_of = fold-Link Evaluation Combination value_step link_step
+
+-- the values of index expressions
+abbrev pub values_of : List Expr → List Evaluation
+values_of = map value_of
 
 -- what a statement does in an environment
 abbrev pub Execution : Type 0
@@ -204,8 +235,8 @@ written_of (Ordinal value representation) width env = do
   v ← value_of value env
   w ← width_of width (default_width representation) env
   write (text_of representation v w)
-written_of (String value) width env = do
-  components ← whole_of value env
+written_of (String value indexes) width env = do
+  components ← whole_of value (values_of indexes.items) env
   w ← width_of width (pos (length_of value)) env
   write (row_text components w)
 
@@ -250,7 +281,7 @@ repeat_round body condition env start = do
 -- a round of a for: its control variable gets a value, and then comes a turn (6.8.3.9)
 abbrev pub for_round : ℕ → Direction → ℤ → Execution → Environment → Round ℤ
 for_round control direction last body env n = do
-  _ ← store (env control) (Number n)
+  _ ← store (env.variables control) (Number n)
   _ ← use_turn
   _ ← body env
   give (value_behind direction last n)
@@ -282,19 +313,20 @@ arm_of site (row ∷ rows) [] n env = stop (ending.Error site)
 arm_of site (row ∷ rows) (arm ∷ arms) n env =
     if is_among row.items n then arm env else arm_of site rows arms n env
 
--- the number of a value
-abbrev pub number_of : Value → ℤ
-number_of (Number n) = n
-
 -- one layer of a statement
 abbrev pub effect_step : Stmt-F Execution → Execution
 effect_step (Empty number) env = enter number env
-effect_step (Assign number becomes target fits value) env = do
+effect_step (Assign number becomes target indexes fits value) env = do
   _ ← enter number env
-  _ ← enter target.number env
+  place ← accessed target (values_of indexes.items) env
   v ← value_of value env
   _ ← require (is_in fits.range v) fits.site
-  store (env target.root) v
+  store place v
+effect_step (Copy number becomes target indexes type_id value value_indexes) env = do
+  _ ← enter number env
+  place ← accessed target (values_of indexes.items) env
+  numbers ← whole_of value (values_of value_indexes.items) env
+  store_all place (components_of env.types type_id) numbers
 effect_step (Write number name parameters ends_line) env = do
   _ ← enter number env
   _ ← all_of (map parameter_of parameters.items) env
@@ -317,7 +349,7 @@ effect_step (For number loop_number place control first first_fits direction las
   a ← value_of first env
   b ← value_of last env
   _ ← for_between control first_fits direction last_fits body.value env a b
-  undefine (env control)
+  undefine (env.variables control)
 effect_step (Case number site index constants arms) env = do
   _ ← enter number env
   v ← value_of index env
@@ -346,7 +378,8 @@ home_of root (Some variable) =
 
 -- the variables of the program's block lie in its activation
 abbrev pub program_environment : Tree → Environment
-program_environment tree root = home_of root (slice_get tree.variables.items root)
+program_environment tree =
+    record { variables = λ root. home_of root (slice_get tree.variables.items root); types = tree.types }
 
 -- what a program writes, and how it ends
 pub record Meaning : Type 0 where

@@ -1,14 +1,12 @@
 -- Places, the store and environments (ISO 7185:1990, 6.2.3.2, 6.5.1): where the variables of activations lie,
 -- and what they hold. It says nothing of cells, addresses or sizes.
-use Rattle.std.specs.Prelude.{ℕ, ℤ, Bool, false, ◌&&◌, List, [], ◌∷◌, Option, Some, None, if◌then◌else◌, nat_eq}
+use Rattle.std.specs.Prelude.{ℕ, Bool, false, ◌&&◌, List, [], ◌∷◌, ◌++◌, Option, Some, None, if◌then◌else◌, nat_eq}
 use Rattle.std.specs.Ordering.{int_eq}
 use Rattle.std.specs.Cmp.Lexicographic.{pointwise}
+use Rattle.types.specs.declared.form.Step.{Step}
+use Rattle.types.specs.declared.form.Step.TheVariants.{Element, Field}
+use Rattle.types.specs.declared.form.TypeForm.{TypeForm}
 use Rattle.meaning.specs.declared.store.Value.{Value}
-
--- a step from a variable to a component of it: the element at an ordinal, or the field of a name
-pub data Step : Type 0 where
-  Element : (index : ℤ) → Step
-  Field : (name : List ℕ) → Step
 
 -- where a scalar or a set lies: an activation, a variable of it, and the steps to a component
 pub record Place : Type 0 where
@@ -20,20 +18,26 @@ pub record Place : Type 0 where
 abbrev pub Store : Type 0
 Store = List (Place × Option Value)
 
--- the visible variables of a block by their roots, each with its place
-abbrev pub Environment : Type 0
-Environment = ℕ → Option Place
+-- what is visible in a block: the variables by their roots, each with its place, and the types by their numbers
+pub record Environment : Type 0 where
+  pub variables : ℕ → Option Place
+  pub types : List TypeForm
 
 -- the same step
 abbrev pub step_eq : Step → Step → Bool
 step_eq (Element i) (Element j) = int_eq i j
-step_eq (Field a) (Field b) = pointwise nat_eq a b
+step_eq (Field a) (Field b) = nat_eq a b
 step_eq (Element i) (Field b) = false
 step_eq (Field a) (Element j) = false
 
 -- the same place
 abbrev pub place_eq : Place → Place → Bool
 place_eq p q = nat_eq p.activation q.activation && (nat_eq p.variable q.variable && pointwise step_eq p.steps q.steps)
+
+-- the part of a place to which steps lead, where there is a place
+abbrev pub part : Option Place → List Step → Option Place
+part None steps = None
+part (Some p) steps = Some (record p { steps = p.steps ++ steps })
 
 -- what a place holds, if it is defined
 abbrev pub stored : Store → Place → Option Value
