@@ -81,3 +81,7 @@ cells_not_before types id part h =
 pub cells_of_form : (types : List TypeForm) (id : TypeId) (form : TypeForm) → form_at types id ≡ Some form
     → cells_of types id ≡ form_cells (before types id) form
 cells_of_form types id form is = ap entry_cells (entry_at types id ∙ ap (option_map (entry_over (before types id))) is)
+
+-- a number that is no type's stands for one cell
+pub cells_of_none : (types : List TypeForm) (id : TypeId) → form_at types id ≡ None → cells_of types id ≡ 1
+cells_of_none types id is = ap entry_cells (entry_at types id ∙ ap (option_map (entry_over (before types id))) is)
