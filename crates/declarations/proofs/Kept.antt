@@ -13,8 +13,8 @@ use Rattle.syntax_tree.specs.declared.TypeDefinition.{TypeDefinition}
 use Rattle.syntax_tree.specs.declared.TypeDenoter.{TypeDenoter}
 use Rattle.syntax_tree.specs.declared.TypeDenoter.TheVariants as denoter
 use Rattle.syntax_tree.specs.declared.VariableGroup.{VariableGroup}
-use Rattle.types.specs.declared.form.TypeForm.{TypeForm}
-use Rattle.types.specs.declared.form.TypeForm.TheVariants.{Enumeration, Subrange, Array}
+use Rattle.types.specs.Forms.{Form}
+use Rattle.types.specs.Forms.{Enumeration, Subrange, Array}
 use Rattle.types.specs.declared.form.TypeId.{TypeId}
 use Rattle.types.specs.Types.{integer, char, admitted, cells_of, most_cells}
 use Rattle.scopes.specs.Scopes.{Region, Knows, found, define}
@@ -68,7 +68,7 @@ declare_keeps name denotation old other known =
     by (Ok regions) known = known
     by (Err why) known = tt
 
-checks_keep : {A B : Type 0} (form : Passing A) (test : List TypeForm → A → Checked B) → Keeps form → Keeps (form >>? test)
+checks_keep : {A B : Type 0} (form : Passing A) (test : List Form → A → Checked B) → Keeps form → Keeps (form >>? test)
 checks_keep {A} {B} form test keeps old name known = by (form old) (keeps old name known)
   where
     tested : (a : After A) (outcome : Checked B) → Knows a.passed.regions name → Leaves name (and_then outcome (λ b. Ok (after b a.look a.passed)))
@@ -92,7 +92,7 @@ given_keeps : {A : Type 0} (checked : Checked A) → Keeps (given checked)
 given_keeps (Ok answer) old name known = known
 given_keeps (Err why) old name known = tt
 
-pub add_type_keeps : (place : Place) (form : TypeForm) → Keeps (add_type place form)
+pub add_type_keeps : (place : Place) (form : Form) → Keeps (add_type place form)
 unfolding add_type
 add_type_keeps place form old name known = by (added place (admitted old.types form))
   where

@@ -4,7 +4,7 @@ use Rattle.std.specs.Option.{ok_or}
 use Rattle.place.specs.declared.Place.{Place}
 use Rattle.syntax_tree.specs.declared.Operator.{Operator}
 use Rattle.syntax_tree.specs.declared.Operator.TheVariants as op
-use Rattle.types.specs.declared.form.TypeForm.{TypeForm}
+use Rattle.types.specs.Forms.{Form}
 use Rattle.types.specs.declared.form.TypeId.{TypeId}
 use Rattle.types.specs.Types.{integer, boolean, is_same, is_compatible, is_string}
 use Rattle.typed_tree.specs.declared.tree.Dyadic.{Dyadic}
@@ -49,7 +49,7 @@ module _ (left right : Typed) (type_id : TypeId) where
   no_string : {A : Type 0} (wanted : TypeId) → both_of wanted left right ≡ Some type_id → is_none left.length ≡ false → A
   no_string wanted is string = let ordinal : is_none left.length ≡ true = (both_ordinals wanted is).0 in absurd cc
 
-  module _ (types : List TypeForm) where
+  module _ (types : List Form) where
     compared_alike : compared types left right ≡ Some type_id → are_alike left.length right.length ≡ true
     compared_alike is =
         (both_hold (are_alike left.length right.length)
@@ -94,7 +94,7 @@ was_some None one why is = absurd cc
 was_some (Some other) one why is = let same : other ≡ one = cc in ap Some same
 
 -- an operator and its right operand, as they are made
-pub fits_behind : (types : List TypeForm) (left : Typed) (right : TypedExpr) (operator : Operator) (place : Place) (old new : Passed) (made : TypedLink)
+pub fits_behind : (types : List Form) (left : Typed) (right : TypedExpr) (operator : Operator) (place : Place) (old new : Passed) (made : TypedLink)
     → operation operator place old ≡ Ok (after made.operation [] new) → made.operand ≡ right.value
     → result_type types operator left (typed_of right) ≡ Some made.type_id → IsLinkBehind left made
 fits_behind types left right operator place old new made passes operand is = record {

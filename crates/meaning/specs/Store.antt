@@ -5,7 +5,7 @@ use Rattle.std.specs.Ordering.{int_eq}
 use Rattle.std.specs.Cmp.Lexicographic.{pointwise}
 use Rattle.types.specs.declared.form.Step.{Step}
 use Rattle.types.specs.declared.form.Step.TheVariants.{Element, Field}
-use Rattle.types.specs.declared.form.TypeForm.{TypeForm}
+use Rattle.types.specs.Forms.{Form}
 use Rattle.meaning.specs.declared.store.Value.{Value}
 
 -- where a scalar or a set lies: an activation, a variable of it, and the steps to a component
@@ -21,7 +21,7 @@ Store = List (Place × Option Value)
 -- what is visible in a block: the variables by their roots, each with its place, and the types by their numbers
 pub record Environment : Type 0 where
   pub variables : ℕ → Option Place
-  pub types : List TypeForm
+  pub types : List Form
 
 -- the same step
 abbrev pub step_eq : Step → Step → Bool

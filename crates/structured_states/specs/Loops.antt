@@ -4,7 +4,7 @@ use Rattle.std.specs.Prelude.{ℕ, List, [], ◌∷◌, ◌++◌, Option, Some, 
 use Rattle.std.specs.Prelude.{length, slice_get, slice_index_or}
 use Rattle.std.specs.List.{filter_map, list_all, range_with_len}
 use Rattle.types.specs.declared.form.OrdinalRange.{OrdinalRange}
-use Rattle.types.specs.declared.form.TypeForm.{TypeForm}
+use Rattle.types.specs.Forms.{Form}
 use Rattle.types.specs.Types.{range_of}
 use Rattle.typed_tree.specs.declared.tree.Loop.{Loop}
 use Rattle.typed_tree.specs.declared.tree.Tree.{Tree}
@@ -109,7 +109,7 @@ abbrev pub limits_or_integer : Option OrdinalRange → Interval
 limits_or_integer None = integer
 limits_or_integer (Some range) = limits_of range
 
-abbrev pub type_limits : List TypeForm → Variable → Interval
+abbrev pub type_limits : List Form → Variable → Interval
 type_limits types variable = limits_or_integer (range_of types variable.type_id)
 
 -- the values of the type of each variable, by root number

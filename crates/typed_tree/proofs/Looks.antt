@@ -29,7 +29,7 @@ use Rattle.typed_tree.specs.declared.tree.Stmt.TheFolds.{fold-roll-Stmt}
 use Rattle.typed_tree.specs.Look.{Look, link_look, expression_look, look_expr, look_link, look_parameter, statement_look, look_stmt, Constant, Value}
 use Rattle.typed_tree.specs.Look.{Operation, Applied, Begins, Operator, Ends, Empty, Assign, Target, Fits, Write, Compound, If, Then, Else, While, Do, Repeat}
 use Rattle.typed_tree.specs.Look.{Until, For, Case, arms_look, look_whole, look_access, Compared, WholeTarget, Copied}
-use Rattle.typed_tree.specs.WellFormed.{length_of, type_of}
+use Rattle.typed_tree.specs.WellFormed.{length_of}
 pub use Rattle.typed_tree.proofs.Measured.{entries_are, formed_are}
 
 -- ---- expressions
@@ -94,7 +94,7 @@ pub look_copy : (number : ℕ) (becomes : Place) (target : Access) (indexes : Ve
     → look_stmt (stmt.Copy number becomes target indexes type_id value value_indexes)
     ≡ Assign number becomes
     ∷ (look_access target indexes.items (WholeTarget target.root target.selectors.items (length indexes.items) type_id)
-    ++ (look_whole value value_indexes.items ++ (Copied type_id (type_of value) (length_of value) ∷ [])))
+    ++ (look_whole value value_indexes.items ++ (Copied type_id (length_of value) ∷ [])))
 look_copy number becomes target indexes type_id value value_indexes =
     ap look_stmt (sym (stmt.rolls-Copy number becomes target indexes type_id value value_indexes))
     ∙ fold-roll-Stmt Look statement_look (stmt_layer.Copy number becomes target indexes type_id value value_indexes)

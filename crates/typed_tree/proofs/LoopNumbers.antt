@@ -24,7 +24,7 @@ use Rattle.typed_tree.specs.declared.tree.Stmt.TheOpen.{Stmt-F}
 use Rattle.typed_tree.specs.declared.tree.Stmt.TheOpen.Stmt-F.{Empty, Assign, Write, Compound, If, While, Repeat, For, Case, Copy}
 use Rattle.typed_tree.specs.declared.tree.Stmt.TheFolds.{map-Stmt, fold-roll-Stmt, ind-Stmt}
 use Rattle.typed_tree.specs.Entries.{joined}
-use Rattle.typed_tree.specs.WellFormed.{length_of, type_of}
+use Rattle.typed_tree.specs.WellFormed.{length_of}
 use Rattle.typed_tree.specs.Loops.{Inside, statement_inside, inside_of, loops_of}
 use Rattle.typed_tree.specs.Look.{Mark, Look, link_look, expression_look, look_expr, look_link, look_width, look_parameter, arms_look, statement_look}
 use Rattle.typed_tree.specs.Look.{look_stmt, look_block, look_written, access_look, whole_look, look_access, look_whole, Value, WholeValue, Target, WholeTarget}
@@ -176,7 +176,7 @@ numbers_layer (Assign number becomes target indexes fits value) =
     ∙ ended (look_expr value) (FitsMark fits) refl ∙ silent_expr value
 numbers_layer (Copy number becomes target indexes type_id value value_indexes) =
     let does = WholeTarget target.root target.selectors.items (length indexes.items) type_id in
-    let end = Copied type_id (type_of value) (length_of value) in
+    let end = Copied type_id (length_of value) in
     behind (look_access target indexes.items does) (look_whole value value_indexes.items ++ (end ∷ []))
     (silent_access target (map look_expr indexes.items) does (silent_indexes indexes.items) refl)
     ∙ ended (look_whole value value_indexes.items) end refl

@@ -17,7 +17,7 @@ use Rattle.typed_tree.specs.declared.tree.Written.TheVariants.{Ordinal, String}
 use Rattle.typed_tree.specs.declared.tree.Whole.{Whole}
 use Rattle.typed_tree.specs.declared.tree.Access.{Access}
 use Rattle.typed_tree.specs.declared.tree.Variable.{Variable as DeclaredVariable}
-use Rattle.types.specs.declared.form.TypeForm.{TypeForm}
+use Rattle.types.specs.Forms.{Form}
 use Rattle.typed_tree.specs.declared.tree.Dyadic.TheVariants as dyadic
 use Rattle.typed_tree.specs.declared.tree.Whole.TheVariants.{Text as TextOf, Variable as WholeOf}
 use Rattle.typed_tree.specs.declared.tree.Expr.{Expr}
@@ -33,7 +33,7 @@ use Rattle.typed_tree.specs.Entries.{joined, expression_entries, link_entries, e
 use Rattle.typed_tree.specs.Entries.{entries_of_statement, entries_of, entries_of_written, access_entries, whole_entries}
 use Rattle.typed_tree.specs.WellFormed.{all_hold, is_whole, monadic_is_well_formed, dyadic_is_well_formed, link_is_well_formed, expr_is_well_formed}
 use Rattle.typed_tree.specs.WellFormed.{is_well_formed_expr, is_well_formed_link, is_well_formed_width, is_well_formed_parameter, is_well_formed_test}
-use Rattle.typed_tree.specs.WellFormed.{are_characters, length_of, type_of, whole_indexes, is_well_formed_whole, is_well_formed_written}
+use Rattle.typed_tree.specs.WellFormed.{are_characters, length_of, whole_indexes, is_well_formed_whole, is_well_formed_written}
 use Rattle.typed_tree.specs.WellFormed.{leads_to_ordinal, are_well_formed, is_well_formed_value}
 use Rattle.typed_tree.specs.WellFormed.{are_whole, stmt_is_well_formed, is_well_formed_stmt, is_well_formed_block}
 use Rattle.typed_tree.specs.Look.{Mark, Look, link_look, expression_look, look_expr, look_link, look_width, look_parameter, arms_look, statement_look}
@@ -232,7 +232,7 @@ entries_stmt_layer (Assign number becomes target indexes fits value) =
 entries_stmt_layer (Copy number becomes target indexes type_id value value_indexes) =
     let does = WholeTarget target.root target.selectors.items (length indexes.items) type_id in
     let copied = look_whole value value_indexes.items in
-    let end = Copied type_id (type_of value) (length_of value) in
+    let end = Copied type_id (length_of value) in
     ap (λ entries. number ∷ entries)
     (flat_map-append mark_entries (look_access target indexes.items does) (copied ++ (end ∷ []))
     ∙ ap₂ (λ a b. a ++ b)
@@ -313,7 +313,7 @@ and_shifted false b c d = refl
 so_many : {X : Type 0} (look : X → Look) (test : X → Bool) (xs : List X) → length (map look xs) ≡ length (map test xs)
 so_many look test xs = length-map xs look ∙ sym (length-map xs test)
 
-module _ (variables : List DeclaredVariable) (types : List TypeForm) (sites : ℕ) where
+module _ (variables : List DeclaredVariable) (types : List Form) (sites : ℕ) where
   abbrev is_formed : Look → Bool
   is_formed = list_all (is_formed_mark variables types sites)
 
@@ -459,7 +459,7 @@ module _ (variables : List DeclaredVariable) (types : List TypeForm) (sites : �
       let does = WholeTarget target.root target.selectors.items (length indexes.items) type_id in
       let tests = map (is_well_formed_expr variables types sites) indexes.items in
       let copied = look_whole value value_indexes.items in
-      let end = Copied type_id (type_of value) (length_of value) in
+      let end = Copied type_id (length_of value) in
       let fits = is_formed_mark variables types sites end in
       formed_cut (look_access target indexes.items does) (copied ++ (end ∷ []))
       ∙ ap₂ (λ a b. a && b) (formed_access target (map look_expr indexes.items) tests does (formed_indexes indexes.items))
@@ -507,7 +507,7 @@ module _ (variables : List DeclaredVariable) (types : List TypeForm) (sites : �
   formed_block block = formed_ended (look_stmt block.body) (BlockEnds block.end) refl ∙ formed_stmt block.body
 
 -- the look of a tree tells whether its blocks are well formed
-pub formed_are : (variables : List DeclaredVariable) (types : List TypeForm) (sites : ℕ) (tree : Tree)
+pub formed_are : (variables : List DeclaredVariable) (types : List Form) (sites : ℕ) (tree : Tree)
     → list_all (is_formed_mark variables types sites) (tree_look tree) ≡ list_all (is_well_formed_block variables types sites) tree.blocks.items
 formed_are variables types sites tree =
     formed_mapped variables types sites look_block (is_well_formed_block variables types sites) (formed_block variables types sites) tree.blocks.items

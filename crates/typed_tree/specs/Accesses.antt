@@ -4,7 +4,7 @@ use Rattle.std.specs.Prelude.{ℕ, suc, ◌&&◌, Bool, false, List, [], ◌∷�
 use Rattle.std.specs.Prelude.{slice_get}
 use Rattle.std.specs.Option.{option_and_then}
 use Rattle.std.specs.Ordering.{int_eq}
-use Rattle.types.specs.declared.form.TypeForm.{TypeForm}
+use Rattle.types.specs.Forms.{Form}
 use Rattle.types.specs.declared.form.TypeId.{TypeId}
 use Rattle.types.specs.declared.form.OrdinalRange.{OrdinalRange}
 use Rattle.types.specs.declared.form.RecordField.{RecordField}
@@ -35,17 +35,17 @@ field_type offset None = None
 field_type offset (Some field) = if nat_eq offset field.offset then Some field.type_id else None
 
 -- the type of the component that is selected from a value of a type
-abbrev pub selected : List TypeForm → Selector → TypeId → Option TypeId
+abbrev pub selected : List Form → Selector → TypeId → Option TypeId
 selected types (Element fits cells) id = element_type fits.range cells (element_of types id)
 selected types (Field position offset) id = field_type offset (field_at types id position)
 
 -- the type of the component to which selectors lead from a value of a type
-abbrev pub led : List TypeForm → List Selector → TypeId → Option TypeId
+abbrev pub led : List Form → List Selector → TypeId → Option TypeId
 led types [] id = Some id
 led types (selector ∷ selectors) id = option_and_then (led types selectors) (selected types selector id)
 
 -- the type of what an access accesses, by its root and its selectors
-abbrev pub accessed : List Variable → List TypeForm → ℕ → List Selector → Option TypeId
+abbrev pub accessed : List Variable → List Form → ℕ → List Selector → Option TypeId
 accessed variables types root selectors =
     option_and_then (λ variable. led types selectors variable.type_id) (slice_get variables root)
 

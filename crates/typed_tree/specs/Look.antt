@@ -8,7 +8,7 @@ use Rattle.std.specs.declared.alloc.Global.{Global}
 use Rattle.std.specs.declared.boxed.Box.{Box}
 use Rattle.place.specs.declared.Place.{Place}
 use Rattle.typed_tree.specs.declared.tree.Tree.{Tree}
-use Rattle.types.specs.declared.form.TypeForm.{TypeForm}
+use Rattle.types.specs.Forms.{Form}
 use Rattle.types.specs.declared.form.TypeId.{TypeId}
 use Rattle.typed_tree.specs.declared.tree.Access.{Access as VariableAccess}
 use Rattle.typed_tree.specs.declared.tree.Selector.{Selector}
@@ -41,7 +41,7 @@ use Rattle.typed_tree.specs.declared.tree.Stmt.TheOpen.Stmt-F.{Repeat as RepeatO
 use Rattle.typed_tree.specs.declared.tree.Stmt.TheOpen.Stmt-F.{Copy as CopyOf}
 use Rattle.typed_tree.specs.declared.tree.Stmt.TheFolds.{fold-Stmt}
 use Rattle.typed_tree.specs.Entries.{joined}
-use Rattle.typed_tree.specs.WellFormed.{is_whole, are_characters, length_of, type_of, monadic_is_well_formed}
+use Rattle.typed_tree.specs.WellFormed.{is_whole, are_characters, length_of, monadic_is_well_formed}
 use Rattle.typed_tree.specs.WellFormed.{dyadic_is_well_formed, is_well_formed_test, leads_to_ordinal, leads_to_whole}
 use Rattle.typed_tree.specs.WellFormed.{is_value_of, may_copy}
 
@@ -74,9 +74,8 @@ pub data Mark : Type 0 where
   Target : ℕ → List Selector → ℕ → Mark
   -- the same of a structured type
   WholeTarget : ℕ → List Selector → ℕ → TypeId → Mark
-  -- the value before it is copied to a target of a type: its own type, if it isn't told by its length alone, and how
-  -- many cells it has
-  Copied : TypeId → Option TypeId → ℕ → Mark
+  -- the value before it, of so many cells, is copied to a target of a type
+  Copied : TypeId → ℕ → Mark
   -- the test of the value before it
   Fits : RangeTest → Mark
   -- a write, with the place of its name; or a writeln, which ends the line
@@ -192,7 +191,7 @@ statement_look (CopyOf number becomes target indexes type_id value value_indexes
     Assign number becomes
     ∷ (look_access target indexes.items
     (WholeTarget target.root target.selectors.items (length indexes.items) type_id)
-    ++ (look_whole value value_indexes.items ++ (Copied type_id (type_of value) (length_of value) ∷ [])))
+    ++ (look_whole value value_indexes.items ++ (Copied type_id (length_of value) ∷ [])))
 statement_look (WriteOf number name parameters ends_line) =
     Write number name ends_line ∷ (flat_map look_parameter parameters.items ++ (Ends ∷ []))
 statement_look (CompoundOf number statements) = Compound number ∷ (joined statements.items ++ (Ends ∷ []))
@@ -236,7 +235,7 @@ mark_entries (Empty number) = number ∷ []
 mark_entries (Assign number becomes) = number ∷ []
 mark_entries (Target root selectors indexes) = []
 mark_entries (WholeTarget root selectors indexes type_id) = []
-mark_entries (Copied type_id source cells) = []
+mark_entries (Copied type_id cells) = []
 mark_entries (Fits fits) = []
 mark_entries (Write number name ends_line) = number ∷ []
 mark_entries (Text number characters) = number ∷ []
@@ -273,7 +272,7 @@ abbrev pub loops_of_look : Look → List ℕ
 loops_of_look = flat_map mark_loops
 
 -- with these variables and types, and so many sites, a form alone is well formed
-abbrev pub is_formed_mark : List DeclaredVariable → List TypeForm → ℕ → Mark → Bool
+abbrev pub is_formed_mark : List DeclaredVariable → List Form → ℕ → Mark → Bool
 is_formed_mark variables types sites (Constant number value) = is_whole value
 is_formed_mark variables types sites (Access number) = true
 is_formed_mark variables types sites (Value root selectors indexes defined) =
@@ -292,8 +291,8 @@ is_formed_mark variables types sites (Target root selectors indexes) =
     leads_to_ordinal variables types sites root selectors indexes
 is_formed_mark variables types sites (WholeTarget root selectors indexes type_id) =
     leads_to_whole variables types sites type_id root selectors indexes
-is_formed_mark variables types sites (Copied type_id source cells) =
-    may_copy variables types sites type_id source cells
+is_formed_mark variables types sites (Copied type_id cells) =
+    may_copy variables types sites type_id cells
 is_formed_mark variables types sites (Fits fits) = is_well_formed_test variables types sites fits
 is_formed_mark variables types sites (Write number name ends_line) = true
 is_formed_mark variables types sites (Text number characters) = are_characters characters

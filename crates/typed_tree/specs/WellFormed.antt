@@ -1,6 +1,6 @@
 -- Well formed trees: each constant and each range of a test lies in that of integer (ISO 7185:1990, 6.4.2.2), each
 -- variable is one of the program's (6.2.2), which its block declares, selectors lead to a component of the type that is
--- wanted (6.5.3), what is copied fits its target (6.4.6), each test names a site of the table, each loop stands in the
+-- wanted (6.5.3), what is copied is as long as its target, each test names a site of the table, each loop stands in the
 -- table of loops, there is a block, and its variables take no more cells than a block has. It does not say that a tree
 -- is that of a program.
 use Rattle.std.specs.Prelude.{◌≡◌, ℕ, ℤ, ◌<◌, ◌≤◌, pos, neg_ℤ, ◌&&◌, Bool, true, List, [], Option, Some, None, Vec}
@@ -8,9 +8,9 @@ use Rattle.std.specs.Prelude.{int_le, nat_lt, nat_le, nat_eq, not, length, map, 
 use Rattle.std.specs.List.{list_all}
 use Rattle.std.specs.declared.alloc.Global.{Global}
 use Rattle.std.specs.declared.boxed.Box.{Box}
-use Rattle.types.specs.declared.form.TypeForm.{TypeForm}
+use Rattle.types.specs.Forms.{Form}
 use Rattle.types.specs.declared.form.TypeId.{TypeId}
-use Rattle.types.specs.Types.{cells_of, have_one_length, is_assignable, is_ordinal, is_same, most_cells, string_length}
+use Rattle.types.specs.Types.{cells_of, is_ordinal, is_same, most_cells}
 use Rattle.typed_tree.specs.declared.tree.Tree.{Tree}
 use Rattle.typed_tree.specs.declared.tree.Selector.{Selector}
 use Rattle.typed_tree.specs.declared.tree.Selector.TheVariants.{Element, Field}
@@ -66,11 +66,6 @@ abbrev pub length_of : Whole → ℕ
 length_of (Text number characters) = length characters.items
 length_of (VariableOf access type_id cells defined) = cells
 
--- the type of a whole value; that of a string that is written is told by its length alone
-abbrev pub type_of : Whole → Option TypeId
-type_of (Text number characters) = None
-type_of (VariableOf access type_id cells defined) = Some type_id
-
 -- the index expressions of a whole value; a string has none
 abbrev pub whole_indexes : {A : Type 0} → Whole → List A → List A
 whole_indexes (Text number characters) indexes = []
@@ -81,7 +76,7 @@ abbrev pub are_whole : Vec ℤ Global → Bool
 are_whole constants = list_all is_whole constants.items
 
 -- with these variables and types, and so many sites
-module _ (variables : List DeclaredVariable) (types : List TypeForm) (sites : ℕ) where
+module _ (variables : List DeclaredVariable) (types : List Form) (sites : ℕ) where
   -- the test of a value
   abbrev pub is_well_formed_test : RangeTest → Bool
   is_well_formed_test test = nat_lt test.site sites && (is_whole test.range.first && is_whole test.range.last)
@@ -108,11 +103,9 @@ module _ (variables : List DeclaredVariable) (types : List TypeForm) (sites : �
   abbrev pub is_value_of : TypeId → ℕ → Bool
   is_value_of type_id cells = nat_eq cells (cells_of types type_id) && nat_le cells most_cells
 
-  -- a value of so many cells may be copied to a target: it is of an assignable type, or a string of its length
-  abbrev pub may_copy : TypeId → Option TypeId → ℕ → Bool
-  may_copy target (Some type_id) cells = is_assignable types target type_id && nat_eq (cells_of types target) cells
-  may_copy target None cells =
-      have_one_length (string_length types target) (Some cells) && nat_eq (cells_of types target) cells
+  -- a value of so many cells may be copied to a target of a type
+  abbrev pub may_copy : TypeId → ℕ → Bool
+  may_copy target cells = nat_eq (cells_of types target) cells
 
   abbrev pub is_well_formed_whole : Whole → ℕ → Bool
   is_well_formed_whole (Text number characters) indexes = are_characters characters.items
@@ -197,7 +190,7 @@ module _ (variables : List DeclaredVariable) (types : List TypeForm) (sites : �
   stmt_is_well_formed (Copy number becomes target indexes type_id value value_indexes) =
       are_well_formed indexes.items
       && (leads_to_whole type_id target.root target.selectors.items (length indexes.items)
-      && (is_well_formed_value value value_indexes.items && may_copy type_id (type_of value) (length_of value)))
+      && (is_well_formed_value value value_indexes.items && may_copy type_id (length_of value)))
   stmt_is_well_formed (Write number name parameters ends_line) =
       all_hold (map is_well_formed_parameter parameters.items)
   stmt_is_well_formed (Compound number statements) = all_hold statements.items

@@ -1,8 +1,8 @@
 -- Worked rows of the definitions of types.
 use Rattle.std.proofs.Common.{◌≡◌, ◌∷◌, ◌++◌, [], ℕ, List, Some, None, Ok, Err, Vec, Global, refl, true, false, codes, pos}
-use Rattle.types.specs.declared.form.Field.{Field}
-use Rattle.types.specs.declared.form.TypeForm.{TypeForm}
-use Rattle.types.specs.declared.form.TypeForm.TheVariants.{Enumeration, Subrange, Array, Record}
+use Rattle.types.specs.Forms.{FieldForm}
+use Rattle.types.specs.Forms.{Form}
+use Rattle.types.specs.Forms.{Enumeration, Subrange, Array, Record}
 use Rattle.types.specs.declared.form.TypeId.{TypeId}
 use Rattle.types.specs.declared.refusal.TypeRefusal.TheVariants as refusal
 use Rattle.types.specs.Types.{admitted, boolean, cells_of, char, field_of, host_of, integer, is_assignable, is_compatible, is_ordinal}
@@ -14,7 +14,7 @@ number n = record { index = n }
 
 -- (red, green, blue) is 3, 1..10 is 4, 5..7 is 5, red..green is 6; the array types with index type 1..10 are 7 of integer,
 -- 8 of integer again, 9 of char, 10 packed of char and 11 packed of char again; 12 is packed over 5..7
-abbrev table : List TypeForm
+abbrev table : List Form
 table = required_forms
     ++ Enumeration (pos 2)
     ∷ Subrange integer (pos 1) (pos 10)
@@ -98,7 +98,7 @@ no_value : admitted table (Subrange integer (pos 3) (pos 2)) ≡ Err refusal.Fir
 no_value = refl
 
 -- Y2 begins with 65537 cells
-abbrev of_index : TypeForm → List TypeForm
+abbrev of_index : Form → List Form
 of_index index = required_forms ++ index ∷ []
 
 most_of_array : admitted (of_index (Subrange integer (pos 1) (pos 65536))) (Array false (number 3) integer) ≡ Ok (number 4)
@@ -111,31 +111,32 @@ array_over_integer : admitted required_forms (Array false integer boolean) ≡ E
 array_over_integer = refl
 
 -- a record with the fields number : integer, row : array [1..10] of integer
-module _ (fields none : Vec Field Global) (name other : Vec ℕ Global) (is_name : name.items ≡ codes "number") (is_other : other.items ≡ codes "row")
-    (are : fields.items ≡ record { name = name; type_id = integer } ∷ record { name = other; type_id = number 7 } ∷ []) (are_none : none.items ≡ []) where
-  abbrev with_record : List TypeForm
-  with_record = table ++ Record false fields ∷ Array false boolean (number 13) ∷ Record true none ∷ Array false integer (number 15) ∷ []
+abbrev with_record : List Form
+with_record =
+    table
+    ++ Record false (record { name = codes "number"; type_id = integer } ∷ record { name = codes "row"; type_id = number 7 } ∷ [])
+    ∷ Array false boolean (number 13) ∷ Record true [] ∷ Array false integer (number 15) ∷ []
 
-  -- it takes the cells of both
-  cells_of_record : cells_of with_record (number 13) ≡ 11
-  cells_of_record = rw are refl
+-- it takes the cells of both
+cells_of_record : cells_of with_record (number 13) ≡ 11
+cells_of_record = refl
 
-  array_of_records : cells_of with_record (number 14) ≡ 22
-  array_of_records = rw are refl
+array_of_records : cells_of with_record (number 14) ≡ 22
+array_of_records = refl
 
-  -- a record without fields takes none, and so does each array of such
-  empty_record : cells_of with_record (number 15) ≡ 0
-  empty_record = rw are_none refl
+-- a record without fields takes none, and so does each array of such
+empty_record : cells_of with_record (number 15) ≡ 0
+empty_record = refl
 
-  array_of_empty_records : cells_of with_record (number 16) ≡ 0
-  array_of_empty_records = rw are_none refl
+array_of_empty_records : cells_of with_record (number 16) ≡ 0
+array_of_empty_records = refl
 
-  -- a field is found by its name
-  second_field : field_of with_record (number 13) (codes "row") ≡ Some (record { position = 1; offset = 1; type_id = number 7 })
-  second_field = simp (are, is_name, is_other)
+-- a field is found by its name
+second_field : field_of with_record (number 13) (codes "row") ≡ Some (record { position = 1; offset = 1; type_id = number 7 })
+second_field = refl
 
-  no_field : field_of with_record (number 13) (codes "column") ≡ None
-  no_field = simp (are, is_name, is_other)
+no_field : field_of with_record (number 13) (codes "column") ≡ None
+no_field = refl
 
-  no_record : field_of with_record (number 14) (codes "row") ≡ None
-  no_record = refl
+no_record : field_of with_record (number 14) (codes "row") ≡ None
+no_record = refl

@@ -3,12 +3,12 @@
 -- that lead to it. It says nothing of what they hold.
 use Rattle.std.specs.Prelude.{ℕ, zero, suc, ℤ, pos, ◌+◌, ◌+ℤ◌, List, [], ◌∷◌, ◌++◌, Option, Some, None, fold, map}
 use Rattle.std.specs.Prelude.{flat_map, slice_get}
-use Rattle.types.specs.declared.form.Field.{Field}
+use Rattle.types.specs.Forms.{FieldForm}
 use Rattle.types.specs.declared.form.OrdinalRange.{OrdinalRange}
 use Rattle.types.specs.declared.form.Step.{Step}
 use Rattle.types.specs.declared.form.Step.TheVariants as step
-use Rattle.types.specs.declared.form.TypeForm.{TypeForm}
-use Rattle.types.specs.declared.form.TypeForm.TheVariants.{Integer, Boolean, Char, Enumeration, Subrange, Array, Record}
+use Rattle.types.specs.Forms.{Form}
+use Rattle.types.specs.Forms.{Integer, Boolean, Char, Enumeration, Subrange, Array, Record}
 use Rattle.types.specs.declared.form.TypeId.{TypeId}
 use Rattle.types.specs.Types.{form_range, values_in}
 
@@ -18,7 +18,7 @@ Steps = List Step
 
 -- a type with its components
 pub record LaidOut : Type 0 where
-  pub form : TypeForm
+  pub form : Form
   pub components : List Steps
 
 -- so many values from a first one on
@@ -50,14 +50,14 @@ abbrev pub behind_step : Step → List Steps → List Steps
 behind_step step rows = map (λ steps. step ∷ steps) rows
 
 -- those of the fields from a place on
-abbrev pub fields_components : List LaidOut → ℕ → List Field → List Steps
+abbrev pub fields_components : List LaidOut → ℕ → List FieldForm → List Steps
 fields_components before position [] = []
 fields_components before position (field ∷ fields) =
     behind_step (step.Field position) (components_at before field.type_id)
     ++ fields_components before (position + 1) fields
 
 -- those of a form over types that are laid out
-abbrev pub form_components : List LaidOut → TypeForm → List Steps
+abbrev pub form_components : List LaidOut → Form → List Steps
 form_components before Integer = [] ∷ []
 form_components before Boolean = [] ∷ []
 form_components before Char = [] ∷ []
@@ -65,15 +65,15 @@ form_components before (Enumeration last) = [] ∷ []
 form_components before (Subrange host first last) = [] ∷ []
 form_components before (Array packed index element) =
     flat_map (λ value. behind_step (step.Element value) (components_at before element)) (values_at before index)
-form_components before (Record packed fields) = fields_components before 0 fields.items
+form_components before (Record packed fields) = fields_components before 0 fields
 
-abbrev pub lay_next : List LaidOut → TypeForm → List LaidOut
+abbrev pub lay_next : List LaidOut → Form → List LaidOut
 lay_next before form = before ++ record { form = form; components = form_components before form } ∷ []
 
 -- each type of a table with its components, which are those of the types before it
-abbrev pub laid_out : List TypeForm → List LaidOut
+abbrev pub laid_out : List Form → List LaidOut
 laid_out types = fold lay_next [] types
 
 -- the scalar components of a type
-abbrev pub components_of : List TypeForm → TypeId → List Steps
+abbrev pub components_of : List Form → TypeId → List Steps
 components_of types id = components_at (laid_out types) id

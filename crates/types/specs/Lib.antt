@@ -1,2 +1,4 @@
+pub mod Forms
 pub mod Types
 pub mod Components
+pub mod Kept

@@ -1,4 +1,5 @@
 ghost use Rattle.std.specs.Prelude.{◌≡◌};
+ghost use Rattle.types.specs.Forms.{form_of};
 ghost use Rattle.types.specs.Types.{form_range, is_same, values_in};
 
 /// What a type is made of (ISO 7185:1990, 6.4), its parts by their numbers in a table.
@@ -36,7 +37,7 @@ pub enum TypeForm {
 impl TypeForm {
     /// The values of an ordinal type (6.4.2); none of another.
     pub fn range(&self) -> Option<OrdinalRange>
-        ensures { result ≡ form_range self.now }
+        ensures { result ≡ form_range (form_of self.now) }
     {
         match self {
             TypeForm::Integer => Some(OrdinalRange {

@@ -1,9 +1,9 @@
 ghost use Rattle.std.specs.Prelude.{◌≡◌, ◌⊎◌, ◌++◌, ◌*◌, ◌∷◌, [], List, Err, IfOk, IsOk, OnErr, OnOk, map};
-ghost use Rattle.std.specs.Prelude.{◌<◌, ◌^◌, Some, sum_by};
-ghost use Rattle.std.specs.Option.{option_copied};
+ghost use Rattle.std.specs.Prelude.{◌<◌, ◌^◌, Some, option_map, sum_by};
 ghost use Rattle.types.specs.Types.{admitted, admitted_cells, cells_at, counted, few, form_at, form_cells, is_turned};
 ghost use Rattle.types.specs.Types.{own_field, required_forms, values_at};
-ghost use Rattle.types.specs.declared.form.TypeForm.{TypeForm};
+ghost use Rattle.types.specs.Forms.{Form, field_form, form_of};
+ghost use Rattle.types.specs.Kept.{counted_of, forms_of};
 ghost use Rattle.types.specs.declared.refusal.TypeRefusal.TheVariants.{Memory};
 
 use crate::form::{ArrayElement, Field, OrdinalRange, RecordField, TypeForm, TypeId};
@@ -28,11 +28,11 @@ pub struct TypeTable {
 }
 
 impl Model for TypeTable {
-    ghost Value = { List TypeForm };
+    ghost Value = { List Form };
 
-    ghost view = { λ table. map (λ entry. entry.form) table.entries.items };
+    ghost view = { λ table. forms_of table.entries.items };
 
-    ghost invariant = { λ table. table.entries.items ≡ counted (map (λ entry. entry.form) table.entries.items) };
+    ghost invariant = { λ table. map counted_of table.entries.items ≡ counted (forms_of table.entries.items) };
 }
 
 impl TypeTable {
@@ -62,10 +62,10 @@ impl TypeTable {
     /// Puts a form over types of this table into it, as a type of its own, and answers its number. Refused by Y1 or
     /// Y2, or else for want of memory, it leaves the table as it was.
     pub fn add(&mut self, form: TypeForm) -> Result<TypeId, TypeRefusal>
-        ensures added { OnOk result (self.new ≡ self.old ++ form ∷ []) }
+        ensures added { OnOk result (self.new ≡ self.old ++ form_of form ∷ []) }
         ensures unchanged { OnErr result (self.new ≡ self.old) }
-        ensures told { (result ≡ admitted self.old form)
-            ⊎ (IsOk (admitted self.old form) × (result ≡ Err Memory)) }
+        ensures told { (result ≡ admitted self.old (form_of form))
+            ⊎ (IsOk (admitted self.old (form_of form)) × (result ≡ Err Memory)) }
     {
         let cells = self.admit(&form)?;
         let index = self.entries.len();
@@ -75,7 +75,7 @@ impl TypeTable {
 
     /// What a type is made of.
     pub fn form(&self, id: TypeId) -> Option<&TypeForm>
-        ensures { option_copied result ≡ form_at self.now id }
+        ensures { option_map (λ form. form_of form.now) result ≡ form_at self.now id }
     {
         match self.entries.get(id.index) {
             None => None,
@@ -207,7 +207,7 @@ impl TypeTable {
 
     // The cells of a form that may be a type of the table.
     fn admit(&self, form: &TypeForm) -> Result<u32, TypeRefusal>
-        ensures { result ≡ admitted_cells self.now form.now }
+        ensures { result ≡ admitted_cells self.now (form_of form.now) }
     {
         if is_turned(form) {
             return Err(TypeRefusal::FirstAboveLast);
@@ -217,7 +217,7 @@ impl TypeTable {
 
     // The cells of a form, if they are not too many.
     fn form_cells(&self, form: &TypeForm) -> Option<u32>
-        ensures { result ≡ few (form_cells (counted self.now) form.now) }
+        ensures { result ≡ few (form_cells (counted self.now) (form_of form.now)) }
     {
         match form {
             TypeForm::Array { index, element, .. } => self.array_cells(*index, *element),
@@ -277,7 +277,7 @@ impl TypeTable {
     // The field of a name among those of a record.
     fn field_among(&self, id: TypeId, fields: &[Field], name: &[u8]) -> Option<RecordField>
         requires { sum_by (λ field. cells_at (before self.now id) field.type_id) fields.now < 2 ^ 32 }
-        ensures { result ≡ field_among (before self.now id) 0 0 fields.now name.now }
+        ensures { result ≡ field_among (before self.now id) 0 0 (map field_form fields.now) name.now }
     {
         let mut offset = 0;
         for (position, field) in fields.iter().enumerate() {
@@ -317,7 +317,7 @@ fn own_field(id: TypeId, field: RecordField) -> Option<RecordField>
 
 // Whether the first value of a subrange lies above its last.
 fn is_turned(form: &TypeForm) -> bool
-    ensures { result ≡ is_turned form.now }
+    ensures { result ≡ is_turned (form_of form.now) }
 {
     match form {
         TypeForm::Subrange { first, last, .. } => first > last,

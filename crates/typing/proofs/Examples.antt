@@ -8,8 +8,8 @@ use Rattle.typed_tree.specs.declared.tree.Monadic.TheVariants as monadic
 use Rattle.syntax_tree.specs.declared.Operator.TheVariants as op
 use Rattle.syntax_tree.specs.declared.Sign.TheVariants as sign
 use Rattle.syntax_tree.specs.declared.ConstantValue.TheVariants as constant
-use Rattle.types.specs.declared.form.TypeForm.{TypeForm}
-use Rattle.types.specs.declared.form.TypeForm.TheVariants.{Enumeration, Subrange, Array}
+use Rattle.types.specs.Forms.{Form}
+use Rattle.types.specs.Forms.{Enumeration, Subrange, Array}
 use Rattle.types.specs.declared.form.TypeId.{TypeId}
 use Rattle.types.specs.Types.{required_forms, integer, boolean, char, range_of, range}
 use Rattle.typing.specs.Names.{folded, required_region}
@@ -68,7 +68,7 @@ pub boolean_does_not_fit : fitting required_forms integer (of boolean) ≡ None
 boolean_does_not_fit = refl
 
 -- the types behind the required ones: an enumerated type, a subrange of it, and -5..-1
-abbrev own_types : List TypeForm
+abbrev own_types : List Form
 own_types =
     required_forms
     ++ Enumeration (pos 2) ∷ Subrange (record { index = 3 }) (pos 1) (pos 2) ∷ Subrange integer (neg_ℤ (pos 5)) (neg_ℤ (pos 1)) ∷ []
@@ -95,7 +95,7 @@ pub integer_fits_subrange : fitting own_types negative (of integer) ≡ range (n
 integer_fits_subrange = refl
 
 -- strings of two, two and three characters
-abbrev strings : List TypeForm
+abbrev strings : List Form
 strings =
     required_forms
     ++ Subrange integer (pos 1) (pos 2) ∷ Array true (record { index = 3 }) char ∷ Subrange integer (pos 1) (pos 2) ∷ Array true (record { index = 5 }) char

@@ -1,5 +1,6 @@
--- The typing of type denoters (ISO 7185:1990, 6.4.1, 6.4.2.3, 6.4.2.4): of each the first rule that it breaks, or the
--- type that it denotes. A name denotes the type that it names, and every other denoter a type of its own.
+-- The typing of type denoters (ISO 7185:1990, 6.4.1 to 6.4.3): of each the first rule that it breaks, or the type that
+-- it denotes. A name denotes the type that it names, and every other denoter a type of its own. The parts of an array or
+-- a record come in the order of the text, and then the rules of its own, which are told at its word.
 -- It says nothing of where they stand.
 use Rattle.std.specs.Prelude.{ℕ, ◌+◌, ◌-◌, ◌&&◌, ℤ, List, [], ◌∷◌, length, Option, Some, Result, Ok, Err}
 use Rattle.std.specs.Prelude.{if◌then◌else◌}
@@ -7,9 +8,14 @@ use Rattle.place.specs.declared.Place.{Place}
 use Rattle.syntax_tree.specs.declared.Constant.{Constant}
 use Rattle.syntax_tree.specs.declared.Name.{Name}
 use Rattle.syntax_tree.specs.declared.TypeDenoter.{TypeDenoter}
-use Rattle.syntax_tree.specs.declared.TypeDenoter.TheVariants as denoter
-use Rattle.types.specs.declared.form.TypeForm.{TypeForm}
-use Rattle.types.specs.declared.form.TypeForm.TheVariants.{Enumeration, Subrange}
+use Rattle.syntax_tree.specs.declared.TypeDenoter.TheOpen.{TypeDenoter-F}
+use Rattle.syntax_tree.specs.declared.TypeDenoter.TheOpen.TypeDenoter-F.{Name as NamedType, Enumerated}
+use Rattle.syntax_tree.specs.declared.TypeDenoter.TheOpen.TypeDenoter-F.{Subrange as SubrangeOf, Array as ArrayOf}
+use Rattle.syntax_tree.specs.declared.TypeDenoter.TheOpen.TypeDenoter-F.{Record as RecordOf}
+use Rattle.syntax_tree.specs.declared.TypeDenoter.TheFolds.{fold-TypeDenoter}
+use Rattle.syntax_tree.specs.Places.{fields_of}
+use Rattle.types.specs.Forms.{Form}
+use Rattle.types.specs.Forms.{Enumeration, Subrange}
 use Rattle.types.specs.declared.form.TypeId.{TypeId}
 use Rattle.types.specs.Types.{host_of, is_ordinal, is_same}
 use Rattle.scopes.specs.Scopes.{found}
@@ -62,7 +68,7 @@ enumeration names = do
   pure type_id
 
 -- the form of a subrange, whose constants are of one ordinal type
-abbrev pub between : List TypeForm → Place → Option (ℤ × TypeId) → Option (ℤ × TypeId) → Checked TypeForm
+abbrev pub between : List Form → Place → Option (ℤ × TypeId) → Option (ℤ × TypeId) → Checked Form
 between types place (Some first) (Some last) =
     fits (is_same (host_of types first.1) (host_of types last.1) && is_ordinal types first.1) place
     (Subrange (host_of types first.1) first.0 last.0)
@@ -75,8 +81,54 @@ subrange first place last = do
   form ← ordinal_constant last >>? (λ types l. between types place f l)
   add_type place form
 
--- the type that a denoter denotes, where variables of these names get it
-unfoldable pub denoted_type : List Name → TypeDenoter → Passing TypeId
-denoted_type names (denoter.Name name) = type_of_name names name
-denoted_type names (denoter.Enumerated constants) = enumeration constants.items
-denoted_type names (denoter.Subrange first place last) = subrange first place last
+-- a denoter as it is typed, where variables of these names get its type
+abbrev pub WrittenDenoter : Type 0
+WrittenDenoter = List Name → Passing TypeId
+
+-- an index type is ordinal; K1 at the array's word where it isn't
+unfoldable pub index_type : List Name → Place → WrittenDenoter → Passing TypeId
+index_type names place denoter = denoter names >>? (λ types id. fits (is_ordinal types id) place id)
+
+abbrev pub index_types : List Name → Place → List WrittenDenoter → Passing (List TypeId)
+index_types names place [] = pure []
+index_types names place (denoter ∷ denoters) = do
+  id ← index_type names place denoter
+  ids ← index_types names place denoters
+  pure (id ∷ ids)
+
+-- an array with several indexes is one of arrays with the indexes behind the first, packed as it is (6.4.3.2)
+abbrev pub arrays : Bool → Place → List TypeId → TypeId → Passing TypeId
+arrays packed place [] element = pure element
+arrays packed place (index ∷ indexes) element =
+    arrays packed place indexes element >>= (λ inner. add_type place (Array packed index inner))
+
+unfoldable pub array : List Name → Bool → Place → List WrittenDenoter → WrittenDenoter → Passing TypeId
+array names packed place indexes element = do
+  pass place
+  ids ← index_types names place indexes
+  inner ← element names
+  arrays packed place ids inner
+
+-- a field's name in small letters, with its type
+abbrev pub FieldOf : Type 0
+FieldOf = List ℕ × TypeId
+
+-- the names of fields of a type, behind other fields: S1 where one was there before
+abbrev pub named_fields : List FieldOf → TypeId → List Name → Checked (List FieldOf)
+named_fields before type_id [] = Ok before
+named_fields before type_id (name ∷ names) =
+    if list_any (λ field. pointwise nat_eq field.0 (folded name.text.now)) before
+    then Err (fault.DeclaredTwice name.place)
+    else named_fields (before ++ (folded name.text.now, type_id) ∷ []) type_id names
+
+-- groups of fields, behind other fields: of each its type, and then its names
+abbrev pub grouped_fields : List Name → List FieldOf → List (List Name × WrittenDenoter) → Passing (List FieldOf)
+grouped_fields names before [] = pure before
+grouped_fields names before (group ∷ groups) = do
+  type_id ← group.1 names
+  fields ← given (named_fields before type_id group.0)
+  grouped_fields names fields groups
+
+-- these are the fields of a record
+abbrev pub AreFields : List Field → List FieldOf → Type 0
+AreFields fields wanted = map (λ field. (field.name.items, field.type_id)) fields ≡ wanted

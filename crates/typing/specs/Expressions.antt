@@ -18,7 +18,7 @@ use Rattle.syntax_tree.specs.declared.Expr.TheOpen.Expr-F.{Number as NumberOf, N
 use Rattle.syntax_tree.specs.declared.Expr.TheOpen.Expr-F.{Parenthesized as ParenthesizedOf, Not as NotOf}
 use Rattle.syntax_tree.specs.declared.Expr.TheOpen.Expr-F.{Signed as SignedOf, Chain as ChainOf, String as StringOf}
 use Rattle.syntax_tree.specs.declared.Expr.TheFolds.{fold-Expr, fold-Link, fold-Actual}
-use Rattle.types.specs.declared.form.TypeForm.{TypeForm}
+use Rattle.types.specs.Forms.{Form}
 use Rattle.types.specs.declared.form.TypeId.{TypeId}
 use Rattle.types.specs.declared.form.OrdinalRange.{OrdinalRange}
 use Rattle.types.specs.Types.{integer, boolean, char, is_same, is_compatible, is_ordinal, is_string, range_of}
@@ -166,14 +166,14 @@ are_alike (Some left) (Some right) = nat_eq left right
 are_alike left right = false
 
 -- relations hold between ordinals of compatible types, and between strings of them (6.7.2.5)
-abbrev pub compared : List TypeForm → Typed → Typed → Option TypeId
+abbrev pub compared : List Form → Typed → Typed → Option TypeId
 compared types left right =
     if are_alike left.length right.length
     && (is_compatible types left.type_id right.type_id && (is_none left.length || is_string types left.type_id))
     then Some boolean else None
 
 -- the type of an operator's result, if its operands fit it (6.7.2)
-abbrev pub result_type : List TypeForm → Operator → Typed → Typed → Option TypeId
+abbrev pub result_type : List Form → Operator → Typed → Typed → Option TypeId
 result_type types op.Plus left right = both_of integer left right
 result_type types op.Minus left right = both_of integer left right
 result_type types op.Or left right = both_of boolean left right
@@ -249,7 +249,7 @@ as_function place (denotes.TypeName type_id) = Err (fault.Mismatch place)
 as_function place denotes.Output = Err (fault.Mismatch place)
 
 -- whether a function takes a value of a type: an integer, or any ordinal (6.6.6.2, 6.6.6.4, 6.6.6.5)
-abbrev pub takes : List TypeForm → RequiredFunction → TypeId → Bool
+abbrev pub takes : List Form → RequiredFunction → TypeId → Bool
 takes types function.Abs argument = is_same argument integer
 takes types function.Sqr argument = is_same argument integer
 takes types function.Odd argument = is_same argument integer
@@ -287,7 +287,7 @@ on_range (Some range) (monadic.Pred id first) = monadic.Pred id range.first
 on_range range other = other
 
 -- what a function does to its argument, and the type of its result; K1 at the place where it doesn't take the argument
-abbrev pub applied : List TypeForm → RequiredFunction → Monadic → Place → Typed → Checked (Monadic × TypeId)
+abbrev pub applied : List Form → RequiredFunction → Monadic → Place → Typed → Checked (Monadic × TypeId)
 applied types function operation place argument =
     fits (is_none argument.length && takes types function argument.type_id) place
     (on_range (range_of types argument.type_id) operation, function_type function argument.type_id)

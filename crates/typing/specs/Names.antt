@@ -11,7 +11,11 @@ use Rattle.syntax_tree.specs.declared.Program.{Program}
 use Rattle.syntax_tree.specs.declared.Name.{Name}
 use Rattle.syntax_tree.specs.declared.TypeDefinition.{TypeDefinition}
 use Rattle.syntax_tree.specs.declared.TypeDenoter.{TypeDenoter}
-use Rattle.syntax_tree.specs.declared.TypeDenoter.TheVariants as denoter
+use Rattle.syntax_tree.specs.declared.TypeDenoter.TheOpen.{TypeDenoter-F}
+use Rattle.syntax_tree.specs.declared.TypeDenoter.TheOpen.TypeDenoter-F.{Name as NamedType, Enumerated, Subrange}
+use Rattle.syntax_tree.specs.declared.TypeDenoter.TheOpen.TypeDenoter-F.{Array, Record}
+use Rattle.syntax_tree.specs.declared.TypeDenoter.TheFolds.{fold-TypeDenoter}
+use Rattle.syntax_tree.specs.Places.{fields_of}
 use Rattle.syntax_tree.specs.declared.VariableGroup.{VariableGroup}
 use Rattle.types.specs.Types.{integer, boolean, char}
 use Rattle.scopes.specs.Scopes.{Region}
@@ -51,11 +55,17 @@ required =
 unfoldable pub required_region : Region
 required_region = map (λ d. (d.0, Some d.1)) required
 
--- the names that a denoter defines: the constants of an enumerated type
+-- the names that a denoter defines: the constants of enumerated types, in the order of the text
+abbrev pub denoter_step : TypeDenoter-F (List Name) → List Name
+denoter_step (NamedType name) = []
+denoter_step (Enumerated constants) = constants.items
+denoter_step (Subrange first between last) = []
+denoter_step (Array packed place indexes element) = flat_map (λ names. names) indexes.items ++ element.value
+denoter_step (Record packed place names denoters semicolon) =
+    flat_map (λ field. field.1) (fields_of names.items denoters.items)
+
 abbrev pub denoter_names : TypeDenoter → List Name
-denoter_names (denoter.Name name) = []
-denoter_names (denoter.Enumerated constants) = constants.items
-denoter_names (denoter.Subrange first between last) = []
+denoter_names = fold-TypeDenoter (List Name) denoter_step
 
 -- those of a type definition, the ones of its denoter first
 abbrev pub type_names : TypeDefinition → List Name

@@ -3,7 +3,7 @@
 -- It says nothing of what the rules are.
 use Rattle.std.specs.Prelude.{ℕ, ◌++◌, Bool, List, [], ◌∷◌, Result, Ok, Err}
 use Rattle.place.specs.declared.Place.{Place}
-use Rattle.types.specs.declared.form.TypeForm.{TypeForm}
+use Rattle.types.specs.Forms.{Form}
 use Rattle.scopes.specs.Scopes.{Region}
 use Rattle.typed_tree.specs.declared.fault.TypeFault.{TypeFault}
 use Rattle.typed_tree.specs.declared.tree.Variable.{Variable}
@@ -15,7 +15,7 @@ pub record Passed : Type 0 where
   -- the regions round the place, the innermost first
   pub regions : List Region
   -- the types, by number
-  pub types : List TypeForm
+  pub types : List Form
   -- the characters of the strings that constants are, by number
   pub texts : List (List ℕ)
   -- the variables that are declared, by root number
@@ -71,7 +71,7 @@ p >> q = p >>= (λ _. q)
 
 -- a form, and then a test of what it is, which passes nothing
 infixl 10 ◌>>?◌
-abbrev pub ◌>>?◌ : {A B : Type 0} → Passing A → (List TypeForm → A → Checked B) → Passing B
+abbrev pub ◌>>?◌ : {A B : Type 0} → Passing A → (List Form → A → Checked B) → Passing B
 p >>? test = λ s. and_then (p s) (λ a. and_then (test a.passed.types a.answer) (λ b. Ok (after b a.look a.passed)))
 
 abbrev pub pure : {A : Type 0} → A → Passing A
@@ -81,7 +81,7 @@ abbrev pub fail : {A : Type 0} → TypeFault → Passing A
 fail fault = λ s. Err fault
 
 -- a test by the table of types, which passes nothing
-abbrev pub by_types : {A : Type 0} → (List TypeForm → Checked A) → Passing A
+abbrev pub by_types : {A : Type 0} → (List Form → Checked A) → Passing A
 by_types test = λ s. and_then (test s.types) (λ a. Ok (after a [] s))
 
 -- a test that needs nothing of what is known

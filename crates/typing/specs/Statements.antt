@@ -25,8 +25,8 @@ use Rattle.syntax_tree.specs.declared.Stmt.TheOpen.Stmt-F.{Empty as EmptyOf, Ass
 use Rattle.syntax_tree.specs.declared.Stmt.TheOpen.Stmt-F.{Compound as CompoundOf, If as IfOf, While as WhileOf}
 use Rattle.syntax_tree.specs.declared.Stmt.TheOpen.Stmt-F.{Repeat as RepeatOf, For as ForOf, Case as CaseOf}
 use Rattle.syntax_tree.specs.declared.Stmt.TheFolds.{fold-Stmt}
-use Rattle.types.specs.declared.form.TypeForm.{TypeForm}
-use Rattle.types.specs.declared.form.TypeForm.TheVariants as form
+use Rattle.types.specs.Forms.{Form}
+use Rattle.types.specs.Forms as form
 use Rattle.types.specs.declared.form.TypeId.{TypeId}
 use Rattle.types.specs.declared.form.OrdinalRange.{OrdinalRange}
 use Rattle.types.specs.Types.{integer, boolean, is_compatible, is_assignable, is_ordinal, is_string, form_at, range_of}
@@ -60,7 +60,7 @@ as_variable place (denotes.Function function) = Err (fault.NotVariable place)
 as_variable place denotes.Output = Err (fault.NotVariable place)
 
 -- the values of a target's type, if an ordinal value may be assigned to it (6.4.6)
-abbrev pub fitting : List TypeForm → TypeId → Typed → Option OrdinalRange
+abbrev pub fitting : List Form → TypeId → Typed → Option OrdinalRange
 fitting types target value =
     if is_none value.length && is_assignable types target value.type_id then range_of types target else None
 
@@ -129,18 +129,18 @@ has_values place procedure.Write [] = Err (fault.WrongParameters place)
 has_values place procedure.Writeln [] = Ok tt
 has_values place procedure (value ∷ values) = Ok tt
 
-abbrev pub form_representation : Option TypeForm → Option Representation
+abbrev pub form_representation : Option Form → Option Representation
 form_representation (Some form.Integer) = Some representation.Integer
 form_representation (Some form.Boolean) = Some representation.Boolean
 form_representation (Some form.Char) = Some representation.Char
 form_representation other = None
 
 -- how an ordinal of a type is written (6.9.3)
-abbrev pub representation_of : List TypeForm → TypeId → Option Representation
+abbrev pub representation_of : List Form → TypeId → Option Representation
 representation_of types id = form_representation (form_at types id)
 
 -- how a value is written: an ordinal by its type, or a string
-abbrev pub written_as : List TypeForm → Typed → Option Mark
+abbrev pub written_as : List Form → Typed → Option Mark
 written_as types t =
     if is_none t.length then option_map WrittenMark (representation_of types t.type_id)
     else (if is_string types t.type_id then Some WrittenString else None)
@@ -269,7 +269,7 @@ for_loop place variable first direction last body =
     for_head place variable first direction last >>= (λ control. for_body control body)
 
 -- a constant of a case is of the index's type, and none of those that stand before it; else it is K6 where it begins
-abbrev pub own_constant : List TypeForm → TypeId → List ℤ → Place → Option (ℤ × TypeId) → Checked ℤ
+abbrev pub own_constant : List Form → TypeId → List ℤ → Place → Option (ℤ × TypeId) → Checked ℤ
 own_constant types type_id before place None = Err (fault.CaseConstant place)
 own_constant types type_id before place (Some c) =
     if is_compatible types type_id c.1 && not (list_any (int_eq c.0) before) then Ok c.0

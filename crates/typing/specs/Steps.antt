@@ -5,7 +5,7 @@ use Rattle.std.specs.Prelude.{Result, Ok, Err, if◌then◌else◌, nat_eq, nat_
 use Rattle.std.specs.List.{list_any}
 use Rattle.place.specs.declared.Place.{Place}
 use Rattle.syntax_tree.specs.declared.Name.{Name}
-use Rattle.types.specs.declared.form.TypeForm.{TypeForm}
+use Rattle.types.specs.Forms.{Form}
 use Rattle.types.specs.declared.form.TypeId.{TypeId}
 use Rattle.types.specs.declared.refusal.TypeRefusal.{TypeRefusal}
 use Rattle.types.specs.declared.refusal.TypeRefusal.TheVariants as refusal
@@ -148,7 +148,7 @@ added place (Ok id) = Ok id
 added place (Err rule) = Err (refused rule place)
 
 -- a type of its own, by its form; the rule that the form breaks is told at the place
-unfoldable pub add_type : Place → TypeForm → Passing TypeId
+unfoldable pub add_type : Place → Form → Passing TypeId
 add_type place form = λ s.
     and_then (added place (admitted s.types form))
     (λ id. Ok (after id [] (record s { types = s.types ++ form ∷ [] })))

@@ -4,7 +4,7 @@ use Rattle.std.specs.Prelude.{ℕ, ◌==◌, pos, true, not, ◌&&◌, List, [],
 use Rattle.std.specs.Prelude.{if◌then◌else◌}
 use Rattle.std.specs.List.{list_all}
 use Rattle.place.specs.declared.Place.{Place}
-use Rattle.types.specs.declared.form.TypeForm.TheVariants.{Subrange, Array}
+use Rattle.types.specs.Forms.{Subrange, Array}
 use Rattle.types.specs.declared.form.TypeId.{TypeId}
 use Rattle.types.specs.Types.{integer, char}
 use Rattle.scopes.specs.declared.denotation.Denotation.{Denotation}

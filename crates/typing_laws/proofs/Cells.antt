@@ -2,7 +2,7 @@
 use Rattle.std.proofs.Common.{◌≡◌, ℕ, zero, suc, ◌<◌, true, List, [], ◌∷◌, ◌++◌, length}
 use Rattle.std.proofs.Common.{Some, slice_get, get_or, refl, sym, ap, ◌∙◌, arith, length-append, append-nil, append_assoc}
 use Rattle.std.proofs.lemmas.List.{length-map}
-use Rattle.types.specs.declared.form.TypeForm.{TypeForm}
+use Rattle.types.specs.Forms.{Form}
 use Rattle.types.specs.declared.form.TypeId.{TypeId}
 use Rattle.types.specs.declared.table.Entry.{Entry}
 use Rattle.types.specs.Types.{integer, boolean, char, cells_of, counted, entry_cells, form_cells, required_forms}
@@ -13,12 +13,12 @@ use Rattle.typing_laws.proofs.WholeRanges.{HaveWholeRanges}
 
 -- ---- types of one cell
 
-pub record TakesOne (types : List TypeForm) (id : TypeId) : Type 0 where
+pub record TakesOne (types : List Form) (id : TypeId) : Type 0 where
   pub there : id.index < length types
   pub one : cells_of types id ≡ 1
 
 -- the required types do, which stand before all others
-pub record AreRequired (types : List TypeForm) : Type 0 where
+pub record AreRequired (types : List Form) : Type 0 where
   pub begin : BeginWithRequired types
   pub integers : TakesOne types integer
   pub booleans : TakesOne types boolean
@@ -32,7 +32,7 @@ required_take = record {
   chars = record { there = omega arith; one = refl };
 }
 
-as_many : (types : List TypeForm) → length (counted types) ≡ length types
+as_many : (types : List Form) → length (counted types) ≡ length types
 as_many types = sym (length-map (counted types) form_of) ∙ ap length (forms_of_counted types)
 
 at_front : (entries more : List Entry) (n : ℕ) → n < length entries → slice_get (entries ++ more) n ≡ slice_get entries n
@@ -45,7 +45,7 @@ at_last [] entry = refl
 at_last (first ∷ entries) entry = at_last entries entry
 
 -- beside one type more
-pub takes_more : (types : List TypeForm) (form : TypeForm) (id : TypeId) → TakesOne types id → TakesOne (types ++ form ∷ []) id
+pub takes_more : (types : List Form) (form : Form) (id : TypeId) → TakesOne types id → TakesOne (types ++ form ∷ []) id
 takes_more types form id takes = record {
   there = omega (arith, length-append types (form ∷ []), takes.there);
   one =
@@ -57,7 +57,7 @@ takes_more types form id takes = record {
 }
 
 -- a type more that does
-pub takes_new : (types : List TypeForm) (form : TypeForm) → ((before : List Entry) → form_cells before form ≡ 1)
+pub takes_new : (types : List Form) (form : Form) → ((before : List Entry) → form_cells before form ≡ 1)
     → TakesOne (types ++ form ∷ []) (record { index = length types })
 takes_new types form one =
     let entry : Entry = record { form = form; cells = form_cells (counted types) form } in
@@ -73,16 +73,16 @@ takes_new types form one =
 -- ---- later tables
 
 -- a table with the types of another, and perhaps more
-pub record AreLater (old new : List TypeForm) : Type 0 where
-  pub added : List TypeForm
+pub record AreLater (old new : List Form) : Type 0 where
+  pub added : List Form
   pub types : new ≡ old ++ added
   pub whole : HaveWholeRanges old → HaveWholeRanges new
   pub kept : (id : TypeId) → TakesOne old id → TakesOne new id
 
-pub the_same : {types : List TypeForm} → AreLater types types
+pub the_same : {types : List Form} → AreLater types types
 the_same {types} = record { added = []; types = sym (append-nil types); whole = λ whole. whole; kept = λ id takes. takes }
 
-pub later_still : {old now new : List TypeForm} → AreLater old now → AreLater now new → AreLater old new
+pub later_still : {old now new : List Form} → AreLater old now → AreLater now new → AreLater old new
 later_still {old} f g = record {
   added = f.added ++ g.added;
   types = g.types ∙ ap (λ types. types ++ g.added) f.types ∙ append_assoc old f.added g.added;
@@ -90,7 +90,7 @@ later_still {old} f g = record {
   kept = λ id takes. g.kept id (f.kept id takes);
 }
 
-pub required_later : {old new : List TypeForm} → AreLater old new → AreRequired old → AreRequired new
+pub required_later : {old new : List Form} → AreLater old new → AreRequired old → AreRequired new
 required_later later r = record {
   begin = (
     r.begin.0 ++ later.added,

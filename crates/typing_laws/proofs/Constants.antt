@@ -12,7 +12,7 @@ use Rattle.syntax_tree.specs.declared.SignAt.{SignAt}
 use Rattle.syntax_tree.specs.declared.Constant.{Constant}
 use Rattle.syntax_tree.specs.declared.ConstantValue.{ConstantValue}
 use Rattle.syntax_tree.specs.declared.ConstantValue.TheVariants as value
-use Rattle.types.specs.declared.form.TypeForm.{TypeForm}
+use Rattle.types.specs.Forms.{Form}
 use Rattle.types.specs.declared.form.TypeId.{TypeId}
 use Rattle.types.specs.Types.{integer, is_same, is_compatible}
 use Rattle.scopes.specs.declared.denotation.Denotation.{Denotation}
@@ -59,7 +59,7 @@ abbrev pub IsWholeOrdinal : Option (ℤ × TypeId) → Type 0
 IsWholeOrdinal None = Unit {0}
 IsWholeOrdinal (Some c) = IsWhole c.0
 
-own_whole : (types : List TypeForm) (type_id : TypeId) (before : List ℤ) (place : Place) (c : Option (ℤ × TypeId)) (value : ℤ)
+own_whole : (types : List Form) (type_id : TypeId) (before : List ℤ) (place : Place) (c : Option (ℤ × TypeId)) (value : ℤ)
     → own_constant types type_id before place c ≡ Ok value → IsWholeOrdinal c → IsWhole value
 own_whole types type_id before place None value is whole = absurd cc
 own_whole types type_id before place (Some c) value is whole =

@@ -20,8 +20,8 @@ use Rattle.syntax_tree.specs.declared.TypeDefinition.{TypeDefinition}
 use Rattle.syntax_tree.specs.declared.TypeDenoter.{TypeDenoter}
 use Rattle.syntax_tree.specs.declared.TypeDenoter.TheVariants as denoter
 use Rattle.syntax_tree.specs.declared.VariableGroup.{VariableGroup}
-use Rattle.types.specs.declared.form.TypeForm.{TypeForm}
-use Rattle.types.specs.declared.form.TypeForm.TheVariants.{Enumeration, Subrange}
+use Rattle.types.specs.Forms.{Form}
+use Rattle.types.specs.Forms.{Enumeration, Subrange}
 use Rattle.types.specs.declared.form.TypeId.{TypeId}
 use Rattle.types.specs.Types.{integer, char, cells_of, host_of, is_ordinal, is_same, most_cells}
 use Rattle.scopes.specs.Scopes.{Region, found, opened, define}
@@ -72,7 +72,7 @@ IsReady s = Ready (length s.variables) s
 pub record Keeps (From : Passed → Type 0) {A : Type 0} (p : Passing A) (To : A → Passed → Type 0) : Type 0 where
   pub keeps : (s : Passed) (a : After A) → p s ≡ Ok a → From s → (a.look ≡ []) × To a.answer a.passed
 
-pub variables_later : {old new : List TypeForm} → AreLater old new → (variables : List Variable) → All (λ variable. TakesOne old variable.type_id) variables
+pub variables_later : {old new : List Form} → AreLater old new → (variables : List Variable) → All (λ variable. TakesOne old variable.type_id) variables
     → All (λ variable. TakesOne new variable.type_id) variables
 variables_later later variables all = λ k d within. later.kept (get_or variables k d).type_id (all k d within)
 
@@ -98,7 +98,7 @@ ready_as {s = s} {new = new} sound scalar r types texts sites entries loops vari
 }
 
 -- the same with a later table of types
-ready_later : {bound : ℕ} {s : Passed} {new : List TypeForm} → AreLater s.types new → Ready bound s → Ready bound (record s { types = new })
+ready_later : {bound : ℕ} {s : Passed} {new : List Form} → AreLater s.types new → Ready bound s → Ready bound (record s { types = new })
 ready_later {bound} {s} later r = record {
   sound = r.sound;
   scalar = scalar_later later s.regions r.scalar;
@@ -182,9 +182,9 @@ declare_keeps name denotation bound same_bound = record {
 -- ---- constants
 
 -- a form, and then a test of what it is
-keeps_checks : {A B : Type 0} {From : Passed → Type 0} {p : Passing A} {test : List TypeForm → A → Checked B} {Between : A → Passed → Type 0}
+keeps_checks : {A B : Type 0} {From : Passed → Type 0} {p : Passing A} {test : List Form → A → Checked B} {Between : A → Passed → Type 0}
     {To : B → Passed → Type 0}
-    → Keeps From p Between → ((types : List TypeForm) (x : A) (b : B) (s : Passed) → test types x ≡ Ok b → Between x s → To b s) → Keeps From (p >>? test) To
+    → Keeps From p Between → ((types : List Form) (x : A) (b : B) (s : Passed) → test types x ≡ Ok b → Between x s → To b s) → Keeps From (p >>? test) To
 keeps_checks {A} {B} {From} {p} {test} {Between} {To} first fits = record {
   keeps = λ s b is from.
       let x = split (p s) (λ a. and_then (test a.passed.types a.answer) (λ b. Ok (after b a.look a.passed))) b is in
@@ -376,7 +376,7 @@ IsTyped type_id s = IsReady s × TakesOne s.types type_id
 abbrev IsNext : TypeId → Passed → Type 0
 IsNext type_id s = Ready (length s.variables + 1) s × TakesOne s.types type_id
 
-only_one : (types : List TypeForm) (variable : Variable) → TakesOne types variable.type_id → All (λ (v : Variable). TakesOne types v.type_id) (variable ∷ [])
+only_one : (types : List Form) (variable : Variable) → TakesOne types variable.type_id → All (λ (v : Variable). TakesOne types v.type_id) (variable ∷ [])
 only_one types variable takes zero d within = takes
 only_one types variable takes (suc k) d within = absurd (omega (arith, within))
 
@@ -474,7 +474,7 @@ type_of_name_keeps names name = record {
       subst (λ (z : After TypeId). (z.look ≡ []) × IsTyped z.answer z.passed) same (refl, (ready, one));
 }
 
-add_type_keeps : (place : Place) (form : TypeForm) → Keeps (λ s. IsReady s × IsScalar form) (add_type place form) IsTyped
+add_type_keeps : (place : Place) (form : Form) → Keeps (λ s. IsReady s × IsScalar form) (add_type place form) IsTyped
 add_type_keeps place form = record {
   keeps = λ s a is from.
       let x = type_added place form s a is in
@@ -542,7 +542,7 @@ enumeration_keeps names =
     keeps_then (constants_from_keeps type_id 0 names) λ _.
     pure_keeps type_id (λ s is. is)
 
-between_scalar : (types : List TypeForm) (place : Place) (first last : Option (ℤ × TypeId)) (form : TypeForm) → between types place first last ≡ Ok form
+between_scalar : (types : List Form) (place : Place) (first last : Option (ℤ × TypeId)) (form : Form) → between types place first last ≡ Ok form
     → IsWholeOrdinal first → IsWholeOrdinal last → IsScalar form
 between_scalar types place (Some first) (Some last) form is low high =
     let host = host_of types first.1 in

@@ -6,7 +6,7 @@ use Rattle.syntax_tree.specs.declared.Name.{Name}
 use Rattle.syntax_tree.specs.declared.Operator.{Operator}
 use Rattle.syntax_tree.specs.declared.Operator.TheVariants as op
 use Rattle.types.specs.declared.form.TypeId.{TypeId}
-use Rattle.types.specs.declared.form.TypeForm.{TypeForm}
+use Rattle.types.specs.Forms.{Form}
 use Rattle.types.specs.declared.form.OrdinalRange.{OrdinalRange}
 use Rattle.types.specs.Types.{integer, boolean, is_same, is_compatible, is_string, range_of}
 use Rattle.scopes.specs.declared.denotation.RequiredFunction.{RequiredFunction}
@@ -105,7 +105,7 @@ module _ (variables : ℕ) where
       by None (Some n) false two h = absurd cc
       by (Some n) b one two h = absurd cc
 
-  compared_alike : (types : List TypeForm) (left right : Typed) (t : TypeId) → compared types left right ≡ Some t
+  compared_alike : (types : List Form) (left right : Typed) (t : TypeId) → compared types left right ≡ Some t
       → are_alike left.length right.length ≡ true
   compared_alike types left right t is =
       by (are_alike left.length right.length)
@@ -115,7 +115,7 @@ module _ (variables : ℕ) where
       by true b h = refl
       by false b h = absurd cc
 
-  result_alike : (types : List TypeForm) (o : Operator) (left right : Typed) (t : TypeId) → result_type types o left right ≡ Some t
+  result_alike : (types : List Form) (o : Operator) (left right : Typed) (t : TypeId) → result_type types o left right ≡ Some t
       → are_alike left.length right.length ≡ true
   result_alike types op.Plus left right t is = of_alike integer left right t is
   result_alike types op.Minus left right t is = of_alike integer left right t is
@@ -242,14 +242,14 @@ module _ (variables : ℕ) where
   on_range_formed (Some values) monadic.Ord n whole formed = refl
   on_range_formed (Some values) (monadic.Chr id) n whole formed = formed
 
-  if_whole : (types : List TypeForm) → HaveWholeRanges types → (id : TypeId) → IfWhole (range_of types id)
+  if_whole : (types : List Form) → HaveWholeRanges types → (id : TypeId) → IfWhole (range_of types id)
   if_whole types whole id = by (range_of types id) refl
     where
       by : (values : Option OrdinalRange) → range_of types id ≡ values → IfWhole values
       by None is = tt
       by (Some values) is = whole id values is
 
-  applied_formed : (types : List TypeForm) → HaveWholeRanges types → (f : RequiredFunction) (o : Monadic) (place : Place) (t : Typed) (does : Monadic × TypeId)
+  applied_formed : (types : List Form) → HaveWholeRanges types → (f : RequiredFunction) (o : Monadic) (place : Place) (t : Typed) (does : Monadic × TypeId)
       → applied types f o place t ≡ Ok does → (now n : ℕ) → now ≤ n → IsFormedMonadic o now → IsFormedMonadic does.0 n
   applied_formed types whole f o place t does is now n more formed m h =
       let fit = fit_is (is_none t.length && takes types f t.type_id) place (on_range (range_of types t.type_id) o, function_type f t.type_id) does is in

@@ -7,7 +7,7 @@ use Rattle.scopes.specs.Scopes.{Region, said, decided, found, put, opened, is_de
 use Rattle.scopes.specs.declared.fault.ScopeFault.TheVariants.{DeclaredTwice}
 use Rattle.scopes.specs.declared.denotation.Denotation.{Denotation}
 use Rattle.scopes.specs.declared.denotation.Denotation.TheVariants as denotes
-use Rattle.types.specs.declared.form.TypeForm.{TypeForm}
+use Rattle.types.specs.Forms.{Form}
 use Rattle.typed_tree.specs.WellFormed.{is_whole}
 use Rattle.typing.specs.Names.{required_region}
 use Rattle.typing_laws.proofs.Cells.{TakesOne, AreRequired, AreLater}
@@ -129,7 +129,7 @@ regions_more variables more fewer = all_more (IsSound variables) (IsSound more) 
 
 -- ---- types of one cell
 
-abbrev pub IsScalarType : List TypeForm → Denotation → Type 0
+abbrev pub IsScalarType : List Form → Denotation → Type 0
 IsScalarType types (denotes.TypeName type_id) = TakesOne types type_id
 IsScalarType types (denotes.Constant value type_id) = Unit {0}
 IsScalarType types (denotes.Text number type_id) = Unit {0}
@@ -139,16 +139,16 @@ IsScalarType types (denotes.Function function) = Unit {0}
 IsScalarType types denotes.Output = Unit {0}
 
 -- each type that a name denotes takes one
-abbrev pub HaveScalarTypes : List TypeForm → List Region → Type 0
+abbrev pub HaveScalarTypes : List Form → List Region → Type 0
 HaveScalarTypes types = HoldsOfAll (IsScalarType types)
 
-pub required_scalar : (types : List TypeForm) → AreRequired types → HoldsOfRegion (IsScalarType types) required_region
+pub required_scalar : (types : List Form) → AreRequired types → HoldsOfRegion (IsScalarType types) required_region
 unfolding required_region
 required_scalar types r =
     (r.integers, (r.booleans, (r.chars, (tt, (tt, (tt, (tt, (tt, (tt, (tt, (tt, (tt, (tt, (tt, (tt, tt)))))))))))))))
 
 -- in a later table
-pub scalar_later : {old new : List TypeForm} → AreLater old new → (regions : List Region) → HaveScalarTypes old regions → HaveScalarTypes new regions
+pub scalar_later : {old new : List Form} → AreLater old new → (regions : List Region) → HaveScalarTypes old regions → HaveScalarTypes new regions
 scalar_later {old} {new} later = all_more (IsScalarType old) (IsScalarType new) by
   where
     by : (denotation : Denotation) → IsScalarType old denotation → IsScalarType new denotation

@@ -18,7 +18,7 @@ use Rattle.syntax_tree.specs.declared.Stmt.TheViews.{roll-Stmt}
 use Rattle.syntax_tree.specs.declared.Stmt.TheFolds.{map-Stmt, fold-roll-Stmt, ind-Stmt}
 use Rattle.syntax_tree.specs.Places.{Places, joined_places, expr_places, actual_places, stmt_places, arms_of, arm_places, constant_places}
 use Rattle.syntax_tree.specs.Places.{statement_step as statement_row}
-use Rattle.types.specs.declared.form.TypeForm.{TypeForm}
+use Rattle.types.specs.Forms.{Form}
 use Rattle.types.specs.declared.form.TypeId.{TypeId}
 use Rattle.types.specs.declared.form.OrdinalRange.{OrdinalRange}
 use Rattle.types.specs.Types.{integer, is_assignable, is_string, range_of}
@@ -64,7 +64,7 @@ variable_is variables place (denotes.Procedure procedure) target is sound = absu
 variable_is variables place (denotes.Function function) target is sound = absurd cc
 variable_is variables place denotes.Output target is sound = absurd cc
 
-fitting_whole : (place : Place) (types : List TypeForm) → HaveWholeRanges types → (target : TypeId) (value : Typed) (range : OrdinalRange)
+fitting_whole : (place : Place) (types : List Form) → HaveWholeRanges types → (target : TypeId) (value : Typed) (range : OrdinalRange)
     → or_mismatch place (fitting types target value) ≡ Ok range → IsWholeRange range
 fitting_whole place types whole target value range is = by (is_none value.length && is_assignable types target value.type_id) is
   where
@@ -84,7 +84,7 @@ measured_is place t id is = by (is_of integer t) t.site is
 abbrev IsForm : Mark → Type 0
 IsForm one = (mark_entries one ≡ []) × (mark_loops one ≡ []) × ((variables sites : ℕ) → is_formed_mark variables sites one ≡ true)
 
-form_is : (place : Place) (types : List TypeForm) (t : Typed) (form : Mark) → or_mismatch place (written_as types t) ≡ Ok form → IsForm form
+form_is : (place : Place) (types : List Form) (t : Typed) (form : Mark) → or_mismatch place (written_as types t) ≡ Ok form → IsForm form
 form_is place types t form is = by (is_none t.length) (representation_of types t.type_id) (is_string types t.type_id) (there place (written_as types t) form is)
   where
     by : (ordinal : Bool) (representation : Option Representation) (string : Bool)

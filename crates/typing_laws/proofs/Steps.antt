@@ -6,7 +6,7 @@ use Rattle.std.specs.List.{range_with_len, list_any}
 use Rattle.std.proofs.lemmas.Bool.Decides.{nat_tests}
 use Rattle.place.specs.declared.Place.{Place}
 use Rattle.syntax_tree.specs.declared.Name.{Name}
-use Rattle.types.specs.declared.form.TypeForm.{TypeForm}
+use Rattle.types.specs.Forms.{Form}
 use Rattle.types.specs.declared.form.TypeId.{TypeId}
 use Rattle.types.specs.Types.{host_of}
 use Rattle.scopes.specs.Scopes.{found}
@@ -96,10 +96,10 @@ pub last : {variables least : ℕ} {A B : Type 0} {Has : List Stands → Type 0}
 last {Has = Has} first rest = joins (λ a b has none. subst Has (sym (append-nil a) ∙ ap (λ l. a ++ l) (sym none)) has) first rest
 
 -- a form, and then a test of what it is, by a table of types
-pub checks_types : {variables least : ℕ} {A B : Type 0} {Has : List Stands → Type 0} {p : Passing A} {test : List TypeForm → A → Checked B}
+pub checks_types : {variables least : ℕ} {A B : Type 0} {Has : List Stands → Type 0} {p : Passing A} {test : List Form → A → Checked B}
     {K : A → ℕ → Type 0} {L : B → ℕ → Type 0}
     → Does variables least Has p K
-    → ((types : List TypeForm) → HaveWholeRanges types → (x : A) (b : B) (now : ℕ) → least ≤ now → test types x ≡ Ok b → K x now → L b now)
+    → ((types : List Form) → HaveWholeRanges types → (x : A) (b : B) (now : ℕ) → least ≤ now → test types x ≡ Ok b → K x now → L b now)
     → Does variables least Has (p >>? test) L
 checks_types {variables} {least} {A} {B} {Has} {p} {test} {K} {L} first fits = record {
   does = λ s b is fine h.
@@ -113,10 +113,10 @@ checks_types {variables} {least} {A} {B} {Has} {p} {test} {K} {L} first fits = r
 }
 
 -- whatever they are
-pub checks : {variables least : ℕ} {A B : Type 0} {Has : List Stands → Type 0} {p : Passing A} {test : List TypeForm → A → Checked B}
+pub checks : {variables least : ℕ} {A B : Type 0} {Has : List Stands → Type 0} {p : Passing A} {test : List Form → A → Checked B}
     {K : A → ℕ → Type 0} {L : B → ℕ → Type 0}
     → Does variables least Has p K
-    → ((types : List TypeForm) (x : A) (b : B) (now : ℕ) → least ≤ now → test types x ≡ Ok b → K x now → L b now) → Does variables least Has (p >>? test) L
+    → ((types : List Form) (x : A) (b : B) (now : ℕ) → least ≤ now → test types x ≡ Ok b → K x now → L b now) → Does variables least Has (p >>? test) L
 checks first fits = checks_types first (λ types whole. fits types)
 
 -- the same, with something else that holds of its sites
@@ -193,13 +193,13 @@ given_does {variables} {least} {A} checked = record {
       subst (Leaves variables Nothing s (λ x now. checked ≡ Ok x)) same (grown_silent variables s s refl refl refl refl refl refl refl fine, x.1);
 }
 
-pub by_types_does : {variables least : ℕ} {A : Type 0} (test : List TypeForm → Checked A)
-    → Does variables least Nothing (by_types test) (λ x now. (types : List TypeForm) × (test types ≡ Ok x))
+pub by_types_does : {variables least : ℕ} {A : Type 0} (test : List Form → Checked A)
+    → Does variables least Nothing (by_types test) (λ x now. (types : List Form) × (test types ≡ Ok x))
 by_types_does {variables} {least} {A} test = record {
   does = λ s a is fine h.
       let x = split (test s.types) (λ b. Ok (after b [] s)) a is in
       let same : after x.0 [] s ≡ a = cc in
-      subst (Leaves variables Nothing s (λ x now. (types : List TypeForm) × (test types ≡ Ok x))) same
+      subst (Leaves variables Nothing s (λ x now. (types : List Form) × (test types ≡ Ok x))) same
       (grown_silent variables s s refl refl refl refl refl refl refl fine, (s.types, x.1));
 }
 

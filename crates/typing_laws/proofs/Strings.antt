@@ -7,8 +7,8 @@ use Rattle.std.specs.Option.{option_and_then}
 use Rattle.std.proofs.lemmas.Bool.Decides.{nat_tests}
 use Rattle.std.proofs.lemmas.Int.{ints}
 use Rattle.place.specs.declared.Place.{Place}
-use Rattle.types.specs.declared.form.TypeForm.{TypeForm}
-use Rattle.types.specs.declared.form.TypeForm.TheVariants.{Subrange, Array}
+use Rattle.types.specs.Forms.{Form}
+use Rattle.types.specs.Forms.{Subrange, Array}
 use Rattle.types.specs.declared.form.TypeId.{TypeId}
 use Rattle.types.specs.declared.refusal.TypeRefusal.{TypeRefusal}
 use Rattle.types.specs.declared.refusal.TypeRefusal.TheVariants.{TooManyCells}
@@ -58,14 +58,14 @@ given_then (Ok x) f s b is = (x, refl, sym (behind_nothing (f x s)) ∙ is)
 given_then (Err why) f s b is = absurd cc
 
 -- a table with a form more
-abbrev pub with_form : TypeForm → Passed → Passed
+abbrev pub with_form : Form → Passed → Passed
 with_form form s = record s { types = s.types ++ form ∷ [] }
 
 abbrev pub next_type : Passed → TypeId
 next_type s = record { index = length s.types }
 
 -- a type more, and then others
-pub add_type_then : {B : Type 0} (place : Place) (form : TypeForm) (f : TypeId → Passing B) (s : Passed) (b : After B)
+pub add_type_then : {B : Type 0} (place : Place) (form : Form) (f : TypeId → Passing B) (s : Passed) (b : After B)
     → (add_type place form >>= f) s ≡ Ok b
     → (cells : ℕ) × (admitted_cells s.types form ≡ Ok cells) × (f (next_type s) (with_form form s) ≡ Ok b)
 unfolding add_type
@@ -79,7 +79,7 @@ add_type_then {B} place form f s b is = by (admitted_cells s.types form) refl is
     by (Err rule) admits h = absurd cc
 
 -- a type more
-pub type_added : (place : Place) (form : TypeForm) (s : Passed) (a : After TypeId) → add_type place form s ≡ Ok a
+pub type_added : (place : Place) (form : Form) (s : Passed) (a : After TypeId) → add_type place form s ≡ Ok a
     → (cells : ℕ) × (admitted_cells s.types form ≡ Ok cells) × (after (next_type s) [] (with_form form s) ≡ a)
 unfolding add_type
 type_added place form s a is = by (admitted_cells s.types form) refl is
@@ -102,12 +102,12 @@ few_is m cells is = by (nat_lt 65536 m) refl is
 from_one : (n : ℕ) → natural (pos n -ℤ pos 1 +ℤ pos 1) ≡ n
 from_one n = let same : pos n -ℤ pos 1 +ℤ pos 1 ≡ pos n = omega (arith, ints) in ap natural same
 
-at_end : (types : List TypeForm) (form : TypeForm) → slice_get (types ++ form ∷ []) (length types) ≡ Some form
+at_end : (types : List Form) (form : Form) → slice_get (types ++ form ∷ []) (length types) ≡ Some form
 at_end [] form = refl
 at_end (first ∷ types) form = at_end types form
 
 -- an array over the subrange before it, which goes from 1 to its length
-few_components : (types : List TypeForm) (n cells : ℕ) → TakesOne types char
+few_components : (types : List Form) (n cells : ℕ) → TakesOne types char
     → admitted_cells (types ++ Subrange integer (pos 1) (pos n) ∷ []) (Array true (record { index = length types }) char) ≡ Ok cells
     → nat_le n 65536 ≡ true
 few_components types n cells one is =
@@ -129,8 +129,8 @@ pub record IsStringType (n : ℕ) (s : Passed) (a : After TypeId) : Type 0 where
 pub string_type_is : (place : Place) (n : ℕ) (s : Passed) (a : After TypeId) → TakesOne s.types char → string_type place n s ≡ Ok a → IsStringType n s a
 unfolding string_type
 string_type_is place n s a one is =
-    let form : ℤ → TypeForm = λ last. Subrange integer (pos 1) last in
-    let array : TypeForm = Array true (next_type s) char in
+    let form : ℤ → Form = λ last. Subrange integer (pos 1) last in
+    let array : Form = Array true (next_type s) char in
     let x = given_then (value_of n place) (λ last. add_type place (form last) >>= (λ index. add_type place (Array true index char))) s a is in
     let fit = fit_is (nat_le n 2147483647) place (pos n) x.0 x.1 in
     let rest : (add_type place (form (pos n)) >>= (λ index. add_type place (Array true index char))) s ≡ Ok a =

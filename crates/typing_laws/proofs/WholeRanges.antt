@@ -1,7 +1,7 @@
 -- Tables of types whose ordinal types go from a number of integer to another.
 use Rattle.std.proofs.Common.{◌≡◌, ℕ, zero, suc, true, ◌&&◌, List, [], ◌∷◌, ◌++◌, Option, Some, None, slice_get, refl, subst}
 use Rattle.std.specs.Option.{option_and_then}
-use Rattle.types.specs.declared.form.TypeForm.{TypeForm}
+use Rattle.types.specs.Forms.{Form}
 use Rattle.types.specs.declared.form.TypeId.{TypeId}
 use Rattle.types.specs.declared.form.OrdinalRange.{OrdinalRange}
 use Rattle.types.specs.declared.table.Entry.{Entry}
@@ -11,7 +11,7 @@ use Rattle.typed_tree.specs.WellFormed.{is_whole}
 abbrev pub IsWholeRange : OrdinalRange → Type 0
 IsWholeRange range = (is_whole range.first && is_whole range.last) ≡ true
 
-abbrev pub HaveWholeRanges : List TypeForm → Type 0
+abbrev pub HaveWholeRanges : List Form → Type 0
 HaveWholeRanges types = (id : TypeId) (range : OrdinalRange) → range_of types id ≡ Some range → IsWholeRange range
 
 abbrev pub IfWhole : Option OrdinalRange → Type 0
@@ -30,24 +30,24 @@ required_have id range is = subst IfWhole is (by id.index)
 
 -- ---- one type more
 
-whole_at : (types : List TypeForm) → HaveWholeRanges types → (n : ℕ) → IfWhole (option_and_then form_range (slice_get types n))
+whole_at : (types : List Form) → HaveWholeRanges types → (n : ℕ) → IfWhole (option_and_then form_range (slice_get types n))
 whole_at types whole n = by (range_of types (record { index = n })) refl
   where
     by : (values : Option OrdinalRange) → range_of types (record { index = n }) ≡ values → IfWhole values
     by None is = tt
     by (Some range) is = whole (record { index = n }) range is
 
-one_more : (types : List TypeForm) (form : TypeForm) → ((n : ℕ) → IfWhole (option_and_then form_range (slice_get types n))) → IfWhole (form_range form)
+one_more : (types : List Form) (form : Form) → ((n : ℕ) → IfWhole (option_and_then form_range (slice_get types n))) → IfWhole (form_range form)
     → (n : ℕ) → IfWhole (option_and_then form_range (slice_get (types ++ form ∷ []) n))
 one_more [] form all one zero = one
 one_more [] form all one (suc n) = tt
 one_more (first ∷ types) form all one zero = all zero
 one_more (first ∷ types) form all one (suc n) = one_more types form (λ k. all (suc k)) one n
 
-pub whole_more : (types : List TypeForm) (form : TypeForm) → HaveWholeRanges types → IfWhole (form_range form) → HaveWholeRanges (types ++ form ∷ [])
+pub whole_more : (types : List Form) (form : Form) → HaveWholeRanges types → IfWhole (form_range form) → HaveWholeRanges (types ++ form ∷ [])
 whole_more types form whole one id range is = subst IfWhole is (one_more types form (whole_at types whole) one id.index)
 
 -- a form that takes one cell, and has whole values
-pub record IsScalar (form : TypeForm) : Type 0 where
+pub record IsScalar (form : Form) : Type 0 where
   pub one : (before : List Entry) → form_cells before form ≡ 1
   pub whole : IfWhole (form_range form)

@@ -5,7 +5,7 @@ use Rattle.std.specs.List.{range_with_len, list_all}
 use Rattle.place.specs.Place.{ArePlacesInOrder}
 use Rattle.syntax_tree.specs.declared.Program.{Program}
 use Rattle.syntax_tree.specs.Places.{program_places}
-use Rattle.types.specs.declared.form.TypeForm.{TypeForm}
+use Rattle.types.specs.Forms.{Form}
 use Rattle.types.specs.Types.{cells_of, most_cells, required_forms}
 use Rattle.typed_tree.specs.declared.tree.Variable.{Variable}
 use Rattle.typed_tree.specs.Ids.{AreByPlace}
@@ -15,11 +15,11 @@ use Rattle.typing.specs.Steps.{most_sites, most_entries}
 use Rattle.typing.specs.Typing.{typing}
 
 -- the required types, and then a program's own
-abbrev pub BeginWithRequired : List TypeForm → Type 0
-BeginWithRequired types = (own : List TypeForm) × (types ≡ required_forms ++ own)
+abbrev pub BeginWithRequired : List Form → Type 0
+BeginWithRequired types = (own : List Form) × (types ≡ required_forms ++ own)
 
 -- the type of each variable takes one cell
-abbrev pub HaveScalarVariables : List Variable → List TypeForm → Type 0
+abbrev pub HaveScalarVariables : List Variable → List Form → Type 0
 HaveScalarVariables variables types = All (λ variable. cells_of types variable.type_id ≡ 1) variables
 
 -- what a typed program has, by how its tree looks and what is known behind it
