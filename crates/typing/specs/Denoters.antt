@@ -2,8 +2,10 @@
 -- it denotes. A name denotes the type that it names, and every other denoter a type of its own. The parts of an array or
 -- a record come in the order of the text, and then the rules of its own, which are told at its word.
 -- It says nothing of where they stand.
-use Rattle.std.specs.Prelude.{ℕ, ◌+◌, ◌-◌, ◌&&◌, ℤ, List, [], ◌∷◌, length, Option, Some, Result, Ok, Err}
-use Rattle.std.specs.Prelude.{if◌then◌else◌}
+use Rattle.std.specs.Prelude.{ℕ, ◌+◌, ◌-◌, ◌&&◌, ℤ, Bool, List, [], ◌∷◌, ◌++◌, length, Option, Some, Result, Ok, Err}
+use Rattle.std.specs.Prelude.{if◌then◌else◌, nat_eq}
+use Rattle.std.specs.List.{list_any}
+use Rattle.std.specs.Cmp.Lexicographic.{pointwise}
 use Rattle.place.specs.declared.Place.{Place}
 use Rattle.syntax_tree.specs.declared.Constant.{Constant}
 use Rattle.syntax_tree.specs.declared.Name.{Name}
@@ -15,7 +17,7 @@ use Rattle.syntax_tree.specs.declared.TypeDenoter.TheOpen.TypeDenoter-F.{Record 
 use Rattle.syntax_tree.specs.declared.TypeDenoter.TheFolds.{fold-TypeDenoter}
 use Rattle.syntax_tree.specs.Places.{fields_of}
 use Rattle.types.specs.Forms.{Form}
-use Rattle.types.specs.Forms.{Enumeration, Subrange}
+use Rattle.types.specs.Forms.{FieldForm, Enumeration, Subrange, Array, Record}
 use Rattle.types.specs.declared.form.TypeId.{TypeId}
 use Rattle.types.specs.Types.{host_of, is_ordinal, is_same}
 use Rattle.scopes.specs.Scopes.{found}
@@ -27,7 +29,7 @@ use Rattle.typed_tree.specs.declared.fault.TypeFault.TheVariants as fault
 use Rattle.typing.specs.Constants.{ordinal_constant}
 use Rattle.typing.specs.Names.{folded, is_among}
 use Rattle.typing.specs.Passing.{Checked, Passing, and_then, after, pure, given, ◌>>=◌, ◌>>◌, ◌>>?◌}
-use Rattle.typing.specs.Steps.{fits, value_of, add_type, declare, latest}
+use Rattle.typing.specs.Steps.{fits, pass, value_of, add_type, declare, latest}
 
 -- the type that a name denotes, where variables of these names get it; one of them is no type, wherever it stands
 abbrev pub named_type : List Name → Name → Result Denotation ScopeFault → Checked TypeId
@@ -109,26 +111,39 @@ array names packed place indexes element = do
   inner ← element names
   arrays packed place ids inner
 
--- a field's name in small letters, with its type
-abbrev pub FieldOf : Type 0
-FieldOf = List ℕ × TypeId
-
--- the names of fields of a type, behind other fields: S1 where one was there before
-abbrev pub named_fields : List FieldOf → TypeId → List Name → Checked (List FieldOf)
+-- fields of a type, behind other fields: S1 at a name that one before it has
+abbrev pub named_fields : List FieldForm → TypeId → List Name → Checked (List FieldForm)
 named_fields before type_id [] = Ok before
 named_fields before type_id (name ∷ names) =
-    if list_any (λ field. pointwise nat_eq field.0 (folded name.text.now)) before
+    if list_any (λ field. pointwise nat_eq field.name (folded name.text.now)) before
     then Err (fault.DeclaredTwice name.place)
-    else named_fields (before ++ (folded name.text.now, type_id) ∷ []) type_id names
+    else named_fields (before ++ record { name = folded name.text.now; type_id = type_id } ∷ []) type_id names
 
 -- groups of fields, behind other fields: of each its type, and then its names
-abbrev pub grouped_fields : List Name → List FieldOf → List (List Name × WrittenDenoter) → Passing (List FieldOf)
+abbrev pub grouped_fields : List Name → List FieldForm → List (List Name × WrittenDenoter) → Passing (List FieldForm)
 grouped_fields names before [] = pure before
 grouped_fields names before (group ∷ groups) = do
   type_id ← group.1 names
   fields ← given (named_fields before type_id group.0)
   grouped_fields names fields groups
 
--- these are the fields of a record
-abbrev pub AreFields : List Field → List FieldOf → Type 0
-AreFields fields wanted = map (λ field. (field.name.items, field.type_id)) fields ≡ wanted
+unfoldable pub record_type : List Name → Bool → Place → List (List Name × WrittenDenoter) → Passing TypeId
+record_type names packed place groups = do
+  pass place
+  fields ← grouped_fields names [] groups
+  add_type place (Record packed fields)
+
+abbrev pub denoter_step : TypeDenoter-F WrittenDenoter → WrittenDenoter
+denoter_step (NamedType name) names = type_of_name names name
+denoter_step (Enumerated constants) names = enumeration constants.items
+denoter_step (SubrangeOf first place last) names = subrange first place last
+denoter_step (ArrayOf packed place indexes element) names = array names packed place indexes.items element.value
+denoter_step (RecordOf packed place rows denoters semicolon) names =
+    record_type names packed place (fields_of rows.items denoters.items)
+
+abbrev pub written_denoter : TypeDenoter → WrittenDenoter
+written_denoter = fold-TypeDenoter WrittenDenoter denoter_step
+
+-- the type that a denoter denotes, where variables of these names get it
+abbrev pub denoted_type : List Name → TypeDenoter → Passing TypeId
+denoted_type names denoter = written_denoter denoter names

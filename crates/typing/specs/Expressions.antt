@@ -1,8 +1,8 @@
--- The typing of expressions (ISO 7185:1990, 6.7): of each form the first rule that it breaks, or its type, how its
+-- The typing of expressions (ISO 7185:1990, 6.5, 6.7): of each form the first rule that it breaks, or its type, how its
 -- typed form looks, and its sites. What asks for a site of its own at an expression's first token (a width) hands its
 -- kind in, as the leading kind: that site stands behind the token's own, and before all others. It says nothing of what
 -- a program does.
-use Rattle.std.specs.Prelude.{ℕ, ◌&&◌, ◌||◌, Bool, true, false, List, [], ◌∷◌, Option, Some, None, is_none, Ok, Err}
+use Rattle.std.specs.Prelude.{ℕ, ◌&&◌, ◌||◌, Bool, true, false, List, [], ◌∷◌, ◌++◌, Option, Some, None, is_none, Ok, Err}
 use Rattle.std.specs.Prelude.{pos, neg_ℤ, if◌then◌else◌, nat_eq, nat_le, length}
 use Rattle.place.specs.declared.Place.{Place}
 use Rattle.syntax_tree.specs.declared.Name.{Name}
@@ -13,15 +13,21 @@ use Rattle.syntax_tree.specs.declared.Operator.TheVariants as op
 use Rattle.syntax_tree.specs.declared.Expr.{Expr}
 use Rattle.syntax_tree.specs.declared.Link.{Link}
 use Rattle.syntax_tree.specs.declared.Actual.{Actual}
+use Rattle.syntax_tree.specs.declared.Selector.{Selector}
+use Rattle.syntax_tree.specs.declared.Selector.TheVariants as select
 use Rattle.syntax_tree.specs.declared.Expr.TheOpen.{Expr-F, Link-F, Actual-F}
 use Rattle.syntax_tree.specs.declared.Expr.TheOpen.Expr-F.{Number as NumberOf, Name as NameOf, Call as CallOf}
 use Rattle.syntax_tree.specs.declared.Expr.TheOpen.Expr-F.{Parenthesized as ParenthesizedOf, Not as NotOf}
 use Rattle.syntax_tree.specs.declared.Expr.TheOpen.Expr-F.{Signed as SignedOf, Chain as ChainOf, String as StringOf}
+use Rattle.syntax_tree.specs.declared.Expr.TheOpen.Expr-F.{Component as ComponentOf}
 use Rattle.syntax_tree.specs.declared.Expr.TheFolds.{fold-Expr, fold-Link, fold-Actual}
-use Rattle.types.specs.Forms.{Form}
+use Rattle.types.specs.Forms.{Form, Record}
+use Rattle.types.specs.declared.form.RecordField.{RecordField}
+use Rattle.types.specs.declared.form.ArrayElement.{ArrayElement}
 use Rattle.types.specs.declared.form.TypeId.{TypeId}
 use Rattle.types.specs.declared.form.OrdinalRange.{OrdinalRange}
-use Rattle.types.specs.Types.{integer, boolean, char, is_same, is_compatible, is_ordinal, is_string, range_of}
+use Rattle.types.specs.Types.{integer, boolean, char, is_same, is_compatible, is_ordinal, is_string, range_of, form_at}
+use Rattle.types.specs.Types.{field_of, element_of, cells_of}
 use Rattle.scopes.specs.declared.denotation.Denotation.{Denotation}
 use Rattle.scopes.specs.declared.denotation.Denotation.TheVariants as denotes
 use Rattle.scopes.specs.declared.denotation.RequiredFunction.{RequiredFunction}
@@ -34,20 +40,24 @@ use Rattle.typed_tree.specs.declared.tree.Monadic.TheVariants as monadic
 use Rattle.typed_tree.specs.declared.tree.Dyadic.{Dyadic}
 use Rattle.typed_tree.specs.declared.tree.Dyadic.TheVariants as dyadic
 use Rattle.typed_tree.specs.declared.tree.Relation.TheVariants as relation
-use Rattle.typed_tree.specs.Look.{Constant, Text, Variable, Operation, Applied, Begins, Operator as OperatorMark}
-use Rattle.typed_tree.specs.Look.{Compared, Ends}
+use Rattle.typed_tree.specs.declared.tree.Selector.{Selector as TreeSelector}
+use Rattle.typed_tree.specs.declared.tree.Selector.TheVariants as tree
+use Rattle.typed_tree.specs.Accesses.{index_count}
+use Rattle.typed_tree.specs.Look.{Constant, Text, Access, Value, WholeValue, Operation, Applied, Begins, Compared, Ends}
+use Rattle.typed_tree.specs.Look.{Operator as OperatorMark}
 use Rattle.typing.specs.declared.typed.Typed.{Typed}
 use Rattle.typing.specs.Passing.{Checked, Passing, pure, fail, given, by_types, mark, ◌>>=◌, ◌>>◌, ◌>>?◌}
 use Rattle.typing.specs.Steps.{fits, or_mismatch, pass, enter_as, site, find, host_type, text_at}
+use Rattle.typing.specs.Names.{folded}
 use Rattle.typing.specs.Strings.{string_characters, string_type}
 
 -- an ordinal of a type, and the id of its leading site
 abbrev pub typed : TypeId → Option ℕ → Typed
 typed type_id site = record { type_id = type_id; length = None; site = site }
 
--- the same of a string of so many characters
-abbrev pub typed_string : TypeId → ℕ → Option ℕ → Typed
-typed_string type_id length site = record { type_id = type_id; length = Some length; site = site }
+-- the same of a structured value of so many components, as a string of so many characters is
+abbrev pub typed_whole : TypeId → ℕ → Option ℕ → Typed
+typed_whole type_id length site = record { type_id = type_id; length = Some length; site = site }
 
 -- it is an ordinal of this type
 abbrev pub is_of : TypeId → Typed → Bool
@@ -89,7 +99,7 @@ spelled place id (c ∷ []) = do
 spelled place id characters = do
   type_id ← string_type place (length characters)
   enter_as (λ n. Text n characters)
-  pure (typed_string type_id (length characters) id)
+  pure (typed_whole type_id (length characters) id)
 
 -- a string (6.1.7)
 unfoldable pub string : List ℕ → Place → Option SiteKind → Passing Typed
@@ -99,7 +109,93 @@ string text place lead = do
   characters ← given (string_characters place text)
   spelled place id characters
 
--- a name as an expression: a constant, or a variable, whose value is of the host type (6.7.1)
+-- ---- variables
+
+-- the variable that a name denotes: its root and its type
+abbrev pub as_variable : Place → Denotation → Checked (ℕ × TypeId)
+as_variable place (denotes.Variable root type_id) = Ok (root, type_id)
+as_variable place (denotes.Constant value type_id) = Err (fault.NotVariable place)
+as_variable place (denotes.Text number type_id) = Err (fault.NotVariable place)
+as_variable place (denotes.TypeName type_id) = Err (fault.NotVariable place)
+as_variable place (denotes.Procedure procedure) = Err (fault.NotVariable place)
+as_variable place (denotes.Function function) = Err (fault.NotVariable place)
+as_variable place denotes.Output = Err (fault.NotVariable place)
+
+abbrev pub or_not_declared : Place → Option RecordField → Checked RecordField
+or_not_declared place (Some field) = Ok field
+or_not_declared place None = Err (fault.NotDeclared place)
+
+-- the field of a name in a value of a type: K1 where the type is no record, S3 where it has no such field
+abbrev pub field_in : List Form → TypeId → Name → Option Form → Checked RecordField
+field_in types id name (Some (Record packed fields)) =
+    or_not_declared name.place (field_of types id (folded name.text.now))
+field_in types id name form = Err (fault.Mismatch name.place)
+
+abbrev pub field_named : List Form → TypeId → Name → Checked RecordField
+field_named types id name = field_in types id name (form_at types id)
+
+-- an index of elements, by the id of its site, which stands at its first token, before those of its own; K1 there where
+-- it isn't of the index type (6.5.3.2)
+unfoldable pub index : ArrayElement → Written → Passing ℕ
+index element w = do
+  id ← site kind.Index w.first
+  w.typing None
+  >>? (λ types t. fits (is_none t.length && is_compatible types element.index t.type_id) w.first id)
+
+-- the selectors of an access, behind those before, from a value of a type to a component, and that component's type; K1
+-- at a selector where the type has none of its kind (6.5.3)
+abbrev pub selected : List TreeSelector → TypeId → List Selector → List Written → Passing (List TreeSelector × TypeId)
+selected before type_id [] indexes = pure (before, type_id)
+selected before type_id (select.Field name ∷ selectors) indexes = do
+  pass name.place
+  f ← by_types (λ types. field_named types type_id name)
+  selected (before ++ tree.Field f.position f.offset ∷ []) f.type_id selectors indexes
+selected before type_id (select.Index place joined ∷ selectors) [] = fail (fault.Mismatch place)
+selected before type_id (select.Index place joined ∷ selectors) (w ∷ indexes) = do
+  pass place
+  e ← by_types (λ types. or_mismatch place (element_of types type_id))
+  id ← index e w
+  selected (before ++ tree.Element (record { site = id; range = e.range }) e.cells ∷ []) e.type_id selectors indexes
+
+-- a type is ordinal
+unfoldable pub tests_ordinal : TypeId → Passing Bool
+tests_ordinal id = by_types (λ types. Ok (is_ordinal types id))
+
+-- the value of what is accessed, an ordinal, which is of the host type (6.7.1)
+unfoldable pub ordinal_value : ℕ → List TreeSelector → TypeId → ℕ → Option ℕ → Passing Typed
+ordinal_value root selectors type_id defined lead = do
+  mark (Value root selectors (index_count selectors) defined)
+  host ← host_type type_id
+  pure (typed host lead)
+
+-- the same of a structured type
+unfoldable pub whole_value : ℕ → List TreeSelector → TypeId → ℕ → Option ℕ → Passing Typed
+whole_value root selectors type_id defined lead = do
+  cells ← by_types (λ types. Ok (cells_of types type_id))
+  mark (WholeValue root selectors (index_count selectors) type_id cells defined)
+  pure (typed_whole type_id cells lead)
+
+-- a variable of a root and a type, or a component of it, as an expression (6.5.1)
+unfoldable pub accessed : ℕ → TypeId → List Selector → List Written → Place → Option SiteKind → Passing Typed
+accessed root type_id selectors indexes place lead = do
+  defined ← site kind.UndefinedVariable place
+  id ← behind lead place
+  enter_as Access
+  component ← selected [] type_id selectors indexes
+  ordinal ← tests_ordinal component.1
+  if ordinal then ordinal_value root component.0 component.1 defined id
+  else whole_value root component.0 component.1 defined id
+
+-- a component of a variable
+unfoldable pub component : Name → List Selector → List Written → Option SiteKind → Passing Typed
+component name selectors indexes lead = do
+  d ← find name
+  variable ← given (as_variable name.place d)
+  accessed variable.0 variable.1 selectors indexes name.place lead
+
+-- ---- names
+
+-- a name as an expression: a constant, or a variable
 unfoldable pub denoted : Denotation → Place → Option SiteKind → Passing Typed
 denoted (denotes.Constant value type_id) place lead = do
   id ← behind lead place
@@ -109,13 +205,8 @@ denoted (denotes.Text number type_id) place lead = do
   id ← behind lead place
   characters ← text_at number
   enter_as (λ n. Text n characters)
-  pure (typed_string type_id (length characters) id)
-denoted (denotes.Variable root type_id) place lead = do
-  defined ← site kind.UndefinedVariable place
-  id ← behind lead place
-  enter_as (λ n. Variable n root defined)
-  host ← host_type type_id
-  pure (typed host id)
+  pure (typed_whole type_id (length characters) id)
+denoted (denotes.Variable root type_id) place lead = accessed root type_id [] [] place lead
 denoted (denotes.Procedure procedure) place lead = fail (fault.WrongParameters place)
 denoted (denotes.Function function) place lead = fail (fault.WrongParameters place)
 denoted (denotes.TypeName type_id) place lead = fail (fault.Mismatch place)
@@ -327,6 +418,8 @@ link_step l = link l.operator l.place l.operand
 abbrev pub expression_step : Expr-F Written WrittenActual WrittenLink → Written
 expression_step (NumberOf value place) = written place (number value place)
 expression_step (NameOf name) = written name.place (named name)
+expression_step (ComponentOf name selectors indexes) =
+    written name.place (component name selectors.items indexes.items)
 expression_step (StringOf text place) = written place (string text.now place)
 expression_step (CallOf name actuals) = written name.place (call name actuals.items)
 expression_step (ParenthesizedOf place inner) = written place (parenthesized place inner.value)

@@ -4,7 +4,7 @@ use Rattle.std.specs.List.{list_any}
 use Rattle.std.specs.Ordering.{int_eq}
 use Rattle.std.specs.Prelude.{ℕ, ℤ, Bool, true, false, not, ◌&&◌, ◌++◌, List, [], ◌∷◌, Option, Some, None, Ok}
 use Rattle.std.specs.Prelude.{Err, if◌then◌else◌, map}
-use Rattle.std.specs.Prelude.{is_none, option_map}
+use Rattle.std.specs.Prelude.{is_none, nat_eq, option_map}
 use Rattle.place.specs.declared.Place.{Place}
 use Rattle.syntax_tree.specs.declared.Name.{Name}
 use Rattle.syntax_tree.specs.declared.Expr.{Expr}
@@ -13,9 +13,11 @@ use Rattle.syntax_tree.specs.declared.Expr.TheOpen.{Expr-F}
 use Rattle.syntax_tree.specs.declared.Expr.TheOpen.Expr-F.{Number as NumberOf, Name as NameOf, Call as FunctionOf}
 use Rattle.syntax_tree.specs.declared.Expr.TheOpen.Expr-F.{Parenthesized as ParenthesizedOf, Not as NotOf}
 use Rattle.syntax_tree.specs.declared.Expr.TheOpen.Expr-F.{Signed as SignedOf, Chain as ChainOf, String as StringOf}
+use Rattle.syntax_tree.specs.declared.Expr.TheOpen.Expr-F.{Component as ComponentOf}
 use Rattle.syntax_tree.specs.declared.Expr.TheViews.{out-Expr, out-Actual}
 use Rattle.syntax_tree.specs.declared.Link.{Link}
 use Rattle.syntax_tree.specs.declared.Constant.{Constant}
+use Rattle.syntax_tree.specs.declared.Selector.{Selector}
 use Rattle.syntax_tree.specs.Places.{arms_of}
 use Rattle.syntax_tree.specs.declared.Direction.{Direction as SyntaxDirection}
 use Rattle.syntax_tree.specs.declared.Direction.TheVariants as written
@@ -30,6 +32,7 @@ use Rattle.types.specs.Forms as form
 use Rattle.types.specs.declared.form.TypeId.{TypeId}
 use Rattle.types.specs.declared.form.OrdinalRange.{OrdinalRange}
 use Rattle.types.specs.Types.{integer, boolean, is_compatible, is_assignable, is_ordinal, is_string, form_at, range_of}
+use Rattle.types.specs.Types.{cells_of}
 use Rattle.scopes.specs.declared.denotation.Denotation.{Denotation}
 use Rattle.scopes.specs.declared.denotation.Denotation.TheVariants as denotes
 use Rattle.scopes.specs.declared.denotation.RequiredProcedure.{RequiredProcedure}
@@ -40,41 +43,66 @@ use Rattle.typed_tree.specs.declared.tree.Direction.{Direction}
 use Rattle.typed_tree.specs.declared.tree.Direction.TheVariants as direction
 use Rattle.typed_tree.specs.declared.tree.Representation.{Representation}
 use Rattle.typed_tree.specs.declared.tree.Representation.TheVariants as representation
-use Rattle.typed_tree.specs.Look.{Mark, Assign, Target, Fits, Write, Written as WrittenMark, WrittenString, Width}
+use Rattle.typed_tree.specs.Accesses.{index_count}
+use Rattle.typed_tree.specs.Look.{Mark, Access, Assign, Target, WholeTarget, Copied, Fits, Write, Written as WrittenMark}
+use Rattle.typed_tree.specs.Look.{WrittenString, Width}
 use Rattle.typed_tree.specs.Look.{Empty, Compound, If, Then, Else, While, Do, Repeat, Until, For, Case, Arm, Ends}
-use Rattle.typing.specs.Passing.{Checked, Passing, and_then, pure, given, mark, each, ◌>>=◌, ◌>>◌, ◌>>?◌}
+use Rattle.typing.specs.Passing.{Checked, Passing, and_then, pure, given, by_types, mark, each, ◌>>=◌, ◌>>◌, ◌>>?◌}
 use Rattle.typing.specs.Steps.{fits, or_mismatch, pass, enter_as, enter_loop, site, find, may_change, begin_control}
 use Rattle.typing.specs.Steps.{end_control, wants_output}
 use Rattle.typing.specs.Constants.{ordinal_constant, constant_place}
 use Rattle.typing.specs.declared.typed.Typed.{Typed}
-use Rattle.typing.specs.Expressions.{Written, WrittenActual, is_of, expression, written_actual}
-
--- the variable that a name denotes: its root and its type
-abbrev pub as_variable : Place → Denotation → Checked (ℕ × TypeId)
-as_variable place (denotes.Variable root type_id) = Ok (root, type_id)
-as_variable place (denotes.Constant value type_id) = Err (fault.NotVariable place)
-as_variable place (denotes.Text number type_id) = Err (fault.NotVariable place)
-as_variable place (denotes.TypeName type_id) = Err (fault.NotVariable place)
-as_variable place (denotes.Procedure procedure) = Err (fault.NotVariable place)
-as_variable place (denotes.Function function) = Err (fault.NotVariable place)
-as_variable place denotes.Output = Err (fault.NotVariable place)
+use Rattle.typing.specs.Expressions.{Written, WrittenActual, is_of, as_variable, selected, tests_ordinal, expression}
+use Rattle.typing.specs.Expressions.{written_actual}
 
 -- the values of a target's type, if an ordinal value may be assigned to it (6.4.6)
 abbrev pub fitting : List Form → TypeId → Typed → Option OrdinalRange
 fitting types target value =
     if is_none value.length && is_assignable types target value.type_id then range_of types target else None
 
--- the variable is accessed first, then comes the value, then its test (6.8.2.2)
-unfoldable pub assignment : Name → Place → Written → Passing (Unit {0})
-assignment name becomes value = do
-  enter_as (λ n. Assign n becomes)
+-- how many cells a structured value has, if it may be assigned to a target of a type, which has as many (6.4.6)
+abbrev pub copied_cells : List Form → TypeId → Typed → Option ℕ → Option ℕ
+copied_cells types target value None = None
+copied_cells types target value (Some cells) =
+    if is_assignable types target value.type_id && nat_eq (cells_of types target) cells then Some cells else None
+
+abbrev pub copying : List Form → TypeId → Typed → Option ℕ
+copying types target value = copied_cells types target value value.length
+
+-- what is accessed left of `:=`, by its type
+unfoldable pub target : Name → List Selector → List Written → Passing TypeId
+target name selectors indexes = do
   d ← find name
-  target ← given (as_variable name.place d)
-  may_change name.place target.0
-  enter_as (λ n. Target n target.0)
+  variable ← given (as_variable name.place d)
+  may_change name.place variable.0
+  enter_as Access
+  component ← selected [] variable.1 selectors indexes
+  ordinal ← tests_ordinal component.1
+  mark (if ordinal then Target variable.0 component.0 (index_count component.0)
+      else WholeTarget variable.0 component.0 (index_count component.0) component.1)
+  pure component.1
+
+-- a value that is assigned to an ordinal of a type, and then its test
+unfoldable pub assigned : TypeId → Place → Written → Passing (Unit {0})
+assigned type_id becomes value = do
   id ← site kind.Subrange becomes
-  range ← value.typing None >>? (λ types t. or_mismatch becomes (fitting types target.1 t))
+  range ← value.typing None >>? (λ types t. or_mismatch becomes (fitting types type_id t))
   mark (Fits (record { site = id; range = range }))
+
+-- a value that is copied to a structured target of a type
+unfoldable pub copied : TypeId → Place → Written → Passing (Unit {0})
+copied type_id becomes value = do
+  pass becomes
+  cells ← value.typing None >>? (λ types t. or_mismatch becomes (copying types type_id t))
+  mark (Copied type_id cells)
+
+-- the variable is accessed first, and then comes the value (6.8.2.2)
+unfoldable pub assignment : Name → List Selector → List Written → Place → Written → Passing (Unit {0})
+assignment name selectors indexes becomes value = do
+  enter_as (λ n. Assign n becomes)
+  type_id ← target name selectors indexes
+  ordinal ← tests_ordinal type_id
+  if ordinal then assigned type_id becomes value else copied type_id becomes value
 
 -- the procedure that a name denotes
 abbrev pub as_procedure : Place → Denotation → Checked RequiredProcedure
@@ -103,6 +131,7 @@ is_output (denotes.Function function) = false
 abbrev pub names_file : Expr-F Expr Actual Link → Passing Bool
 names_file (NameOf name) = find name >>= (λ d. pure (is_output d))
 names_file (NumberOf value place) = pure false
+names_file (ComponentOf name selectors indexes) = pure false
 names_file (StringOf text place) = pure false
 names_file (FunctionOf name actuals) = pure false
 names_file (ParenthesizedOf place inner) = pure false
@@ -248,6 +277,7 @@ for_head place variable first direction last = do
   pass place
   d ← find variable
   control ← given (as_variable variable.place d)
+  by_types (λ types. fits (is_ordinal types control.1) variable.place tt)
   may_change variable.place control.0
   enter_loop (λ n l. For n l place control.0 (way direction))
   bound control.1 first
@@ -310,7 +340,8 @@ case_statement place index arms = case_head place index >>= case_body arms
 
 abbrev pub statement_step : Stmt-F (Passing (Unit {0})) → Passing (Unit {0})
 statement_step EmptyOf = enter_as Empty
-statement_step (AssignOf name becomes value) = assignment name becomes (expression value)
+statement_step (AssignOf name selectors indexes becomes value) =
+    assignment name selectors.items (map expression indexes.items) becomes (expression value)
 statement_step (CallOf name actuals) = procedure_call name actuals.items
 statement_step (CompoundOf statements) = compound statements.items
 statement_step (IfOf place condition consequence alternative) =

@@ -18,6 +18,7 @@ use Rattle.typed_tree.specs.declared.fault.TypeFault.{TypeFault}
 use Rattle.typed_tree.specs.declared.fault.TypeFault.TheVariants as fault
 use Rattle.typed_tree.specs.declared.site.SiteKind.{SiteKind}
 use Rattle.typed_tree.specs.Look.{Mark}
+use Rattle.typed_tree.specs.WellFormed.{most_variables}
 use Rattle.typing.specs.Names.{folded, required_region}
 use Rattle.typing.specs.Passing.{Passed, Checked, Passing, after, and_then, pure, mark, ◌>>=◌}
 
@@ -177,9 +178,11 @@ give_output = λ s. Ok (after tt [] (record s { has_output = true }))
 unfoldable pub wants_output : Place → Passing (Unit {0})
 wants_output place = λ s. if s.has_output then Ok (after tt [] s) else Err (fault.NotProgramParameter place)
 
--- the root number of the next variable
-unfoldable pub next_root : Passing ℕ
-next_root = λ s. Ok (after (length s.variables) [] s)
+-- the root number of the next variable; one too many is told at its name
+unfoldable pub next_root : Place → Passing ℕ
+next_root place = λ s.
+    if nat_le most_variables (length s.variables) then Err (fault.TooMany place)
+    else Ok (after (length s.variables) [] s)
 
 -- the cells of one variable more; where the block has no room for them it is told at the variable's name
 unfoldable pub reserve : Place → TypeId → Passing (Unit {0})

@@ -37,7 +37,7 @@ type_definition d = denoted_type [] d.denoter >>= (λ type_id. declare d.name (d
 -- a variable: its definition, and then its cells
 unfoldable pub variable : TypeId → Name → Passing (Unit {0})
 variable type_id name = do
-  root ← next_root
+  root ← next_root name.place
   declare name (denotes.Variable root type_id)
   reserve name.place type_id
 
