@@ -139,8 +139,7 @@ field_named types id name = field_in types id name (form_at types id)
 unfoldable pub index : ArrayElement → Written → Passing ℕ
 index element w = do
   id ← site kind.Index w.first
-  w.typing None
-  >>? (λ types t. fits (is_none t.length && is_compatible types element.index t.type_id) w.first id)
+  w.typing None >>? (λ types t. fits (is_none t.length && is_compatible types element.index t.type_id) w.first id)
 
 -- the selectors of an access, behind those before, from a value of a type to a component, and that component's type; K1
 -- at a selector where the type has none of its kind (6.5.3)
@@ -183,8 +182,7 @@ accessed root type_id selectors indexes place lead = do
   enter_as Access
   component ← selected [] type_id selectors indexes
   ordinal ← tests_ordinal component.1
-  if ordinal then ordinal_value root component.0 component.1 defined id
-  else whole_value root component.0 component.1 defined id
+  (if ordinal then ordinal_value else whole_value) root component.0 component.1 defined id
 
 -- a component of a variable
 unfoldable pub component : Name → List Selector → List Written → Option SiteKind → Passing Typed

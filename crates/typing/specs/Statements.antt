@@ -43,6 +43,7 @@ use Rattle.typed_tree.specs.declared.tree.Direction.{Direction}
 use Rattle.typed_tree.specs.declared.tree.Direction.TheVariants as direction
 use Rattle.typed_tree.specs.declared.tree.Representation.{Representation}
 use Rattle.typed_tree.specs.declared.tree.Representation.TheVariants as representation
+use Rattle.typed_tree.specs.declared.tree.Selector.{Selector as TreeSelector}
 use Rattle.typed_tree.specs.Accesses.{index_count}
 use Rattle.typed_tree.specs.Look.{Mark, Access, Assign, Target, WholeTarget, Copied, Fits, Write, Written as WrittenMark}
 use Rattle.typed_tree.specs.Look.{WrittenString, Width}
@@ -69,6 +70,10 @@ copied_cells types target value (Some cells) =
 abbrev pub copying : List Form → TypeId → Typed → Option ℕ
 copying types target value = copied_cells types target value value.length
 
+abbrev pub target_mark : Bool → ℕ → List TreeSelector → TypeId → Mark
+target_mark true root selectors type_id = Target root selectors (index_count selectors)
+target_mark false root selectors type_id = WholeTarget root selectors (index_count selectors) type_id
+
 -- what is accessed left of `:=`, by its type
 unfoldable pub target : Name → List Selector → List Written → Passing TypeId
 target name selectors indexes = do
@@ -78,8 +83,7 @@ target name selectors indexes = do
   enter_as Access
   component ← selected [] variable.1 selectors indexes
   ordinal ← tests_ordinal component.1
-  mark (if ordinal then Target variable.0 component.0 (index_count component.0)
-      else WholeTarget variable.0 component.0 (index_count component.0) component.1)
+  mark (target_mark ordinal variable.0 component.0 component.1)
   pure component.1
 
 -- a value that is assigned to an ordinal of a type, and then its test
@@ -102,7 +106,7 @@ assignment name selectors indexes becomes value = do
   enter_as (λ n. Assign n becomes)
   type_id ← target name selectors indexes
   ordinal ← tests_ordinal type_id
-  if ordinal then assigned type_id becomes value else copied type_id becomes value
+  (if ordinal then assigned else copied) type_id becomes value
 
 -- the procedure that a name denotes
 abbrev pub as_procedure : Place → Denotation → Checked RequiredProcedure
@@ -277,7 +281,7 @@ for_head place variable first direction last = do
   pass place
   d ← find variable
   control ← given (as_variable variable.place d)
-  by_types (λ types. fits (is_ordinal types control.1) variable.place tt)
+  by_types (λ types. fits (is_ordinal types control.1) variable.place (tt {0}))
   may_change variable.place control.0
   enter_loop (λ n l. For n l place control.0 (way direction))
   bound control.1 first
