@@ -1,6 +1,5 @@
 -- Worked rows of the definitions of types.
-use Rattle.std.proofs.Common.{◌≡◌, ◌∷◌, ◌++◌, [], ℕ, List, Some, None, Ok, Err, Vec, Global, refl, true, false, codes, pos, negsuc, slice_get}
-use Rattle.types.specs.Forms.{FieldForm}
+use Rattle.std.proofs.Common.{◌≡◌, ◌∷◌, ◌++◌, [], ℕ, List, Some, None, Ok, Err, refl, true, false, codes, pos, negsuc, slice_get}
 use Rattle.types.specs.declared.form.Step.TheVariants as step
 use Rattle.types.specs.Forms.{Form}
 use Rattle.types.specs.Forms.{Enumeration, Subrange, Array, Record}

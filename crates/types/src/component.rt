@@ -54,7 +54,7 @@ impl TypeTable {
         }
     }
 
-    // The element that a place falls into.
+    // The element that a place falls into, in an array that is packed or not.
     fn inner_element(&self, part: Part, index: TypeId, element: TypeId) -> Option<(Step, Part)>
         requires { part.place
             < values_at (before self.now part.type_id) index * cells_at (before self.now part.type_id) element }
@@ -76,8 +76,8 @@ impl TypeTable {
     fn inner_field(&self, part: Part, fields: &[Field]) -> Option<(Step, Part)>
         requires { part.place < sum_by (λ field. cells_at (before self.now part.type_id) field.type_id) fields.now }
         ensures { IsSomeAnd result (GoesOn self.now part.type_id.index
-            (slice_index_or (fields_components (laid_out (take part.type_id.index self.now)) 0 (map field_form fields.now))
-            part.place [])) }
+            (slice_index_or (fields_components (laid_out (take part.type_id.index self.now)) 0
+            (map field_form fields.now)) part.place [])) }
     {
         let mut place = part.place;
         for (position, field) in fields.iter().enumerate() {

@@ -41,7 +41,8 @@ returns-in-Array-clause-leads c =
     let form : Form = Array c.in-Array.packed c.in-Array.index c.in-Array.element in
     leads_on types c.args.part.type_id.index c.inner_element.result (steps_to types c.args.part)
     (slice_index_or (form_components (laid_before types c.args.part.type_id) form) c.args.part.place [])
-    (steps_of_form types c.args.part c.if-part.false form (sym c.form.ensures ∙ ap (option_map (λ form. form_of form.now)) c.in_ok-index.was ∙ ap (λ form. Some (form_of form)) c.in-Array.is))
+    (steps_of_form types c.args.part c.if-part.false form
+    (sym c.form.ensures ∙ ap (option_map (λ form. form_of form.now)) c.in_ok-index.was ∙ ap (λ form. Some (form_of form)) c.in-Array.is))
     c.inner_element.ensures
 
 pub returns-in-Record-clause-leads : goal.returns-in-Record-clause-leads
@@ -51,7 +52,8 @@ returns-in-Record-clause-leads c =
     let laid = laid_before types c.args.part.type_id in
     let read = λ (fields : List Field). slice_index_or (fields_components laid 0 (map field_form fields)) c.args.part.place [] in
     leads_on types c.args.part.type_id.index c.inner_field.result (steps_to types c.args.part) (read c.deref.result.now)
-    (steps_of_form types c.args.part c.if-part.false form (sym c.form.ensures ∙ ap (option_map (λ form. form_of form.now)) c.in_ok-index.was ∙ ap (λ form. Some (form_of form)) c.in-Record.is)
+    (steps_of_form types c.args.part c.if-part.false form
+    (sym c.form.ensures ∙ ap (option_map (λ form. form_of form.now)) c.in_ok-index.was ∙ ap (λ form. Some (form_of form)) c.in-Record.is)
     ∙ ap read (sym c.deref.ensures.value))
     c.inner_field.ensures
 
@@ -60,7 +62,8 @@ returns-in_default c =
     let types : List Form = c.args.self.now in
     record {
       leads =
-          steps_of_form types c.args.part c.if-part.false (form_of c.in_ok-index.field-0.now) (sym c.form.ensures ∙ ap (option_map (λ form. form_of form.now)) c.in_ok-index.was)
+          steps_of_form types c.args.part c.if-part.false (form_of c.in_ok-index.field-0.now)
+          (sym c.form.ensures ∙ ap (option_map (λ form. form_of form.now)) c.in_ok-index.was)
           ∙ no_part (laid_before types c.args.part.type_id) c.in_ok-index.field-0.now c.args.part.place c.in_default.not-Array c.in_default.not-Record;
       smaller = tt;
     }

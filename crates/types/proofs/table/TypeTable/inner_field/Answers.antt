@@ -30,7 +30,8 @@ loop-position-preserved c =
       same =
           c.loop-position.invariant.same
           ∙ ap (λ fields. slice_index_or (fields_components (laid_before types id) position (map field_form fields)) c.loop-position.place []) split
-          ∙ field_skipped types id position (field_form field) (map field_form later) c.loop-position.place (subst (λ n. n ≤ c.loop-position.place) own c.if-place-cells.false)
+          ∙ field_skipped types id position (field_form field) (map field_form later) c.loop-position.place
+          (subst (λ n. n ≤ c.loop-position.place) own c.if-place-cells.false)
           ∙ ap (λ n. slice_index_or (fields_components (laid_before types id) (position + 1) (map field_form later)) (c.loop-position.place - n) []) (sym own);
     }
 
