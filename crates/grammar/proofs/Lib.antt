@@ -18,6 +18,7 @@ pub mod OneTreeExpressions
 pub mod OneTreeLists
 pub mod OneTreeNames
 pub mod OneTreePrograms
+pub mod OneTreeSelectors
 pub mod OneTreeStatements
 pub mod OneTreeTypes
 pub mod Parts
@@ -25,6 +26,7 @@ pub mod ProgramPlaces
 pub mod Programs
 pub mod Reading
 pub mod Rows
+pub mod Selectors
 pub mod Starts
 pub mod Statements
 pub mod TreePlaces
