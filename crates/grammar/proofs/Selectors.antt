@@ -16,8 +16,8 @@ use Rattle.grammar.specs.WellFormed.{expr_form, is_expression, may_join, are_sel
 use Rattle.grammar.specs.Nesting.{expr_levels, deepest, index_levels}
 use Rattle.grammar.specs.Notation.{Notation, bracketed, token, before_index, selectors_notation, expr_notation}
 use Rattle.grammar.specs.Notation as note
-use Rattle.grammar.specs.Following.{next_kind, NoSelector, Ends}
-use Rattle.grammar.specs.Begins.{BeginsExpr, BeginsSelectorsIn, BeginsSelectors, MaySelect, selector_or_end, EndsSelectors}
+use Rattle.grammar.specs.Following.{next_kind, NoNext, NoSelector, Ends}
+use Rattle.grammar.specs.Begins.{BeginsIndex, BeginsSelectorsIn, BeginsSelectors, SelectorsThen, MaySelect, selector_or_end, EndsSelectors}
 use Rattle.grammar.proofs.Lists.{and_left, and_right, and_true}
 use Rattle.grammar.proofs.Reading.{both, reads_no_more, reads_fewer}
 use Rattle.grammar.proofs.Rows.{parted, begins, same_first, start_below, other_start}
@@ -129,13 +129,26 @@ in_brackets_end a c levels w (opened p m o e ss es h k f n g x) = bracket_ends r
 pub index_ends : (levels : ℕ) (a c : List Token) (ss : List Selector) (es : List Expr) → BeginsSelectorsIn true levels a c (ss, es) → Ends relation_level a
 index_ends levels a c ss es h = in_brackets_end a c levels (selectors_notation ss (map expr_notation es)) (selectors_of true levels a c ss es h)
 
--- ---- a selector that was taken
+no_name : (levels : ℕ) (p : Place) (a b c : List Token) (w : List Notation) → Reads a (of_kind_at (kind.Symbol symbol.Period) p ∷ []) b
+    → NoNext kind.Identifier b → NoSelector c → SelectorsAs false levels a c w → ⊥
+no_name levels p a b c w h missed ends (none k x) = ends.field (ap next_kind (sym k) ∙ begins (of_kind_at (kind.Symbol symbol.Period) p) [] a b h)
+no_name levels p a b c w h missed ends (field n m ss es k g x) =
+    missed (begins (identifier n) [] b m
+    (same_first (of_kind_at (kind.Symbol symbol.Period) p) (mark symbol.Period) (identifier n ∷ []) a b m h k).1)
+no_name levels p a b c w h missed ends (joined q m o e ss es is k i f n g x) = let no : false ≡ true = is in cc
+no_name levels p a b c w h missed ends (opened q m o e ss es k i f n g x) =
+    let no : Some (kind.Symbol symbol.OpenBracket) ≡ Some (kind.Symbol symbol.Period) =
+    (same_first (of_kind_at (kind.Symbol symbol.Period) p) (of_kind_at (kind.Symbol symbol.OpenBracket) q) [] a b m h k).0 in cc
 
--- what is left of selectors
-pub record SelectorsThen (b : Bool) (levels : ℕ) (a c : List Token) : Type 0 where
-  pub selectors : List Selector
-  pub indexes : List Expr
-  pub begun : BeginsSelectorsIn b levels a c (selectors, indexes)
+no_bracket : (levels : ℕ) (a c : List Token) (w : List Notation) → NoNext (kind.Symbol symbol.Comma) a → NoNext (kind.Symbol symbol.CloseBracket) a
+    → SelectorsAs true levels a c w → ⊥
+no_bracket levels a c w comma bracket (none k x) = bracket (closed_first true [] a c refl k)
+no_bracket levels a c w comma bracket (field n m ss es k g x) = bracket (closed_first true (mark symbol.Period ∷ identifier n ∷ []) a m refl k)
+no_bracket levels a c w comma bracket (joined q m o e ss es is k i f n g x) = comma (begins (of_kind_at (kind.Symbol symbol.Comma) q) [] a m k)
+no_bracket levels a c w comma bracket (opened q m o e ss es k i f n g x) =
+    bracket (closed_first true (of_kind_at (kind.Symbol symbol.OpenBracket) q ∷ []) a m refl k)
+
+-- ---- a selector that was taken
 
 -- an index expression, and the selectors behind it
 pub record IndexThen (levels : ℕ) (a c : List Token) : Type 0 where
@@ -254,15 +267,15 @@ selectors_field v levels n a b c ss es h k = record {
 }
 
 -- behind an index
-pub selectors_index : (v j : Bool) (levels inner : ℕ) (p : Place) (e : Expr) (a b m c : List Token) (ss : List Selector) (es : List Expr)
-    → Reads a (selector_spelling v (Index p j)) b → may_join v j ≡ true → inner + 1 ≡ levels → BeginsExpr relation_level inner b m e
+pub selectors_index : (v j : Bool) (levels : ℕ) (p : Place) (e : Expr) (a b m c : List Token) (ss : List Selector) (es : List Expr)
+    → Reads a (selector_spelling v (Index p j)) b → may_join v j ≡ true → BeginsIndex levels b m e
     → BeginsSelectorsIn true levels m c (ss, es) → BeginsSelectorsIn v levels a c (Index p j ∷ ss, e ∷ es)
-selectors_index v j levels inner p e a b m c ss es h may less g k = record {
+selectors_index v j levels p e a b m c ss es h may g k = record {
   spelled = both (selector_spelling v (Index p j)) (expr_spelling e ++ selectors_spelling true ss (map expr_spelling es)) a b c h
       (both (expr_spelling e) (selectors_spelling true ss (map expr_spelling es)) b m c g.spelled k.spelled);
   formed = and_true (may_join v j) (is_expression e && are_selectors true ss (map expr_form es)) may
       (and_true (is_expression e) (are_selectors true ss (map expr_form es)) g.formed k.formed);
-  nests = index_levels_both levels (expr_levels e) (map expr_levels es) (let n = g.nests in omega arith) k.nests;
+  nests = index_levels_both levels (expr_levels e) (map expr_levels es) g.nests k.nests;
 }
 
 -- selectors are spelled with a token at least
@@ -284,4 +297,45 @@ before_actuals a c (x ∷ xs) h ends = record {
       ∙ e in cc;
   field = λ e. let no : Some (kind.Symbol symbol.OpenParenthesis) ≡ Some (kind.Symbol symbol.Period) = sym (begins (mark symbol.OpenParenthesis) _ a c h)
       ∙ e in cc;
+}
+
+-- ---- where no selector may come
+
+-- behind a period no name comes
+pub name_missed : (levels : ℕ) (p : Place) (a b c : List Token) (ss : List Selector) (es : List Expr) → Reads a (of_kind_at (kind.Symbol symbol.Period) p ∷ []) b
+    → NoNext kind.Identifier b → NoSelector c → BeginsSelectorsIn false levels a c (ss, es) → ⊥
+name_missed levels p a b c ss es h missed ends k =
+    no_name levels p a b c (selectors_notation ss (map expr_notation es)) h missed ends (selectors_of false levels a c ss es k)
+
+-- in brackets neither a comma comes nor the closing bracket
+pub bracket_missed : (levels : ℕ) (a c : List Token) (ss : List Selector) (es : List Expr) → NoNext (kind.Symbol symbol.Comma) a
+    → NoNext (kind.Symbol symbol.CloseBracket) a → BeginsSelectorsIn true levels a c (ss, es) → ⊥
+bracket_missed levels a c ss es comma bracket k =
+    no_bracket levels a c (selectors_notation ss (map expr_notation es)) comma bracket (selectors_of true levels a c ss es k)
+
+-- behind the closing bracket selectors go on
+pub bracket_taken : (levels : ℕ) (p : Place) (a b c : List Token) (ss : List Selector) (es : List Expr)
+    → Reads a (of_kind_at (kind.Symbol symbol.CloseBracket) p ∷ []) b → BeginsSelectorsIn true levels a c (ss, es) → BeginsSelectorsIn false levels b c (ss, es)
+bracket_taken levels p a b c [] [] h k = record {
+  spelled = (same_first (of_kind_at (kind.Symbol symbol.CloseBracket) p) (mark symbol.CloseBracket) [] a b c h k.spelled).1;
+  formed = refl;
+  nests = k.nests;
+}
+bracket_taken levels p a b c [] (e ∷ es) h k = let no : false ≡ true = k.formed in cc
+bracket_taken levels p a b c (Field n ∷ ss) es h k = record {
+  spelled = (same_first (of_kind_at (kind.Symbol symbol.CloseBracket) p) (mark symbol.CloseBracket)
+      (mark symbol.Period ∷ identifier n ∷ selectors_spelling false ss (map expr_spelling es)) a b c h k.spelled).1;
+  formed = k.formed;
+  nests = k.nests;
+}
+bracket_taken levels p a b c (Index q j ∷ ss) [] h k = let no : false ≡ true = k.formed in cc
+bracket_taken levels p a b c (Index q true ∷ ss) (e ∷ es) h k =
+    let no : Some (kind.Symbol symbol.Comma) ≡ Some (kind.Symbol symbol.CloseBracket) =
+    (same_first (of_kind_at (kind.Symbol symbol.CloseBracket) p) (of_kind_at (kind.Symbol symbol.Comma) q)
+    (expr_spelling e ++ selectors_spelling true ss (map expr_spelling es)) a b c h k.spelled).0 in cc
+bracket_taken levels p a b c (Index q false ∷ ss) (e ∷ es) h k = record {
+  spelled = (same_first (of_kind_at (kind.Symbol symbol.CloseBracket) p) (mark symbol.CloseBracket)
+      (of_kind_at (kind.Symbol symbol.OpenBracket) q ∷ expr_spelling e ++ selectors_spelling true ss (map expr_spelling es)) a b c h k.spelled).1;
+  formed = k.formed;
+  nests = k.nests;
 }

@@ -35,7 +35,7 @@ use Rattle.grammar.specs.Spelling.{constant_spelling, arm_spelling, case_end, of
 use Rattle.grammar.specs.Spelling.{constants_spelling, denoter_spelling, type_definition_spelling, types_spelling}
 use Rattle.grammar.specs.Spelling.{closing, selector_spelling, selectors_spelling}
 use Rattle.grammar.specs.WellFormed.{expr_form, link_form, fits, relation_level, is_link, is_actual, is_constant}
-use Rattle.grammar.specs.WellFormed.{are_selectors, may_join}
+use Rattle.grammar.specs.WellFormed.{is_expression, are_selectors, may_join}
 use Rattle.grammar.specs.WellFormed.{is_row, is_statement, is_definition, is_denoter, is_type_definition, is_group}
 use Rattle.grammar.specs.WellFormed.{is_block, is_program}
 use Rattle.grammar.specs.Following.{NoNext, NoSelector, LeavesNoElse}
@@ -87,6 +87,18 @@ pub record BeginsSelectorsIn (within : Bool) (levels : ℕ) (tokens others : Lis
 -- the selectors of a variable
 abbrev pub BeginsSelectors : ℕ → List Token → List Token → List Selector × List Expr → Type 0
 BeginsSelectors = BeginsSelectorsIn false
+
+-- what is left of selectors
+pub record SelectorsThen (within : Bool) (levels : ℕ) (tokens others : List Token) : Type 0 where
+  pub selectors : List Selector
+  pub indexes : List Expr
+  pub begun : BeginsSelectorsIn within levels tokens others (selectors, indexes)
+
+-- an index expression, which is a level of its own
+pub record BeginsIndex (levels : ℕ) (tokens others : List Token) (e : Expr) : Type 0 where
+  pub spelled : Reads tokens (expr_spelling e) others
+  pub formed : is_expression e ≡ true
+  pub nests : 1 + expr_levels e ≤ levels
 
 -- a selector, or what ends the brackets before it where none comes
 abbrev pub selector_or_end : Bool → Option Selector → Spelling
