@@ -23,8 +23,9 @@ use Rattle.expression_parser.specs.Reading.{Stops, ReadWithin, ReadsDeep}
 use Rattle.expression_parser.specs.Refusing.{Refused}
 use Rattle.expression_parser.specs.Rules.{Read}
 use Rattle.expression_parser.specs.Selecting.{is_index, NoSelectors, least_opened, ReadOne, ReadSelector, SelectorsGoOn, ReadsSelector}
-use Rattle.grammar.proofs.Reading.{both, reads_fewer, reads_no_more}
-use Rattle.grammar.proofs.Selectors.{IndexThen, index_ends, selector_taken, selectors_none, selectors_field, selectors_index, name_missed, bracket_missed, bracket_taken}
+use Rattle.grammar.proofs.Reading.{both, reads_fewer}
+use Rattle.grammar.proofs.Selectors.{IndexThen, index_ends, selector_taken, selectors_none, selectors_field, selectors_index, name_missed, bracket_missed}
+use Rattle.grammar.proofs.Selectors.{bracket_taken}
 use Rattle.expression_parser.proofs.Exact.{within_above}
 use Rattle.expression_parser.proofs.Deep.{front_of, front_opens, opened_both, refused_behind, refused_behind_opening, refused_behind_levels}
 

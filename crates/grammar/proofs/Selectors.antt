@@ -1,5 +1,5 @@
 -- Selectors from the tokens that they begin: what stands behind each, and what is read of them one by one.
-use Rattle.std.proofs.Common.{◌≡◌, ℕ, ◌+◌, ◌<◌, ◌≤◌, max, Bool, true, false, ◌&&◌, List, [], ◌∷◌, ◌++◌, map, length, fold, Option, Some, None, refl, subst}
+use Rattle.std.proofs.Common.{◌≡◌, ℕ, ◌+◌, ◌<◌, ◌≤◌, max, Bool, true, false, ◌&&◌, List, [], ◌∷◌, ◌++◌, map, length, Option, Some, None, refl, subst}
 use Rattle.std.proofs.Common.{sym, ap, ◌∙◌, arith}
 use Rattle.place.specs.declared.Place.{Place}
 use Rattle.lexer.specs.declared.token.Kind.TheVariants as kind
@@ -13,16 +13,16 @@ use Rattle.syntax_tree.specs.declared.Selector.TheVariants.{Index, Field}
 use Rattle.grammar.specs.Spelling.{Spelling, Reads, expr_spelling, actual_spelling, of_kind_at, mark, identifier, closing, selector_spelling}
 use Rattle.grammar.specs.Spelling.{selectors_spelling, in_parentheses}
 use Rattle.grammar.specs.WellFormed.{expr_form, is_expression, may_join, are_selectors, relation_level}
-use Rattle.grammar.specs.Nesting.{expr_levels, deepest, index_levels}
+use Rattle.grammar.specs.Nesting.{expr_levels, index_levels}
 use Rattle.grammar.specs.Notation.{Notation, bracketed, token, before_index, selectors_notation, expr_notation}
 use Rattle.grammar.specs.Notation as note
 use Rattle.grammar.specs.Following.{next_kind, NoNext, NoSelector, Ends}
 use Rattle.grammar.specs.Begins.{BeginsIndex, BeginsSelectorsIn, BeginsSelectors, SelectorsThen, MaySelect, selector_or_end, EndsSelectors}
 use Rattle.grammar.proofs.Lists.{and_left, and_right, and_true}
-use Rattle.grammar.proofs.Reading.{both, reads_no_more, reads_fewer}
+use Rattle.grammar.proofs.Reading.{both, reads_fewer}
 use Rattle.grammar.proofs.Rows.{parted, begins, same_first, start_below, other_start}
 use Rattle.grammar.proofs.Chains.{bracket_ends, comma_ends}
-use Rattle.grammar.proofs.OneTree.{first_is_one, last_is_one, at_is_one, name_is_one}
+use Rattle.grammar.proofs.OneTree.{first_is_one, at_is_one, name_is_one}
 
 -- ---- the levels of index expressions
 
@@ -41,7 +41,8 @@ index_levels_both n m ms h k = other_start n (max 0 (1 + m)) 0 (map (λ index. 1
 pub closed_both : (b : Bool) (s t : Spelling) (a c d : List Token) → Reads a (closing b s) c → Reads a (closing b t) d
     → (m : List Token) × Reads m s c × Reads m t d
 closed_both false s t a c d h k = (a, h, k)
-closed_both true s t a c d h k = let f = first_is_one (mark symbol.CloseBracket) (mark symbol.CloseBracket) s t a c d h k in (f.behind, f.one_behind, f.two_behind)
+closed_both true s t a c d h k =
+    let f = first_is_one (mark symbol.CloseBracket) (mark symbol.CloseBracket) s t a c d h k in (f.behind, f.one_behind, f.two_behind)
 
 -- a comma where brackets are open is no bracket
 no_comma : (b : Bool) (s : Spelling) (p : Place) (t : Spelling) (a c d : List Token) → b ≡ true → Reads a (closing b s) c
@@ -302,8 +303,8 @@ before_actuals a c (x ∷ xs) h ends = record {
 -- ---- where no selector may come
 
 -- behind a period no name comes
-pub name_missed : (levels : ℕ) (p : Place) (a b c : List Token) (ss : List Selector) (es : List Expr) → Reads a (of_kind_at (kind.Symbol symbol.Period) p ∷ []) b
-    → NoNext kind.Identifier b → NoSelector c → BeginsSelectorsIn false levels a c (ss, es) → ⊥
+pub name_missed : (levels : ℕ) (p : Place) (a b c : List Token) (ss : List Selector) (es : List Expr)
+    → Reads a (of_kind_at (kind.Symbol symbol.Period) p ∷ []) b → NoNext kind.Identifier b → NoSelector c → BeginsSelectorsIn false levels a c (ss, es) → ⊥
 name_missed levels p a b c ss es h missed ends k =
     no_name levels p a b c (selectors_notation ss (map expr_notation es)) h missed ends (selectors_of false levels a c ss es k)
 

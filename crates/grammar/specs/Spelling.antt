@@ -1,6 +1,6 @@
 -- The tokens that spell a syntax tree: ISO 7185:1990, 6.7.1 (expressions), 6.5.3 (components), 6.8 (statements), 6.2.1
--- (blocks), 6.3 (constants), 6.4.1 (types), 6.5.1 (variables), 6.10 (programs). A tree keeps its parentheses, so each tree has one
--- spelling.
+-- (blocks), 6.3 (constants), 6.4.1 (types), 6.5.1 (variables), 6.10 (programs). A tree keeps its parentheses, so each
+-- tree has one spelling.
 -- This doesn't say which trees there may be: see WellFormed and Nesting.
 use Rattle.std.specs.Prelude.{◌≡◌, ℕ, List, [], ◌∷◌, ◌++◌, map, Option, Some, None, IfSome, Bool, true, false}
 use Rattle.std.specs.declared.alloc.Global.{Global}

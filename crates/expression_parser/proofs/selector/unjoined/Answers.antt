@@ -1,6 +1,3 @@
-use Rattle.std.proofs.Common.{rules, false, ◌≡◌, subst}
-use Rattle.token_cursor.specs.declared.cursor.Cursor.{Cursor}
-use Rattle.expression_parser.specs.Selecting.{NoSelectors}
 use Rattle.expression_parser.proofs.Selectors.{if_fault, missed_name}
 use Rattle.expression_parser.proofs.selector.unjoined.Goals as goal
 

@@ -1,7 +1,7 @@
 use Rattle.std.proofs.Common.{rules, ◌≡◌, ◌+◌, [], ◌∷◌, length, map, false, refl, subst}
 use Rattle.grammar.specs.Spelling.{identifier, of_kind_at, expr_spelling, selectors_spelling}
 use Rattle.expression_parser.specs.Refusing.{Refused}
-use Rattle.expression_parser.proofs.Deep.{refused_behind, refused_at_token}
+use Rattle.expression_parser.proofs.Deep.{refused_behind}
 use Rattle.expression_parser.proofs.Rules.{name_alone}
 use Rattle.lexer.specs.declared.token.Kind.TheVariants as kind
 use Rattle.lexer.specs.declared.token.Symbol.TheVariants as symbol
