@@ -12,6 +12,7 @@ pub mod Led
 pub mod Lists
 pub mod Loops
 pub mod OneTree
+pub mod OneTreeAssignments
 pub mod OneTreeConstants
 pub mod OneTreeDefinitions
 pub mod OneTreeExpressions
