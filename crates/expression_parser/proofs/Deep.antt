@@ -16,9 +16,19 @@ pub record Front (a b : List Token) : Type 0 where
   pub front : List Token
   pub are : a ≡ front ++ b
 
-front_of : (s : Spelling) (a b : List Token) → Reads a s b → Front a b
+pub front_of : (s : Spelling) (a b : List Token) → Reads a s b → Front a b
 front_of [] a b h = record { front = []; are = h }
 front_of (l ∷ s) a b h = let f = front_of s h.1 b h.4 in record { front = h.0 ∷ f.front; are = h.2 ∙ ap (λ ts. h.0 ∷ ts) f.are }
+
+-- how many levels a spelling opens
+abbrev pub opens_of : Spelling → ℕ
+opens_of [] = 0
+opens_of (l ∷ s) = opens l.kind + opens_of s
+
+pub front_opens : (s : Spelling) (a b : List Token) (h : Reads a s b) → opened (front_of s a b h).front ≡ opens_of s
+unfolding front_of
+front_opens [] a b h = refl
+front_opens (l ∷ s) a b h = let first = ap opens h.3.kind in let others = front_opens s h.1 b h.4 in omega arith
 
 pub front_none : (a : List Token) → Front a a
 front_none a = record { front = []; are = refl }
@@ -28,7 +38,7 @@ front_on s a b c f h =
     let g = front_of s b c h in
     record { front = f.front ++ g.front; are = f.are ∙ ap (λ ts. f.front ++ ts) g.are ∙ sym (append_assoc f.front g.front c) }
 
-opened_both : (a b : List Token) → opened (a ++ b) ≡ opened a + opened b
+pub opened_both : (a b : List Token) → opened (a ++ b) ≡ opened a + opened b
 opened_both [] b = omega arith
 opened_both (t ∷ ts) b = let e = opened_both ts b in omega arith
 
@@ -51,6 +61,12 @@ up_to_behind n m place front a b e less h = record {
 pub refused_behind_front : (n : ℕ) (a b : Cursor) (fault : ParseFault) → Front a.rest.now b.rest.now → Refused n b fault → Refused n a fault
 refused_behind_front n a b fault f h =
     record { rules = h.rules; deep = λ place is. up_to_behind n n place f.front a.rest.now b.rest.now f.are (omega arith) (h.deep place is) }
+
+-- and as many levels more as the others open
+pub refused_behind_levels : (n m : ℕ) (a b : Cursor) (front : List Token) (fault : ParseFault) → a.rest.now ≡ front ++ b.rest.now → m ≤ n + opened front
+    → Refused n b fault → Refused m a fault
+refused_behind_levels n m a b front fault are less h =
+    record { rules = h.rules; deep = λ place is. up_to_behind n m place front a.rest.now b.rest.now are less (h.deep place is) }
 
 pub refused_behind : (n : ℕ) (a b : Cursor) (s : Spelling) (fault : ParseFault) → Took a b s → Refused n b fault → Refused n a fault
 refused_behind n a b s fault took h = refused_behind_front n a b fault (front_of s a.rest.now b.rest.now took) h

@@ -15,6 +15,7 @@ use Rattle.expression_parser.specs.Reading.{ReadWithin, ReadsDeep}
 use Rattle.grammar.specs.Begins.{BeginsExpr, BeginsActual, BeginsActuals}
 use Rattle.grammar.proofs.Rows.{begins}
 use Rattle.expression_parser.proofs.Exact.{within_above}
+use Rattle.grammar.proofs.Expressions.{IsNamed}
 use Rattle.grammar.proofs.Parts.{PartsLeft, PartThenOthers, comes_behind}
 use Rattle.grammar.proofs.Actuals.{IsWidth, IsValue, actual_parts, ends_expression, value_ends, IsWide, actual_list_parts, ActualsListLeft, actual_ends}
 use Rattle.grammar.proofs.Actuals.{ActualNext}
@@ -64,3 +65,7 @@ pub no_actuals : (levels : ℕ) (a b : Cursor) (others : List Token) (actuals : 
     → BeginsActuals levels a.rest.now others actuals → b.rest.now ≡ others
 no_actuals levels a b others [] same none h = ap (λ (k : Cursor). k.rest.now) same ∙ h.spelled
 no_actuals levels a b others (x ∷ xs) same none h = absurd (none (begins (mark symbol.OpenParenthesis) _ a.rest.now others h.spelled))
+
+-- what stands behind selectors that were read
+pub actuals_behind : (depth : ℕ) (a b others : List Token) (n : IsNamed depth a others) → b ≡ n.middle → BeginsActuals depth b others n.actuals
+actuals_behind depth a b others n same = subst (λ t. BeginsActuals depth t others n.actuals) (sym same) n.begun

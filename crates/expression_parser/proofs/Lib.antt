@@ -9,3 +9,4 @@ pub mod Kept
 pub mod Lists
 pub mod Reading
 pub mod Rules
+pub mod Selectors

@@ -1,6 +1,6 @@
 -- What the rules give, form by form.
 use Rattle.std.proofs.Common.{◌≡◌, ℕ, ◌+◌, ◌≤◌, max, true, nat_eq, List, [], ◌∷◌, ◌++◌, map, length, Some, refl, subst, sym, ap, ◌∙◌, arith, Result, Ok, Err}
-use Rattle.std.proofs.Common.{None, MatchResult}
+use Rattle.std.proofs.Common.{None, MatchResult, false}
 use Rattle.std.proofs.lemmas.Bool.{eq-eqb}
 use Rattle.std.proofs.lemmas.List.{append-nil}
 use Rattle.std.specs.Borrow.{Bor}
@@ -12,9 +12,11 @@ use Rattle.place.specs.declared.Place.{Place}
 use Rattle.lexer.specs.declared.token.Kind.TheVariants as kind
 use Rattle.lexer.specs.declared.token.Symbol.TheVariants as symbol
 use Rattle.lexer.specs.declared.token.Word.TheVariants as word
+use Rattle.lexer.specs.declared.token.Token.{Token}
 use Rattle.token_cursor.specs.declared.fault.ParseFault.{ParseFault}
 use Rattle.token_cursor.specs.declared.cursor.Cursor.{Cursor}
 use Rattle.syntax_tree.specs.declared.Name.{Name}
+use Rattle.syntax_tree.specs.declared.Selector.{Selector}
 use Rattle.syntax_tree.specs.declared.Sign.{Sign}
 use Rattle.syntax_tree.specs.declared.Operator.{Operator}
 use Rattle.syntax_tree.specs.declared.Expr.{Expr}
@@ -25,21 +27,22 @@ use Rattle.syntax_tree.specs.declared.Expr.TheViews.{roll-Link, roll-Actual}
 use Rattle.token_cursor.specs.Cursor.{Took}
 use Rattle.expression_parser.specs.Refusing.{Refused}
 use Rattle.grammar.specs.Spelling.{expr_spelling, link_spelling, actual_spelling, joined, in_parentheses, of_kind_at, mark, identifier, operator, sign}
-use Rattle.grammar.specs.Spelling.{character_string}
+use Rattle.grammar.specs.Spelling.{character_string, Reads, selectors_spelling}
 use Rattle.grammar.specs.WellFormed.{LinkForm, expr_form, link_form, chain_form, is_actual, is_expression, has_items, is_link, fits, operator_level}
 use Rattle.grammar.specs.WellFormed.{first_level, operand_level, relation_level, signed_level, product_level, factor_level}
+use Rattle.grammar.specs.WellFormed.{are_selectors}
 use Rattle.grammar.specs.Nesting.{expr_levels, link_levels, deepest}
 use Rattle.expression_parser.specs.Rules.{Read}
-use Rattle.grammar.specs.Begins.{BeginsExpr, BeginsActual, BeginsActuals, BeginsLinks}
+use Rattle.grammar.specs.Begins.{BeginsExpr, BeginsActual, BeginsActuals, BeginsLinks, BeginsSelectors}
 use Rattle.grammar.proofs.Equations.{spelling-Number, form-Number, levels-Number, spelling-Not, form-Not, levels-Not, spelling-Signed, form-Signed}
 use Rattle.grammar.proofs.Equations.{levels-Signed, spelling-Alone, form-Alone, levels-Alone, spelling-Name, form-Name, levels-Name, spelling-Function}
 use Rattle.grammar.proofs.Equations.{form-Function, levels-Function, spelling-Parenthesized, form-Parenthesized, levels-Parenthesized, spelling-Chain}
-use Rattle.grammar.proofs.Equations.{spelling-String, form-String, levels-String}
+use Rattle.grammar.proofs.Equations.{spelling-String, form-String, levels-String, spelling-Component, form-Component, levels-Component}
 use Rattle.grammar.proofs.Equations.{form-Chain, levels-Chain, spelling-Link, form-Link, levels-Link, spelling-Wide, form-Wide, levels-Wide}
 use Rattle.grammar.proofs.Lists.{map_push, all_push, deepest_push, all_mapped, and_true}
 use Rattle.grammar.proofs.Reading.{both, without_place, joined_push}
 use Rattle.grammar.proofs.Chains.{fits_if, fits_level, fits_well}
-use Rattle.grammar.proofs.Forms.{no_items, has_mapped, forms_chain_of}
+use Rattle.grammar.proofs.Forms.{no_items, has, has_mapped, forms_chain_of}
 
 -- an expression in parentheses
 pub gives-Parenthesized : (levels inner_levels : ℕ) (a b c d : Cursor) (p q : Place) (box : Box Expr Global) (inner : Expr)
@@ -111,6 +114,28 @@ gives-Unsigned levels a b c (Ok e) same given = record {
   nests = given.nests;
 }
 gives-Unsigned levels a b c (Err fault) same given = subst (λ k. Refused (levels + 1) k fault) same given
+
+-- where no selectors were read nothing was
+none_selected : (levels : ℕ) (a c : List Token) (ss : List Selector) (es : List Expr) → length ss ≡ 0 → BeginsSelectors levels a c (ss, es) → a ≡ c
+none_selected levels a c [] [] none h = h.spelled
+none_selected levels a c [] (e ∷ es) none h = let no : false ≡ true = h.formed in cc
+none_selected levels a c (s ∷ ss) es none h = absurd (omega arith)
+
+pub name_alone : (levels : ℕ) (a b c : Cursor) (n : Name) (ss : List Selector) (es : List Expr) → Took a b (identifier n ∷ [])
+    → Read (BeginsSelectors levels) b c (ss, es) → length ss ≡ 0 → Took a c (identifier n ∷ [])
+name_alone levels a b c n ss es taken given none =
+    subst (λ t. Reads a.rest.now (identifier n ∷ []) t) (none_selected levels b.rest.now c.rest.now ss es none given) taken
+
+-- a name with its selectors
+pub gives-Component : (levels : ℕ) (a b c : Cursor) (n : Name) (ss : Vec Selector Global) (v : Vec Expr Global) → Took a b (identifier n ∷ [])
+    → Read (BeginsSelectors levels) b c (ss.items, v.items) → ¬ (ss.items ≡ []) → Read (BeginsExpr factor_level levels) a c (tree.Component n ss v)
+gives-Component levels a b c n ss v taken given some = record {
+  spelled = subst (λ s. Took a c s) (sym (spelling-Component n ss v)) (both (identifier n ∷ [])
+      (selectors_spelling false ss.items (map expr_spelling v.items)) a.rest.now b.rest.now c.rest.now taken given.spelled);
+  formed = subst (λ f. fits factor_level f ≡ true) (sym (form-Component n ss v))
+      (and_true (has_items ss.items) (are_selectors false ss.items (map expr_form v.items)) (has ss.items some) given.formed);
+  nests = let e = levels-Component n ss v in let m = given.nests in omega arith;
+}
 
 -- a name with no actuals behind it
 pub gives-Name : (levels : ℕ) (a b c : Cursor) (n : Name) (actuals : List Actual) → Took a b (identifier n ∷ []) → Read (BeginsActuals levels) b c actuals

@@ -3,3 +3,4 @@ pub mod Kept
 pub mod Reading
 pub mod Refusing
 pub mod Rules
+pub mod Selecting

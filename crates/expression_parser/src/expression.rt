@@ -1,17 +1,20 @@
 ghost use Rattle.std.specs.Prelude.{◌≡◌, ◌+◌, MatchResult, IfSome, IfNone, Some};
 ghost use Rattle.expression_parser.specs.Refusing.{Refused};
 ghost use Rattle.token_cursor.specs.Level.{level_number};
-ghost use Rattle.grammar.specs.Following.{next_kind, Ends, EndsActual, Closes, NoNext};
+ghost use Rattle.grammar.specs.Following.{next_kind, Ends, EndsActual, Closes, NoNext, NoSelector};
 ghost use Rattle.expression_parser.specs.Reading.{ReadsDeep};
 ghost use Rattle.expression_parser.specs.Rules.{Read, ReadLinks, LinksEnd, LinksGoOn};
 ghost use Rattle.grammar.specs.Begins.{BeginsExpr, BeginsActual, BeginsActualList, BeginsActuals, BeginsLinks};
-ghost use Rattle.grammar.specs.WellFormed.{first_level, operand_level, signed_level, factor_level};
+ghost use Rattle.grammar.specs.Begins.{BeginsIndex, BeginsSelectors};
+ghost use Rattle.expression_parser.specs.Selecting.{is_index, ReadSelector, ReadsSelector, least_opened};
+ghost use Rattle.grammar.specs.WellFormed.{first_level, operand_level, signed_level, factor_level, relation_level};
 
 use crate::memory::{boxed, put};
+use crate::selector::next_selector;
 use lexer::token::{Kind, Symbol, Word};
 use place::Place;
 use std::alloc::Global;
-use syntax_tree::{Actual, Expr, Link, Operator};
+use syntax_tree::{Actual, Expr, Link, Operator, Selector};
 use token_cursor::cursor::Cursor;
 use token_cursor::fault::ParseFault;
 use token_cursor::nesting::inside;
@@ -162,7 +165,7 @@ fn factor<'a>(
     Ok(Expr::Not { place, operand })
 }
 
-// named = name actuals
+// named = name (selectors | actuals)
 /// A variable, a constant or the call of a function (6.5.1, 6.3, 6.7.3).
 #[cycle(expression)]
 fn named<'a>(
@@ -177,11 +180,82 @@ fn named<'a>(
         cursor.old cursor.new result }
 {
     let name = cursor.expect_name()?;
+    let (selectors, indexes) = selectors(alloc, cursor, levels)?;
+    if !selectors.is_empty() {
+        return Ok(Expr::Component {
+            name,
+            selectors,
+            indexes,
+        });
+    }
     let actuals = actuals(alloc, cursor, levels)?;
     if actuals.is_empty() {
         return Ok(Expr::Name(name));
     }
     Ok(Expr::Call { name, actuals })
+}
+
+// selectors = {"[" index {"," index} "]" | "." name}
+/// The selectors of a variable, and the index expressions of those that are an index; below the variable `levels`
+/// levels are left (6.5.3).
+#[cycle(expression)]
+pub fn selectors<'a>(
+    alloc: Global,
+    cursor: &mut Cursor<'_, 'a>,
+    levels: u32,
+) -> Result<(Vec<Selector<'a>>, Vec<Expr<'a>>), ParseFault>
+    ensures given { MatchResult result
+        (λ found. Read (BeginsSelectors levels) cursor.old cursor.new (found.0.items, found.1.items))
+        (Refused (levels + 1) cursor.old) }
+    ensures exact { ReadsDeep levels BeginsSelectors NoSelector cursor.old cursor.new result }
+{
+    let mut selectors = Vec::new(alloc);
+    let mut indexes = Vec::new(alloc);
+    let mut within = false;
+    while let Some(selector) = selector(alloc, cursor, levels, within, &mut indexes)? {
+        within = is_index(&selector);
+        selectors.push(selector)?;
+    }
+    Ok((selectors, indexes))
+}
+
+/// The selector that comes next, if one does, by whether the brackets of an index are open. Its index expression is put
+/// behind the others.
+#[cycle(expression)]
+fn selector<'a>(
+    alloc: Global,
+    cursor: &mut Cursor<'_, 'a>,
+    levels: u32,
+    within: bool,
+    indexes: &mut Vec<Expr<'a>>,
+) -> Result<Option<Selector<'a>>, ParseFault>
+    ensures given { MatchResult result
+        (ReadSelector levels within cursor.old cursor.new indexes.old.items indexes.new.items)
+        (Refused (least_opened within levels) cursor.old) }
+    ensures exact { ReadsSelector levels within cursor.old cursor.new result }
+{
+    match next_selector(cursor, within)? {
+        Some(Selector::Index { place, joined }) => {
+            put(indexes, index(alloc, cursor, levels))?;
+            Ok(Some(Selector::Index { place, joined }))
+        }
+        Some(Selector::Field(name)) => Ok(Some(Selector::Field(name))),
+        None => Ok(None),
+    }
+}
+
+/// An index expression, which is a level of its own.
+#[cycle(expression)]
+fn index<'a>(
+    alloc: Global,
+    cursor: &mut Cursor<'_, 'a>,
+    levels: u32,
+) -> Result<Expr<'a>, ParseFault>
+    ensures given { MatchResult result (Read (BeginsIndex levels) cursor.old cursor.new) (Refused levels cursor.old) }
+    ensures exact { ReadsDeep levels BeginsIndex (Ends relation_level) cursor.old cursor.new result }
+{
+    let levels = inside(levels, cursor.place())?;
+    expression(alloc, cursor, levels, Level::Relation)
 }
 
 // parenthesized = "(" expression ")"
@@ -266,6 +340,13 @@ fn actual<'a>(
         value,
         width: Some(width),
     })
+}
+
+/// Whether a selector is an index, behind which its brackets are open.
+fn is_index(selector: &Selector<'_>) -> bool
+    ensures { result ≡ is_index selector.now }
+{
+    matches!(selector, Selector::Index { .. })
 }
 
 /// Takes an operator of this level behind these, if one is next. A relation has one alone.

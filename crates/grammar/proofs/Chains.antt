@@ -35,7 +35,8 @@ use Rattle.grammar.proofs.Rows.{parted, begins, same_first, start_below, other_s
 
 -- ---- the tokens of operators
 
--- how tightly a token binds what stands before it: an operator by its level, an opening parenthesis above all
+-- how tightly a token binds what stands before it: an operator by its level, the tokens with which a name goes on above
+-- all
 pub binds : Kind → ℕ
 binds (kind.Symbol symbol.Equal) = 1
 binds (kind.Symbol symbol.NotEqual) = 1
@@ -51,6 +52,8 @@ binds (kind.Word word.Div) = 4
 binds (kind.Word word.Mod) = 4
 binds (kind.Word word.And) = 4
 binds (kind.Symbol symbol.OpenParenthesis) = 9
+binds (kind.Symbol symbol.OpenBracket) = 9
+binds (kind.Symbol symbol.Period) = 9
 binds _ = 0
 
 binds_operator : (o : Operator) → binds (operator_kind o) ≡ operator_level o + 1
@@ -116,16 +119,24 @@ unfolding binds
 ends_before k level a h b m = record {
   operators = λ o l e. let s : k ≡ operator_kind o = cc in let n = ap binds s ∙ binds_operator o in absurd (omega arith);
   call = λ e. let s : k ≡ kind.Symbol symbol.OpenParenthesis = cc in let n : binds k ≡ 9 = ap binds s in absurd (omega arith);
+  selector = record {
+    index = λ e. let s : k ≡ kind.Symbol symbol.OpenBracket = cc in let n : binds k ≡ 9 = ap binds s in absurd (omega arith);
+    field = λ e. let s : k ≡ kind.Symbol symbol.Period = cc in let n : binds k ≡ 9 = ap binds s in absurd (omega arith);
+  };
 }
 
 -- what ends an expression ends one that binds more tightly
 pub ends_above : (l m : ℕ) (a : List Token) → l ≤ m → Ends l a → Ends m a
-ends_above l m a h ends = record { operators = λ o k e. ends.operators o (omega arith) e; call = ends.call }
+ends_above l m a h ends = record { operators = λ o k e. ends.operators o (omega arith) e; call = ends.call; selector = ends.selector }
 
 -- these tokens end each expression
 pub close_ends : (level : ℕ) (a : List Token) → next_kind a ≡ Some (kind.Symbol symbol.CloseParenthesis) → level ≤ 4 → Ends level a
 unfolding binds
 close_ends level a h m = ends_before (kind.Symbol symbol.CloseParenthesis) level a h (omega arith) m
+
+pub bracket_ends : (level : ℕ) (a : List Token) → next_kind a ≡ Some (kind.Symbol symbol.CloseBracket) → level ≤ 4 → Ends level a
+unfolding binds
+bracket_ends level a h m = ends_before (kind.Symbol symbol.CloseBracket) level a h (omega arith) m
 
 pub comma_ends : (level : ℕ) (a : List Token) → next_kind a ≡ Some (kind.Symbol symbol.Comma) → level ≤ 4 → Ends level a
 unfolding binds
@@ -134,6 +145,10 @@ comma_ends level a h m = ends_before (kind.Symbol symbol.Comma) level a h (omega
 pub colon_ends : (level : ℕ) (a : List Token) → next_kind a ≡ Some (kind.Symbol symbol.Colon) → level ≤ 4 → Ends level a
 unfolding binds
 colon_ends level a h m = ends_before (kind.Symbol symbol.Colon) level a h (omega arith) m
+
+pub becomes_ends : (level : ℕ) (a : List Token) → next_kind a ≡ Some (kind.Symbol symbol.Becomes) → level ≤ 4 → Ends level a
+unfolding binds
+becomes_ends level a h m = ends_before (kind.Symbol symbol.Becomes) level a h (omega arith) m
 
 pub semicolon_ends : (level : ℕ) (a : List Token) → next_kind a ≡ Some (kind.Symbol symbol.Semicolon) → level ≤ 4 → Ends level a
 unfolding binds
@@ -290,6 +305,7 @@ chained_of : (level levels : ℕ) (a c : List Token) (d : expr.Expr-F Expr Actua
     → nest.expr_step (map-Expr Expr Actual Link ℕ ℕ ℕ expr_levels actual_levels link_levels d) ≤ levels → IsChained level levels a c
 chained_of level levels a c (expr.Number v p) is e w s n = let b = level_below level is in absurd (omega arith)
 chained_of level levels a c (expr.Name m) is e w s n = let b = level_below level is in absurd (omega arith)
+chained_of level levels a c (expr.Component m ss v) is e w s n = let b = level_below level is in absurd (omega arith)
 chained_of level levels a c (expr.String t p) is e w s n = let b = level_below level is in absurd (omega arith)
 chained_of level levels a c (expr.Call m v) is e w s n = let b = level_below level is in absurd (omega arith)
 chained_of level levels a c (expr.Parenthesized p b) is e w s n = let b = level_below level is in absurd (omega arith)

@@ -13,6 +13,7 @@ use Rattle.lexer.specs.declared.token.Word.TheVariants as word
 use Rattle.syntax_tree.specs.declared.Name.{Name}
 use Rattle.syntax_tree.specs.declared.Constant.{Constant}
 use Rattle.syntax_tree.specs.Places.{arms_of}
+use Rattle.syntax_tree.specs.declared.Selector.{Selector}
 use Rattle.syntax_tree.specs.declared.Sign.{Sign}
 use Rattle.syntax_tree.specs.declared.Direction.{Direction}
 use Rattle.syntax_tree.specs.declared.Expr.{Expr}
@@ -55,6 +56,19 @@ form-Name n = ap form.expr_form (sym (tree.rolls-Name n)) ∙ form_of (expr.Name
 
 pub levels-Name : (n : Name) → nest.expr_levels (tree.Name n) ≡ 0
 levels-Name n = ap nest.expr_levels (sym (tree.rolls-Name n)) ∙ levels_of (expr.Name n)
+
+pub spelling-Component : (n : Name) (ss : Vec Selector Global) (v : Vec Expr Global)
+    → spell.expr_spelling (tree.Component n ss v) ≡ spell.identifier n ∷ spell.selectors_spelling false ss.items (map spell.expr_spelling v.items)
+spelling-Component n ss v = ap spell.expr_spelling (sym (tree.rolls-Component n ss v)) ∙ spelling_of (expr.Component n ss v)
+
+pub form-Component : (n : Name) (ss : Vec Selector Global) (v : Vec Expr Global)
+    → form.expr_form (tree.Component n ss v)
+    ≡ record { level = form.factor_level; well = form.has_items ss.items && form.are_selectors false ss.items (map form.expr_form v.items) }
+form-Component n ss v = ap form.expr_form (sym (tree.rolls-Component n ss v)) ∙ form_of (expr.Component n ss v)
+
+pub levels-Component : (n : Name) (ss : Vec Selector Global) (v : Vec Expr Global)
+    → nest.expr_levels (tree.Component n ss v) ≡ nest.index_levels (map nest.expr_levels v.items)
+levels-Component n ss v = ap nest.expr_levels (sym (tree.rolls-Component n ss v)) ∙ levels_of (expr.Component n ss v)
 
 pub spelling-String : (t : Bor (List ℕ)) (p : Place) → spell.expr_spelling (tree.String t p) ≡ spell.character_string t.now p ∷ []
 spelling-String t p = ap spell.expr_spelling (sym (tree.rolls-String t p)) ∙ spelling_of (expr.String t p)
@@ -202,15 +216,20 @@ form-Empty = ap form.is_statement (sym statement.rolls-Empty) ∙ stmt_well_of s
 pub levels-Empty : nest.stmt_levels statement.Empty ≡ 1
 levels-Empty = ap nest.stmt_levels (sym statement.rolls-Empty) ∙ fold-roll-Stmt ℕ nest.stmt_step stmt.Empty
 
-pub spelling-Assign : (n : Name) (p : Place) (e : Expr)
-    → spell.stmt_spelling (statement.Assign n p e) ≡ spell.identifier n ∷ spell.of_kind_at (kind.Symbol symbol.Becomes) p ∷ spell.expr_spelling e
-spelling-Assign n p e = ap spell.stmt_spelling (sym (statement.rolls-Assign n p e)) ∙ fold-roll-Stmt spell.Spelling spell.stmt_step (stmt.Assign n p e)
+pub spelling-Assign : (n : Name) (ss : Vec Selector Global) (v : Vec Expr Global) (p : Place) (e : Expr)
+    → spell.stmt_spelling (statement.Assign n ss v p e)
+    ≡ spell.identifier n ∷ spell.selectors_spelling false ss.items (map spell.expr_spelling v.items)
+    ++ spell.of_kind_at (kind.Symbol symbol.Becomes) p ∷ spell.expr_spelling e
+spelling-Assign n ss v p e = ap spell.stmt_spelling (sym (statement.rolls-Assign n ss v p e))
+    ∙ fold-roll-Stmt spell.Spelling spell.stmt_step (stmt.Assign n ss v p e)
 
-pub form-Assign : (n : Name) (p : Place) (e : Expr) → form.is_statement (statement.Assign n p e) ≡ form.is_expression e
-form-Assign n p e = ap form.is_statement (sym (statement.rolls-Assign n p e)) ∙ stmt_well_of (stmt.Assign n p e)
+pub form-Assign : (n : Name) (ss : Vec Selector Global) (v : Vec Expr Global) (p : Place) (e : Expr)
+    → form.is_statement (statement.Assign n ss v p e) ≡ form.are_selectors false ss.items (map form.expr_form v.items) && form.is_expression e
+form-Assign n ss v p e = ap form.is_statement (sym (statement.rolls-Assign n ss v p e)) ∙ stmt_well_of (stmt.Assign n ss v p e)
 
-pub levels-Assign : (n : Name) (p : Place) (e : Expr) → nest.stmt_levels (statement.Assign n p e) ≡ 1 + nest.expr_levels e
-levels-Assign n p e = ap nest.stmt_levels (sym (statement.rolls-Assign n p e)) ∙ fold-roll-Stmt ℕ nest.stmt_step (stmt.Assign n p e)
+pub levels-Assign : (n : Name) (ss : Vec Selector Global) (v : Vec Expr Global) (p : Place) (e : Expr)
+    → nest.stmt_levels (statement.Assign n ss v p e) ≡ 1 + max (nest.index_levels (map nest.expr_levels v.items)) (nest.expr_levels e)
+levels-Assign n ss v p e = ap nest.stmt_levels (sym (statement.rolls-Assign n ss v p e)) ∙ fold-roll-Stmt ℕ nest.stmt_step (stmt.Assign n ss v p e)
 
 pub spelling-Call : (n : Name) (v : Vec Actual Global)
     → spell.stmt_spelling (statement.Call n v) ≡ spell.identifier n ∷ spell.in_parentheses (map spell.actual_spelling v.items)
@@ -226,8 +245,9 @@ levels-Call n v = ap nest.stmt_levels (sym (statement.rolls-Call n v)) ∙ fold-
 pub closed-Empty : form.ends_open statement.Empty ≡ false
 closed-Empty = ap form.ends_open (sym statement.rolls-Empty) ∙ stmt_open_of stmt.Empty
 
-pub closed-Assign : (n : Name) (p : Place) (e : Expr) → form.ends_open (statement.Assign n p e) ≡ false
-closed-Assign n p e = ap form.ends_open (sym (statement.rolls-Assign n p e)) ∙ stmt_open_of (stmt.Assign n p e)
+pub closed-Assign : (n : Name) (ss : Vec Selector Global) (v : Vec Expr Global) (p : Place) (e : Expr)
+    → form.ends_open (statement.Assign n ss v p e) ≡ false
+closed-Assign n ss v p e = ap form.ends_open (sym (statement.rolls-Assign n ss v p e)) ∙ stmt_open_of (stmt.Assign n ss v p e)
 
 pub closed-Call : (n : Name) (v : Vec Actual Global) → form.ends_open (statement.Call n v) ≡ false
 closed-Call n v = ap form.ends_open (sym (statement.rolls-Call n v)) ∙ stmt_open_of (stmt.Call n v)

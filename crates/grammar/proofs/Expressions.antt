@@ -1,5 +1,5 @@
 -- The rules of expressions read each spelling of their form: by the first token, form by form.
-use Rattle.std.proofs.Common.{◌≡◌, ℕ, ◌+◌, ◌≤◌, Bool, true, false, nat_le, List, [], ◌∷◌, ◌++◌, map, Some, refl, subst, sym, ap, ◌∙◌, arith}
+use Rattle.std.proofs.Common.{◌≡◌, ℕ, ◌+◌, ◌≤◌, Bool, true, false, nat_le, List, [], ◌∷◌, ◌++◌, map, length, Some, refl, subst, sym, ap, ◌∙◌, arith}
 use Rattle.std.specs.List.{list_all}
 use Rattle.std.proofs.lemmas.Bool.{leb-true, leb-false}
 use Rattle.place.specs.declared.Place.{Place}
@@ -8,6 +8,7 @@ use Rattle.lexer.specs.declared.token.Symbol.TheVariants as symbol
 use Rattle.lexer.specs.declared.token.Word.TheVariants as word
 use Rattle.lexer.specs.declared.token.Token.{Token}
 use Rattle.syntax_tree.specs.declared.Name.{Name}
+use Rattle.syntax_tree.specs.declared.Selector.{Selector}
 use Rattle.syntax_tree.specs.declared.Sign.{Sign}
 use Rattle.syntax_tree.specs.declared.Sign.TheVariants.{Plus, Minus}
 use Rattle.syntax_tree.specs.declared.Expr.{Expr}
@@ -17,28 +18,39 @@ use Rattle.syntax_tree.specs.declared.Expr.TheOpen as expr
 use Rattle.syntax_tree.specs.declared.Expr.TheViews.{out-Expr, roll-Expr, roll-out-Expr}
 use Rattle.syntax_tree.specs.declared.Expr.TheFolds.{map-Expr}
 use Rattle.grammar.specs.Spelling.{Spelling, Reads, expr_spelling, actual_spelling, link_spelling, of_kind_at, mark, identifier, character_string, sign}
-use Rattle.grammar.specs.Spelling.{in_parentheses}
+use Rattle.grammar.specs.Spelling.{in_parentheses, selectors_spelling}
 use Rattle.grammar.specs.Spelling as spell
 use Rattle.grammar.specs.WellFormed.{Form, LinkForm, expr_form, is_actual, link_form, chain_form, fits, has_items, relation_level, signed_level, product_level}
-use Rattle.grammar.specs.WellFormed.{factor_level}
+use Rattle.grammar.specs.WellFormed.{factor_level, are_selectors}
 use Rattle.grammar.specs.WellFormed as form
 use Rattle.grammar.specs.Nesting.{expr_levels, actual_levels, link_levels, deepest}
 use Rattle.grammar.specs.Nesting as nest
-use Rattle.grammar.specs.Begins.{BeginsExpr, BeginsActuals}
-use Rattle.grammar.specs.Following.{next_kind, NoSign}
+use Rattle.grammar.specs.Begins.{BeginsExpr, BeginsActuals, BeginsSelectors}
+use Rattle.grammar.specs.Following.{next_kind, NoSign, NoSelector}
 use Rattle.grammar.proofs.Lists.{and_right, all_mapped}
 use Rattle.grammar.proofs.Equations.{spelling_of, form_of, levels_of}
+use Rattle.grammar.proofs.OneTree.{last_is_one}
 use Rattle.grammar.proofs.Rows.{parted, begins, same_first}
+use Rattle.grammar.proofs.Selectors.{selectors_none, selectors_fewer, before_actuals}
 use Rattle.grammar.proofs.Chains.{product, chain_parts, level_below, level_unsigned, link_is_level, fits_level, fits_well, fits_if}
 
 -- ---- factors
+
+-- what stands behind the name of a factor: its selectors, or its actuals, or neither
+pub record IsNamed (levels : ℕ) (a c : List Token) : Type 0 where
+  pub selectors : List Selector
+  pub indexes : List Expr
+  pub middle : List Token
+  pub selected : BeginsSelectors levels a middle (selectors, indexes)
+  pub alone : ¬ (selectors ≡ []) → middle ≡ c
+  pub actuals : List Actual
+  pub begun : BeginsActuals levels middle c actuals
 
 -- the ways to spell a factor
 pub data IsFactor (levels : ℕ) (tokens others : List Token) : Type 0 where
   number : (v : ℕ) (p : Place) → Reads tokens (of_kind_at (kind.Number v) p ∷ []) others → IsFactor levels tokens others
   quoted : (t : List ℕ) (p : Place) → Reads tokens (character_string t p ∷ []) others → IsFactor levels tokens others
-  named : (n : Name) (actuals : List Actual) → Reads tokens (identifier n ∷ in_parentheses (map actual_spelling actuals)) others
-      → list_all is_actual actuals ≡ true → deepest (map actual_levels actuals) ≤ levels → IsFactor levels tokens others
+  named : (n : Name) (b : List Token) → Reads tokens (identifier n ∷ []) b → IsNamed levels b others → IsFactor levels tokens others
   negated : (p : Place) (e : Expr) → Reads tokens (of_kind_at (kind.Word word.Not) p ∷ expr_spelling e) others
       → fits factor_level (expr_form e) ≡ true → 1 + expr_levels e ≤ levels → IsFactor levels tokens others
   parenthesized : (p : Place) (e : Expr) → Reads tokens (of_kind_at (kind.Symbol symbol.OpenParenthesis) p ∷ expr_spelling e ++ mark
@@ -52,16 +64,50 @@ chain_no_factor first (l ∷ ls) h =
     let k = fits_level factor_level (chain_form first (map link_form (l ∷ ls))) h in let m = level_below (link_form l).level (link_is_level l) in absurd
     (omega arith)
 
+called : (levels : ℕ) (a c : List Token) (actuals : List Actual) → BeginsActuals levels a c actuals → IsNamed levels a c
+called levels a c actuals h = record {
+  selectors = [];
+  indexes = [];
+  middle = a;
+  selected = selectors_none false levels a a refl;
+  alone = λ some. absurd (some refl);
+  actuals = actuals;
+  begun = h;
+}
+
 factor_of : (levels : ℕ) (a c : List Token) (d : expr.Expr-F Expr Actual Link) → BeginsExpr factor_level levels a c (roll-Expr d) → IsFactor levels a c
 factor_of levels a c (expr.Number v p) h = number v p (subst (λ s. Reads a s c) (spelling_of (expr.Number v p)) h.spelled)
-factor_of levels a c (expr.Name n) h = named n [] (subst (λ s. Reads a s c) (spelling_of (expr.Name n)) h.spelled) refl (omega arith)
+factor_of levels a c (expr.Name n) h = named n c (subst (λ s. Reads a s c) (spelling_of (expr.Name n)) h.spelled)
+    (called levels c c [] (record { spelled = refl; formed = refl; nests = omega arith }))
+factor_of levels a c (expr.Component n ss v) h =
+    let r = parted (identifier n ∷ []) (selectors_spelling false ss.items (map expr_spelling v.items)) a c
+    (subst (λ s. Reads a s c) (spelling_of (expr.Component n ss v)) h.spelled) in
+    let f = fits_well factor_level (form.expr_step (map-Expr Expr Actual Link Form Bool LinkForm expr_form is_actual link_form (expr.Component n ss v)))
+    (subst (λ f. fits factor_level f ≡ true) (form_of (expr.Component n ss v)) h.formed) in
+    named n r.0 r.1 (record {
+      selectors = ss.items;
+      indexes = v.items;
+      middle = c;
+      selected = record {
+        spelled = r.2;
+        formed = and_right (has_items ss.items) (are_selectors false ss.items (map expr_form v.items)) f;
+        nests = subst (λ n. n ≤ levels) (levels_of (expr.Component n ss v)) h.nests;
+      };
+      alone = λ _. refl;
+      actuals = [];
+      begun = record { spelled = refl; formed = refl; nests = omega arith };
+    })
 factor_of levels a c (expr.String t p) h = quoted t.now p (subst (λ s. Reads a s c) (spelling_of (expr.String t p)) h.spelled)
 factor_of levels a c (expr.Call n v) h =
     let f = fits_well factor_level (form.expr_step (map-Expr Expr Actual Link Form Bool LinkForm expr_form is_actual link_form (expr.Call n v)))
     (subst (λ f. fits factor_level f ≡ true) (form_of (expr.Call n v)) h.formed) in
-    named n v.items (subst (λ s. Reads a s c) (spelling_of (expr.Call n v)) h.spelled)
-    (sym (all_mapped is_actual v.items) ∙ and_right (has_items (map is_actual v.items)) (list_all (λ well. well) (map is_actual v.items)) f)
-    (subst (λ n. n ≤ levels) (levels_of (expr.Call n v)) h.nests)
+    let r = parted (identifier n ∷ []) (in_parentheses (map actual_spelling v.items)) a c
+    (subst (λ s. Reads a s c) (spelling_of (expr.Call n v)) h.spelled) in
+    named n r.0 r.1 (called levels r.0 c v.items (record {
+      spelled = r.2;
+      formed = sym (all_mapped is_actual v.items) ∙ and_right (has_items (map is_actual v.items)) (list_all (λ well. well) (map is_actual v.items)) f;
+      nests = subst (λ n. n ≤ levels) (levels_of (expr.Call n v)) h.nests;
+    }))
 factor_of levels a c (expr.Parenthesized p b) h =
     parenthesized p b.value (subst (λ s. Reads a s c) (spelling_of (expr.Parenthesized p b)) h.spelled)
     (subst (λ f. fits factor_level f ≡ true) (form_of (expr.Parenthesized p b)) h.formed) (subst (λ n. n ≤ levels) (levels_of (expr.Parenthesized p b)) h.nests)
@@ -80,7 +126,7 @@ factor_parts levels a c e h = factor_of levels a c (out-Expr e) (subst (λ x. Be
 pub number_read : (levels v : ℕ) (p : Place) (a b c : List Token) → Reads a (of_kind_at (kind.Number v) p ∷ []) b → IsFactor levels a c → b ≡ c
 number_read levels v p a b c k (number w q h) = (same_first _ (of_kind_at (kind.Number w) q) [] a b c k h).1
 number_read levels v p a b c k (quoted t q h) = let no : Some kind.Text ≡ Some (kind.Number v) = (same_first _ (character_string t q) [] a b c k h).0 in cc
-number_read levels v p a b c k (named n xs h f m) = let no : Some kind.Identifier ≡ Some (kind.Number v) = (same_first _ (identifier n) _ a b c k h).0 in cc
+number_read levels v p a b c k (named n d h m) = let no : Some kind.Identifier ≡ Some (kind.Number v) = (same_first _ (identifier n) [] a b d k h).0 in cc
 number_read levels v p a b c k (negated q e h f n) = let no : Some (kind.Word word.Not) ≡ Some
     (kind.Number v) = (same_first _ (of_kind_at (kind.Word word.Not) q) _ a b c k h).0 in cc
 number_read levels v p a b c k (parenthesized q e h f n) =
@@ -92,7 +138,7 @@ pub string_read : (levels : ℕ) (t : List ℕ) (p : Place) (a b c : List Token)
 string_read levels t p a b c k (number v q h) = let no : Some (kind.Number v) ≡ Some kind.Text = (same_first _ (of_kind_at (kind.Number v) q) [] a b c k h).0
     in cc
 string_read levels t p a b c k (quoted u q h) = (same_first _ (character_string u q) [] a b c k h).1
-string_read levels t p a b c k (named n xs h f m) = let no : Some kind.Identifier ≡ Some kind.Text = (same_first _ (identifier n) _ a b c k h).0 in cc
+string_read levels t p a b c k (named n d h m) = let no : Some kind.Identifier ≡ Some kind.Text = (same_first _ (identifier n) [] a b d k h).0 in cc
 string_read levels t p a b c k (negated q e h f n) = let no : Some (kind.Word word.Not) ≡ Some
     kind.Text = (same_first _ (of_kind_at (kind.Word word.Not) q) _ a b c k h).0 in cc
 string_read levels t p a b c k (parenthesized q e h f n) =
@@ -105,32 +151,39 @@ pub begins_parenthesized : (levels : ℕ) (a c : List Token) → ((v : ℕ) → 
     → next_kind a ≡ Some (kind.Symbol symbol.OpenParenthesis)
 begins_parenthesized levels a c x w y z (number v p h) = absurd (x v (begins _ [] a c h))
 begins_parenthesized levels a c x w y z (quoted t p h) = absurd (w (begins (character_string t p) [] a c h))
-begins_parenthesized levels a c x w y z (named n xs h f m) = absurd (y (begins _ _ a c h))
+begins_parenthesized levels a c x w y z (named n d h m) = absurd (y (begins (identifier n) [] a d h))
 begins_parenthesized levels a c x w y z (negated p e h f n) = absurd (z (begins _ _ a c h))
 begins_parenthesized levels a c x w y z (parenthesized p e h f n) = begins _ _ a c h
 
--- what stands behind the name of a factor
-pub record IsNamed (levels : ℕ) (a c : List Token) : Type 0 where
-  pub actuals : List Actual
-  pub begun : BeginsActuals levels a c actuals
-
+-- behind a name that was taken
 pub name_taken : (levels : ℕ) (m : Name) (a b c : List Token) → Reads a (identifier m ∷ []) b → IsFactor levels a c → IsNamed levels b c
 name_taken levels m a b c k (number w q h) = let no : Some (kind.Number w) ≡ Some
     kind.Identifier = (same_first _ (of_kind_at (kind.Number w) q) [] a b c k h).0 in cc
 name_taken levels m a b c k (quoted t q h) = let no : Some kind.Text ≡ Some kind.Identifier = (same_first _ (character_string t q) [] a b c k h).0 in cc
-name_taken levels m a b c k (named n xs h f l) = record {
-  actuals = xs;
-  begun = record {
-    spelled = (same_first _ (identifier n) _ a b c k h).1;
-    formed = f;
-    nests = l;
-  };
-}
+name_taken levels m a b c k (named n d h l) = subst (λ x. IsNamed levels x c) (last_is_one (identifier n) (identifier m) a d b h k) l
 name_taken levels m a b c k (negated q e h f n) = let no : Some (kind.Word word.Not) ≡ Some
     kind.Identifier = (same_first _ (of_kind_at (kind.Word word.Not) q) _ a b c k h).0 in cc
 name_taken levels m a b c k (parenthesized q e h f n) =
     let no : Some (kind.Symbol symbol.OpenParenthesis) ≡ Some kind.Identifier = (same_first _
     (of_kind_at (kind.Symbol symbol.OpenParenthesis) q) _ a b c k h).0 in cc
+
+-- no selector stands behind its selectors
+pub named_ends : (levels : ℕ) (a c : List Token) (n : IsNamed levels a c) → NoSelector c → NoSelector n.middle
+named_ends levels a c n ends = before_actuals n.middle c n.actuals n.begun.spelled ends
+
+selected_alone : (levels other : ℕ) (a b c : List Token) (selectors : List Selector) (indexes : List Expr) (ss : List Selector) (es : List Expr) → ¬ (ss ≡ [])
+    → BeginsSelectors levels a b (ss, es) → BeginsSelectors other a b (selectors, indexes) → (¬ (selectors ≡ []) → b ≡ c) → b ≡ c
+selected_alone levels other a b c [] [] ss es some given h alone = let e = ap length h.spelled in let n = selectors_fewer levels a b ss es some given in
+    absurd (omega arith)
+selected_alone levels other a b c [] (i ∷ is) ss es some given h alone = let no : false ≡ true = h.formed in cc
+selected_alone levels other a b c (x ∷ xs) is ss es some given h alone = alone (λ e. cc)
+
+-- where selectors were read nothing else stands behind the name
+pub selected_ends : (levels other : ℕ) (a b c : List Token) (n : IsNamed other a c) (ss : List Selector) (es : List Expr) → ¬ (ss ≡ [])
+    → BeginsSelectors levels a b (ss, es) → b ≡ n.middle → b ≡ c
+selected_ends levels other a b c n ss es some given same =
+    selected_alone levels other a b c n.selectors n.indexes ss es some given
+    (subst (λ x. BeginsSelectors other a x (n.selectors, n.indexes)) (sym same) n.selected) (λ h. same ∙ n.alone h)
 
 -- what stands behind the `not` of a factor
 pub record IsNegated (levels : ℕ) (a c : List Token) : Type 0 where
@@ -145,8 +198,8 @@ not_taken_word levels p a b c k (number w q h) = let no : Some (kind.Number w) �
     (kind.Word word.Not) = (same_first _ (of_kind_at (kind.Number w) q) [] a b c k h).0 in cc
 not_taken_word levels p a b c k (quoted t q h) = let no : Some kind.Text ≡ Some
     (kind.Word word.Not) = (same_first _ (character_string t q) [] a b c k h).0 in cc
-not_taken_word levels p a b c k (named n xs h f l) = let no : Some kind.Identifier ≡ Some
-    (kind.Word word.Not) = (same_first _ (identifier n) _ a b c k h).0 in cc
+not_taken_word levels p a b c k (named n d h l) = let no : Some kind.Identifier ≡ Some
+    (kind.Word word.Not) = (same_first _ (identifier n) [] a b d k h).0 in cc
 not_taken_word levels p a b c k (negated q e h f n) = record {
   operand = e;
   spelled = (same_first _ (of_kind_at (kind.Word word.Not) q) _ a b c k h).1;
@@ -172,8 +225,8 @@ opened levels p a b c k (number w q h) = let no : Some (kind.Number w) ≡ Some 
     (of_kind_at (kind.Number w) q) [] a b c k h).0 in cc
 opened levels p a b c k (quoted t q h) = let no : Some kind.Text ≡ Some (kind.Symbol symbol.OpenParenthesis) = (same_first _
     (character_string t q) [] a b c k h).0 in cc
-opened levels p a b c k (named n xs h f l) = let no : Some kind.Identifier ≡ Some
-    (kind.Symbol symbol.OpenParenthesis) = (same_first _ (identifier n) _ a b c k h).0 in cc
+opened levels p a b c k (named n d h l) = let no : Some kind.Identifier ≡ Some
+    (kind.Symbol symbol.OpenParenthesis) = (same_first _ (identifier n) [] a b d k h).0 in cc
 opened levels p a b c k (negated q e h f n) = let no : Some (kind.Word word.Not) ≡ Some
     (kind.Symbol symbol.OpenParenthesis) = (same_first _ (of_kind_at (kind.Word word.Not) q) _ a b c k h).0 in cc
 opened levels p a b c k (parenthesized q e h f n) =
@@ -199,6 +252,7 @@ signed_of : (levels : ℕ) (a c : List Token) (d : expr.Expr-F Expr Actual Link)
     → nest.expr_step (map-Expr Expr Actual Link ℕ ℕ ℕ expr_levels actual_levels link_levels d) ≤ levels → IsSigned levels a c
 signed_of levels a c (expr.Number v p) e w s n = absurd (omega arith)
 signed_of levels a c (expr.Name m) e w s n = absurd (omega arith)
+signed_of levels a c (expr.Component m ss v) e w s n = absurd (omega arith)
 signed_of levels a c (expr.String t p) e w s n = absurd (omega arith)
 signed_of levels a c (expr.Call m v) e w s n = absurd (omega arith)
 signed_of levels a c (expr.Parenthesized p b) e w s n = absurd (omega arith)
@@ -237,7 +291,7 @@ factor_unsigned levels Plus p a b c k (number v q h) = let no : Some (kind.Numbe
     ∙ begins _ [] a b k in cc
 factor_unsigned levels Plus p a b c k (quoted t q h) = let no : Some kind.Text ≡ Some (kind.Symbol symbol.Plus) = sym
     (begins (character_string t q) [] a c h) ∙ begins _ [] a b k in cc
-factor_unsigned levels Plus p a b c k (named n xs h f m) = let no : Some kind.Identifier ≡ Some (kind.Symbol symbol.Plus) = sym (begins _ _ a c h)
+factor_unsigned levels Plus p a b c k (named n d h m) = let no : Some kind.Identifier ≡ Some (kind.Symbol symbol.Plus) = sym (begins (identifier n) [] a d h)
     ∙ begins _ [] a b k in cc
 factor_unsigned levels Plus p a b c k (negated q e h f n) = let no : Some (kind.Word word.Not) ≡ Some (kind.Symbol symbol.Plus) = sym (begins _ _ a c h)
     ∙ begins _ [] a b k in cc
@@ -247,7 +301,7 @@ factor_unsigned levels Minus p a b c k (number v q h) = let no : Some (kind.Numb
     ∙ begins _ [] a b k in cc
 factor_unsigned levels Minus p a b c k (quoted t q h) = let no : Some kind.Text ≡ Some (kind.Symbol symbol.Minus) = sym
     (begins (character_string t q) [] a c h) ∙ begins _ [] a b k in cc
-factor_unsigned levels Minus p a b c k (named n xs h f m) = let no : Some kind.Identifier ≡ Some (kind.Symbol symbol.Minus) = sym (begins _ _ a c h)
+factor_unsigned levels Minus p a b c k (named n d h m) = let no : Some kind.Identifier ≡ Some (kind.Symbol symbol.Minus) = sym (begins (identifier n) [] a d h)
     ∙ begins _ [] a b k in cc
 factor_unsigned levels Minus p a b c k (negated q e h f n) = let no : Some (kind.Word word.Not) ≡ Some (kind.Symbol symbol.Minus) = sym (begins _ _ a c h)
     ∙ begins _ [] a b k in cc

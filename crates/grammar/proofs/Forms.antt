@@ -11,7 +11,7 @@ pub no_items : {A : Type 0} (xs : List A) → length xs ≡ 0 → xs ≡ []
 no_items [] h = refl
 no_items (x ∷ xs) h = absurd (omega arith)
 
-has : {A : Type 0} (xs : List A) → ¬ (xs ≡ []) → has_items xs ≡ true
+pub has : {A : Type 0} (xs : List A) → ¬ (xs ≡ []) → has_items xs ≡ true
 has [] h = absurd (h refl)
 has (x ∷ xs) h = lt-ltb 0 (length (x ∷ xs)) (omega arith)
 

@@ -12,12 +12,14 @@ pub mod Led
 pub mod Lists
 pub mod Loops
 pub mod OneTree
+pub mod OneTreeAssignments
 pub mod OneTreeConstants
 pub mod OneTreeDefinitions
 pub mod OneTreeExpressions
 pub mod OneTreeLists
 pub mod OneTreeNames
 pub mod OneTreePrograms
+pub mod OneTreeSelectors
 pub mod OneTreeStatements
 pub mod OneTreeTypes
 pub mod Parts
@@ -25,6 +27,7 @@ pub mod ProgramPlaces
 pub mod Programs
 pub mod Reading
 pub mod Rows
+pub mod Selectors
 pub mod Starts
 pub mod Statements
 pub mod TreePlaces

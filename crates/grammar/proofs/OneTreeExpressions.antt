@@ -12,6 +12,8 @@ use Rattle.lexer.specs.declared.token.Symbol.TheVariants as symbol
 use Rattle.lexer.specs.declared.token.Word.TheVariants as word
 use Rattle.lexer.specs.declared.token.Token.{Token}
 use Rattle.syntax_tree.specs.declared.Name.{Name}
+use Rattle.syntax_tree.specs.declared.Selector.{Selector}
+use Rattle.syntax_tree.specs.declared.Selector.TheVariants.{Index, Field}
 use Rattle.syntax_tree.specs.declared.Sign.{Sign}
 use Rattle.syntax_tree.specs.declared.Sign.TheVariants.{Plus, Minus}
 use Rattle.syntax_tree.specs.declared.Expr.{Expr}
@@ -21,23 +23,26 @@ use Rattle.syntax_tree.specs.declared.Expr.TheOpen as expr
 use Rattle.syntax_tree.specs.declared.Expr.TheViews.{out-Expr, roll-Expr, roll-out-Expr, out-Link, roll-out-Link, out-Actual, roll-Actual, roll-out-Actual}
 use Rattle.syntax_tree.specs.declared.Expr.TheFolds.{map-Expr, fold-roll-Expr, fold-roll-Link, fold-roll-Actual}
 use Rattle.grammar.specs.Spelling.{Lexeme, Spelling, IsSpelledBy, Reads, expr_spelling, actual_spelling, link_spelling, of_kind_at, mark, identifier, sign}
-use Rattle.grammar.specs.Spelling.{operator, operator_kind, in_parentheses, joined, character_string}
+use Rattle.grammar.specs.Spelling.{operator, operator_kind, in_parentheses, joined, character_string, selectors_spelling}
 use Rattle.grammar.specs.Spelling as spell
 use Rattle.grammar.specs.WellFormed.{Form, LinkForm, expr_form, is_actual, is_expression, link_form, chain_form, fits, has_items, is_link, first_level}
-use Rattle.grammar.specs.WellFormed.{operand_level, relation_level, sum_level, signed_level, product_level, factor_level}
+use Rattle.grammar.specs.WellFormed.{operand_level, relation_level, sum_level, signed_level, product_level, factor_level, are_selectors}
 use Rattle.grammar.specs.WellFormed as form
 use Rattle.grammar.specs.Following.{next_kind, Ends}
-use Rattle.grammar.specs.Nesting.{expr_levels}
-use Rattle.grammar.specs.Notation.{Notation, bracketed, token, row, expr_notation, link_notation, actual_notation, width_notation}
+use Rattle.grammar.specs.Nesting.{expr_levels, index_levels}
+use Rattle.grammar.specs.Begins.{BeginsSelectors}
+use Rattle.grammar.specs.Notation.{Notation, bracketed, token, row, expr_notation, link_notation, actual_notation, width_notation, selectors_notation}
 use Rattle.grammar.specs.Notation as note
 use Rattle.grammar.proofs.Lists.{and_left, and_right, all_mapped}
 use Rattle.grammar.proofs.Reading.{reads_no_more}
 use Rattle.grammar.proofs.Equations.{spelling_of, form_of, spelling-Alone, spelling-Wide, form-Alone, form-Wide}
 use Rattle.grammar.proofs.Rows.{parted, begins}
+use Rattle.grammar.proofs.Selectors.{selectors_none, before_actuals}
 use Rattle.grammar.proofs.Chains.{IsLevel, relation, sum, product, level_below, level_unsigned, operand_above, operand_below, fits_level, fits_well, fits_if}
 use Rattle.grammar.proofs.Chains.{ends_above, close_ends, comma_ends, colon_ends, link_spelled, operator_of_link, operand_of_link, parts_of, behind_with}
 use Rattle.grammar.proofs.Expressions.{chain_no_factor, chain_unsigned, term_unsigned}
 use Rattle.grammar.proofs.OneTree.{Alike, first_is_one, last_is_one, at_is_one, name_is_one, string_is_one}
+use Rattle.grammar.proofs.OneTreeSelectors.{Stands, One, selectors_alike}
 use Rattle.grammar.proofs.OneTreeLists.{Parts, EndsPart, more, last, Part, OnePart, InParentheses, in_commas, parenthesized_alike}
 
 -- the form, the spelling and the notation of one layer
@@ -52,17 +57,6 @@ notation_layer d = note.expr_step (map-Expr Expr Actual Link Notation Notation N
 
 notation_of : (d : expr.Expr-F Expr Actual Link) → expr_notation (roll-Expr d) ≡ notation_layer d
 notation_of d = fold-roll-Expr Notation Notation Notation note.expr_step note.actual_step note.link_step d
-
--- an expression of at least this level that begins these tokens
-pub record Stands (level : ℕ) (a c : List Token) (e : Expr) : Type 0 where
-  pub spelled : Reads a (expr_spelling e) c
-  pub formed : fits level (expr_form e) ≡ true
-
--- two from the same tokens, fewer than so many, are written alike
-abbrev pub One : ℕ → ℕ → Type 0
-One level n =
-    (a c d : List Token) (e f : Expr) → length a < n → Stands level a c e → Stands level a d f → Ends level c → Ends level d
-    → Alike Notation (expr_notation e) (expr_notation f) c d
 
 -- ---- chains
 
@@ -102,6 +96,7 @@ chain_of : (level : ℕ) (a c : List Token) (d : expr.Expr-F Expr Actual Link) �
     → Reads a (spelling_layer d) c → ChainAs level a c (notation_layer d)
 chain_of level a c (expr.Number v p) is e w s = let b = level_below level is in absurd (omega arith)
 chain_of level a c (expr.Name m) is e w s = let b = level_below level is in absurd (omega arith)
+chain_of level a c (expr.Component m ss v) is e w s = let b = level_below level is in absurd (omega arith)
 chain_of level a c (expr.String t p) is e w s = let b = level_below level is in absurd (omega arith)
 chain_of level a c (expr.Call m v) is e w s = let b = level_below level is in absurd (omega arith)
 chain_of level a c (expr.Parenthesized p b) is e w s = let b = level_below level is in absurd (omega arith)
@@ -247,6 +242,7 @@ signed_of : (a c : List Token) (d : expr.Expr-F Expr Actual Link) → (form_laye
     → Reads a (spelling_layer d) c → SignedAs a c (notation_layer d)
 signed_of a c (expr.Number v p) e w s = absurd (omega arith)
 signed_of a c (expr.Name m) e w s = absurd (omega arith)
+signed_of a c (expr.Component m ss v) e w s = absurd (omega arith)
 signed_of a c (expr.String t p) e w s = absurd (omega arith)
 signed_of a c (expr.Call m v) e w s = absurd (omega arith)
 signed_of a c (expr.Parenthesized p b) e w s = absurd (omega arith)
@@ -413,17 +409,29 @@ actuals_alike n a c d xs ys one few h k = parenthesized_alike Actual actual_spel
 
 -- ---- factors
 
--- a name alone, or the call of a function
-named_notation : Lexeme → List Notation → Notation
-named_notation name [] = bracketed note.name (token name ∷ [])
-named_notation name (one ∷ others) = bracketed note.function_call (token name ∷ row (one ∷ others))
+-- a name with its selectors, with its actuals, or alone
+named_notation : Lexeme → List Notation → List Notation → Notation
+named_notation name [] [] = bracketed note.name (token name ∷ [])
+named_notation name [] (one ∷ others) = bracketed note.function_call (token name ∷ row (one ∷ others))
+named_notation name (one ∷ others) actuals = bracketed note.component (token name ∷ row (one ∷ others))
+
+-- what stands behind a name
+record NamedAs (a c : List Token) (name : Lexeme) (w : Notation) : Type 0 where
+  pub selectors : List Selector
+  pub indexes : List Expr
+  pub levels : ℕ
+  pub middle : List Token
+  pub selected : BeginsSelectors levels a middle (selectors, indexes)
+  pub actuals : List Actual
+  pub spelled : Reads middle (in_parentheses (map actual_spelling actuals)) c
+  pub formed : list_all is_actual actuals ≡ true
+  pub written : w ≡ named_notation name (selectors_notation selectors (map expr_notation indexes)) (map actual_notation actuals)
 
 data FactorAs (a c : List Token) (w : Notation) : Type 0 where
   number : (v : ℕ) (p : Place) → Reads a (of_kind_at (kind.Number v) p ∷ []) c → w ≡ bracketed note.number
       (token (of_kind_at (kind.Number v) p) ∷ []) → FactorAs a c w
   quoted : (t : List ℕ) (p : Place) → Reads a (character_string t p ∷ []) c → w ≡ bracketed note.string (token (character_string t p) ∷ []) → FactorAs a c w
-  named : (n : Name) (actuals : List Actual) → Reads a (identifier n ∷ in_parentheses (map actual_spelling actuals)) c → list_all is_actual actuals ≡ true
-      → w ≡ named_notation (identifier n) (map actual_notation actuals) → FactorAs a c w
+  named : (n : Name) (b : List Token) → Reads a (identifier n ∷ []) b → NamedAs b c (identifier n) w → FactorAs a c w
   negated : (p : Place) (e : Expr) → Reads a (of_kind_at (kind.Word word.Not) p ∷ expr_spelling e) c → fits factor_level (expr_form e) ≡ true
       → w ≡ bracketed note.negated (token (of_kind_at (kind.Word word.Not) p) ∷ expr_notation e) → FactorAs a c w
   parenthesized : (p : Place) (e : Expr) → Reads a (of_kind_at (kind.Symbol symbol.OpenParenthesis) p ∷ expr_spelling e ++ mark symbol.CloseParenthesis ∷ []) c
@@ -436,14 +444,63 @@ call_as : (a c : List Token) (n : Name) (xs : List Actual) → Reads a (identifi
 unfolding named_notation
 call_as a c n [] h f = let no : false ≡ true = f in cc
 call_as a c n (x ∷ xs) h f =
-    named n (x ∷ xs) h (sym (all_mapped is_actual (x ∷ xs)) ∙ and_right (has_items (map is_actual (x ∷ xs)))
-    (list_all (λ well. well) (map is_actual (x ∷ xs))) f) refl
+    let r = parted (identifier n ∷ []) (in_parentheses (map actual_spelling (x ∷ xs))) a c h in
+    named n r.0 r.1 (record {
+      selectors = [];
+      indexes = [];
+      levels = 0;
+      middle = r.0;
+      selected = selectors_none false 0 r.0 r.0 refl;
+      actuals = x ∷ xs;
+      spelled = r.2;
+      formed = sym (all_mapped is_actual (x ∷ xs)) ∙ and_right (has_items (map is_actual (x ∷ xs)))
+          (list_all (λ well. well) (map is_actual (x ∷ xs))) f;
+      written = refl;
+    })
+
+component_written : (n : Name) (ss : List Selector) (ws : List Notation) → has_items ss ≡ true
+    → bracketed note.component (token (identifier n) ∷ row (selectors_notation ss ws)) ≡ named_notation (identifier n) (selectors_notation ss ws) []
+unfolding named_notation
+component_written n [] ws some = let no : false ≡ true = some in cc
+component_written n (Field m ∷ ss) ws some = refl
+component_written n (Index p j ∷ ss) [] some = refl
+component_written n (Index p j ∷ ss) (w ∷ ws) some = refl
+
+component_as : (a c : List Token) (n : Name) (ss : List Selector) (es : List Expr)
+    → Reads a (identifier n ∷ selectors_spelling false ss (map expr_spelling es)) c
+    → has_items ss && are_selectors false ss (map expr_form es) ≡ true
+    → FactorAs a c (bracketed note.component (token (identifier n) ∷ row (selectors_notation ss (map expr_notation es))))
+component_as a c n ss es h f =
+    let r = parted (identifier n ∷ []) (selectors_spelling false ss (map expr_spelling es)) a c h in
+    named n r.0 r.1 (record {
+      selectors = ss;
+      indexes = es;
+      levels = index_levels (map expr_levels es);
+      middle = c;
+      selected = record { spelled = r.2; formed = and_right (has_items ss) (are_selectors false ss (map expr_form es)) f; nests = omega arith };
+      actuals = [];
+      spelled = refl;
+      formed = refl;
+      written = component_written n ss (map expr_notation es) (and_left (has_items ss) (are_selectors false ss (map expr_form es)) f);
+    })
 
 factor_of : (a c : List Token) (d : expr.Expr-F Expr Actual Link) → fits factor_level (form_layer d) ≡ true → Reads a (spelling_layer d) c
     → FactorAs a c (notation_layer d)
 unfolding named_notation
 factor_of a c (expr.Number v p) f s = number v p s refl
-factor_of a c (expr.Name n) f s = named n [] s refl refl
+factor_of a c (expr.Name n) f s =
+    named n c s (record {
+      selectors = [];
+      indexes = [];
+      levels = 0;
+      middle = c;
+      selected = selectors_none false 0 c c refl;
+      actuals = [];
+      spelled = refl;
+      formed = refl;
+      written = refl;
+    })
+factor_of a c (expr.Component n ss v) f s = component_as a c n ss.items v.items s f
 factor_of a c (expr.String t p) f s = quoted t.now p s refl
 factor_of a c (expr.Call n v) f s = call_as a c n v.items s f
 factor_of a c (expr.Parenthesized p b) f s = parenthesized p b.value s f refl
@@ -463,16 +520,36 @@ factor_as a c e h =
 abbrev first_kind : {a c : List Token} {w : Notation} → FactorAs a c w → Kind
 first_kind (number v p h x) = kind.Number v
 first_kind (quoted t p h x) = kind.Text
-first_kind (named n xs h f x) = kind.Identifier
+first_kind (named n b h x) = kind.Identifier
 first_kind (negated p e h f x) = kind.Word word.Not
 first_kind (parenthesized p e h f x) = kind.Symbol symbol.OpenParenthesis
 
 begins_so : (a c : List Token) (w : Notation) (x : FactorAs a c w) → next_kind a ≡ Some (first_kind x)
 begins_so a c w (number v p h x) = begins _ [] a c h
 begins_so a c w (quoted t p h x) = begins (character_string t p) [] a c h
-begins_so a c w (named n xs h f x) = begins _ _ a c h
+begins_so a c w (named n b h x) = begins (identifier n) [] a b h
 begins_so a c w (negated p e h f x) = begins _ _ a c h
 begins_so a c w (parenthesized p e h f x) = begins _ _ a c h
+
+named_alike : (n : ℕ) (a c d : List Token) (m o : Name) (v w : Notation) → One relation_level n → length a < n → identifier m ≡ identifier o
+    → NamedAs a c (identifier m) v → NamedAs a d (identifier o) w → Ends factor_level c → Ends factor_level d → Alike Notation v w c d
+named_alike n a c d m o v w inner few same x y ends_one ends_two =
+    let s = selectors_alike n false x.levels y.levels a x.middle y.middle x.selectors x.indexes y.selectors y.indexes inner few x.selected y.selected
+    (before_actuals x.middle c x.actuals x.spelled ends_one.selector) (before_actuals y.middle d y.actuals y.spelled ends_two.selector) in
+    let no_more = reads_no_more (selectors_spelling false x.selectors (map expr_spelling x.indexes)) a x.middle x.selected.spelled in
+    let r = actuals_alike n x.middle c d x.actuals y.actuals inner (omega arith) (record { spelled = x.spelled; formed = x.formed; ends = ends_one.call })
+    (record {
+      spelled = subst (λ t. Reads t (in_parentheses (map actual_spelling y.actuals)) d) (sym s.left) y.spelled;
+      formed = y.formed;
+      ends = ends_two.call;
+    }) in
+    record {
+      written = x.written
+          ∙ ap (λ l. named_notation l (selectors_notation x.selectors (map expr_notation x.indexes)) (map actual_notation x.actuals)) same
+          ∙ ap (λ u. named_notation (identifier o) u (map actual_notation x.actuals)) s.written
+          ∙ ap (λ u. named_notation (identifier o) (selectors_notation y.selectors (map expr_notation y.indexes)) u) r.written ∙ sym y.written;
+      left = r.left;
+    }
 
 factors_alike : (n : ℕ) (a c d : List Token) (v w : Notation) → One relation_level n → One factor_level n → length a ≤ n
     → (x : FactorAs a c v) (y : FactorAs a d w) → Some (first_kind x) ≡ Some (first_kind y) → Ends factor_level c → Ends factor_level d → Alike Notation v w c d
@@ -488,16 +565,11 @@ factors_alike n a c d v w inner factor few (quoted s p h x) (quoted t q k y) sam
       written = x ∙ ap (λ l. bracketed note.string (token l ∷ [])) (string_is_one s t p q b.first b.one b.two) ∙ sym y;
       left = sym b.one_behind ∙ b.two_behind;
     }
-factors_alike n a c d v w inner factor few (named m xs h f x) (named o ys k g y) same ends_one ends_two =
-    let b = first_is_one (identifier m) (identifier o) (in_parentheses (map actual_spelling xs)) (in_parentheses (map actual_spelling ys)) a c d h k in
+factors_alike n a c d v w inner factor few (named m i h x) (named o j k y) same ends_one ends_two =
+    let b = first_is_one (identifier m) (identifier o) [] [] a i j h k in
     let less = b.fewer in
-    let r = actuals_alike n b.behind c d xs ys inner (omega arith) (record { spelled = b.one_behind; formed = f; ends = ends_one.call })
-    (record { spelled = b.two_behind; formed = g; ends = ends_two.call }) in
-    record {
-      written = x ∙ ap (λ l. named_notation l (map actual_notation xs)) (name_is_one m o b.first b.one b.two) ∙ ap
-          (λ u. named_notation (identifier o) u) r.written ∙ sym y;
-      left = r.left;
-    }
+    named_alike n b.behind c d m o v w inner (omega arith) (name_is_one m o b.first b.one b.two)
+    (subst (λ t. NamedAs t c (identifier m) v) (sym b.one_behind) x) (subst (λ t. NamedAs t d (identifier o) w) (sym b.two_behind) y) ends_one ends_two
 factors_alike n a c d v w inner factor few (negated p e h i x) (negated q f k j y) same ends_one ends_two =
     let b = first_is_one (of_kind_at (kind.Word word.Not) p) (of_kind_at (kind.Word word.Not) q) (expr_spelling e) (expr_spelling f) a c d h k in
     let less = b.fewer in

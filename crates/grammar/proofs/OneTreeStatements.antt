@@ -13,7 +13,6 @@ use Rattle.lexer.specs.declared.token.Symbol.TheVariants as symbol
 use Rattle.lexer.specs.declared.token.Word.{Word}
 use Rattle.lexer.specs.declared.token.Word.TheVariants as word
 use Rattle.lexer.specs.declared.token.Token.{Token}
-use Rattle.syntax_tree.specs.declared.Actual.{Actual}
 use Rattle.syntax_tree.specs.declared.Constant.{Constant}
 use Rattle.syntax_tree.specs.Places.{arms_of}
 use Rattle.syntax_tree.specs.declared.Direction.{Direction}
@@ -30,7 +29,7 @@ use Rattle.grammar.specs.WellFormed.{StmtForm, stmt_form, is_constant, is_row, i
 use Rattle.grammar.specs.Nesting.{stmt_levels}
 use Rattle.grammar.specs.Following.{next_kind, NoNext, Next, EndsEach, EndsStatements, compound, repeated, EndsStmt, semicolon, end, until}
 use Rattle.grammar.specs.Begins.{BeginsGuard, BeginsStmt, BeginsAlternative, BeginsInitial, Arm, arm_spelled, arm_well, BeginsArms}
-use Rattle.grammar.specs.Notation.{Notation, bracketed, token, row, expr_notation, actual_notation, stmt_notation, arm_notation}
+use Rattle.grammar.specs.Notation.{Notation, bracketed, token, row, selectors_notation, expr_notation, actual_notation, stmt_notation, arm_notation}
 use Rattle.grammar.specs.Notation as note
 use Rattle.grammar.proofs.Lists.{and_left, and_right, all_computed, length_map, map_push, all_push}
 use Rattle.grammar.proofs.Reading.{reads_no_more, reads_fewer, separated_more}
@@ -38,7 +37,8 @@ use Rattle.grammar.proofs.Cases.{arms_computed, constant_kind, row_first, behind
 use Rattle.grammar.proofs.OneTreeConstants.{constant_parts, one_constant, all_constants}
 use Rattle.grammar.proofs.Rows.{parted, begins}
 use Rattle.grammar.proofs.Chains.{then_ends, do_ends, of_ends, direction_ends}
-use Rattle.grammar.proofs.Starts.{not_behind, first_of, begins_so, start_is_one, Layer, layer}
+use Rattle.grammar.proofs.OneTreeAssignments.{behind_name, assigned_notation, not_assigned, assigned_alike}
+use Rattle.grammar.proofs.Starts.{first_of, begins_so, start_is_one, Layer, layer}
 use Rattle.grammar.proofs.Conditionals.{Branches, Conditional, behind_if, conditional_parts}
 use Rattle.grammar.proofs.Loops.{behind_while, while_parts, RepeatLoop, behind_repeat, repeat_parts, ForLoop, behind_control, for_parts}
 use Rattle.grammar.proofs.Statements.{ends_value}
@@ -60,13 +60,6 @@ end_closes others h = compound h
 
 pub until_closes : Closes word.Until
 until_closes others h = repeated h
-
--- an assignment isn't a call
-not_called : (p : Place) (s : Spelling) (a c d : List Token) (xs : List Actual) → Reads a (of_kind_at (kind.Symbol symbol.Becomes) p ∷ s) c
-    → Reads a (in_parentheses (map actual_spelling xs)) d → EndsStmt d → ⊥
-not_called p s a c d [] h k ends = not_behind (kind.Symbol symbol.Becomes) d refl ends (ap next_kind (sym k) ∙ begins _ s a c h)
-not_called p s a c d (x ∷ xs) h k ends = let no : Some (kind.Symbol symbol.Becomes) ≡ Some (kind.Symbol symbol.OpenParenthesis) = sym (begins _ s a c h)
-    ∙ begins _ _ a d k in cc
 
 -- ---- statements
 
@@ -547,22 +540,16 @@ cases_alike n l m a c d p r e f x y v w b g one few h k =
 layers_alike : (n l m : ℕ) (a c d : List Token) (x y : stmt.Stmt-F Stmt) → OneStatement n → length a ≤ n → Layer l a c x → Layer m a d y
     → first_of x ≡ first_of y → Alike Notation (written_of x) (written_of y) c d
 layers_alike n l m a c d stmt.Empty stmt.Empty one few h k same = record { written = refl; left = sym h.spelled ∙ k.spelled }
-layers_alike n l m a c d (stmt.Assign u p e) (stmt.Assign o q f) one few h k same =
-    let b = first_is_one (identifier u) (identifier o) (of_kind_at (kind.Symbol symbol.Becomes) p ∷ expr_spelling e)
-    (of_kind_at (kind.Symbol symbol.Becomes) q ∷ expr_spelling f) a c d h.spelled k.spelled in
-    let v = first_is_one (of_kind_at (kind.Symbol symbol.Becomes) p) (of_kind_at (kind.Symbol symbol.Becomes) q) (expr_spelling e)
-    (expr_spelling f) b.behind c d b.one_behind b.two_behind in
+layers_alike n l m a c d (stmt.Assign u ss v p e) (stmt.Assign o ts w q f) one few h k same =
+    let s = behind_name ss.items v.items p e in
+    let t = behind_name ts.items w.items q f in
+    let b = first_is_one (identifier u) (identifier o) s t a c d h.spelled k.spelled in
     let less = b.fewer in
-    let fewer = v.fewer in
-    let r = one_expression n v.behind c d e f (omega arith) (record { spelled = v.one_behind; formed = h.formed })
-    (record { spelled = v.two_behind; formed = k.formed }) (ends_value c h.ends) (ends_value d k.ends) in
-    let names = name_is_one u o b.first b.one b.two in
-    let becomes = at_is_one (kind.Symbol symbol.Becomes) (kind.Symbol symbol.Becomes) p q v.first v.one v.two in
-    let values = r.written in
+    let r = assigned_alike n l m b.behind c d ss.items ts.items v.items w.items p q e f (omega arith) b.one_behind b.two_behind h.formed k.formed h.nests
+    k.nests h.ends k.ends in
     record {
-      written = ap (λ l. bracketed note.assignment (token l ∷ token (of_kind_at (kind.Symbol symbol.Becomes) p) ∷ expr_notation e)) names
-          ∙ ap (λ l. bracketed note.assignment (token (identifier o) ∷ token l ∷ expr_notation e)) becomes
-          ∙ ap (λ w. bracketed note.assignment (token (identifier o) ∷ token (of_kind_at (kind.Symbol symbol.Becomes) q) ∷ w)) values;
+      written = ap (λ x. bracketed note.assignment (token x ∷ assigned_notation ss.items v.items p e)) (name_is_one u o b.first b.one b.two)
+          ∙ ap (λ x. bracketed note.assignment (token (identifier o) ∷ x)) r.written;
       left = r.left;
     }
 layers_alike n l m a c d (stmt.Call u v) (stmt.Call o w) one few h k same =
@@ -577,14 +564,14 @@ layers_alike n l m a c d (stmt.Call u v) (stmt.Call o w) one few h k same =
           ∙ ap (λ w. bracketed note.procedure_call (token (identifier o) ∷ row w)) r.written;
       left = r.left;
     }
-layers_alike n l m a c d (stmt.Assign u p e) (stmt.Call o w) one few h k same =
-    let b = first_is_one (identifier u) (identifier o) (of_kind_at (kind.Symbol symbol.Becomes) p ∷ expr_spelling e)
+layers_alike n l m a c d (stmt.Assign u ss v p e) (stmt.Call o w) one few h k same =
+    let b = first_is_one (identifier u) (identifier o) (behind_name ss.items v.items p e)
     (in_parentheses (map actual_spelling w.items)) a c d h.spelled k.spelled in
-    absurd (not_called p (expr_spelling e) b.behind c d w.items b.one_behind b.two_behind k.ends)
-layers_alike n l m a c d (stmt.Call u v) (stmt.Assign o q f) one few h k same =
+    absurd (not_assigned l b.behind c d ss.items v.items p e w.items b.one_behind b.two_behind h.formed h.nests k.ends)
+layers_alike n l m a c d (stmt.Call u v) (stmt.Assign o ts w q f) one few h k same =
     let b = first_is_one (identifier u) (identifier o) (in_parentheses (map actual_spelling v.items))
-    (of_kind_at (kind.Symbol symbol.Becomes) q ∷ expr_spelling f) a c d h.spelled k.spelled in
-    absurd (not_called q (expr_spelling f) b.behind d c v.items b.two_behind b.one_behind h.ends)
+    (behind_name ts.items w.items q f) a c d h.spelled k.spelled in
+    absurd (not_assigned m b.behind d c ts.items w.items q f v.items b.two_behind b.one_behind k.formed k.nests h.ends)
 layers_alike n l m a c d (stmt.Compound v) (stmt.Compound w) one few h k same =
     let s = separated symbol.Semicolon (map stmt_spelling v.items) in
     let t = separated symbol.Semicolon (map stmt_spelling w.items) in

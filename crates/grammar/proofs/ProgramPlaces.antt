@@ -21,6 +21,7 @@ use Rattle.syntax_tree.specs.declared.Constant.{Constant}
 use Rattle.syntax_tree.specs.Places.{arms_of}
 use Rattle.syntax_tree.specs.declared.Name.{Name}
 use Rattle.syntax_tree.specs.declared.Actual.{Actual}
+use Rattle.syntax_tree.specs.declared.Expr.{Expr}
 use Rattle.syntax_tree.specs.declared.ConstantDefinition.{ConstantDefinition}
 use Rattle.syntax_tree.specs.declared.TypeDefinition.{TypeDefinition}
 use Rattle.syntax_tree.specs.declared.TypeDenoter.{TypeDenoter}
@@ -37,10 +38,10 @@ use Rattle.syntax_tree.specs.Places as place
 use Rattle.grammar.specs.Spelling.{Lexeme, Spelling, IsSpelledBy, Reads, Spells, joined, separated, in_parentheses, mark, word_symbol, of_kind_at, identifier}
 use Rattle.grammar.specs.Spelling.{identifiers, direction_word, sign, sign_spelling, value_lexeme, constant_spelling, arm_spelling, case_end, expr_spelling}
 use Rattle.grammar.specs.Spelling.{actual_spelling, stmt_spelling, denoter_spelling, group_spelling, variables_spelling, block_spelling, program_spelling}
-use Rattle.grammar.specs.Spelling.{definition_spelling, constants_spelling, type_definition_spelling, types_spelling}
+use Rattle.grammar.specs.Spelling.{definition_spelling, constants_spelling, type_definition_spelling, types_spelling, selectors_spelling}
 use Rattle.grammar.specs.Spelling as spell
 use Rattle.grammar.proofs.TreePlaces.{kept, kept_places, kept_both, AllKept, each_kept, all_kept, joined_kept, separated_kept, parenthesized_kept, expr_kept}
-use Rattle.grammar.proofs.TreePlaces.{actual_kept}
+use Rattle.grammar.proofs.TreePlaces.{actual_kept, selectors_kept}
 use Rattle.grammar.proofs.Programs.{behind_types, behind_constants}
 
 -- ---- statements
@@ -117,7 +118,12 @@ stmt_layer : (y : stmt.Stmt-F KeptStmt)
     → place.statement_step (map-Stmt Stmt Places stmt_places (stmt_parts y))
     ≡ kept_places (spell.stmt_step (map-Stmt Stmt Spelling stmt_spelling (stmt_parts y)))
 stmt_layer stmt.Empty = refl
-stmt_layer (stmt.Assign n p e) = ap (λ ps. n.place ∷ p ∷ ps) (expr_kept e)
+stmt_layer (stmt.Assign n ss v p e) =
+    let selected = selectors_kept Expr expr_spelling expr_places false ss.items v.items (each_kept Expr expr_spelling expr_places v.items expr_kept) in
+    let value = expr_kept e in
+    ap (λ ps. n.place ∷ ps)
+    ((λ i. selected i ++ (p ∷ value i))
+    ∙ sym (kept_both (selectors_spelling false ss.items (map expr_spelling v.items)) (of_kind_at (kind.Symbol symbol.Becomes) p ∷ expr_spelling e)))
 stmt_layer (stmt.Call n v) =
     ap (λ ps. n.place ∷ ps) (parenthesized_kept Actual actual_spelling actual_places v.items
     (each_kept Actual actual_spelling actual_places v.items actual_kept))

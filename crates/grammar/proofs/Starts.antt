@@ -44,7 +44,7 @@ not_behind k c other ends e =
 -- the token that one layer of a statement begins with
 abbrev pub first_of : stmt.Stmt-F Stmt → Option Kind
 first_of stmt.Empty = None
-first_of (stmt.Assign n p v) = Some kind.Identifier
+first_of (stmt.Assign n ss v p e) = Some kind.Identifier
 first_of (stmt.Call n v) = Some kind.Identifier
 first_of (stmt.Compound v) = Some (kind.Word word.Begin)
 first_of (stmt.If p e b o) = Some (kind.Word word.If)
@@ -60,7 +60,7 @@ BeginsSo a c (Some k) = (next_kind a ≡ Some k) × (ends_kind k ≡ false)
 
 pub begins_so : (a c : List Token) (d : stmt.Stmt-F Stmt) → Reads a (spell.stmt_step (map-Stmt Stmt Spelling stmt_spelling d)) c → BeginsSo a c (first_of d)
 begins_so a c stmt.Empty h = h
-begins_so a c (stmt.Assign n p v) h = (ap next_kind h.2 ∙ ap Some h.3.kind, refl)
+begins_so a c (stmt.Assign n ss v p e) h = (ap next_kind h.2 ∙ ap Some h.3.kind, refl)
 begins_so a c (stmt.Call n v) h = (ap next_kind h.2 ∙ ap Some h.3.kind, refl)
 begins_so a c (stmt.Compound v) h = (ap next_kind h.2 ∙ ap Some h.3.kind, refl)
 begins_so a c (stmt.If p e b o) h = (ap next_kind h.2 ∙ ap Some h.3.kind, refl)

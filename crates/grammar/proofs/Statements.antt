@@ -1,5 +1,5 @@
 -- The rules of statements read each spelling of their form: by the first token, form by form.
-use Rattle.std.proofs.Common.{◌≡◌, ℕ, ◌+◌, ◌<◌, ◌≤◌, true, List, [], ◌∷◌, ◌++◌, map, length, Some, refl, sym, ap, ◌∙◌, arith}
+use Rattle.std.proofs.Common.{◌≡◌, ℕ, ◌+◌, ◌<◌, ◌≤◌, max, true, false, ◌&&◌, List, [], ◌∷◌, ◌++◌, map, length, Some, refl, sym, ap, ◌∙◌, arith}
 use Rattle.std.specs.List.{list_all}
 use Rattle.place.specs.declared.Place.{Place}
 use Rattle.lexer.specs.declared.token.Kind.{Kind}
@@ -10,18 +10,20 @@ use Rattle.lexer.specs.declared.token.Word.TheVariants as word
 use Rattle.syntax_tree.specs.declared.Actual.{Actual}
 use Rattle.syntax_tree.specs.declared.Expr.{Expr}
 use Rattle.syntax_tree.specs.declared.Name.{Name}
+use Rattle.syntax_tree.specs.declared.Selector.{Selector}
 use Rattle.syntax_tree.specs.declared.Stmt.{Stmt}
 use Rattle.syntax_tree.specs.declared.Stmt.TheOpen as stmt
 use Rattle.syntax_tree.specs.declared.Stmt.TheViews.{out-Stmt}
 use Rattle.grammar.specs.Spelling.{Spelling, Reads, expr_spelling, actual_spelling, stmt_spelling, of_kind, of_kind_at, mark, word_symbol, identifier}
-use Rattle.grammar.specs.Spelling.{separated, in_parentheses}
-use Rattle.grammar.specs.WellFormed.{relation_level, is_expression, is_actual, StmtForm, stmt_form, is_statement, has_items}
-use Rattle.grammar.specs.Nesting.{expr_levels, actual_levels, stmt_levels, deepest}
-use Rattle.grammar.specs.Following.{next_kind, NoNext, Next, Ends, EndsStmt, EndsStatements, compound, repeated, semicolon, end, until, alternative}
-use Rattle.grammar.specs.Begins.{BeginsExpr, BeginsActuals, BeginsStmt, BeginsStatements, BeginsCompound}
+use Rattle.grammar.specs.Spelling.{separated, in_parentheses, selectors_spelling}
+use Rattle.grammar.specs.WellFormed.{relation_level, expr_form, is_expression, is_actual, are_selectors, StmtForm, stmt_form, is_statement, has_items}
+use Rattle.grammar.specs.Nesting.{expr_levels, actual_levels, stmt_levels, deepest, index_levels}
+use Rattle.grammar.specs.Following.{next_kind, NoNext, NoSelector, Next, Ends, EndsStmt, EndsStatements, compound, repeated, semicolon, end, until, alternative}
+use Rattle.grammar.specs.Begins.{BeginsExpr, BeginsActuals, BeginsSelectors, BeginsStmt, BeginsStatements, BeginsCompound}
 use Rattle.grammar.proofs.Lists.{and_left, and_right, all_computed}
 use Rattle.grammar.proofs.Rows.{parted, begins, same_first}
-use Rattle.grammar.proofs.Chains.{semicolon_ends, end_ends, until_ends, else_ends}
+use Rattle.grammar.proofs.Chains.{semicolon_ends, end_ends, until_ends, else_ends, becomes_ends}
+use Rattle.grammar.proofs.Selectors.{selectors_none, before_actuals}
 use Rattle.grammar.proofs.Starts.{not_behind, first_of, Layer, layer, form_at}
 use Rattle.grammar.proofs.Parts.{Parts, PartsLeft, PartThenOthers, ComesBehind, one_more, no_more, parts_begin, parts_go_on}
 
@@ -34,27 +36,76 @@ ends_value c (alternative h) = else_ends c h
 
 -- ---- assignments and calls
 
--- what stands behind the name of a statement
-pub data IsSimple (levels : ℕ) (tokens others : List Token) : Type 0 where
+-- what stands behind the name and these selectors of a statement
+pub data IsSimple (selectors : List Selector) (levels : ℕ) (tokens others : List Token) : Type 0 where
   assigned : (p : Place) (e : Expr) → Reads tokens (of_kind_at (kind.Symbol symbol.Becomes) p ∷ expr_spelling e) others → is_expression e ≡ true → 1 +
-      expr_levels e ≤ levels → IsSimple levels tokens others
-  called : (actuals : List Actual) → Reads tokens (in_parentheses (map actual_spelling actuals)) others → list_all is_actual actuals ≡ true
-      → 1 + deepest (map actual_levels actuals) ≤ levels → IsSimple levels tokens others
+      expr_levels e ≤ levels → IsSimple selectors levels tokens others
+  called : (actuals : List Actual) → selectors ≡ [] → Reads tokens (in_parentheses (map actual_spelling actuals)) others
+      → list_all is_actual actuals ≡ true → 1 + deepest (map actual_levels actuals) ≤ levels → IsSimple selectors levels tokens others
+
+-- what stands behind the name of a statement
+pub record IsSelected (levels : ℕ) (a c : List Token) : Type 0 where
+  pub selectors : List Selector
+  pub indexes : List Expr
+  pub below : ℕ
+  pub less : below < levels
+  pub middle : List Token
+  pub begun : BeginsSelectors below a middle (selectors, indexes)
+  pub simple : IsSimple selectors levels middle c
+
+assigned_of : (levels : ℕ) (a c : List Token) (ss : List Selector) (es : List Expr) (p : Place) (e : Expr)
+    → Reads a (selectors_spelling false ss (map expr_spelling es) ++ of_kind_at (kind.Symbol symbol.Becomes) p ∷ expr_spelling e) c
+    → are_selectors false ss (map expr_form es) && is_expression e ≡ true → 1 + max (index_levels (map expr_levels es)) (expr_levels e) ≤ levels
+    → IsSelected levels a c
+assigned_of levels a c ss es p e h f n =
+    let r = parted (selectors_spelling false ss (map expr_spelling es)) (of_kind_at (kind.Symbol symbol.Becomes) p ∷ expr_spelling e) a c h in
+    record {
+      selectors = ss;
+      indexes = es;
+      below = index_levels (map expr_levels es);
+      less = omega arith;
+      middle = r.0;
+      begun = record { spelled = r.1; formed = and_left (are_selectors false ss (map expr_form es)) (is_expression e) f; nests = omega arith };
+      simple = assigned p e r.2 (and_right (are_selectors false ss (map expr_form es)) (is_expression e) f) (omega arith);
+    }
+
+called_of : (levels : ℕ) (a c : List Token) (xs : List Actual) → Reads a (in_parentheses (map actual_spelling xs)) c → list_all is_actual xs ≡ true
+    → 1 + deepest (map actual_levels xs) ≤ levels → IsSelected levels a c
+called_of levels a c xs h f n = record {
+  selectors = [];
+  indexes = [];
+  below = 0;
+  less = omega arith;
+  middle = a;
+  begun = selectors_none false 0 a a refl;
+  simple = called xs refl h f n;
+}
 
 simple_of : (levels : ℕ) (m : Name) (a b c : List Token) (d : stmt.Stmt-F Stmt) → Reads a (identifier m ∷ []) b → first_of d ≡ Some kind.Identifier
-    → Layer levels a c d → IsSimple levels b c
-simple_of levels m a b c (stmt.Assign x p v) k is h = assigned p v (same_first (identifier m) (identifier x)
-    (of_kind_at (kind.Symbol symbol.Becomes) p ∷ expr_spelling v) a b c k h.spelled).1 h.formed h.nests
-simple_of levels m a b c (stmt.Call x v) k is h = called v.items (same_first (identifier m) (identifier x)
+    → Layer levels a c d → IsSelected levels b c
+simple_of levels m a b c (stmt.Assign x ss v p e) k is h =
+    assigned_of levels b c ss.items v.items p e (same_first (identifier m) (identifier x)
+    (selectors_spelling false ss.items (map expr_spelling v.items) ++ of_kind_at (kind.Symbol symbol.Becomes) p ∷ expr_spelling e) a b c k h.spelled).1
+    h.formed h.nests
+simple_of levels m a b c (stmt.Call x v) k is h = called_of levels b c v.items (same_first (identifier m) (identifier x)
     (in_parentheses (map actual_spelling v.items)) a b c k h.spelled).1 h.formed h.nests
 simple_of levels m a b c d k is h = absurd (let no : first_of d ≡ Some kind.Identifier = is in cc)
 
 -- at a name stands an assignment or a call
 pub simple_parts : (levels : ℕ) (m : Name) (a b c : List Token) (s : Stmt) → Reads a (identifier m ∷ []) b → EndsStmt c → BeginsStmt levels a c s
-    → IsSimple levels b c
+    → IsSelected levels b c
 simple_parts levels m a b c s k ends h =
     let l = layer levels a c s h ends in
     simple_of levels m a b c (out-Stmt s) k (form_at kind.Identifier levels a c (out-Stmt s) (begins (identifier m) [] a b k) refl l) l
+
+becomes_or_actuals : (levels : ℕ) (a c : List Token) (ss : List Selector) → EndsStmt c → IsSimple ss levels a c → NoSelector a
+becomes_or_actuals levels a c ss ends (assigned p e h f n) =
+    (becomes_ends relation_level a (begins (of_kind_at (kind.Symbol symbol.Becomes) p) (expr_spelling e) a c h) (omega arith)).selector
+becomes_or_actuals levels a c ss ends (called xs unselected h f n) = before_actuals a c xs h (ends_value c ends).selector
+
+-- no selector stands behind its selectors
+pub selected_ends : (levels : ℕ) (a c : List Token) → EndsStmt c → (x : IsSelected levels a c) → NoSelector x.middle
+selected_ends levels a c ends x = becomes_or_actuals levels x.middle c x.selectors ends x.simple
 
 -- the value of an assignment
 pub record IsAssigned (levels : ℕ) (a c : List Token) : Type 0 where
@@ -64,9 +115,9 @@ pub record IsAssigned (levels : ℕ) (a c : List Token) : Type 0 where
   pub begun : BeginsExpr relation_level below a c value
 
 -- behind `:=` stands a value
-pub becomes_taken : (levels : ℕ) (p : Place) (a b c : List Token) → Reads a (of_kind_at (kind.Symbol symbol.Becomes) p ∷ []) b → EndsStmt c
-    → IsSimple levels a c → IsAssigned levels b c
-becomes_taken levels p a b c k ends (assigned q e h f n) = record {
+pub becomes_taken : (levels : ℕ) (ss : List Selector) (p : Place) (a b c : List Token) → Reads a (of_kind_at (kind.Symbol symbol.Becomes) p ∷ []) b → EndsStmt c
+    → IsSimple ss levels a c → IsAssigned levels b c
+becomes_taken levels ss p a b c k ends (assigned q e h f n) = record {
   value = e;
   below = expr_levels e;
   less = omega arith;
@@ -77,9 +128,9 @@ becomes_taken levels p a b c k ends (assigned q e h f n) = record {
     nests = omega arith;
   };
 }
-becomes_taken levels p a b c k ends (called [] h f n) = absurd (not_behind (kind.Symbol symbol.Becomes) c refl ends
+becomes_taken levels ss p a b c k ends (called [] none h f n) = absurd (not_behind (kind.Symbol symbol.Becomes) c refl ends
     (ap next_kind (sym h) ∙ begins (of_kind_at (kind.Symbol symbol.Becomes) p) [] a b k))
-becomes_taken levels p a b c k ends (called (x ∷ xs) h f n) =
+becomes_taken levels ss p a b c k ends (called (x ∷ xs) none h f n) =
     let no : Some (kind.Symbol symbol.OpenParenthesis) ≡ Some (kind.Symbol symbol.Becomes) = (same_first (of_kind_at (kind.Symbol symbol.Becomes) p)
     (mark symbol.OpenParenthesis) _ a b c k h).0 in cc
 
@@ -90,15 +141,20 @@ pub record IsCalled (levels : ℕ) (a c : List Token) : Type 0 where
   pub less : below < levels
   pub begun : BeginsActuals below a c actuals
 
-pub becomes_missed : (levels : ℕ) (a c : List Token) → NoNext (kind.Symbol symbol.Becomes) a → IsSimple levels a c → IsCalled levels a c
-becomes_missed levels a c none (assigned p e h f n) = absurd (none (begins (of_kind_at (kind.Symbol symbol.Becomes) p) (expr_spelling e) a c h))
-becomes_missed levels a c none (called xs h f n) = record {
-  actuals = xs;
-  below = deepest
-      (map actual_levels xs);
-  less = omega arith;
-  begun = record { spelled = h; formed = f; nests = omega arith };
-}
+-- where no `:=` comes there are no selectors
+pub becomes_missed : (levels : ℕ) (ss : List Selector) (a c : List Token) → NoNext (kind.Symbol symbol.Becomes) a → IsSimple ss levels a c
+    → (ss ≡ []) × IsCalled levels a c
+becomes_missed levels ss a c missed (assigned p e h f n) = absurd (missed (begins (of_kind_at (kind.Symbol symbol.Becomes) p) (expr_spelling e) a c h))
+becomes_missed levels ss a c missed (called xs none h f n) = (
+  none,
+  record {
+    actuals = xs;
+    below = deepest
+        (map actual_levels xs);
+    less = omega arith;
+    begun = record { spelled = h; formed = f; nests = omega arith };
+  },
+)
 
 -- ---- compound statements
 

@@ -1,11 +1,14 @@
 -- The places that a tree keeps are those that its spelling keeps, in its order.
-use Rattle.std.proofs.Common.{◌≡◌, List, [], ◌∷◌, ◌++◌, map, Option, Some, None, refl, subst, sym, ap, ◌∙◌}
+use Rattle.std.proofs.Common.{◌≡◌, Bool, true, false, List, [], ◌∷◌, ◌++◌, map, Option, Some, None, refl, subst, sym, ap, ◌∙◌}
 use Rattle.std.specs.List.{flat_map}
 use Rattle.std.proofs.lemmas.List.{append-nil}
 use Rattle.std.proofs.lemmas.List.Folds.{flat_map-map}
 use Rattle.place.specs.declared.Place.{Place}
+use Rattle.lexer.specs.declared.token.Kind.TheVariants as kind
 use Rattle.lexer.specs.declared.token.Symbol.{Symbol}
 use Rattle.lexer.specs.declared.token.Symbol.TheVariants as symbol
+use Rattle.syntax_tree.specs.declared.Selector.{Selector}
+use Rattle.syntax_tree.specs.declared.Selector.TheVariants.{Index, Field}
 use Rattle.syntax_tree.specs.declared.Sign.TheVariants.{Plus, Minus}
 use Rattle.syntax_tree.specs.declared.Expr.{Expr}
 use Rattle.syntax_tree.specs.declared.Actual.{Actual}
@@ -16,6 +19,7 @@ use Rattle.syntax_tree.specs.declared.Expr.TheFolds.{map-Expr, map-Link, map-Act
 use Rattle.syntax_tree.specs.Places.{Places, expr_places, link_places, actual_places}
 use Rattle.syntax_tree.specs.Places as place
 use Rattle.grammar.specs.Spelling.{Lexeme, Spelling, joined, separated, in_parentheses, mark, expr_spelling, link_spelling, actual_spelling}
+use Rattle.grammar.specs.Spelling.{of_kind_at, identifier, closing, selector_spelling, selectors_spelling}
 use Rattle.grammar.specs.Spelling as spell
 use Rattle.grammar.proofs.Equations.{spelling_of}
 
@@ -77,6 +81,38 @@ parenthesized_kept A spelling places (x ∷ xs) h =
     separated_kept A symbol.Comma spelling places (x ∷ xs) h ∙ sym (append-nil _)
     ∙ sym (kept_both (separated symbol.Comma (map spelling (x ∷ xs))) (mark symbol.CloseParenthesis ∷ []))
 
+closing_kept : (b : Bool) (s : Spelling) → kept_places (closing b s) ≡ kept_places s
+closing_kept false s = refl
+closing_kept true s = refl
+
+-- the place of a selector
+abbrev selector_place : Selector → Place
+selector_place (Index p j) = p
+selector_place (Field n) = n.place
+
+selector_kept : (b : Bool) (s : Selector) → kept_places (selector_spelling b s) ≡ selector_place s ∷ []
+selector_kept b (Index p true) = refl
+selector_kept b (Index p false) = closing_kept b (of_kind_at (kind.Symbol symbol.OpenBracket) p ∷ [])
+selector_kept b (Field n) = closing_kept b (mark symbol.Period ∷ identifier n ∷ [])
+
+selector_first : (b : Bool) (s : Selector) (t : Spelling) → selector_place s ∷ kept_places t ≡ kept_places (selector_spelling b s ++ t)
+selector_first b s t = sym (kept_both (selector_spelling b s) t ∙ ap (λ ps. ps ++ kept_places t) (selector_kept b s))
+
+-- selectors with their index expressions
+pub selectors_kept : (A : Type 0) (spelling : A → Spelling) (places : A → Places) (b : Bool) (ss : List Selector) (xs : List A) → AllKept A spelling places xs
+    → place.selector_places ss (map places xs) ≡ kept_places (selectors_spelling b ss (map spelling xs))
+selectors_kept A spelling places b [] xs h =
+    flat_map-map (λ row. row) places xs ∙ joined_kept A spelling places xs h ∙ sym (closing_kept b (joined (map spelling xs)))
+selectors_kept A spelling places b (Field n ∷ ss) xs h =
+    ap (λ ps. n.place ∷ ps) (selectors_kept A spelling places false ss xs h) ∙ selector_first b (Field n) (selectors_spelling false ss (map spelling xs))
+selectors_kept A spelling places b (Index p j ∷ ss) [] h =
+    ap (λ ps. p ∷ ps) (selectors_kept A spelling places true ss [] h) ∙ selector_first b (Index p j) (selectors_spelling true ss [])
+selectors_kept A spelling places b (Index p j ∷ ss) (x ∷ xs) h =
+    let first = h.0 in
+    let others = selectors_kept A spelling places true ss xs h.1 in
+    (λ i. p ∷ (first i ++ others i)) ∙ ap (λ ps. p ∷ ps) (sym (kept_both (spelling x) (selectors_spelling true ss (map spelling xs))))
+    ∙ selector_first b (Index p j) (spelling x ++ selectors_spelling true ss (map spelling xs))
+
 -- an expression, an actual, an operator with its operand: the places are those that the spelling keeps
 abbrev ExprKept : Expr → Type 0
 ExprKept e = expr_places e ≡ kept_places (expr_spelling e)
@@ -111,6 +147,9 @@ expr_layer : (y : expr.Expr-F KeptExpr KeptActual KeptLink)
     ≡ kept_places (spell.expr_step (map-Expr Expr Actual Link Spelling Spelling Spelling expr_spelling actual_spelling link_spelling (expr_parts y)))
 expr_layer (expr.Number v p) = refl
 expr_layer (expr.Name n) = refl
+expr_layer (expr.Component n ss v) =
+    ap (λ ps. n.place ∷ ps)
+    (selectors_kept Expr expr_spelling expr_places false ss.items (map (λ e. e.0) v.items) (all_kept Expr expr_spelling expr_places v.items))
 expr_layer (expr.String t p) = refl
 expr_layer (expr.Call n v) =
     let actuals = map (λ a. a.0) v.items in

@@ -2,7 +2,7 @@
 -- tokens begin with such a thing, and then the others are left.
 -- This doesn't say what a parser answers to them.
 use Rattle.std.specs.Prelude.{◌≡◌, ℕ, ◌+◌, ◌<◌, ◌≤◌, true, List, [], ◌∷◌, ◌++◌, map, length, Bool, ◌&&◌, Option, Some}
-use Rattle.std.specs.Prelude.{None}
+use Rattle.std.specs.Prelude.{None, false}
 use Rattle.std.specs.List.{list_all}
 use Rattle.std.specs.declared.alloc.Global.{Global}
 use Rattle.std.specs.declared.boxed.Box.{Box}
@@ -16,6 +16,8 @@ use Rattle.lexer.specs.declared.token.Word.TheVariants as word
 use Rattle.syntax_tree.specs.declared.ConstantDefinition.{ConstantDefinition}
 use Rattle.syntax_tree.specs.declared.Constant.{Constant}
 use Rattle.syntax_tree.specs.declared.Direction.{Direction}
+use Rattle.syntax_tree.specs.declared.Selector.{Selector}
+use Rattle.syntax_tree.specs.declared.Selector.TheVariants.{Index}
 use Rattle.syntax_tree.specs.declared.Expr.{Expr}
 use Rattle.syntax_tree.specs.declared.Link.{Link}
 use Rattle.syntax_tree.specs.declared.Actual.{Actual}
@@ -31,11 +33,13 @@ use Rattle.grammar.specs.Spelling.{joined, identifiers, group_spelling, variable
 use Rattle.grammar.specs.Spelling.{program_spelling, separated, in_parentheses, word_symbol, identifier, direction_word}
 use Rattle.grammar.specs.Spelling.{constant_spelling, arm_spelling, case_end, of_kind_at, mark, definition_spelling}
 use Rattle.grammar.specs.Spelling.{constants_spelling, denoter_spelling, type_definition_spelling, types_spelling}
+use Rattle.grammar.specs.Spelling.{closing, selector_spelling, selectors_spelling}
 use Rattle.grammar.specs.WellFormed.{expr_form, link_form, fits, relation_level, is_link, is_actual, is_constant}
+use Rattle.grammar.specs.WellFormed.{is_expression, are_selectors, may_join}
 use Rattle.grammar.specs.WellFormed.{is_row, is_statement, is_definition, is_denoter, is_type_definition, is_group}
 use Rattle.grammar.specs.WellFormed.{is_block, is_program}
-use Rattle.grammar.specs.Following.{NoNext, LeavesNoElse}
-use Rattle.grammar.specs.Nesting.{expr_levels, link_levels, actual_levels, stmt_levels, deepest, nesting}
+use Rattle.grammar.specs.Following.{NoNext, NoSelector, LeavesNoElse}
+use Rattle.grammar.specs.Nesting.{expr_levels, link_levels, actual_levels, stmt_levels, deepest, index_levels, nesting}
 
 -- an expression of at least this level
 pub record BeginsExpr (level levels : ℕ) (tokens others : List Token) (e : Expr) : Type 0 where
@@ -72,6 +76,50 @@ pub record BeginsActuals (levels : ℕ) (tokens others : List Token) (actuals : 
   pub spelled : Reads tokens (in_parentheses (map actual_spelling actuals)) others
   pub formed : list_all is_actual actuals ≡ true
   pub nests : deepest (map actual_levels actuals) ≤ levels
+
+-- selectors with their index expressions, each of which is a level of its own; by whether brackets are open before them
+pub record BeginsSelectorsIn (within : Bool) (levels : ℕ) (tokens others : List Token)
+    (found : List Selector × List Expr) : Type 0 where
+  pub spelled : Reads tokens (selectors_spelling within found.0 (map expr_spelling found.1)) others
+  pub formed : are_selectors within found.0 (map expr_form found.1) ≡ true
+  pub nests : index_levels (map expr_levels found.1) ≤ levels
+
+-- the selectors of a variable
+abbrev pub BeginsSelectors : ℕ → List Token → List Token → List Selector × List Expr → Type 0
+BeginsSelectors = BeginsSelectorsIn false
+
+-- what is left of selectors
+pub record SelectorsThen (within : Bool) (levels : ℕ) (tokens others : List Token) : Type 0 where
+  pub selectors : List Selector
+  pub indexes : List Expr
+  pub begun : BeginsSelectorsIn within levels tokens others (selectors, indexes)
+
+-- an index expression, which is a level of its own
+pub record BeginsIndex (levels : ℕ) (tokens others : List Token) (e : Expr) : Type 0 where
+  pub spelled : Reads tokens (expr_spelling e) others
+  pub formed : is_expression e ≡ true
+  pub nests : 1 + expr_levels e ≤ levels
+
+-- a selector, or what ends the brackets before it where none comes
+abbrev pub selector_or_end : Bool → Option Selector → Spelling
+selector_or_end within None = closing within []
+selector_or_end within (Some selector) = selector_spelling within selector
+
+-- an index that is joined stands in open brackets
+abbrev pub MaySelect : Bool → Option Selector → Type 0
+MaySelect within (Some (Index place joined)) = may_join within joined ≡ true
+MaySelect within _ = Unit {0}
+
+-- where none comes no selector is left
+abbrev pub EndsSelectors : Option Selector → List Token → Type 0
+EndsSelectors None others = NoSelector others
+EndsSelectors (Some selector) others = Unit {0}
+
+-- a selector up to its index expression, or the end of selectors
+pub record BeginsSelector (within : Bool) (tokens others : List Token) (found : Option Selector) : Type 0 where
+  pub spelled : Reads tokens (selector_or_end within found) others
+  pub may : MaySelect within found
+  pub ends : EndsSelectors found others
 
 -- an expression with this word symbol behind it
 pub record BeginsGuard (w : Word) (levels : ℕ) (tokens others : List Token) (e : Expr) : Type 0 where

@@ -39,10 +39,16 @@ NoSign others = (s : Sign) (place : Place) → ¬ (next_kind others ≡ Some (si
 abbrev pub NoOperator : ℕ → List Token → Type 0
 NoOperator level others = (o : Operator) → operator_level o ≡ level → ¬ (next_kind others ≡ Some (operator_kind o))
 
+-- no selector comes next
+pub record NoSelector (others : List Token) : Type 0 where
+  pub index : NoNext (kind.Symbol symbol.OpenBracket) others
+  pub field : NoNext (kind.Symbol symbol.Period) others
+
 -- what may stand behind an expression of at least this level: nothing with which it, or its last name, would go on
 pub record Ends (level : ℕ) (others : List Token) : Type 0 where
   pub operators : (o : Operator) → level ≤ operator_level o → ¬ (next_kind others ≡ Some (operator_kind o))
   pub call : NoNext (kind.Symbol symbol.OpenParenthesis) others
+  pub selector : NoSelector others
 
 -- what comes next behind an actual: a comma or the closing parenthesis of the list
 pub data EndsActual (others : List Token) : Type 0 where

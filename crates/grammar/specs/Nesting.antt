@@ -1,6 +1,6 @@
 -- How deep a tree nests. The program's own compound statement is the first level. Each statement in another statement,
--- each actual with its width, each expression in parentheses and each operand of `not` is one level below what it
--- stands in.
+-- each actual with its width, each index expression, each expression in parentheses and each operand of `not` is one
+-- level below what it stands in.
 -- A chain of operators is a list and no nesting. The standard sets no bound.
 use Rattle.std.specs.Prelude.{ℕ, ◌+◌, List, Option, Some, None, map, max, fold}
 use Rattle.std.specs.declared.alloc.Global.{Global}
@@ -26,10 +26,15 @@ abbrev pub width_levels : Option ℕ → ℕ
 width_levels None = 0
 width_levels (Some width) = width
 
+-- the levels in index expressions, each of which is a level of its own
+abbrev pub index_levels : List ℕ → ℕ
+index_levels indexes = deepest (map (λ index. 1 + index) indexes)
+
 -- one layer of an expression: the levels in it
 abbrev pub expr_step : Expr-F ℕ ℕ ℕ → ℕ
 expr_step (expr.Number value place) = 0
 expr_step (expr.Name name) = 0
+expr_step (expr.Component name selectors indexes) = index_levels indexes.items
 expr_step (expr.String text place) = 0
 expr_step (expr.Call name actuals) = deepest actuals.items
 expr_step (expr.Parenthesized place inner) = 1 + inner.value
@@ -61,7 +66,8 @@ alternative_levels (Some alternative) = alternative.value
 -- one layer of a statement: the levels in it and its own
 abbrev pub stmt_step : Stmt-F ℕ → ℕ
 stmt_step stmt.Empty = 1
-stmt_step (stmt.Assign name becomes value) = 1 + expr_levels value
+stmt_step (stmt.Assign name selectors indexes becomes value) =
+    1 + max (index_levels (map expr_levels indexes.items)) (expr_levels value)
 stmt_step (stmt.Call name actuals) = 1 + deepest (map actual_levels actuals.items)
 stmt_step (stmt.Compound statements) = 1 + deepest statements.items
 stmt_step (stmt.If place condition consequence alternative) =

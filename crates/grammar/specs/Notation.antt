@@ -1,9 +1,10 @@
 -- A program written out with brackets round each form. It tells all that a tree holds but where the tree lies in
 -- memory: trees that are written alike are built alike, and of the same tokens.
 -- This doesn't say which trees there may be: see WellFormed.
-use Rattle.std.specs.Prelude.{List, [], ◌∷◌, ◌++◌, map, Option, Some, None}
+use Rattle.std.specs.Prelude.{List, [], ◌∷◌, ◌++◌, map, Option, Some, None, Bool, true, false}
 use Rattle.std.specs.declared.alloc.Global.{Global}
 use Rattle.std.specs.declared.boxed.Box.{Box}
+use Rattle.place.specs.declared.Place.{Place}
 use Rattle.lexer.specs.declared.token.Kind.TheVariants as kind
 use Rattle.lexer.specs.declared.token.Symbol.TheVariants as symbol
 use Rattle.lexer.specs.declared.token.Word.TheVariants as word
@@ -11,6 +12,8 @@ use Rattle.syntax_tree.specs.declared.ConstantDefinition.{ConstantDefinition}
 use Rattle.syntax_tree.specs.declared.Constant.{Constant}
 use Rattle.syntax_tree.specs.Places.{arms_of}
 use Rattle.syntax_tree.specs.declared.Name.{Name}
+use Rattle.syntax_tree.specs.declared.Selector.{Selector}
+use Rattle.syntax_tree.specs.declared.Selector.TheVariants.{Index, Field}
 use Rattle.syntax_tree.specs.declared.TypeDefinition.{TypeDefinition}
 use Rattle.syntax_tree.specs.declared.TypeDenoter.{TypeDenoter}
 use Rattle.syntax_tree.specs.declared.TypeDenoter.TheVariants as denoter
@@ -34,6 +37,9 @@ use Rattle.grammar.specs.Spelling.{direction_word, constant_spelling, case_end}
 pub data Shape : Type 0 where
   number : Shape
   name : Shape
+  component : Shape
+  index_selector : Shape
+  field_selector : Shape
   string : Shape
   function_call : Shape
   parenthesized : Shape
@@ -87,10 +93,27 @@ abbrev pub width_notation : Option Notation → Notation
 width_notation None = []
 width_notation (Some width) = width
 
+-- the bracket or the comma before an index
+abbrev pub before_index : Bool → Place → Lexeme
+before_index true place = of_kind_at (kind.Symbol symbol.Comma) place
+before_index false place = of_kind_at (kind.Symbol symbol.OpenBracket) place
+
+-- selectors, each index with its expression
+abbrev pub selectors_notation : List Selector → List Notation → List Notation
+selectors_notation [] rows = rows
+selectors_notation (Field n ∷ selectors) rows =
+    bracketed field_selector (token (identifier n) ∷ []) ∷ selectors_notation selectors rows
+selectors_notation (Index place joined ∷ selectors) [] =
+    bracketed index_selector (token (before_index joined place) ∷ []) ∷ selectors_notation selectors []
+selectors_notation (Index place joined ∷ selectors) (row ∷ rows) =
+    bracketed index_selector (token (before_index joined place) ∷ row) ∷ selectors_notation selectors rows
+
 -- one layer of an expression, its parts written out
 abbrev pub expr_step : Expr-F Notation Notation Notation → Notation
 expr_step (expr.Number value place) = bracketed number (token (of_kind_at (kind.Number value) place) ∷ [])
 expr_step (expr.Name n) = bracketed name (token (identifier n) ∷ [])
+expr_step (expr.Component n selectors indexes) =
+    bracketed component (token (identifier n) ∷ row (selectors_notation selectors.items indexes.items))
 expr_step (expr.String text place) = bracketed string (token (character_string text.now place) ∷ [])
 expr_step (expr.Call n actuals) = bracketed function_call (token (identifier n) ∷ row actuals.items)
 expr_step (expr.Parenthesized place inner) =
@@ -134,9 +157,10 @@ arm_notation a = bracketed arm (row (map constant_notation a.0) ++ a.1)
 -- one layer of a statement, its parts written out
 abbrev pub stmt_step : Stmt-F Notation → Notation
 stmt_step stmt.Empty = bracketed empty []
-stmt_step (stmt.Assign n becomes value) =
+stmt_step (stmt.Assign n selectors indexes becomes value) =
     bracketed assignment
-    (token (identifier n) ∷ token (of_kind_at (kind.Symbol symbol.Becomes) becomes) ∷ expr_notation value)
+    (token (identifier n) ∷ row (selectors_notation selectors.items (map expr_notation indexes.items))
+    ++ token (of_kind_at (kind.Symbol symbol.Becomes) becomes) ∷ expr_notation value)
 stmt_step (stmt.Call n actuals) =
     bracketed procedure_call (token (identifier n) ∷ row (map actual_notation actuals.items))
 stmt_step (stmt.Compound statements) = bracketed compound (row statements.items)

@@ -1,6 +1,6 @@
--- The tokens that spell a syntax tree: ISO 7185:1990, 6.7.1 (expressions), 6.8 (statements), 6.2.1 (blocks), 6.3
--- (constants), 6.4.1 (types), 6.5.1 (variables), 6.10 (programs). A tree keeps its parentheses, so each tree has one
--- spelling.
+-- The tokens that spell a syntax tree: ISO 7185:1990, 6.7.1 (expressions), 6.5.3 (components), 6.8 (statements), 6.2.1
+-- (blocks), 6.3 (constants), 6.4.1 (types), 6.5.1 (variables), 6.10 (programs). A tree keeps its parentheses, so each
+-- tree has one spelling.
 -- This doesn't say which trees there may be: see WellFormed and Nesting.
 use Rattle.std.specs.Prelude.{◌≡◌, ℕ, List, [], ◌∷◌, ◌++◌, map, Option, Some, None, IfSome, Bool, true, false}
 use Rattle.std.specs.declared.alloc.Global.{Global}
@@ -14,6 +14,8 @@ use Rattle.lexer.specs.declared.token.Symbol.{Symbol}
 use Rattle.lexer.specs.declared.token.Symbol.TheVariants as symbol
 use Rattle.lexer.specs.declared.token.Token.{Token}
 use Rattle.syntax_tree.specs.declared.Name.{Name}
+use Rattle.syntax_tree.specs.declared.Selector.{Selector}
+use Rattle.syntax_tree.specs.declared.Selector.TheVariants.{Index, Field}
 use Rattle.syntax_tree.specs.declared.Sign.{Sign}
 use Rattle.syntax_tree.specs.declared.Sign.TheVariants.{Plus, Minus}
 use Rattle.syntax_tree.specs.declared.Direction.{Direction}
@@ -140,10 +142,33 @@ abbrev pub width_spelling : Option Spelling → Spelling
 width_spelling None = []
 width_spelling (Some width) = mark symbol.Colon ∷ width
 
+-- what stands behind the brackets of an index, where they are open: first the bracket that ends them
+abbrev pub closing : Bool → Spelling → Spelling
+closing false behind = behind
+closing true behind = mark symbol.CloseBracket ∷ behind
+
+-- a selector, by whether brackets are open before it; of an index what stands before its expression (6.5.3)
+abbrev pub selector_spelling : Bool → Selector → Spelling
+selector_spelling within (Index place true) = of_kind_at (kind.Symbol symbol.Comma) place ∷ []
+selector_spelling within (Index place false) = closing within (of_kind_at (kind.Symbol symbol.OpenBracket) place ∷ [])
+selector_spelling within (Field name) = closing within (mark symbol.Period ∷ identifier name ∷ [])
+
+-- selectors with the index expressions that belong to them, by whether brackets are open before them
+abbrev pub selectors_spelling : Bool → List Selector → List Spelling → Spelling
+selectors_spelling within [] rows = closing within (joined rows)
+selectors_spelling within (Field name ∷ selectors) rows =
+    selector_spelling within (Field name) ++ selectors_spelling false selectors rows
+selectors_spelling within (Index place joined ∷ selectors) [] =
+    selector_spelling within (Index place joined) ++ selectors_spelling true selectors []
+selectors_spelling within (Index place joined ∷ selectors) (row ∷ rows) =
+    selector_spelling within (Index place joined) ++ (row ++ selectors_spelling true selectors rows)
+
 -- one layer of an expression, its parts spelled
 abbrev pub expr_step : Expr-F Spelling Spelling Spelling → Spelling
 expr_step (expr.Number value place) = of_kind_at (kind.Number value) place ∷ []
 expr_step (expr.Name name) = identifier name ∷ []
+expr_step (expr.Component name selectors indexes) =
+    identifier name ∷ selectors_spelling false selectors.items indexes.items
 expr_step (expr.String text place) = character_string text.now place ∷ []
 expr_step (expr.Call name actuals) = identifier name ∷ in_parentheses actuals.items
 expr_step (expr.Parenthesized place inner) =
@@ -208,8 +233,9 @@ case_end true = mark symbol.Semicolon ∷ word_symbol word.End ∷ []
 -- one layer of a statement, its parts spelled
 abbrev pub stmt_step : Stmt-F Spelling → Spelling
 stmt_step stmt.Empty = []
-stmt_step (stmt.Assign name becomes value) =
-    identifier name ∷ of_kind_at (kind.Symbol symbol.Becomes) becomes ∷ expr_spelling value
+stmt_step (stmt.Assign name selectors indexes becomes value) =
+    identifier name ∷ selectors_spelling false selectors.items (map expr_spelling indexes.items)
+    ++ of_kind_at (kind.Symbol symbol.Becomes) becomes ∷ expr_spelling value
 stmt_step (stmt.Call name actuals) = identifier name ∷ in_parentheses (map actual_spelling actuals.items)
 stmt_step (stmt.Compound statements) =
     word_symbol word.Begin ∷ separated symbol.Semicolon statements.items ++ word_symbol word.End ∷ []

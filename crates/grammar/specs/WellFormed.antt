@@ -1,9 +1,10 @@
 -- Which trees there may be: operators nest by precedence (ISO 7185:1990, 6.7.1, 6.7.2.1), a sign stands at the first
 -- term of a sum or alone, a relation has one operator, an `else` belongs to the nearest `if` that has none (6.8.3.4),
--- no sign stands before a string (6.3), and lists that the grammar wants nonempty are nonempty.
+-- no sign stands before a string (6.3), an index is joined to an index alone (6.5.3), and lists that the grammar wants
+-- nonempty are nonempty.
 -- This says nothing of names and types.
 use Rattle.std.specs.Prelude.{ℕ, ◌+◌, if◌then◌else◌, List, [], ◌∷◌, length, Bool, true, false, not, ◌&&◌, ◌||◌, Option}
-use Rattle.std.specs.Prelude.{Some, None, nat_eq, nat_lt, nat_le}
+use Rattle.std.specs.Prelude.{Some, None, nat_eq, nat_lt, nat_le, map}
 use Rattle.std.specs.List.{list_all}
 use Rattle.std.specs.declared.alloc.Global.{Global}
 use Rattle.std.specs.declared.boxed.Box.{Box}
@@ -12,6 +13,8 @@ use Rattle.syntax_tree.specs.declared.ConstantDefinition.{ConstantDefinition}
 use Rattle.syntax_tree.specs.declared.Constant.{Constant}
 use Rattle.syntax_tree.specs.declared.ConstantValue.{ConstantValue}
 use Rattle.syntax_tree.specs.declared.ConstantValue.TheVariants as constant
+use Rattle.syntax_tree.specs.declared.Selector.{Selector}
+use Rattle.syntax_tree.specs.declared.Selector.TheVariants.{Index, Field}
 use Rattle.syntax_tree.specs.declared.SignAt.{SignAt}
 use Rattle.syntax_tree.specs.declared.TypeDefinition.{TypeDefinition}
 use Rattle.syntax_tree.specs.declared.TypeDenoter.{TypeDenoter}
@@ -109,10 +112,27 @@ abbrev pub is_width : Option Form → Bool
 is_width None = true
 is_width (Some width) = fits relation_level width
 
+-- an index may stand here: one that is joined to the index before it, where the brackets of that one are open
+abbrev pub may_join : Bool → Bool → Bool
+may_join within joined = within || not joined
+
+-- selectors have an index expression for each that is an index; by whether brackets are open before them
+abbrev pub are_selectors : Bool → List Selector → List Form → Bool
+are_selectors within [] [] = true
+are_selectors within [] (index ∷ indexes) = false
+are_selectors within (Field name ∷ selectors) indexes = are_selectors false selectors indexes
+are_selectors within (Index place joined ∷ selectors) [] = false
+are_selectors within (Index place joined ∷ selectors) (index ∷ indexes) =
+    may_join within joined && (fits relation_level index && are_selectors true selectors indexes)
+
 -- one layer of an expression
 abbrev pub expr_step : Expr-F Form Bool LinkForm → Form
 expr_step (expr.Number value place) = record { level = factor_level; well = true }
 expr_step (expr.Name name) = record { level = factor_level; well = true }
+expr_step (expr.Component name selectors indexes) = record {
+  level = factor_level;
+  well = has_items selectors.items && are_selectors false selectors.items indexes.items;
+}
 expr_step (expr.String text place) = record { level = factor_level; well = true }
 expr_step (expr.Call name actuals) =
     record { level = factor_level; well = has_items actuals.items && list_all (λ well. well) actuals.items }
@@ -186,7 +206,8 @@ are_rows rows arms = nat_eq (length rows) arms && list_all (λ row. is_row row.i
 -- one layer of a statement
 abbrev pub stmt_step : Stmt-F StmtForm → StmtForm
 stmt_step stmt.Empty = closed true
-stmt_step (stmt.Assign name becomes value) = closed (is_expression value)
+stmt_step (stmt.Assign name selectors indexes becomes value) =
+    closed (are_selectors false selectors.items (map expr_form indexes.items) && is_expression value)
 stmt_step (stmt.Call name actuals) = closed (list_all is_actual actuals.items)
 stmt_step (stmt.Compound statements) =
     closed (has_items statements.items && list_all (λ statement. statement.well) statements.items)

@@ -12,7 +12,7 @@ const PLACE: Place = Place {
 };
 
 /// What random lists are made of; a list with the word nil is left out.
-const KINDS: [Kind; 16] = [
+const KINDS: [Kind; 32] = [
     Kind::Word(Word::Program),
     Kind::Word(Word::Begin),
     Kind::Word(Word::Not),
@@ -29,6 +29,22 @@ const KINDS: [Kind; 16] = [
     Kind::Symbol(Symbol::CloseParenthesis),
     Kind::Symbol(Symbol::Plus),
     Kind::Symbol(Symbol::Colon),
+    Kind::Symbol(Symbol::OpenBracket),
+    Kind::Symbol(Symbol::CloseBracket),
+    Kind::Symbol(Symbol::Comma),
+    Kind::Symbol(Symbol::Period),
+    Kind::Symbol(Symbol::Equal),
+    Kind::Symbol(Symbol::Range),
+    Kind::Word(Word::If),
+    Kind::Word(Word::Then),
+    Kind::Word(Word::Else),
+    Kind::Word(Word::While),
+    Kind::Word(Word::Do),
+    Kind::Word(Word::Repeat),
+    Kind::Word(Word::Until),
+    Kind::Word(Word::For),
+    Kind::Word(Word::Case),
+    Kind::Word(Word::Of),
 ];
 
 fn token(kind: Kind, text: &'static [u8]) -> Token<'static> {
@@ -84,7 +100,7 @@ fn random_list(alloc: Global, seed: &mut u64) -> Result<Vec<Token<'static>>, All
     let mut list = beginning(alloc, *seed)?;
     for _ in 0..*seed >> 58 {
         *seed = next_random(*seed);
-        list.push(token(KINDS[(*seed >> 60) as usize], b""))?;
+        list.push(token(KINDS[(*seed >> 59) as usize], b""))?;
     }
     Ok(list)
 }

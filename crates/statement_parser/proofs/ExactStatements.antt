@@ -1,5 +1,5 @@
 -- The rules of statements read each spelling of their form: by the first token, form by form.
-use Rattle.std.proofs.Common.{◌≡◌, ℕ, ◌<◌, List, [], ◌∷◌, Option, Some, None, Result, Ok, subst, sym, ap, ◌∙◌}
+use Rattle.std.proofs.Common.{◌≡◌, ℕ, ◌<◌, true, false, List, [], ◌∷◌, length, Option, Some, None, Result, Ok, subst, sym, ap, ◌∙◌, arith}
 use Rattle.std.specs.declared.alloc.Global.{Global}
 use Rattle.std.specs.declared.boxed.Box.{Box}
 use Rattle.std.specs.declared.vec.Vec.{Vec}
@@ -13,23 +13,45 @@ use Rattle.token_cursor.specs.declared.cursor.Cursor.{Cursor}
 use Rattle.syntax_tree.specs.declared.Direction.{Direction}
 use Rattle.syntax_tree.specs.declared.Expr.{Expr}
 use Rattle.syntax_tree.specs.declared.Name.{Name}
+use Rattle.syntax_tree.specs.declared.Selector.{Selector}
 use Rattle.syntax_tree.specs.declared.Stmt.{Stmt}
 use Rattle.grammar.specs.Spelling.{Reads, of_kind_at, word_symbol}
 use Rattle.grammar.specs.Following.{next_kind, NoNext, Anything, EndsStmt, EndsStatements, compound, repeated}
 use Rattle.grammar.specs.WellFormed.{relation_level}
 use Rattle.expression_parser.specs.Reading.{ReadWithin, ReadsEach, ReadsDeep}
-use Rattle.grammar.specs.Begins.{BeginsExpr, BeginsGuard, BeginsStmt, BeginsAlternative, BeginsStatements, BeginsControl, BeginsInitial}
+use Rattle.grammar.specs.Begins.{BeginsSelectors, BeginsExpr, BeginsGuard, BeginsStmt, BeginsAlternative, BeginsStatements, BeginsControl, BeginsInitial}
 use Rattle.grammar.proofs.Parts.{PartsLeft, PartThenOthers, ComesBehind, one_more, no_more, comes_behind}
 use Rattle.grammar.proofs.Rows.{begins, same_first}
 use Rattle.grammar.proofs.Conditionals.{Branches, IsConditional}
 use Rattle.grammar.proofs.Loops.{IsWhile, IsRepeat, IsFor}
-use Rattle.grammar.proofs.Statements.{IsSimple, IsCalled, becomes_missed, statement_list_parts, StatementsLeft, stmt_ends, StatementNext}
+use Rattle.grammar.proofs.Selectors.{selectors_fewer}
+use Rattle.grammar.proofs.Statements.{IsSimple, IsSelected, IsCalled, becomes_missed, statement_list_parts, StatementsLeft, stmt_ends, StatementNext}
+
+-- behind selectors that were read
+pub selectors_left : (levels : ℕ) (a b others : List Token) (x : IsSelected levels a others) → b ≡ x.middle → IsSimple x.selectors levels b others
+selectors_left levels a b others x same = subst (λ t. IsSimple x.selectors levels t others) (sym same) x.simple
 
 -- where no `:=` comes stand the actuals of a call
-pub becomes_missed_at : (levels : ℕ) (a b : Cursor) (others : List Token) → b ≡ a → NoNext (kind.Symbol symbol.Becomes) a.rest.now
-    → IsSimple levels a.rest.now others → IsCalled levels b.rest.now others
-becomes_missed_at levels a b others same none h = subst (λ (k : Cursor). IsCalled levels k.rest.now others) (sym same)
-    (becomes_missed levels a.rest.now others none h)
+pub becomes_missed_at : (levels : ℕ) (ss : List Selector) (a b : Cursor) (others : List Token) → b ≡ a → NoNext (kind.Symbol symbol.Becomes) a.rest.now
+    → IsSimple ss levels a.rest.now others → IsCalled levels b.rest.now others
+becomes_missed_at levels ss a b others same none h = subst (λ (k : Cursor). IsCalled levels k.rest.now others) (sym same)
+    (becomes_missed levels ss a.rest.now others none h).1
+
+none_spelled : (levels : ℕ) (a b : List Token) (ss : List Selector) (es : List Expr) → ss ≡ [] → BeginsSelectors levels a b (ss, es) → a ≡ b
+none_spelled levels a b [] [] none h = h.spelled
+none_spelled levels a b [] (e ∷ es) none h = let no : false ≡ true = h.formed in cc
+none_spelled levels a b (s ∷ ss) es none h = cc
+
+-- and none stand there behind selectors
+pub selected_missed : (levels other : ℕ) (a b others : List Token) (ss : List Selector) (es : List Expr) (x : IsSelected other a others) → ¬ (ss ≡ [])
+    → BeginsSelectors levels a b (ss, es) → b ≡ x.middle → NoNext (kind.Symbol symbol.Becomes) b → ⊥
+selected_missed levels other a b others ss es x some given same missed =
+    let simple = selectors_left other a b others x same in
+    let none = (becomes_missed other x.selectors b others missed simple).0 in
+    let stays = ap length (none_spelled x.below a x.middle x.selectors x.indexes none x.begun) in
+    let moved = ap length same in
+    let fewer = selectors_fewer levels a b ss es some given in
+    absurd (omega arith)
 
 no_else : (a c : List Token) → ComesBehind symbol.Semicolon a c → EndsStatements c → NoNext (kind.Word word.Else) a
 no_else a c (one_more e) ends k = let no : Some (kind.Symbol symbol.Semicolon) ≡ Some (kind.Word word.Else) = sym e ∙ k in cc

@@ -17,17 +17,18 @@ use Rattle.syntax_tree.specs.declared.Actual.{Actual}
 use Rattle.syntax_tree.specs.declared.Direction.{Direction}
 use Rattle.syntax_tree.specs.declared.Expr.{Expr}
 use Rattle.syntax_tree.specs.declared.Name.{Name}
+use Rattle.syntax_tree.specs.declared.Selector.{Selector}
 use Rattle.syntax_tree.specs.declared.Stmt.{Stmt}
 use Rattle.syntax_tree.specs.declared.Stmt.TheVariants as statement
 use Rattle.token_cursor.specs.Cursor.{Took}
 use Rattle.grammar.specs.Spelling.{Spelling, Reads, expr_spelling, identifier, actual_spelling, stmt_spelling, of_kind_at, mark, word_symbol, direction_word}
-use Rattle.grammar.specs.Spelling.{separated, in_parentheses}
-use Rattle.grammar.specs.WellFormed.{relation_level, is_expression, stmt_form, is_statement, ends_open, has_items}
+use Rattle.grammar.specs.Spelling.{separated, in_parentheses, selectors_spelling}
+use Rattle.grammar.specs.WellFormed.{relation_level, expr_form, is_expression, are_selectors, stmt_form, is_statement, ends_open, has_items}
 use Rattle.grammar.specs.Nesting.{stmt_levels, deepest}
 use Rattle.grammar.specs.Following.{NoNext, LeavesNoElse}
 use Rattle.expression_parser.specs.Rules.{Read}
 use Rattle.grammar.specs.Begins.{BeginsExpr, BeginsActuals, BeginsGuard, BeginsStmt, BeginsAlternative, BeginsControl, BeginsInitial, BeginsStatements}
-use Rattle.grammar.specs.Begins.{BeginsCompound}
+use Rattle.grammar.specs.Begins.{BeginsCompound, BeginsSelectors}
 use Rattle.grammar.proofs.Equations.{spelling-Empty, form-Empty, levels-Empty, spelling-Assign, form-Assign, levels-Assign, spelling-Call, form-Call}
 use Rattle.grammar.proofs.Equations.{levels-Call, spelling-Compound, form-Compound, levels-Compound, closed-Empty, closed-Assign, closed-Call, closed-Compound}
 use Rattle.grammar.proofs.Equations.{spelling-If, form-If, levels-If, spelling-Else, form-Else, open-Else, levels-Else, spelling-While, form-While, open-While}
@@ -111,17 +112,21 @@ gives-Empty levels inner a less = record {
 }
 
 -- an assignment
-pub gives-Assign : (levels : ℕ) (a b c d : Cursor) (n : Name) (p : Place) (value : Expr) → Took a b (identifier n ∷ [])
-    → Took b c (of_kind_at (kind.Symbol symbol.Becomes) p ∷ []) → Read (BeginsExpr relation_level levels) c d value
-    → Read (BeginsStmt (levels + 1)) a d (statement.Assign n p value)
-gives-Assign levels a b c d n p value named becomes given = record {
-  spelled = subst (λ s. Took a d s) (sym (spelling-Assign n p value)) (both (identifier n ∷ [])
-      (of_kind_at (kind.Symbol symbol.Becomes) p ∷ expr_spelling value) a.rest.now b.rest.now d.rest.now named
-      (both (of_kind_at (kind.Symbol symbol.Becomes) p ∷ []) (expr_spelling value) b.rest.now c.rest.now d.rest.now becomes given.spelled));
-  formed = form-Assign n p value ∙ given.formed;
-  whole = closed_whole (statement.Assign n p value) d.rest.now (closed-Assign n p value);
-  nests = let e = levels-Assign n p value in let m = given.nests in omega arith;
-}
+pub gives-Assign : (levels : ℕ) (a b c d e : Cursor) (n : Name) (ss : Vec Selector Global) (v : Vec Expr Global) (p : Place) (value : Expr)
+    → Took a b (identifier n ∷ []) → Read (BeginsSelectors levels) b c (ss.items, v.items) → Took c d (of_kind_at (kind.Symbol symbol.Becomes) p ∷ [])
+    → Read (BeginsExpr relation_level levels) d e value → Read (BeginsStmt (levels + 1)) a e (statement.Assign n ss v p value)
+gives-Assign levels a b c d e n ss v p value named selected becomes given =
+    let behind : Spelling = of_kind_at (kind.Symbol symbol.Becomes) p ∷ expr_spelling value in
+    let selectors = selectors_spelling false ss.items (map expr_spelling v.items) in
+    record {
+      spelled = subst (λ s. Took a e s) (sym (spelling-Assign n ss v p value)) (both (identifier n ∷ [])
+          (selectors ++ behind) a.rest.now b.rest.now e.rest.now named (both selectors behind b.rest.now c.rest.now e.rest.now selected.spelled
+          (both (of_kind_at (kind.Symbol symbol.Becomes) p ∷ []) (expr_spelling value) c.rest.now d.rest.now e.rest.now becomes given.spelled)));
+      formed = form-Assign n ss v p value
+          ∙ and_true (are_selectors false ss.items (map expr_form v.items)) (is_expression value) selected.formed given.formed;
+      whole = closed_whole (statement.Assign n ss v p value) e.rest.now (closed-Assign n ss v p value);
+      nests = let n = levels-Assign n ss v p value in let m = given.nests in let k = selected.nests in omega arith;
+    }
 
 -- the call of a procedure
 pub gives-Called : (levels : ℕ) (a b c d : Cursor) (n : Name) (v : Vec Actual Global) → Took a b (identifier n ∷ []) → c ≡ b

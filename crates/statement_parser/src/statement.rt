@@ -8,7 +8,7 @@ ghost use Rattle.grammar.specs.Begins.{BeginsGuard, BeginsStmt, BeginsAlternativ
 ghost use Rattle.grammar.specs.Begins.{BeginsInitial, BeginsArms, BeginsCompound};
 
 use crate::arm::{behind_arm, row};
-use expression_parser::expression::{actuals, expression};
+use expression_parser::expression::{actuals, expression, selectors};
 use expression_parser::memory::{boxed, put};
 use lexer::token::{Kind, Symbol, Word};
 use place::Place;
@@ -86,7 +86,7 @@ fn statement<'a>(
     }
 }
 
-// simple = name ":=" expression | name actuals
+// simple = name selectors ":=" expression | name actuals
 /// An assignment (6.8.2.2) or the call of a procedure (6.8.2.3), below which `levels` levels are
 /// left.
 fn simple<'a>(
@@ -100,17 +100,22 @@ fn simple<'a>(
         ReadsDeep (levels + 1) BeginsStmt EndsStmt cursor.old cursor.new result }
 {
     let name = cursor.expect_name()?;
-    match cursor.take_symbol(Symbol::Becomes) {
-        Some(becomes) => Ok(Stmt::Assign {
+    let (selectors, indexes) = selectors(alloc, cursor, levels)?;
+    if let Some(becomes) = cursor.take_symbol(Symbol::Becomes) {
+        let value = expression(alloc, cursor, levels, Level::Relation)?;
+        return Ok(Stmt::Assign {
             name,
+            selectors,
+            indexes,
             becomes,
-            value: expression(alloc, cursor, levels, Level::Relation)?,
-        }),
-        None => Ok(Stmt::Call {
-            name,
-            actuals: actuals(alloc, cursor, levels)?,
-        }),
+            value,
+        });
     }
+    if !selectors.is_empty() {
+        return Err(cursor.no_program());
+    }
+    let actuals = actuals(alloc, cursor, levels)?;
+    Ok(Stmt::Call { name, actuals })
 }
 
 // conditional = "if" expression "then" statement alternative

@@ -5,8 +5,8 @@ use crate::fault::ParseFault;
 use place::Place;
 
 /// How deep a program may nest. Its own compound statement is the first level; each statement in
-/// another statement, each actual with its width, each expression in parentheses and each operand
-/// of `not` is one level below what it stands in.
+/// another statement, each actual with its width, each index expression, each expression in
+/// parentheses and each operand of `not` is one level below what it stands in.
 pub const MAX_NESTING: u32 = 128;
 
 /// The levels that are left inside the next one, which begins at `place`, or P2.

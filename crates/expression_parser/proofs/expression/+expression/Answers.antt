@@ -1,4 +1,4 @@
-use Rattle.std.proofs.Common.{rules, arith, ◌+◌, ◌≡◌, refl, ap, ◌∙◌, sym, subst, [], ◌∷◌, map, length, Some, Ok, Err, MatchResult}
+use Rattle.std.proofs.Common.{rules, arith, ◌+◌, ◌≡◌, refl, ap, ◌∙◌, sym, subst, [], ◌∷◌, map, length, Some, None, Ok, Err, MatchResult}
 use Rattle.lexer.specs.declared.token.Kind.TheVariants as kind
 use Rattle.lexer.specs.declared.token.Symbol.TheVariants as symbol
 use Rattle.lexer.specs.declared.token.Word.TheVariants as word
@@ -10,7 +10,9 @@ use Rattle.expression_parser.proofs.Deep.{front_none, front_on, refused_behind_f
 use Rattle.expression_parser.proofs.Deep.{refused_spent_at}
 use Rattle.token_cursor.specs.Level.{level_number}
 use Rattle.expression_parser.specs.Rules.{Read, LinksEnd, LinksGoOn}
-use Rattle.grammar.specs.Begins.{BeginsExpr, BeginsActual, BeginsActualList}
+use Rattle.grammar.specs.Begins.{BeginsExpr, BeginsActual, BeginsActualList, BeginsIndex, BeginsSelector}
+use Rattle.expression_parser.specs.Selecting.{ReadSelector, ReadsSelector}
+use Rattle.syntax_tree.specs.declared.Selector.TheVariants.{Index, Field}
 use Rattle.token_cursor.specs.declared.fault.ParseFault.TheVariants.{TooDeep}
 use Rattle.grammar.specs.Spelling.{Reads, mark, of_kind_at, sign, operator, identifier, joined, expr_spelling, actual_spelling, link_spelling}
 use Rattle.grammar.specs.Following.{next_kind, NoOperator, NoSign, NoNext, Ends, EndsActual}
@@ -24,14 +26,16 @@ use Rattle.grammar.proofs.Parts.{parts_end}
 use Rattle.expression_parser.proofs.ExactChains.{level_is, first_answer}
 use Rattle.grammar.proofs.Chains.{chain_parts, links_of}
 use Rattle.expression_parser.proofs.Chains.{links_first, links_more, operand_stops, links_end, links_given, alone_given, alone_exact, chain_from}
-use Rattle.grammar.proofs.Expressions.{factor_parts, number_read, name_taken, opened, signed_parts, sign_taken}
+use Rattle.grammar.proofs.Expressions.{factor_parts, number_read, name_taken, named_ends, selected_ends, opened, signed_parts, sign_taken}
 use Rattle.expression_parser.proofs.ExactExpressions.{string_behind, negated_behind, negated_answer, parenthesized_answer, inner_answer, sign_missed_at}
 use Rattle.expression_parser.proofs.ExactExpressions.{term_answer}
 use Rattle.grammar.proofs.Actuals.{actual_parts, width_absent, width_taken, actual_list_parts, actual_list_begins, actual_list_goes_on, opened_actuals}
-use Rattle.expression_parser.proofs.ExactActuals.{value_answer, width_left, width_answer, actual_answer, actual_list_left, no_actuals}
+use Rattle.expression_parser.proofs.ExactActuals.{actuals_behind, value_answer, width_left, width_answer, actual_answer, actual_list_left, no_actuals}
 use Rattle.expression_parser.proofs.Actuals.{ActualsGrow, actuals_grow_first, actuals_grow, actuals_closed}
 use Rattle.expression_parser.proofs.Rules.{gives-Number, gives-Not, gives-Signed, gives-Unsigned, gives-None, gives-Narrow, gives-Parenthesized, gives-Name}
-use Rattle.expression_parser.proofs.Rules.{gives-String, gives-Call, gives-Wide, gives-Chain}
+use Rattle.expression_parser.proofs.Rules.{gives-String, gives-Call, gives-Wide, gives-Chain, gives-Component, name_alone}
+use Rattle.expression_parser.proofs.Selectors.{index_reads, index_refused, index_answer, index_behind, index_left, index_read, field_read, field_left}
+use Rattle.expression_parser.proofs.Selectors.{end_read, end_left, selectors_more, selector_fewer, selectors_given, selectors_answer, selectors_refused}
 use Rattle.grammar.proofs.Reading.{reads_fewer, reads_no_more}
 use Rattle.expression_parser.proofs.Reading.{unchanged}
 use Rattle.expression_parser.proofs.expression.+expression.Goals as goal
@@ -384,43 +388,212 @@ factor-returns-clause-exact t c = λ depth e others h ends.
 pub named-returns-in_err-name-clause-exact : goal.named-returns-in_err-name-clause-exact
 named-returns-in_err-name-clause-exact t c = λ first depth e others h ends. absurd (c.in_err-name.ensures.missed first)
 
+pub named-returns-in_err-selectors-clause-exact : goal.named-returns-in_err-selectors-clause-exact
+named-returns-in_err-selectors-clause-exact t c = λ first depth e others h ends.
+    let n = name_taken depth c.in_ok-name.name c.args.cursor.now.rest.now c.expect_name.new.self.rest.now others c.in_ok-name.ensures.spelled
+    (factor_parts depth c.args.cursor.now.rest.now others e h) in
+    handed_on _ _ c.from_residual-in_err-selectors.result c.in_err-selectors.field-0.0 c.from_residual-in_err-selectors.ensures
+    (c.in_err-selectors.ensures.exact depth (n.selectors, n.indexes) n.middle n.selected
+    (named_ends depth c.expect_name.new.self.rest.now others n ends.selector))
+
+pub named-returns-in_err-selectors-clause-given : goal.named-returns-in_err-selectors-clause-given
+named-returns-in_err-selectors-clause-given t c =
+    let fault = c.in_err-selectors.field-0.0 in
+    handed_on _ _ c.from_residual-in_err-selectors.result fault c.from_residual-in_err-selectors.ensures
+    (refused_behind (c.args.levels + 1) c.args.cursor.now c.expect_name.new.self (identifier c.in_ok-name.name ∷ []) fault c.in_ok-name.ensures.spelled
+    c.in_err-selectors.ensures.given)
+
+pub named-returns-then-not-is_empty-clause-given : goal.named-returns-then-not-is_empty-clause-given
+named-returns-then-not-is_empty-clause-given t c =
+    let some : ¬ (c.in_ok-selectors.selectors.items ≡ []) = search rules in
+    gives-Component c.args.levels c.args.cursor.now c.expect_name.new.self c.selectors.new.cursor c.in_ok-name.name c.in_ok-selectors.selectors
+    c.in_ok-selectors.indexes c.in_ok-name.ensures.spelled c.in_ok-selectors.ensures.given some
+
+pub named-returns-then-not-is_empty-clause-exact : goal.named-returns-then-not-is_empty-clause-exact
+named-returns-then-not-is_empty-clause-exact t c = λ first depth e others h ends.
+    let n = name_taken depth c.in_ok-name.name c.args.cursor.now.rest.now c.expect_name.new.self.rest.now others c.in_ok-name.ensures.spelled
+    (factor_parts depth c.args.cursor.now.rest.now others e h) in
+    let some : ¬ (c.in_ok-selectors.selectors.items ≡ []) = search rules in
+    selected_ends c.args.levels depth c.expect_name.new.self.rest.now c.selectors.new.cursor.rest.now others n c.in_ok-selectors.selectors.items
+    c.in_ok-selectors.indexes.items some c.in_ok-selectors.ensures.given
+    (c.in_ok-selectors.ensures.exact depth (n.selectors, n.indexes) n.middle n.selected
+    (named_ends depth c.expect_name.new.self.rest.now others n ends.selector))
+
 pub named-returns-in_err-actuals-clause-exact : goal.named-returns-in_err-actuals-clause-exact
 named-returns-in_err-actuals-clause-exact t c = λ first depth e others h ends.
     let n = name_taken depth c.in_ok-name.name c.args.cursor.now.rest.now c.expect_name.new.self.rest.now others c.in_ok-name.ensures.spelled
     (factor_parts depth c.args.cursor.now.rest.now others e h) in
     handed_on _ _ c.from_residual-in_err-actuals.result c.in_err-actuals.field-0.0 c.from_residual-in_err-actuals.ensures
-    (c.in_err-actuals.ensures.exact depth n.actuals others n.begun ends.call)
+    (c.in_err-actuals.ensures.exact depth n.actuals others (actuals_behind depth c.expect_name.new.self.rest.now c.selectors.new.cursor.rest.now others n
+    (c.in_ok-selectors.ensures.exact depth (n.selectors, n.indexes) n.middle n.selected
+    (named_ends depth c.expect_name.new.self.rest.now others n ends.selector))) ends.call)
 
 pub named-returns-in_err-actuals-clause-given : goal.named-returns-in_err-actuals-clause-given
 named-returns-in_err-actuals-clause-given t c =
     let fault = c.in_err-actuals.field-0.0 in
+    let none : length c.in_ok-selectors.selectors.items ≡ 0 = search rules in
+    let name = name_alone c.args.levels c.args.cursor.now c.expect_name.new.self c.selectors.new.cursor c.in_ok-name.name c.in_ok-selectors.selectors.items
+    c.in_ok-selectors.indexes.items c.in_ok-name.ensures.spelled c.in_ok-selectors.ensures.given none in
     handed_on _ _ c.from_residual-in_err-actuals.result fault c.from_residual-in_err-actuals.ensures
-    (refused_behind (c.args.levels + 1) c.args.cursor.now c.expect_name.new.self (identifier c.in_ok-name.name ∷ []) fault c.in_ok-name.ensures.spelled
+    (refused_behind (c.args.levels + 1) c.args.cursor.now c.selectors.new.cursor (identifier c.in_ok-name.name ∷ []) fault name
     c.in_err-actuals.ensures.given)
 
 pub named-returns-then-is_empty-clause-given : goal.named-returns-then-is_empty-clause-given
 named-returns-then-is_empty-clause-given t c =
+    let unselected : length c.in_ok-selectors.selectors.items ≡ 0 = search rules in
+    let name = name_alone c.args.levels c.args.cursor.now c.expect_name.new.self c.selectors.new.cursor c.in_ok-name.name c.in_ok-selectors.selectors.items
+    c.in_ok-selectors.indexes.items c.in_ok-name.ensures.spelled c.in_ok-selectors.ensures.given unselected in
     let none : length c.in_ok-actuals.actuals.items ≡ 0 = search rules in
-    gives-Name c.args.levels c.args.cursor.now c.expect_name.new.self c.actuals.new.cursor c.in_ok-name.name c.in_ok-actuals.actuals.items
-    c.in_ok-name.ensures.spelled c.in_ok-actuals.ensures.given none
+    gives-Name c.args.levels c.args.cursor.now c.selectors.new.cursor c.actuals.new.cursor c.in_ok-name.name c.in_ok-actuals.actuals.items
+    name c.in_ok-actuals.ensures.given none
 
 pub named-returns-then-is_empty-clause-exact : goal.named-returns-then-is_empty-clause-exact
 named-returns-then-is_empty-clause-exact t c = λ first depth e others h ends.
     let n = name_taken depth c.in_ok-name.name c.args.cursor.now.rest.now c.expect_name.new.self.rest.now others c.in_ok-name.ensures.spelled
     (factor_parts depth c.args.cursor.now.rest.now others e h) in
-    c.in_ok-actuals.ensures.exact depth n.actuals others n.begun ends.call
+    c.in_ok-actuals.ensures.exact depth n.actuals others (actuals_behind depth c.expect_name.new.self.rest.now c.selectors.new.cursor.rest.now others n
+    (c.in_ok-selectors.ensures.exact depth (n.selectors, n.indexes) n.middle n.selected
+    (named_ends depth c.expect_name.new.self.rest.now others n ends.selector))) ends.call
 
 pub named-returns-clause-given : goal.named-returns-clause-given
 named-returns-clause-given t c =
+    let unselected : length c.in_ok-selectors.selectors.items ≡ 0 = search rules in
+    let name = name_alone c.args.levels c.args.cursor.now c.expect_name.new.self c.selectors.new.cursor c.in_ok-name.name c.in_ok-selectors.selectors.items
+    c.in_ok-selectors.indexes.items c.in_ok-name.ensures.spelled c.in_ok-selectors.ensures.given unselected in
     let some : ¬ (c.in_ok-actuals.actuals.items ≡ []) = search rules in
-    gives-Call c.args.levels c.args.cursor.now c.expect_name.new.self c.actuals.new.cursor c.in_ok-name.name c.in_ok-actuals.actuals
-    c.in_ok-name.ensures.spelled c.in_ok-actuals.ensures.given some
+    gives-Call c.args.levels c.args.cursor.now c.selectors.new.cursor c.actuals.new.cursor c.in_ok-name.name c.in_ok-actuals.actuals
+    name c.in_ok-actuals.ensures.given some
 
 pub named-returns-clause-exact : goal.named-returns-clause-exact
 named-returns-clause-exact t c = λ first depth e others h ends.
     let n = name_taken depth c.in_ok-name.name c.args.cursor.now.rest.now c.expect_name.new.self.rest.now others c.in_ok-name.ensures.spelled
     (factor_parts depth c.args.cursor.now.rest.now others e h) in
-    c.in_ok-actuals.ensures.exact depth n.actuals others n.begun ends.call
+    c.in_ok-actuals.ensures.exact depth n.actuals others (actuals_behind depth c.expect_name.new.self.rest.now c.selectors.new.cursor.rest.now others n
+    (c.in_ok-selectors.ensures.exact depth (n.selectors, n.indexes) n.middle n.selected
+    (named_ends depth c.expect_name.new.self.rest.now others n ends.selector))) ends.call
+
+-- ---- selectors
+
+pub selector-returns-in_err-place-clause-exact : goal.selector-returns-in_err-place-clause-exact
+selector-returns-in_err-place-clause-exact t c = λ depth found others h ends. absurd (c.in_err-place.ensures.missed depth found others h ends)
+
+pub selector-returns-in_err-put-in-Some-Index-clause-given : goal.selector-returns-in_err-put-in-Some-Index-clause-given
+selector-returns-in_err-put-in-Some-Index-clause-given t c =
+    let behind = c.next_selector.new.cursor in
+    let fault = c.in_err-put-in-Some-Index.field-0.0 in
+    let s : Read (BeginsSelector c.args.within) c.args.cursor.now behind (Some (Index c.in-Some-Index.place c.in-Some-Index.joined)) = search rules in
+    handed_on _ _ c.from_residual-in_err-put-in-Some-Index.result fault c.from_residual-in_err-put-in-Some-Index.ensures
+    (index_refused c.args.within c.in-Some-Index.joined c.args.levels c.in-Some-Index.place c.args.cursor.now behind fault s
+    (not_kept (Read (BeginsIndex c.args.levels) behind c.index.new.cursor) (Refused c.args.levels behind) c.index.result fault
+    (memory_refused c.args.levels behind) c.index.ensures.given c.in_err-put-in-Some-Index.ensures.given))
+
+pub selector-returns-in_err-put-in-Some-Index-clause-exact : goal.selector-returns-in_err-put-in-Some-Index-clause-exact
+selector-returns-in_err-put-in-Some-Index-clause-exact t c = λ depth found others h ends.
+    let behind = c.next_selector.new.cursor in
+    let fault = c.in_err-put-in-Some-Index.field-0.0 in
+    let s : Read (BeginsSelector c.args.within) c.args.cursor.now behind (Some (Index c.in-Some-Index.place c.in-Some-Index.joined)) = search rules in
+    let x = index_behind c.args.within c.in-Some-Index.joined depth c.in-Some-Index.place c.args.cursor.now behind others found s h ends in
+    handed_on _ _ c.from_residual-in_err-put-in-Some-Index.result fault c.from_residual-in_err-put-in-Some-Index.ensures
+    (not_kept (λ _. c.index.new.cursor.rest.now ≡ x.middle) (Stops c.args.levels depth) c.index.result fault tt
+    (index_answer c.args.levels depth behind c.index.new.cursor others c.index.result x c.index.ensures.exact) c.in_err-put-in-Some-Index.ensures.given)
+
+pub selector-returns-in_ok-put-in-Some-Index-clause-given : goal.selector-returns-in_ok-put-in-Some-Index-clause-given
+selector-returns-in_ok-put-in-Some-Index-clause-given t c =
+    let behind = c.next_selector.new.cursor in
+    let s : Read (BeginsSelector c.args.within) c.args.cursor.now behind (Some (Index c.in-Some-Index.place c.in-Some-Index.joined)) = search rules in
+    let now = last c.args.indexes.now.items c.put.new.list.items c.index.result c.in_ok-put-in-Some-Index.ensures.given in
+    index_read c.args.within c.in-Some-Index.joined c.args.levels c.in-Some-Index.place c.args.cursor.now behind c.index.new.cursor now.item
+    c.args.indexes.now.items c.put.new.list.items s
+    (was_read (Read (BeginsIndex c.args.levels) behind c.index.new.cursor) (Refused c.args.levels behind) c.index.result now.item now.is
+    c.index.ensures.given) now.grown
+
+pub selector-returns-in_ok-put-in-Some-Index-clause-exact : goal.selector-returns-in_ok-put-in-Some-Index-clause-exact
+selector-returns-in_ok-put-in-Some-Index-clause-exact t c = λ depth found others h ends.
+    let behind = c.next_selector.new.cursor in
+    let s : Read (BeginsSelector c.args.within) c.args.cursor.now behind (Some (Index c.in-Some-Index.place c.in-Some-Index.joined)) = search rules in
+    let now = last c.args.indexes.now.items c.put.new.list.items c.index.result c.in_ok-put-in-Some-Index.ensures.given in
+    index_left c.args.levels depth behind c.index.new.cursor now.item others
+    (index_behind c.args.within c.in-Some-Index.joined depth c.in-Some-Index.place c.args.cursor.now behind others found s h ends)
+    (subst (λ r. ReadsDeep c.args.levels BeginsIndex (Ends relation_level) behind c.index.new.cursor r) now.is c.index.ensures.exact)
+
+pub selector-returns-in-Some-Field-clause-given : goal.selector-returns-in-Some-Field-clause-given
+selector-returns-in-Some-Field-clause-given t c =
+    let s : Read (BeginsSelector c.args.within) c.args.cursor.now c.next_selector.new.cursor (Some (Field c.in-Some-Field.name)) = search rules in
+    field_read c.args.within c.args.levels c.in-Some-Field.name c.args.cursor.now c.next_selector.new.cursor c.args.indexes.now.items s
+
+pub selector-returns-in-Some-Field-clause-exact : goal.selector-returns-in-Some-Field-clause-exact
+selector-returns-in-Some-Field-clause-exact t c = λ depth found others h ends.
+    let s : Read (BeginsSelector c.args.within) c.args.cursor.now c.next_selector.new.cursor (Some (Field c.in-Some-Field.name)) = search rules in
+    field_left c.args.within depth c.in-Some-Field.name c.args.cursor.now c.next_selector.new.cursor found others s h ends
+
+pub selector-returns-in-None-clause-given : goal.selector-returns-in-None-clause-given
+selector-returns-in-None-clause-given t c =
+    let s : Read (BeginsSelector c.args.within) c.args.cursor.now c.next_selector.new.cursor None = search rules in
+    end_read c.args.within c.args.levels c.args.cursor.now c.next_selector.new.cursor c.args.indexes.now.items s
+
+pub selector-returns-in-None-clause-exact : goal.selector-returns-in-None-clause-exact
+selector-returns-in-None-clause-exact t c = λ depth found others h ends.
+    let s : Read (BeginsSelector c.args.within) c.args.cursor.now c.next_selector.new.cursor None = search rules in
+    end_left c.args.within depth c.args.cursor.now c.next_selector.new.cursor found others s h ends
+
+pub selectors-returns-in_err-selector-clause-given : goal.selectors-returns-in_err-selector-clause-given
+selectors-returns-in_err-selector-clause-given t c =
+    let fault = c.in_err-selector.field-0.0 in
+    handed_on _ _ c.from_residual.result fault c.from_residual.ensures
+    (selectors_refused c.args.levels c.loop-indexes.within c.args.cursor.now c.loop-indexes.cursor c.loop-indexes.selectors.items c.loop-indexes.indexes.items
+    fault c.loop-indexes.invariant c.in_err-selector.ensures.given)
+
+pub selectors-returns-in_err-selector-clause-exact : goal.selectors-returns-in_err-selector-clause-exact
+selectors-returns-in_err-selector-clause-exact t c = λ depth found others h ends.
+    let fault = c.in_err-selector.field-0.0 in
+    handed_on _ _ c.from_residual.result fault c.from_residual.ensures
+    (selectors_answer c.args.levels depth c.loop-indexes.within c.args.cursor.now c.loop-indexes.cursor c.selector.new.cursor c.loop-indexes.selectors.items
+    c.loop-indexes.indexes.items (Err fault) found others c.loop-indexes.invariant c.in_err-selector.ensures.exact h ends)
+
+pub selectors-loop-indexes-smaller : goal.selectors-loop-indexes-smaller
+selectors-loop-indexes-smaller t c =
+    let given : ReadSelector c.args.levels c.loop-indexes.within c.loop-indexes.cursor c.selector.new.cursor c.loop-indexes.indexes.items
+    c.selector.new.indexes.items (Some c.in-Some.selector) = search rules in
+    let fewer = selector_fewer c.args.levels c.loop-indexes.within c.loop-indexes.cursor c.selector.new.cursor c.loop-indexes.indexes.items
+    c.selector.new.indexes.items c.in-Some.selector given in
+    omega arith
+
+pub selectors-loop-indexes-preserved : goal.selectors-loop-indexes-preserved
+selectors-loop-indexes-preserved t c =
+    let given : ReadSelector c.args.levels c.loop-indexes.within c.loop-indexes.cursor c.selector.new.cursor c.loop-indexes.indexes.items
+    c.selector.new.indexes.items (Some c.in-Some.selector) = search rules in
+    let reads : ReadsSelector c.args.levels c.loop-indexes.within c.loop-indexes.cursor c.selector.new.cursor (Ok (Some c.in-Some.selector)) =
+    subst (λ r. ReadsSelector c.args.levels c.loop-indexes.within c.loop-indexes.cursor c.selector.new.cursor (Ok r)) c.in-Some.is
+    c.in_ok-selector.ensures.exact in
+    selectors_more c.args.levels c.loop-indexes.within c.is_index-within.result c.args.cursor.now c.loop-indexes.cursor c.selector.new.cursor
+    c.loop-indexes.selectors.items c.push.new.self.items c.loop-indexes.indexes.items c.selector.new.indexes.items c.in-Some.selector
+    c.loop-indexes.invariant given reads c.is_index-within.ensures c.in_ok-push.ensures.items
+
+pub selectors-returns-clause-given : goal.selectors-returns-clause-given
+selectors-returns-clause-given t c =
+    let given : ReadSelector c.args.levels c.loop-indexes.within c.loop-indexes.cursor c.selector.new.cursor c.loop-indexes.indexes.items
+    c.selector.new.indexes.items None = search rules in
+    selectors_given c.args.levels c.loop-indexes.within c.args.cursor.now c.loop-indexes.cursor c.selector.new.cursor c.loop-indexes.selectors.items
+    c.loop-indexes.indexes.items c.selector.new.indexes.items c.loop-indexes.invariant given
+
+pub selectors-returns-clause-exact : goal.selectors-returns-clause-exact
+selectors-returns-clause-exact t c = λ depth found others h ends.
+    let reads : ReadsSelector c.args.levels c.loop-indexes.within c.loop-indexes.cursor c.selector.new.cursor (Ok None) =
+    subst (λ r. ReadsSelector c.args.levels c.loop-indexes.within c.loop-indexes.cursor c.selector.new.cursor (Ok r)) c.in_default.is
+    c.in_ok-selector.ensures.exact in
+    selectors_answer c.args.levels depth c.loop-indexes.within c.args.cursor.now c.loop-indexes.cursor c.selector.new.cursor c.loop-indexes.selectors.items
+    c.loop-indexes.indexes.items (Ok None) found others c.loop-indexes.invariant reads h ends
+
+pub index-returns-in_err-levels-clause-given : goal.index-returns-in_err-levels-clause-given
+index-returns-in_err-levels-clause-given t c =
+    let fault = c.in_err-levels.field-0.0 in
+    handed_on _ _ c.from_residual.result fault c.from_residual.ensures
+    (refused_spent c.args.levels c.args.cursor.now fault (c.in_err-levels.ensures.spent.0, c.in_err-levels.ensures.spent.1 ∙ ap TooDeep c.place.ensures))
+
+pub index-returns-clause-exact : goal.index-returns-clause-exact
+index-returns-clause-exact t c = λ depth e others h ends.
+    index_reads c.args.levels c.in_ok-levels.levels depth c.args.cursor.now c.expression.new.cursor e others c.expression.result c.in_ok-levels.ensures.left h
+    ends c.expression.ensures.exact
 
 -- ---- parentheses
 

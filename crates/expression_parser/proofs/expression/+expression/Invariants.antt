@@ -2,6 +2,7 @@ use Rattle.std.proofs.Common.{◌+◌, ◌-◌, ◌*◌}
 use Rattle.token_cursor.specs.Cursor.{left}
 use Rattle.token_cursor.specs.Level.{level_number}
 use Rattle.expression_parser.proofs.Chains.{LinksRead}
+use Rattle.expression_parser.proofs.Selectors.{SelectorsRead}
 use Rattle.grammar.proofs.Actuals.{ActualNext}
 use Rattle.expression_parser.proofs.Deep.{Front}
 use Rattle.expression_parser.proofs.Actuals.{ActualsGrow}
@@ -31,6 +32,15 @@ decreases-parenthesized l = 20 * l.levels + 4
 abbrev pub decreases-named : goal.decreases-named
 decreases-named l = 20 * l.levels + 4
 
+abbrev pub decreases-selectors : goal.decreases-selectors
+decreases-selectors l = 20 * l.levels + 3
+
+abbrev pub decreases-selector : goal.decreases-selector
+decreases-selector l = 20 * l.levels + 2
+
+abbrev pub decreases-index : goal.decreases-index
+decreases-index l = 20 * l.levels + 1
+
 abbrev pub decreases-actuals : goal.decreases-actuals
 decreases-actuals l = 20 * l.levels + 3
 
@@ -45,6 +55,12 @@ invariant-links-loop-operator l = LinksRead l.level l.levels l.fn.cursor l.curso
 
 abbrev pub decreases-links-loop-operator : goal.decreases-links-loop-operator
 decreases-links-loop-operator l = left l.cursor
+
+abbrev pub invariant-selectors-loop-indexes : goal.invariant-selectors-loop-indexes
+invariant-selectors-loop-indexes l = SelectorsRead l.levels l.within l.fn.cursor l.cursor l.selectors.items l.indexes.items
+
+abbrev pub decreases-selectors-loop-indexes : goal.decreases-selectors-loop-indexes
+decreases-selectors-loop-indexes l = left l.cursor
 
 abbrev pub invariant-actual_list-loop-actuals : goal.invariant-actual_list-loop-actuals
 invariant-actual_list-loop-actuals l =
