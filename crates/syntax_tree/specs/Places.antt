@@ -14,8 +14,6 @@ use Rattle.syntax_tree.specs.declared.TypeDenoter.TheOpen.{TypeDenoter-F}
 use Rattle.syntax_tree.specs.declared.TypeDenoter.TheOpen.TypeDenoter-F.{Name as NamedType, Enumerated, Subrange}
 use Rattle.syntax_tree.specs.declared.TypeDenoter.TheOpen.TypeDenoter-F.{Array, Record}
 use Rattle.syntax_tree.specs.declared.TypeDenoter.TheFolds.{fold-TypeDenoter}
-use Rattle.syntax_tree.specs.declared.Selector.{Selector}
-use Rattle.syntax_tree.specs.declared.Selector.TheVariants.{Index, Field}
 use Rattle.syntax_tree.specs.declared.VariableGroup.{VariableGroup}
 use Rattle.syntax_tree.specs.declared.ConstantDefinition.{ConstantDefinition}
 use Rattle.syntax_tree.specs.declared.Constant.{Constant}
@@ -29,7 +27,7 @@ use Rattle.syntax_tree.specs.declared.Actual.{Actual}
 use Rattle.syntax_tree.specs.declared.Link.{Link}
 use Rattle.syntax_tree.specs.declared.Expr.TheOpen.{Expr-F, Actual-F, Link-F}
 use Rattle.syntax_tree.specs.declared.Expr.TheOpen.Expr-F.{Number, Name as NameOf, Call as CallOf, Parenthesized, Not}
-use Rattle.syntax_tree.specs.declared.Expr.TheOpen.Expr-F.{Signed, Chain, String as StringOf, Component}
+use Rattle.syntax_tree.specs.declared.Expr.TheOpen.Expr-F.{Signed, Chain, String as StringOf}
 use Rattle.syntax_tree.specs.declared.Expr.TheFolds.{fold-Expr, fold-Actual, fold-Link}
 use Rattle.syntax_tree.specs.declared.Stmt.{Stmt}
 use Rattle.syntax_tree.specs.declared.Stmt.TheOpen.{Stmt-F}
@@ -42,13 +40,6 @@ Places = List Place
 -- several rows as one
 abbrev pub joined_places : List Places → Places
 joined_places rows = flat_map (λ row. row) rows
-
--- the places of selectors, with those of the index expressions
-abbrev pub selector_places : List Selector → List Places → Places
-selector_places [] rows = joined_places rows
-selector_places (Field name ∷ selectors) rows = name.place ∷ selector_places selectors rows
-selector_places (Index place joined ∷ selectors) [] = place ∷ selector_places selectors []
-selector_places (Index place joined ∷ selectors) (row ∷ rows) = place ∷ (row ++ selector_places selectors rows)
 
 abbrev pub link_step : Link-F Places Places Places → Places
 link_step link = link.place ∷ link.operand
@@ -63,7 +54,6 @@ actual_step actual = actual.value ++ width_places actual.width
 abbrev pub expression_step : Expr-F Places Places Places → Places
 expression_step (Number value place) = place ∷ []
 expression_step (NameOf name) = name.place ∷ []
-expression_step (Component name selectors indexes) = name.place ∷ selector_places selectors.items indexes.items
 expression_step (StringOf text place) = place ∷ []
 expression_step (CallOf name actuals) = name.place ∷ joined_places actuals.items
 expression_step (Parenthesized bracket inner) = bracket ∷ inner.value
@@ -111,8 +101,7 @@ arm_places arm = flat_map constant_places arm.0 ++ arm.1
 
 abbrev pub statement_step : Stmt-F Places → Places
 statement_step Empty = []
-statement_step (Assign name selectors indexes becomes value) =
-    name.place ∷ (selector_places selectors.items (map expr_places indexes.items) ++ (becomes ∷ expr_places value))
+statement_step (Assign name becomes value) = name.place ∷ becomes ∷ expr_places value
 statement_step (Call name actuals) = name.place ∷ flat_map actual_places actuals.items
 statement_step (Compound statements) = joined_places statements.items
 statement_step (If place condition consequence alternative) =

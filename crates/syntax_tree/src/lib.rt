@@ -111,25 +111,13 @@ pub enum TypeDenoter<'a> {
     },
 }
 
-/// What selects a component of a variable (6.5.3).
-#[derive(Clone, Copy)]
-pub enum Selector<'a> {
-    /// An index expression, the next of those that stand beside, in brackets of its own, or joined to the index before
-    /// it by a comma; with the place of the opening bracket or of the comma.
-    Index { place: Place, joined: bool },
-    /// The field of a name.
-    Field(Name<'a>),
-}
-
 /// A statement (6.8).
 #[derive(Drop)]
 pub enum Stmt<'a> {
     Empty,
-    /// `name selectors := value`, with the place of `:=`; an index expression for each selector that is an index.
+    /// `name := value`, with the place of `:=`.
     Assign {
         name: Name<'a>,
-        selectors: Vec<Selector<'a>>,
-        indexes: Vec<Expr<'a>>,
         becomes: Place,
         value: Expr<'a>,
     },
@@ -224,12 +212,6 @@ pub enum Expr<'a> {
     },
     /// An entire variable, a constant or a call without actuals.
     Name(Name<'a>),
-    /// A component of a variable (6.5.3): one or more selectors, and an index expression for each that is an index.
-    Component {
-        name: Name<'a>,
-        selectors: Vec<Selector<'a>>,
-        indexes: Vec<Expr<'a>>,
-    },
     /// A string with its apostrophes (6.1.7).
     String {
         text: &'a [u8],
