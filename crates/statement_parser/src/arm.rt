@@ -44,8 +44,8 @@ fn constants<'a>(
 }
 
 // behind_arm = ";" | [";"] "end"
-/// Behind an arm: whether a semicolon stands before the `end` of the case, or none where another
-/// arm follows.
+/// Behind an arm of a case, or behind fields of a record: whether a semicolon stands before the
+/// `end`, or none where more arms or fields follow.
 pub fn behind_arm(cursor: &mut Cursor<'_, '_>) -> Result<Option<bool>, ParseFault>
     ensures given { MatchResult result (ReadBehindArm cursor.old cursor.new) IsPlain }
     ensures missed { IfErr result (λ _.

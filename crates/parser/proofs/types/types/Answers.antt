@@ -2,6 +2,6 @@ use Rattle.grammar.proofs.Types.{types_opened, type_part_ends}
 use Rattle.parser.proofs.types.types.Goals as goal
 
 pub returns-clause-exact : goal.returns-clause-exact
-returns-clause-exact c = λ definitions others h ends.
-    c.definitions.ensures.exact definitions others (types_opened c.in-Some.field-0 c.args.cursor.now.rest.now c.take_word.new.self.rest.now others definitions
+returns-clause-exact c = λ depth definitions others h ends.
+    c.definitions.ensures.exact depth definitions others (types_opened depth c.in-Some.field-0 c.args.cursor.now.rest.now c.take_word.new.self.rest.now others definitions
     c.in-Some.ensures.spelled h ends) (type_part_ends others ends)
