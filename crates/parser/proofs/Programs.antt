@@ -1,5 +1,5 @@
 -- What the rules of declarations, blocks and programs give.
-use Rattle.std.proofs.Common.{◌≡◌, ℕ, ◌+◌, ◌<◌, ◌≤◌, true, ◌&&◌, List, [], ◌∷◌, ◌++◌, length, map, subst, sym, ap, ◌∙◌, append_assoc, append-nil, refl, arith}
+use Rattle.std.proofs.Common.{◌≡◌, ℕ, ◌+◌, ◌<◌, ◌≤◌, true, ◌&&◌, List, [], ◌∷◌, ◌++◌, length, map, Result, Ok, Err, MatchResult, subst, sym, ap, ◌∙◌, append_assoc, append-nil, refl, arith}
 use Rattle.std.specs.List.{list_all}
 use Rattle.std.specs.declared.alloc.Global.{Global}
 use Rattle.std.specs.declared.vec.Vec.{Vec}
@@ -9,6 +9,7 @@ use Rattle.lexer.specs.declared.token.Kind.TheVariants as kind
 use Rattle.lexer.specs.declared.token.Symbol.TheVariants as symbol
 use Rattle.lexer.specs.declared.token.Word.TheVariants as word
 use Rattle.token_cursor.specs.declared.cursor.Cursor.{Cursor}
+use Rattle.token_cursor.specs.declared.fault.ParseFault.{ParseFault}
 use Rattle.syntax_tree.specs.declared.ConstantDefinition.{ConstantDefinition}
 use Rattle.syntax_tree.specs.declared.Name.{Name}
 use Rattle.syntax_tree.specs.declared.Stmt.{Stmt}
@@ -21,7 +22,9 @@ use Rattle.grammar.specs.Spelling.{of_kind_at, mark, word_symbol, identifier, id
 use Rattle.grammar.specs.Spelling.{Spelling, denoter_spelling, constants_spelling, types_spelling, variables_spelling, block_spelling}
 use Rattle.grammar.specs.WellFormed.{is_definition, is_denoter, is_type_definition, is_group, is_statement, has_items}
 use Rattle.grammar.specs.Nesting.{denoter_levels, deepest}
+use Rattle.expression_parser.specs.Refusing.{Refused}
 use Rattle.expression_parser.specs.Rules.{Read}
+use Rattle.expression_parser.proofs.Deep.{refused_behind}
 use Rattle.grammar.specs.Begins.{BeginsList, BeginsGroup, BeginsGroups, BeginsConstantPart, BeginsVariables, BeginsCompound, BeginsBlock, Stop}
 use Rattle.grammar.specs.Begins.{BeginsDenoter, BeginsTypePart}
 use Rattle.parser.specs.Syntax.{most, IsTreeOf}
@@ -95,6 +98,24 @@ groups_grow levels a b gs list c g given = record {
   nests = subst (λ x. deepest x ≤ levels) (sym (map_push (λ (g : VariableGroup). denoter_levels g.denoter) gs g))
       (deepest_push levels (map (λ (g : VariableGroup). denoter_levels g.denoter) gs) (denoter_levels g.denoter) list.nests given.nests);
 }
+
+-- behind `var` they are a part of a block
+variable_part_read : (levels : ℕ) (a b c : Cursor) (p : Place) (groups : List VariableGroup) → Took a b (of_kind_at (kind.Word word.Var) p ∷ [])
+    → Read (BeginsGroups levels) b c groups → Read (BeginsVariables levels) a c groups
+variable_part_read levels a b c p [] taken given = let some = given.some in absurd (omega arith)
+variable_part_read levels a b c p (g ∷ gs) taken given = record {
+  spelled = both (word_symbol word.Var ∷ []) (joined (map group_spelling (g ∷ gs))) a.rest.now b.rest.now c.rest.now
+      (without_place (kind.Word word.Var) p [] a.rest.now b.rest.now taken) given.spelled;
+  formed = given.formed;
+  nests = given.nests;
+}
+
+pub variables_answer : (levels : ℕ) (a b c : Cursor) (p : Place) (answer : Result (Vec VariableGroup Global) ParseFault)
+    → Took a b (of_kind_at (kind.Word word.Var) p ∷ [])
+    → MatchResult answer (λ found. Read (BeginsGroups levels) b c found.items) (Refused levels b)
+    → MatchResult answer (λ found. Read (BeginsVariables levels) a c found.items) (Refused levels a)
+variables_answer levels a b c p (Ok groups) taken given = variable_part_read levels a b c p groups.items taken given
+variables_answer levels a b c p (Err fault) taken given = refused_behind levels a b (of_kind_at (kind.Word word.Var) p ∷ []) fault taken given
 
 -- what stands behind the types of a block
 block_body : (levels inner : ℕ) (a b c : Cursor) (variables : List VariableGroup) (statements : List Stmt) (end : Place)

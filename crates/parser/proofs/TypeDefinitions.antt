@@ -1,25 +1,31 @@
 -- What the rules of type definitions give, and which spellings of them they read.
-use Rattle.std.proofs.Common.{◌≡◌, ℕ, ◌≤◌, true, List, [], ◌∷◌, ◌++◌, map, Ok, refl, subst, sym, ap, ◌∙◌, append-nil, arith}
+use Rattle.std.proofs.Common.{◌≡◌, ℕ, ◌≤◌, true, List, [], ◌∷◌, ◌++◌, map, Result, Ok, Err, MatchResult, refl, subst, sym, ap, ◌∙◌, append-nil, arith}
+use Rattle.std.specs.declared.alloc.Global.{Global}
+use Rattle.std.specs.declared.vec.Vec.{Vec}
 use Rattle.place.specs.declared.Place.{Place}
 use Rattle.lexer.specs.declared.token.Kind.TheVariants as kind
 use Rattle.lexer.specs.declared.token.Symbol.TheVariants as symbol
 use Rattle.lexer.specs.declared.token.Token.{Token}
+use Rattle.lexer.specs.declared.token.Word.TheVariants as word
 use Rattle.syntax_tree.specs.declared.Name.{Name}
 use Rattle.syntax_tree.specs.declared.TypeDefinition.{TypeDefinition}
 use Rattle.syntax_tree.specs.declared.TypeDenoter.{TypeDenoter}
 use Rattle.token_cursor.specs.declared.cursor.Cursor.{Cursor}
+use Rattle.token_cursor.specs.declared.fault.ParseFault.{ParseFault}
 use Rattle.token_cursor.specs.Cursor.{Took}
-use Rattle.grammar.specs.Spelling.{Reads, of_kind_at, mark, identifier, joined, denoter_spelling, type_definition_spelling}
+use Rattle.grammar.specs.Spelling.{Reads, of_kind_at, mark, word_symbol, identifier, joined, denoter_spelling, type_definition_spelling}
 use Rattle.grammar.specs.WellFormed.{is_type_definition}
 use Rattle.grammar.specs.Nesting.{denoter_levels, deepest}
 use Rattle.grammar.specs.Following.{Anything, EndsDenoter}
-use Rattle.grammar.specs.Begins.{BeginsDenoter, BeginsTypeDefinition, BeginsTypeDefinitions}
+use Rattle.grammar.specs.Begins.{BeginsDenoter, BeginsTypeDefinition, BeginsTypeDefinitions, BeginsTypePart}
 use Rattle.grammar.proofs.Lists.{map_push, all_push, deepest_push, and_true}
 use Rattle.grammar.proofs.Reading.{both, without_place, joined_push}
 use Rattle.grammar.proofs.Programs.{DenoterThenClosed, denoter_ends}
 use Rattle.grammar.proofs.Types.{TypesLeft, EachTypesLeft, TypeNext}
 use Rattle.expression_parser.specs.Reading.{ReadsDeep}
+use Rattle.expression_parser.specs.Refusing.{Refused}
 use Rattle.expression_parser.specs.Rules.{Read}
+use Rattle.expression_parser.proofs.Deep.{refused_behind}
 use Rattle.expression_parser.proofs.Lists.{some_grown}
 
 -- a definition
@@ -76,3 +82,21 @@ types_left levels start a b d reads next depth types others h ends =
     let p = next depth types others h ends in
     let same : b.rest.now ≡ p.middle = reads depth p.definition p.middle p.begun tt in
     subst (λ x. TypesLeft depth x others) (sym same) p.left
+
+-- behind `type` they are a part of a block
+type_part_read : (levels : ℕ) (a b c : Cursor) (p : Place) (types : List TypeDefinition) → Took a b (of_kind_at (kind.Word word.Type) p ∷ [])
+    → Read (BeginsTypeDefinitions levels) b c types → Read (BeginsTypePart levels) a c types
+type_part_read levels a b c p [] taken given = let some = given.some in absurd (omega arith)
+type_part_read levels a b c p (d ∷ ds) taken given = record {
+  spelled = both (word_symbol word.Type ∷ []) (joined (map type_definition_spelling (d ∷ ds))) a.rest.now b.rest.now c.rest.now
+      (without_place (kind.Word word.Type) p [] a.rest.now b.rest.now taken) given.spelled;
+  formed = given.formed;
+  nests = given.nests;
+}
+
+pub types_answer : (levels : ℕ) (a b c : Cursor) (p : Place) (answer : Result (Vec TypeDefinition Global) ParseFault)
+    → Took a b (of_kind_at (kind.Word word.Type) p ∷ [])
+    → MatchResult answer (λ found. Read (BeginsTypeDefinitions levels) b c found.items) (Refused levels b)
+    → MatchResult answer (λ found. Read (BeginsTypePart levels) a c found.items) (Refused levels a)
+types_answer levels a b c p (Ok types) taken given = type_part_read levels a b c p types.items taken given
+types_answer levels a b c p (Err fault) taken given = refused_behind levels a b (of_kind_at (kind.Word word.Type) p ∷ []) fault taken given
