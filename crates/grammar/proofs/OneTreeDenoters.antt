@@ -1,5 +1,5 @@
 -- Two type denoters from the same tokens are written alike: by how many tokens there are, and the first of them.
-use Rattle.std.proofs.Common.{◌≡◌, ℕ, zero, suc, ◌+◌, ◌<◌, ◌≤◌, Bool, true, false, ◌&&◌, List, [], ◌∷◌, ◌++◌, map, length, Some, None, refl, subst, sym, ap}
+use Rattle.std.proofs.Common.{◌≡◌, ℕ, zero, suc, ◌+◌, ◌<◌, ◌≤◌, Bool, true, false, List, [], ◌∷◌, ◌++◌, map, length, None, refl, subst, sym, ap}
 use Rattle.std.proofs.Common.{◌∙◌, arith}
 use Rattle.std.specs.List.{list_all}
 use Rattle.std.specs.declared.alloc.Global.{Global}
@@ -22,7 +22,7 @@ use Rattle.grammar.specs.Spelling.{Lexeme, Spelling, Reads, of_kind_at, mark, wo
 use Rattle.grammar.specs.Spelling.{constant_spelling, denoter_spelling, packed_spelling, array_spelling, record_spelling, field_spelling}
 use Rattle.grammar.specs.WellFormed.{has_items, is_denoter}
 use Rattle.grammar.specs.Nesting.{denoter_levels, deepest}
-use Rattle.grammar.specs.Following.{next_kind, NoNext, Next, EndsDenoter}
+use Rattle.grammar.specs.Following.{next_kind, EndsDenoter}
 use Rattle.grammar.specs.Begins.{BeginsArray, BeginsRecord, Field, field_spelled, field_well, field_levels}
 use Rattle.grammar.specs.Notation.{Notation, bracketed, token, row, names_notation, constant_notation, denoter_notation, field_notation}
 use Rattle.grammar.specs.Notation as note
@@ -34,7 +34,7 @@ use Rattle.grammar.proofs.OneTreeLists.{Parts, EndsPart, more, last, OnePart, Li
 use Rattle.grammar.proofs.OneTreeEnded.{in_semicolons, Fresh, ended_alike}
 use Rattle.grammar.proofs.OneTreeNames.{name_spelling, name_parts, all_names, names_row, one_name}
 use Rattle.grammar.proofs.OneTreeConstants.{constant_alike}
-use Rattle.grammar.proofs.Denoters.{names_closed, DenoterLayer, denoter_layer, StartsSo, layer_start, layer_starts, start_at}
+use Rattle.grammar.proofs.Denoters.{names_closed, DenoterLayer, denoter_layer, layer_start, layer_starts, start_at}
 use Rattle.grammar.proofs.Programs.{some_items, other_kind, names_first}
 use Rattle.grammar.proofs.Structured.{fields_computed, is_array, is_record, array_begins, record_begins, array_first, record_first, packed_same}
 use Rattle.grammar.proofs.Structured.{array_parts, field_parts, no_end, field_list_parts}

@@ -14,7 +14,7 @@ use Rattle.grammar.proofs.Lists.{length_map, map_push, all_push}
 use Rattle.grammar.proofs.Reading.{separated_more}
 use Rattle.grammar.proofs.Rows.{parted, begins}
 use Rattle.grammar.proofs.OneTree.{Alike, last_is_one}
-use Rattle.grammar.proofs.OneTreeLists.{Parts, EndsPart, more, last, Part, OnePart, Listed, list_alike}
+use Rattle.grammar.proofs.OneTreeLists.{Parts, EndsPart, more, last, OnePart, Listed, list_alike}
 
 -- the parts of such a list
 abbrev pub in_semicolons : (A : Type 0) → (A → Spelling) → (A → Bool) → (A → Notation) → Parts A

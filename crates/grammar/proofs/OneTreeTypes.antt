@@ -1,25 +1,23 @@
 -- Two rows of type definitions from the same tokens are written alike.
-use Rattle.std.proofs.Common.{◌≡◌, ◌+◌, true, List, [], ◌∷◌, ◌++◌, map, length, None, refl, subst, sym, ap, ◌∙◌, arith}
+use Rattle.std.proofs.Common.{◌≡◌, true, List, [], ◌∷◌, ◌++◌, map, refl, subst, sym, ap, ◌∙◌}
 use Rattle.std.specs.List.{list_all}
-use Rattle.place.specs.declared.Place.{Place}
 use Rattle.lexer.specs.declared.token.Kind.TheVariants as kind
 use Rattle.lexer.specs.declared.token.Symbol.TheVariants as symbol
 use Rattle.lexer.specs.declared.token.Word.TheVariants as word
 use Rattle.lexer.specs.declared.token.Token.{Token}
-use Rattle.syntax_tree.specs.declared.Name.{Name}
 use Rattle.syntax_tree.specs.declared.TypeDefinition.{TypeDefinition}
 use Rattle.syntax_tree.specs.declared.TypeDenoter.{TypeDenoter}
-use Rattle.grammar.specs.Spelling.{Spelling, Reads, of_kind_at, mark, word_symbol, identifier, identifiers, separated, joined, in_parentheses}
-use Rattle.grammar.specs.Spelling.{constant_spelling, denoter_spelling, type_definition_spelling, types_spelling}
-use Rattle.grammar.specs.WellFormed.{has_items, is_denoter, is_type_definition}
-use Rattle.grammar.specs.Following.{next_kind, NoNext, EndsDenoter, EndsTypes}
+use Rattle.grammar.specs.Spelling.{Reads, mark, word_symbol, identifier, joined}
+use Rattle.grammar.specs.Spelling.{denoter_spelling, type_definition_spelling, types_spelling}
+use Rattle.grammar.specs.WellFormed.{is_denoter, is_type_definition}
+use Rattle.grammar.specs.Following.{next_kind, NoNext, EndsTypes}
 use Rattle.grammar.specs.Notation.{Notation, bracketed, token, row, names_notation, constant_notation, denoter_notation, type_definition_notation}
 use Rattle.grammar.specs.Notation as note
 use Rattle.grammar.proofs.Lists.{and_left, and_right}
 use Rattle.grammar.proofs.Rows.{parted, begins}
-use Rattle.grammar.proofs.OneTree.{Alike, first_is_one, last_is_one, at_is_one, name_is_one}
+use Rattle.grammar.proofs.OneTree.{Alike, first_is_one, last_is_one, name_is_one}
 use Rattle.grammar.proofs.OneTreeDenoters.{Denoted, denoter_alike}
-use Rattle.grammar.proofs.Programs.{some_items, other_kind}
+use Rattle.grammar.proofs.Programs.{other_kind}
 use Rattle.grammar.proofs.Types.{type_first, type_part_ends, types_no_type}
 
 -- a denoter with a semicolon behind it

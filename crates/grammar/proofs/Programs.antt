@@ -1,5 +1,5 @@
 -- The rules of declarations, blocks and programs read each spelling of their form.
-use Rattle.std.proofs.Common.{◌≡◌, ℕ, ◌+◌, ◌<◌, ◌≤◌, Bool, true, false, ◌&&◌, List, [], ◌∷◌, ◌++◌, length, map, Some, subst, sym, ap, ◌∙◌}
+use Rattle.std.proofs.Common.{◌≡◌, ℕ, ◌<◌, ◌≤◌, Bool, true, false, ◌&&◌, List, [], ◌∷◌, ◌++◌, length, map, Some, subst, sym, ap, ◌∙◌}
 use Rattle.std.proofs.Common.{append_assoc, arith}
 use Rattle.std.specs.List.{list_all}
 use Rattle.place.specs.declared.Place.{Place}
@@ -20,7 +20,7 @@ use Rattle.grammar.specs.Spelling.{Spelling, Reads, of_kind_at, mark, word_symbo
 use Rattle.grammar.specs.Spelling.{denoter_spelling, type_definition_spelling, constants_spelling, types_spelling, variables_spelling, stmt_spelling}
 use Rattle.grammar.specs.Spelling.{block_spelling}
 use Rattle.grammar.specs.WellFormed.{is_definition, is_denoter, is_type_definition, is_group, is_statement, has_items}
-use Rattle.grammar.specs.Nesting.{stmt_levels, deepest, denoter_levels, types_levels, groups_levels, block_levels}
+use Rattle.grammar.specs.Nesting.{stmt_levels, deepest, denoter_levels, groups_levels, block_levels}
 use Rattle.grammar.specs.Begins.{BeginsNames, BeginsParameters, BeginsGroup, BeginsGroups, BeginsConstantPart, BeginsVariables, BeginsCompound, BeginsBlock}
 use Rattle.grammar.specs.Begins.{BeginsDenoter, BeginsTypePart, BeginsProgram}
 use Rattle.grammar.specs.Following.{next_kind, NoNext, Next, EndsDenoter, EndsConstants, type_part, no_types, EndsTypes, variable_part, statement_part}

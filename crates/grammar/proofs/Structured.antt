@@ -1,6 +1,6 @@
 -- The rules of array types and record types read each spelling of their form.
-use Rattle.std.proofs.Common.{◌≡◌, ℕ, ◌<◌, ◌≤◌, Bool, true, false, not, ◌&&◌, ◌||◌, max, nat_eq, nat_lt, List, [], ◌∷◌, ◌++◌, map, length, Some, refl, subst}
-use Rattle.std.proofs.Common.{sym, ap, ◌∙◌, append_assoc, arith}
+use Rattle.std.proofs.Common.{◌≡◌, ℕ, ◌<◌, ◌≤◌, Bool, true, false, not, ◌&&◌, ◌||◌, max, nat_eq, nat_lt, List, [], ◌∷◌, ◌++◌, map, length, refl, subst}
+use Rattle.std.proofs.Common.{sym, ap, ◌∙◌, arith}
 use Rattle.std.proofs.lemmas.Bool.{eqb-true}
 use Rattle.std.specs.List.{list_all}
 use Rattle.std.specs.declared.alloc.Global.{Global}
@@ -19,17 +19,17 @@ use Rattle.syntax_tree.specs.declared.TypeDenoter.TheViews.{out-TypeDenoter}
 use Rattle.syntax_tree.specs.Places.{fields_of}
 use Rattle.grammar.specs.Spelling.{Spelling, Reads, of_kind_at, mark, word_symbol, identifier, identifiers, separated, case_end, denoter_spelling}
 use Rattle.grammar.specs.Spelling.{packed_spelling, array_spelling, field_spelling, record_spelling}
-use Rattle.grammar.specs.WellFormed.{has_items, is_denoter, are_name_rows, may_end}
+use Rattle.grammar.specs.WellFormed.{has_items, is_denoter, may_end}
 use Rattle.grammar.specs.Nesting.{denoter_levels, deepest}
 use Rattle.grammar.specs.Following.{next_kind, Next, NoNext, EndsDenoter, EndsIndexes}
-use Rattle.grammar.specs.Begins.{BeginsNames, BeginsDenoter, BeginsIndexes, BeginsOpening, BeginsClosing, BeginsArray, BeginsFieldNames, Field}
+use Rattle.grammar.specs.Begins.{BeginsDenoter, BeginsIndexes, BeginsOpening, BeginsClosing, BeginsArray, BeginsFieldNames, Field}
 use Rattle.grammar.specs.Begins.{field_spelled, field_well, field_levels, BeginsFields, BeginsRecord}
 use Rattle.grammar.proofs.Lists.{and_left, and_right, and_true, all_mapped, length_map}
 use Rattle.grammar.proofs.Rows.{parted, begins, same_first}
 use Rattle.grammar.proofs.Parts.{Parts, PartsLeft, PartThenOthers, ComesBehind, one_more, no_more, comes_behind, parts_begin, parts_go_on, parts_end}
 use Rattle.grammar.proofs.Ended.{EndedLeft, PartThenEnded, NoEnd, behind_part, not_behind_part, ended_begins, ended_goes_on}
 use Rattle.grammar.proofs.Programs.{some_items, other_kind, names_first}
-use Rattle.grammar.proofs.Denoters.{DenoterLayer, denoter_layer, Start, structured, layer_start, layer_starts, start_at}
+use Rattle.grammar.proofs.Denoters.{DenoterLayer, denoter_layer, structured, layer_start, layer_starts, start_at}
 
 -- ---- fields beside their names
 
