@@ -184,7 +184,8 @@ pub record UnpackedAt (levels : ℕ) (a c : List Token) : Type 0 where
   pub unpacked : Unpacked below a c
 
 -- an array type and a record type begin with their word symbols
-pub array_first : (levels : ℕ) (a c : List Token) (found : Place × List TypeDenoter × TypeDenoter) → BeginsArray levels a c found → Next (kind.Word word.Array) a
+pub array_first : (levels : ℕ) (a c : List Token) (found : Place × List TypeDenoter × TypeDenoter) → BeginsArray levels a c found
+    → Next (kind.Word word.Array) a
 array_first levels a c found h =
     begins (of_kind_at (kind.Word word.Array) found.0)
     (mark symbol.OpenBracket ∷ separated symbol.Comma (map denoter_spelling found.1)

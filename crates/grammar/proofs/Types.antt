@@ -33,8 +33,8 @@ pub type_behind_equal : (levels : ℕ) (p : Place) (a b c : List Token) (d : Typ
     → Reads a (mark symbol.Equal ∷ denoter_spelling d ++ mark symbol.Semicolon ∷ []) c → is_denoter d ≡ true → denoter_levels d ≤ levels
     → DenoterThenClosed levels b c
 type_behind_equal levels p a b c d taken h formed nests =
-    denoter_closed levels d b c (same_first (of_kind_at (kind.Symbol symbol.Equal) p) (mark symbol.Equal) (denoter_spelling d ++ mark symbol.Semicolon ∷ []) a b c
-    taken h).1 formed nests
+    denoter_closed levels d b c (same_first (of_kind_at (kind.Symbol symbol.Equal) p) (mark symbol.Equal)
+    (denoter_spelling d ++ mark symbol.Semicolon ∷ []) a b c taken h).1 formed nests
 
 -- it begins with a name
 pub type_first : (a c : List Token) (d : TypeDefinition) → Reads a (type_definition_spelling d) c → Next kind.Identifier a

@@ -30,8 +30,8 @@ use Rattle.grammar.specs.Spelling.{Spelling, Reads, expr_spelling, link_spelling
 use Rattle.grammar.specs.Spelling.{joined, identifiers, group_spelling, variables_spelling, block_spelling}
 use Rattle.grammar.specs.Spelling.{program_spelling, separated, in_parentheses, word_symbol, identifier, direction_word}
 use Rattle.grammar.specs.Spelling.{constant_spelling, arm_spelling, case_end, of_kind_at, mark, definition_spelling}
-use Rattle.grammar.specs.Spelling.{constants_spelling, denoter_spelling, array_spelling, field_spelling, record_spelling}
-use Rattle.grammar.specs.Spelling.{type_definition_spelling, types_spelling}
+use Rattle.grammar.specs.Spelling.{constants_spelling, denoter_spelling, array_spelling, field_spelling}
+use Rattle.grammar.specs.Spelling.{record_spelling, type_definition_spelling, types_spelling}
 use Rattle.grammar.specs.WellFormed.{expr_form, link_form, fits, relation_level, is_link, is_actual, is_constant}
 use Rattle.grammar.specs.WellFormed.{is_row, is_statement, is_definition, is_denoter, is_type_definition, is_group}
 use Rattle.grammar.specs.WellFormed.{is_block, is_program, has_items, may_end}

@@ -1,5 +1,6 @@
 -- What the rules of declarations, blocks and programs give.
-use Rattle.std.proofs.Common.{◌≡◌, ℕ, ◌+◌, ◌<◌, ◌≤◌, true, ◌&&◌, List, [], ◌∷◌, ◌++◌, length, map, Result, Ok, Err, MatchResult, subst, sym, ap, ◌∙◌, append_assoc, append-nil, refl, arith}
+use Rattle.std.proofs.Common.{◌≡◌, ℕ, ◌+◌, ◌<◌, ◌≤◌, true, ◌&&◌, List, [], ◌∷◌, ◌++◌, length, map, Result, Ok, Err, MatchResult}
+use Rattle.std.proofs.Common.{subst, sym, ap, ◌∙◌, append_assoc, append-nil, refl, arith}
 use Rattle.std.specs.List.{list_all}
 use Rattle.std.specs.declared.alloc.Global.{Global}
 use Rattle.std.specs.declared.vec.Vec.{Vec}
@@ -59,8 +60,8 @@ names_grow a b c names p list comma d n taken = names_go_on a b c d names (names
 
 -- variables declared together
 pub group_stands : (levels : ℕ) (a b c d e : Cursor) (p q : Place) (names : Vec Name Global) (denoter : TypeDenoter)
-    → Read (BeginsList symbol.Comma) a b (identifiers names.items) → Took b c (of_kind_at (kind.Symbol symbol.Colon) p ∷ []) → Read (BeginsDenoter levels) c d denoter
-    → Took d e (of_kind_at (kind.Symbol symbol.Semicolon) q ∷ [])
+    → Read (BeginsList symbol.Comma) a b (identifiers names.items) → Took b c (of_kind_at (kind.Symbol symbol.Colon) p ∷ [])
+    → Read (BeginsDenoter levels) c d denoter → Took d e (of_kind_at (kind.Symbol symbol.Semicolon) q ∷ [])
     → Read (BeginsGroup levels) a e (record { names = names; denoter = denoter })
 group_stands levels a b c d e p q names denoter list colon type semicolon = record {
   spelled = both (separated symbol.Comma (identifiers names.items) ++ mark symbol.Colon ∷ denoter_spelling denoter)

@@ -32,7 +32,8 @@ use Rattle.grammar.proofs.Lists.{map_push, all_push, deepest_push, and_true, and
 use Rattle.grammar.proofs.Parts.{PartsLeft, PartThenOthers}
 use Rattle.grammar.proofs.Reading.{both, without_place, separated_more}
 use Rattle.grammar.proofs.Structured.{fields_computed, fields_levels, fields_length, fields_formed, ends_as, index_list_parts, IndexesLeft, IndexNext}
-use Rattle.grammar.proofs.Structured.{FieldsAt, record_opened, fields_at, array_parts, index_ends, field_list_parts, FieldNext, EachFieldsLeft, field_parts, field_ends}
+use Rattle.grammar.proofs.Structured.{array_parts, index_ends, field_list_parts, FieldNext, EachFieldsLeft, field_parts, field_ends, FieldsAt}
+use Rattle.grammar.proofs.Structured.{record_opened, fields_at}
 use Rattle.expression_parser.specs.Reading.{ReadTo, ReadWithin, ReadsEach, ReadsDeep}
 use Rattle.expression_parser.specs.Refusing.{IsPlain, Refused}
 use Rattle.expression_parser.specs.Rules.{Read}

@@ -1,12 +1,11 @@
 use Rattle.std.proofs.Common.{rules, arith, ◌+◌, refl, ◌≡◌, ap, subst, ◌∙◌, [], ◌∷◌, ◌++◌, map, Some, None}
 use Rattle.lexer.specs.declared.token.Kind.TheVariants as kind
 use Rattle.lexer.specs.declared.token.Symbol.TheVariants as symbol
-use Rattle.lexer.specs.declared.token.Word.{Word}
 use Rattle.lexer.specs.declared.token.Word.TheVariants as word
 use Rattle.token_cursor.specs.declared.cursor.Cursor.{Cursor}
 use Rattle.token_cursor.specs.declared.fault.ParseFault.TheVariants.{Memory, TooDeep}
 use Rattle.grammar.specs.Spelling.{of_kind_at, word_symbol, mark, identifiers, separated, denoter_spelling, packed_spelling}
-use Rattle.grammar.specs.Following.{Next, NoNext, NoWord, Anything, EndsDenoter, EndsIndexes}
+use Rattle.grammar.specs.Following.{Next, NoNext, NoWord, Anything, EndsDenoter}
 use Rattle.grammar.specs.Begins.{BeginsDenoter, BeginsIndexes, BeginsFieldNames}
 use Rattle.grammar.proofs.Ended.{none_left, ended_stop}
 use Rattle.grammar.proofs.Lists.{pushed, emptied}
@@ -19,7 +18,7 @@ use Rattle.expression_parser.specs.Refusing.{IsPlain, Refused}
 use Rattle.expression_parser.specs.Rules.{Read}
 use Rattle.expression_parser.proofs.Deep.{front_none, front_on, refused_behind, refused_behind_front, memory_refused, refused_behind_opening}
 use Rattle.expression_parser.proofs.Deep.{refused_behind_opened, refused_spent}
-use Rattle.expression_parser.proofs.Exact.{stops_above, stops_memory, within_above}
+use Rattle.expression_parser.proofs.Exact.{stops_above, stops_memory}
 use Rattle.expression_parser.proofs.Kept.{handed_on, last, was_read, not_kept}
 use Rattle.statement_parser.specs.Arms.{ReadBehindArm}
 use Rattle.parser.proofs.Structured.{each_within, IndexesGrow, indexes_grow_first, indexes_grow, index_answer, indexes_left, array_read, gives-Array}
@@ -51,15 +50,15 @@ pub denoter-returns-in_default-clause-exact : goal.denoter-returns-in_default-cl
 denoter-returns-in_default-clause-exact t c = λ depth d others h ends.
     let none : NoNext (kind.Symbol symbol.OpenParenthesis) c.args.cursor.now.rest.now =
     elim c.in_default.branch [
-      denoter-in_default-via-in-Some+in-Symbol+in_default w ↦ search rules
-    | denoter-in_default-via-in-Some+in_default w ↦ search rules
-    | denoter-in_default-via-in_default w ↦ search rules
+      | denoter-in_default-via-in-Some+in-Symbol+in_default w ↦ search rules
+      | denoter-in_default-via-in-Some+in_default w ↦ search rules
+      | denoter-in_default-via-in_default w ↦ search rules
     ] in
     let no_word : NoWord c.args.cursor.now.rest.now =
     elim c.in_default.branch [
-      denoter-in_default-via-in-Some+in-Symbol+in_default w ↦ λ v e. search rules
-    | denoter-in_default-via-in-Some+in_default w ↦ λ v e. search rules
-    | denoter-in_default-via-in_default w ↦ λ v e. search rules
+      | denoter-in_default-via-in-Some+in-Symbol+in_default w ↦ λ v e. search rules
+      | denoter-in_default-via-in-Some+in_default w ↦ λ v e. search rules
+      | denoter-in_default-via-in_default w ↦ λ v e. search rules
     ] in
     each_within c.args.levels depth others c.name_or_subrange.new.cursor c.name_or_subrange.result
     (c.name_or_subrange.ensures.exact none no_word depth d others h ends)
@@ -95,9 +94,9 @@ structured-returns-in_err-place-in_default-clause-exact t c = λ v first depth d
     c.packed-packed.ensures.missed (is_structured depth v c.args.cursor.now.rest.now others d first h) in
     let missed : NoNext (kind.Word word.Array) c.packed-packed.new.cursor.rest.now =
     elim c.in_default.branch [
-      structured-in_default-via-in-Some+in-Word+in_default w ↦ search rules
-    | structured-in_default-via-in-Some+in_default w ↦ search rules
-    | structured-in_default-via-in_default w ↦ search rules
+      | structured-in_default-via-in-Some+in-Word+in_default w ↦ search rules
+      | structured-in_default-via-in-Some+in_default w ↦ search rules
+      | structured-in_default-via-in_default w ↦ search rules
     ] in
     let p = record_at depth c.packed-packed.new.cursor.rest.now others missed u in
     let fault = c.in_err-place-in_default.field-0.0 in
@@ -131,9 +130,9 @@ structured-returns-in_ok-place-in_default-clause-exact t c = λ v first depth d 
     c.packed-packed.ensures.missed (is_structured depth v c.args.cursor.now.rest.now others d first h) in
     let missed : NoNext (kind.Word word.Array) c.packed-packed.new.cursor.rest.now =
     elim c.in_default.branch [
-      structured-in_default-via-in-Some+in-Word+in_default w ↦ search rules
-    | structured-in_default-via-in-Some+in_default w ↦ search rules
-    | structured-in_default-via-in_default w ↦ search rules
+      | structured-in_default-via-in-Some+in-Word+in_default w ↦ search rules
+      | structured-in_default-via-in-Some+in_default w ↦ search rules
+      | structured-in_default-via-in_default w ↦ search rules
     ] in
     let p = record_at depth c.packed-packed.new.cursor.rest.now others missed u in
     c.in_ok-place-in_default.ensures.exact p.below p.found others p.begun tt

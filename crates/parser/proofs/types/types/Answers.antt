@@ -4,7 +4,8 @@ use Rattle.parser.proofs.types.types.Goals as goal
 
 pub returns-clause-exact : goal.returns-clause-exact
 returns-clause-exact c = λ depth definitions others h ends.
-    c.definitions.ensures.exact depth definitions others (types_opened depth c.in-Some.field-0 c.args.cursor.now.rest.now c.take_word.new.self.rest.now others definitions
+    c.definitions.ensures.exact depth definitions others
+    (types_opened depth c.in-Some.field-0 c.args.cursor.now.rest.now c.take_word.new.self.rest.now others definitions
     c.in-Some.ensures.spelled h ends) (type_part_ends others ends)
 
 pub returns-clause-given : goal.returns-clause-given
