@@ -10,8 +10,8 @@ use Rattle.lexer.specs.declared.token.Token.{Token}
 use Rattle.token_cursor.specs.declared.fault.ParseFault.{ParseFault}
 use Rattle.token_cursor.specs.declared.fault.ParseFault.TheVariants.{TooDeep}
 
--- how many levels a token of this kind opens: `begin`, `if`, `while`, `repeat`, `for`, `case`, `not`, the opening
--- parenthesis and the opening bracket open one
+-- how many levels a token of this kind opens: `begin`, `if`, `while`, `repeat`, `for`, `case`, `array`, `record`, `not`,
+-- the opening parenthesis and the opening bracket open one
 abbrev pub opens : Kind → ℕ
 opens (kind.Word word.Begin) = 1
 opens (kind.Word word.If) = 1
@@ -19,6 +19,8 @@ opens (kind.Word word.While) = 1
 opens (kind.Word word.Repeat) = 1
 opens (kind.Word word.For) = 1
 opens (kind.Word word.Case) = 1
+opens (kind.Word word.Array) = 1
+opens (kind.Word word.Record) = 1
 opens (kind.Word word.Not) = 1
 opens (kind.Symbol symbol.OpenParenthesis) = 1
 opens (kind.Symbol symbol.OpenBracket) = 1

@@ -4,7 +4,9 @@ pub mod Cases
 pub mod Chains
 pub mod Conditionals
 pub mod Definitions
+pub mod DenoterEquations
 pub mod Denoters
+pub mod Ended
 pub mod Equations
 pub mod Expressions
 pub mod Forms
@@ -15,6 +17,8 @@ pub mod OneTree
 pub mod OneTreeAssignments
 pub mod OneTreeConstants
 pub mod OneTreeDefinitions
+pub mod OneTreeDenoters
+pub mod OneTreeEnded
 pub mod OneTreeExpressions
 pub mod OneTreeLists
 pub mod OneTreeNames
@@ -30,5 +34,6 @@ pub mod Rows
 pub mod Selectors
 pub mod Starts
 pub mod Statements
+pub mod Structured
 pub mod TreePlaces
 pub mod Types

@@ -18,14 +18,16 @@ use Rattle.syntax_tree.specs.declared.SignAt.{SignAt}
 use Rattle.syntax_tree.specs.declared.ConstantValue.{ConstantValue}
 use Rattle.syntax_tree.specs.declared.ConstantValue.TheVariants as constant
 use Rattle.syntax_tree.specs.declared.Constant.{Constant}
-use Rattle.syntax_tree.specs.Places.{arms_of}
+use Rattle.syntax_tree.specs.Places.{arms_of, fields_of}
 use Rattle.syntax_tree.specs.declared.Name.{Name}
 use Rattle.syntax_tree.specs.declared.Actual.{Actual}
 use Rattle.syntax_tree.specs.declared.Expr.{Expr}
 use Rattle.syntax_tree.specs.declared.ConstantDefinition.{ConstantDefinition}
 use Rattle.syntax_tree.specs.declared.TypeDefinition.{TypeDefinition}
 use Rattle.syntax_tree.specs.declared.TypeDenoter.{TypeDenoter}
-use Rattle.syntax_tree.specs.declared.TypeDenoter.TheVariants as denoter
+use Rattle.syntax_tree.specs.declared.TypeDenoter.TheOpen as denoter
+use Rattle.syntax_tree.specs.declared.TypeDenoter.TheViews.{roll-TypeDenoter}
+use Rattle.syntax_tree.specs.declared.TypeDenoter.TheFolds.{map-TypeDenoter, fold-roll-TypeDenoter, ind-TypeDenoter}
 use Rattle.syntax_tree.specs.declared.VariableGroup.{VariableGroup}
 use Rattle.syntax_tree.specs.declared.Block.{Block}
 use Rattle.syntax_tree.specs.declared.Program.{Program}
@@ -38,7 +40,8 @@ use Rattle.syntax_tree.specs.Places as place
 use Rattle.grammar.specs.Spelling.{Lexeme, Spelling, IsSpelledBy, Reads, Spells, joined, separated, in_parentheses, mark, word_symbol, of_kind_at, identifier}
 use Rattle.grammar.specs.Spelling.{identifiers, direction_word, sign, sign_spelling, value_lexeme, constant_spelling, arm_spelling, case_end, expr_spelling}
 use Rattle.grammar.specs.Spelling.{actual_spelling, stmt_spelling, denoter_spelling, group_spelling, variables_spelling, block_spelling, program_spelling}
-use Rattle.grammar.specs.Spelling.{definition_spelling, constants_spelling, type_definition_spelling, types_spelling, selectors_spelling}
+use Rattle.grammar.specs.Spelling.{definition_spelling, constants_spelling, type_definition_spelling, types_spelling, selectors_spelling, field_spelling}
+use Rattle.grammar.specs.Spelling.{packed_spelling, array_spelling}
 use Rattle.grammar.specs.Spelling as spell
 use Rattle.grammar.proofs.TreePlaces.{kept, kept_places, kept_both, AllKept, each_kept, all_kept, joined_kept, separated_kept, parenthesized_kept, expr_kept}
 use Rattle.grammar.proofs.TreePlaces.{actual_kept, selectors_kept}
@@ -208,14 +211,87 @@ constants_kept (d ∷ ds) =
     joined_kept ConstantDefinition definition_spelling place.definition_places (d ∷ ds)
     (each_kept ConstantDefinition definition_spelling place.definition_places (d ∷ ds) definition_kept)
 
-denoter_kept : (d : TypeDenoter) → denoter_places d ≡ kept_places (denoter_spelling d)
-denoter_kept (denoter.Name n) = refl
-denoter_kept (denoter.Enumerated constants) =
+abbrev DenoterKept : TypeDenoter → Type 0
+DenoterKept d = denoter_places d ≡ kept_places (denoter_spelling d)
+
+abbrev KeptDenoter : Type 0
+KeptDenoter = (d : TypeDenoter) × DenoterKept d
+
+abbrev denoter_parts : denoter.TypeDenoter-F KeptDenoter → denoter.TypeDenoter-F TypeDenoter
+denoter_parts = map-TypeDenoter KeptDenoter TypeDenoter (λ d. d.0)
+
+-- fields behind their names
+field_kept : (row : List Name) (d : KeptDenoter) → place.field_places (row, denoter_places d.0) ≡ kept_places (field_spelling (row, denoter_spelling d.0))
+field_kept ns d =
+    let names = names_in_turn ns ∙ separated_kept Name symbol.Comma one_name one_place ns (names_kept ns) in
+    let type = d.1 in
+    (λ i. names i ++ type i) ∙ sym (kept_both (separated symbol.Comma (identifiers ns)) (mark symbol.Colon ∷ denoter_spelling d.0))
+
+fields_all_kept : (rows : List (Vec Name Global)) (v : List KeptDenoter)
+    → AllKept (List Name × KeptDenoter) (λ f. field_spelling (f.0, denoter_spelling f.1.0)) (λ f. place.field_places (f.0, denoter_places f.1.0))
+    (fields_of rows v)
+fields_all_kept [] v = tt
+fields_all_kept (r ∷ rows) [] = tt
+fields_all_kept (r ∷ rows) (d ∷ v) = (field_kept r.items d, fields_all_kept rows v)
+
+fields_spelled : (rows : List (Vec Name Global)) (v : List KeptDenoter)
+    → map field_spelling (fields_of rows (map denoter_spelling (map (λ d. d.0) v)))
+    ≡ map (λ f. field_spelling (f.0, denoter_spelling f.1.0)) (fields_of rows v)
+fields_spelled [] v = refl
+fields_spelled (r ∷ rows) [] = refl
+fields_spelled (r ∷ rows) (d ∷ v) = ap (λ x. field_spelling (r.items, denoter_spelling d.0) ∷ x) (fields_spelled rows v)
+
+fields_placed : (rows : List (Vec Name Global)) (v : List KeptDenoter)
+    → flat_map place.field_places (fields_of rows (map denoter_places (map (λ d. d.0) v)))
+    ≡ flat_map (λ f. place.field_places (f.0, denoter_places f.1.0)) (fields_of rows v)
+fields_placed [] v = refl
+fields_placed (r ∷ rows) [] = refl
+fields_placed (r ∷ rows) (d ∷ v) = ap (λ x. place.field_places (r.items, denoter_places d.0) ++ x) (fields_placed rows v)
+
+fields_kept : (rows : List (Vec Name Global)) (v : List KeptDenoter)
+    → flat_map place.field_places (fields_of rows (map denoter_places (map (λ d. d.0) v)))
+    ≡ kept_places (separated symbol.Semicolon (map field_spelling (fields_of rows (map denoter_spelling (map (λ d. d.0) v)))))
+fields_kept rows v =
+    fields_placed rows v
+    ∙ separated_kept (List Name × KeptDenoter) symbol.Semicolon (λ f. field_spelling (f.0, denoter_spelling f.1.0))
+    (λ f. place.field_places (f.0, denoter_places f.1.0)) (fields_of rows v) (fields_all_kept rows v)
+    ∙ ap (λ x. kept_places (separated symbol.Semicolon x)) (sym (fields_spelled rows v))
+
+packed_kept : (b : Bool) (s : Spelling) → kept_places s ≡ kept_places (packed_spelling b ++ s)
+packed_kept false s = refl
+packed_kept true s = refl
+
+denoter_layer : (y : denoter.TypeDenoter-F KeptDenoter)
+    → place.denoter_step (map-TypeDenoter TypeDenoter Places denoter_places (denoter_parts y))
+    ≡ kept_places (spell.denoter_step (map-TypeDenoter TypeDenoter Spelling denoter_spelling (denoter_parts y)))
+denoter_layer (denoter.Name n) = refl
+denoter_layer (denoter.Enumerated constants) =
     names_in_turn constants.items ∙ parenthesized_kept Name one_name one_place constants.items (names_kept constants.items)
-denoter_kept (denoter.Subrange first p last) =
+denoter_layer (denoter.Subrange first p last) =
     let one = constant_kept first in
     let two = constant_kept last in
     (λ i. one i ++ p ∷ two i) ∙ sym (kept_both (constant_spelling first) (of_kind_at (kind.Symbol symbol.Range) p ∷ constant_spelling last))
+denoter_layer (denoter.Array b p v e) =
+    let parts = map (λ (d : KeptDenoter). d.0) v.items in
+    let indexes = flat_map-map (λ row. row) denoter_places parts
+    ∙ separated_kept TypeDenoter symbol.Comma denoter_spelling denoter_places parts (all_kept TypeDenoter denoter_spelling denoter_places v.items) in
+    let element = e.value.1 in
+    let behind : Spelling = mark symbol.CloseBracket ∷ word_symbol word.Of ∷ denoter_spelling e.value.0 in
+    ap (λ ps. p ∷ ps) ((λ i. indexes i ++ element i) ∙ sym (kept_both (separated symbol.Comma (map denoter_spelling parts)) behind))
+    ∙ packed_kept b (array_spelling p (map denoter_spelling parts) (denoter_spelling e.value.0))
+denoter_layer (denoter.Record b p rows v last) =
+    let inner = separated symbol.Semicolon (map field_spelling (fields_of rows.items (map denoter_spelling (map (λ (d : KeptDenoter). d.0) v.items)))) in
+    ap (λ ps. p ∷ ps)
+    (fields_kept rows.items v.items ∙ sym (append-nil _) ∙ (λ i. kept_places inner ++ sym (end_kept last) i) ∙ sym (kept_both inner (case_end last)))
+    ∙ packed_kept b (of_kind_at (kind.Word word.Record) p ∷ inner ++ case_end last)
+
+denoter_rolled : (y : denoter.TypeDenoter-F KeptDenoter) → DenoterKept (roll-TypeDenoter (denoter_parts y))
+denoter_rolled y =
+    fold-roll-TypeDenoter Places place.denoter_step (denoter_parts y) ∙ denoter_layer y
+    ∙ sym (ap kept_places (fold-roll-TypeDenoter Spelling spell.denoter_step (denoter_parts y)))
+
+denoter_kept : (d : TypeDenoter) → DenoterKept d
+denoter_kept = ind-TypeDenoter DenoterKept (λ x y is. subst (λ z. DenoterKept (roll-TypeDenoter z)) is (denoter_rolled y))
 
 type_kept : (d : TypeDefinition) → place.type_definition_places d ≡ kept_places (type_definition_spelling d)
 type_kept d =

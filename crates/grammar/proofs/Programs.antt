@@ -1,5 +1,5 @@
 -- The rules of declarations, blocks and programs read each spelling of their form.
-use Rattle.std.proofs.Common.{◌≡◌, ℕ, ◌+◌, ◌<◌, ◌≤◌, Bool, true, false, ◌&&◌, List, [], ◌∷◌, ◌++◌, length, map, Some, subst, sym, ap, ◌∙◌}
+use Rattle.std.proofs.Common.{◌≡◌, ℕ, ◌<◌, ◌≤◌, Bool, true, false, ◌&&◌, List, [], ◌∷◌, ◌++◌, length, map, Some, subst, sym, ap, ◌∙◌}
 use Rattle.std.proofs.Common.{append_assoc, arith}
 use Rattle.std.specs.List.{list_all}
 use Rattle.place.specs.declared.Place.{Place}
@@ -20,12 +20,12 @@ use Rattle.grammar.specs.Spelling.{Spelling, Reads, of_kind_at, mark, word_symbo
 use Rattle.grammar.specs.Spelling.{denoter_spelling, type_definition_spelling, constants_spelling, types_spelling, variables_spelling, stmt_spelling}
 use Rattle.grammar.specs.Spelling.{block_spelling}
 use Rattle.grammar.specs.WellFormed.{is_definition, is_denoter, is_type_definition, is_group, is_statement, has_items}
-use Rattle.grammar.specs.Nesting.{stmt_levels, deepest}
+use Rattle.grammar.specs.Nesting.{stmt_levels, deepest, denoter_levels, groups_levels, block_levels}
 use Rattle.grammar.specs.Begins.{BeginsNames, BeginsParameters, BeginsGroup, BeginsGroups, BeginsConstantPart, BeginsVariables, BeginsCompound, BeginsBlock}
 use Rattle.grammar.specs.Begins.{BeginsDenoter, BeginsTypePart, BeginsProgram}
 use Rattle.grammar.specs.Following.{next_kind, NoNext, Next, EndsDenoter, EndsConstants, type_part, no_types, EndsTypes, variable_part, statement_part}
 use Rattle.grammar.specs.Following.{BeginsStatementPart}
-use Rattle.grammar.proofs.Rows.{parted, begins, same_first}
+use Rattle.grammar.proofs.Rows.{parted, begins, same_first, deepest_first, deepest_others}
 use Rattle.grammar.proofs.Lists.{and_left, and_right, length_map}
 use Rattle.grammar.proofs.Reading.{both, reads_no_more, reads_fewer}
 use Rattle.grammar.proofs.Led.{led, list_begins, led_next, led_some, led_ends}
@@ -89,35 +89,36 @@ pub names_end : (start a : List Token) → NamesLeft start a → NoNext (kind.Sy
 names_end start a left none names others h ends = let r = left names others h ends in led_ends symbol.Comma (identifiers r.0) a others none r.1
 
 -- a type denoter, and the semicolon behind it
-pub record DenoterThenClosed (tokens others : List Token) : Type 0 where
+pub record DenoterThenClosed (levels : ℕ) (tokens others : List Token) : Type 0 where
   pub denoter : TypeDenoter
   pub middle : List Token
-  pub begun : BeginsDenoter tokens middle denoter
+  pub begun : BeginsDenoter levels tokens middle denoter
   pub closed : Reads middle (mark symbol.Semicolon ∷ []) others
 
-pub denoter_closed : (d : TypeDenoter) (a c : List Token) → Reads a (denoter_spelling d ++ mark symbol.Semicolon ∷ []) c → is_denoter d ≡ true
-    → DenoterThenClosed a c
-denoter_closed d a c h formed =
+pub denoter_closed : (levels : ℕ) (d : TypeDenoter) (a c : List Token) → Reads a (denoter_spelling d ++ mark symbol.Semicolon ∷ []) c → is_denoter d ≡ true
+    → denoter_levels d ≤ levels → DenoterThenClosed levels a c
+denoter_closed levels d a c h formed nests =
     let r = parted (denoter_spelling d) (mark symbol.Semicolon ∷ []) a c h in
-    record { denoter = d; middle = r.0; begun = record { spelled = r.1; formed = formed }; closed = r.2 }
+    record { denoter = d; middle = r.0; begun = record { spelled = r.1; formed = formed; nests = nests }; closed = r.2 }
 
 -- at the semicolon it ends
-pub denoter_ends : (a c : List Token) (h : DenoterThenClosed a c) → EndsDenoter h.middle
-denoter_ends a c h =
+pub denoter_ends : (levels : ℕ) (a c : List Token) (h : DenoterThenClosed levels a c) → EndsDenoter h.middle
+denoter_ends levels a c h =
     other_kind (kind.Symbol symbol.Semicolon) (kind.Symbol symbol.Range) h.middle (begins (mark symbol.Semicolon) [] h.middle c h.closed) (λ e. cc)
 
 -- the parts of variables declared together
-pub record GroupParts (tokens others : List Token) : Type 0 where
+pub record GroupParts (levels : ℕ) (tokens others : List Token) : Type 0 where
   pub names : List Name
   pub middle : List Token
   pub type : TypeDenoter
   pub begun : BeginsNames tokens middle names
   pub behind : Reads middle (mark symbol.Colon ∷ denoter_spelling type ++ mark symbol.Semicolon ∷ []) others
   pub formed : is_denoter type ≡ true
+  pub nests : denoter_levels type ≤ levels
 
 -- each group has them
-pub group_begins : (a c : List Token) (g : VariableGroup) → BeginsGroup a c g → GroupParts a c
-group_begins a c g h =
+pub group_begins : (levels : ℕ) (a c : List Token) (g : VariableGroup) → BeginsGroup levels a c g → GroupParts levels a c
+group_begins levels a c g h =
     let r = parted (separated symbol.Comma (identifiers g.names.items)) (mark symbol.Colon ∷ denoter_spelling g.denoter ++ mark symbol.Semicolon ∷ []) a c
     (subst (λ s. Reads a s c) (append_assoc (separated symbol.Comma (identifiers g.names.items)) (mark symbol.Colon ∷ denoter_spelling g.denoter)
     (mark symbol.Semicolon ∷ [])) h.spelled) in
@@ -129,98 +130,111 @@ group_begins a c g h =
       begun = record { some = let e = length_map (λ name. identifier name ∷ []) g.names.items in omega arith; spelled = r.1 };
       behind = r.2;
       formed = and_right (has_items g.names.items) (is_denoter g.denoter) h.formed;
+      nests = h.nests;
     }
 
 -- at the colon the names end
-pub group_names_end : (a c : List Token) (p : GroupParts a c) → NoNext (kind.Symbol symbol.Comma) p.middle
-group_names_end a c p = other_kind (kind.Symbol symbol.Colon) (kind.Symbol symbol.Comma) p.middle
+pub group_names_end : (levels : ℕ) (a c : List Token) (p : GroupParts levels a c) → NoNext (kind.Symbol symbol.Comma) p.middle
+group_names_end levels a c p = other_kind (kind.Symbol symbol.Colon) (kind.Symbol symbol.Comma) p.middle
     (begins (mark symbol.Colon) (denoter_spelling p.type ++ mark symbol.Semicolon ∷ []) p.middle c p.behind) (λ e. cc)
 
 -- what stands behind the names of a group
-pub record GroupBehindNames (tokens others : List Token) : Type 0 where
+pub record GroupBehindNames (levels : ℕ) (tokens others : List Token) : Type 0 where
   pub type : TypeDenoter
   pub spelled : Reads tokens (mark symbol.Colon ∷ denoter_spelling type ++ mark symbol.Semicolon ∷ []) others
   pub formed : is_denoter type ≡ true
+  pub nests : denoter_levels type ≤ levels
 
 -- behind the colon too
-pub group_behind_colon : (p : Place) (a b c : List Token) → Reads a (of_kind_at (kind.Symbol symbol.Colon) p ∷ []) b → GroupBehindNames a c
-    → DenoterThenClosed b c
-group_behind_colon p a b c k h =
-    denoter_closed h.type b c (same_first (of_kind_at (kind.Symbol symbol.Colon) p) (mark symbol.Colon)
-    (denoter_spelling h.type ++ mark symbol.Semicolon ∷ []) a b c k h.spelled).1 h.formed
+pub group_behind_colon : (levels : ℕ) (p : Place) (a b c : List Token) → Reads a (of_kind_at (kind.Symbol symbol.Colon) p ∷ []) b
+    → GroupBehindNames levels a c → DenoterThenClosed levels b c
+group_behind_colon levels p a b c k h =
+    denoter_closed levels h.type b c (same_first (of_kind_at (kind.Symbol symbol.Colon) p) (mark symbol.Colon)
+    (denoter_spelling h.type ++ mark symbol.Semicolon ∷ []) a b c k h.spelled).1 h.formed h.nests
 
 -- groups one behind another, or none
-pub record GroupsLeft (tokens others : List Token) : Type 0 where
+pub record GroupsLeft (levels : ℕ) (tokens others : List Token) : Type 0 where
   pub groups : List VariableGroup
   pub spelled : Reads tokens (joined (map group_spelling groups)) others
   pub formed : list_all is_group groups ≡ true
+  pub nests : groups_levels groups ≤ levels
 
 -- what is left of each row of groups that may stand there
 abbrev pub EachGroupsLeft : List Token → List Token → Type 0
-EachGroupsLeft start now = (groups : List VariableGroup) (others : List Token) → BeginsGroups start others groups → NoNext kind.Identifier others → GroupsLeft
-    now others
+EachGroupsLeft start now = (depth : ℕ) (groups : List VariableGroup) (others : List Token) → BeginsGroups depth start others groups
+    → NoNext kind.Identifier others → GroupsLeft depth now others
 
 -- a group, and the others behind it
-pub record GroupThenOthers (tokens others : List Token) : Type 0 where
+pub record GroupThenOthers (levels : ℕ) (tokens others : List Token) : Type 0 where
   pub group : VariableGroup
   pub middle : List Token
-  pub begun : BeginsGroup tokens middle group
-  pub left : GroupsLeft middle others
+  pub begun : BeginsGroup levels tokens middle group
+  pub left : GroupsLeft levels middle others
 
-groups_part : (a c : List Token) (g : VariableGroup) (gs : List VariableGroup) → Reads a (joined (map group_spelling (g ∷ gs))) c
-    → list_all is_group (g ∷ gs) ≡ true → GroupThenOthers a c
-groups_part a c g gs h f =
+groups_part : (levels : ℕ) (a c : List Token) (g : VariableGroup) (gs : List VariableGroup) → Reads a (joined (map group_spelling (g ∷ gs))) c
+    → list_all is_group (g ∷ gs) ≡ true → groups_levels (g ∷ gs) ≤ levels → GroupThenOthers levels a c
+groups_part levels a c g gs h f n =
     let r = parted (group_spelling g) (joined (map group_spelling gs)) a c h in
+    let deep = map (λ (g : VariableGroup). denoter_levels g.denoter) gs in
     record {
       group = g;
       middle = r.0;
-      begun = record { spelled = r.1; formed = and_left (is_group g) (list_all is_group gs) f };
-      left = record { groups = gs; spelled = r.2; formed = and_right (is_group g) (list_all is_group gs) f };
+      begun = record {
+        spelled = r.1;
+        formed = and_left (is_group g) (list_all is_group gs) f;
+        nests = deepest_first levels (denoter_levels g.denoter) deep n;
+      };
+      left = record {
+        groups = gs;
+        spelled = r.2;
+        formed = and_right (is_group g) (list_all is_group gs) f;
+        nests = deepest_others levels (denoter_levels g.denoter) deep n;
+      };
     }
 
-groups_part_of : (a c : List Token) (gs : List VariableGroup) → Reads a (joined (map group_spelling gs)) c → list_all is_group gs ≡ true
-    → Next kind.Identifier a → NoNext kind.Identifier c
-    → GroupThenOthers a c
-groups_part_of a c [] h f next ends = absurd (ends (ap next_kind (sym h) ∙ next))
-groups_part_of a c (g ∷ gs) h f next ends = groups_part a c g gs h f
+groups_part_of : (levels : ℕ) (a c : List Token) (gs : List VariableGroup) → Reads a (joined (map group_spelling gs)) c → list_all is_group gs ≡ true
+    → groups_levels gs ≤ levels → Next kind.Identifier a → NoNext kind.Identifier c → GroupThenOthers levels a c
+groups_part_of levels a c [] h f n next ends = absurd (ends (ap next_kind (sym h) ∙ next))
+groups_part_of levels a c (g ∷ gs) h f n next ends = groups_part levels a c g gs h f n
 
 -- the first group
-pub groups_begin_with : (a c : List Token) (groups : List VariableGroup) → BeginsGroups a c groups → GroupThenOthers a c
-groups_begin_with a c [] h = let some = h.some in absurd (omega arith)
-groups_begin_with a c (g ∷ gs) h = groups_part a c g gs h.spelled h.formed
+pub groups_begin_with : (levels : ℕ) (a c : List Token) (groups : List VariableGroup) → BeginsGroups levels a c groups → GroupThenOthers levels a c
+groups_begin_with levels a c [] h = let some = h.some in absurd (omega arith)
+groups_begin_with levels a c (g ∷ gs) h = groups_part levels a c g gs h.spelled h.formed h.nests
 
 -- a group comes next, in each row of groups that may stand there
 abbrev pub GroupNext : List Token → List Token → Type 0
-GroupNext start now = (groups : List VariableGroup) (others : List Token) → BeginsGroups start others groups → NoNext kind.Identifier others → GroupThenOthers
-    now others
+GroupNext start now = (depth : ℕ) (groups : List VariableGroup) (others : List Token) → BeginsGroups depth start others groups
+    → NoNext kind.Identifier others → GroupThenOthers depth now others
 
 -- where a name comes a group stands
-pub groups_go_on_with : (start a : List Token) → EachGroupsLeft start a → Next kind.Identifier a
-    → (groups : List VariableGroup) (others : List Token) → BeginsGroups start others groups → NoNext kind.Identifier others → GroupThenOthers a others
-groups_go_on_with start a left next groups others h ends =
-    let r = left groups others h ends in groups_part_of a others r.groups r.spelled r.formed next ends
+pub groups_go_on_with : (start a : List Token) → EachGroupsLeft start a → Next kind.Identifier a → GroupNext start a
+groups_go_on_with start a left next depth groups others h ends =
+    let r = left depth groups others h ends in groups_part_of depth a others r.groups r.spelled r.formed r.nests next ends
 
 -- a group begins with a name
-pub group_first : (a c : List Token) (g : VariableGroup) → BeginsGroup a c g → Next kind.Identifier a
-group_first a c g h = let p = group_begins a c g h in names_first a p.middle p.names p.begun
+pub group_first : (levels : ℕ) (a c : List Token) (g : VariableGroup) → BeginsGroup levels a c g → Next kind.Identifier a
+group_first levels a c g h = let p = group_begins levels a c g h in names_first a p.middle p.names p.begun
 
 -- behind a group fewer tokens are left
-pub group_fewer : (a c : List Token) (g : VariableGroup) → BeginsGroup a c g → length c < length a
-group_fewer a c g h =
-    let p = group_begins a c g h in
+pub group_fewer : (levels : ℕ) (a c : List Token) (g : VariableGroup) → BeginsGroup levels a c g → length c < length a
+group_fewer levels a c g h =
+    let p = group_begins levels a c g h in
     let names = reads_no_more (separated symbol.Comma (identifiers p.names)) a p.middle p.begun.spelled in
     let behind = reads_fewer (mark symbol.Colon) (denoter_spelling p.type ++ mark symbol.Semicolon ∷ []) p.middle c p.behind in
     omega arith
 
-groups_stop : (a c : List Token) (gs : List VariableGroup) → Reads a (joined (map group_spelling gs)) c → list_all is_group gs ≡ true
-    → NoNext kind.Identifier a → a ≡ c
-groups_stop a c [] h f none = h
-groups_stop a c (g ∷ gs) h f none = let p = groups_part a c g gs h f in absurd (none (group_first a p.middle p.group p.begun))
+groups_stop : (levels : ℕ) (a c : List Token) (gs : List VariableGroup) → Reads a (joined (map group_spelling gs)) c → list_all is_group gs ≡ true
+    → groups_levels gs ≤ levels → NoNext kind.Identifier a → a ≡ c
+groups_stop levels a c [] h f n none = h
+groups_stop levels a c (g ∷ gs) h f n none =
+    let p = groups_part levels a c g gs h f n in absurd (none (group_first levels a p.middle p.group p.begun))
 
 -- where no name comes the groups end
 pub groups_end : (start a : List Token) → EachGroupsLeft start a → NoNext kind.Identifier a
-    → (groups : List VariableGroup) (others : List Token) → BeginsGroups start others groups → NoNext kind.Identifier others → a ≡ others
-groups_end start a left none groups others h ends = let r = left groups others h ends in groups_stop a others r.groups r.spelled r.formed none
+    → (depth : ℕ) (groups : List VariableGroup) (others : List Token) → BeginsGroups depth start others groups → NoNext kind.Identifier others → a ≡ others
+groups_end start a left none depth groups others h ends =
+    let r = left depth groups others h ends in groups_stop depth a others r.groups r.spelled r.formed r.nests none
 
 -- names, and the parenthesis behind them
 pub record NamesThenClosed (tokens others : List Token) : Type 0 where
@@ -257,16 +271,16 @@ parameters_names_end a c o = other_kind (kind.Symbol symbol.CloseParenthesis) (k
     (begins (mark symbol.CloseParenthesis) [] o.middle c o.closed) (λ e. cc)
 
 -- behind `var`
-pub variables_opened : (p : Place) (a b c : List Token) (groups : List VariableGroup) → Reads a (of_kind_at (kind.Word word.Var) p ∷ []) b
-    → BeginsVariables a c groups
-    → BeginsStatementPart c → BeginsGroups b c groups
-variables_opened p a b c [] k h ends =
+pub variables_opened : (levels : ℕ) (p : Place) (a b c : List Token) (groups : List VariableGroup) → Reads a (of_kind_at (kind.Word word.Var) p ∷ []) b
+    → BeginsVariables levels a c groups → BeginsStatementPart c → BeginsGroups levels b c groups
+variables_opened levels p a b c [] k h ends =
     absurd (other_kind (kind.Word word.Begin) (kind.Word word.Var) a (ap next_kind h.spelled ∙ ends) (λ e. cc)
     (begins (of_kind_at (kind.Word word.Var) p) [] a b k))
-variables_opened p a b c (g ∷ gs) k h ends = record {
+variables_opened levels p a b c (g ∷ gs) k h ends = record {
   some = omega arith;
   spelled = (same_first (of_kind_at (kind.Word word.Var) p) (word_symbol word.Var) (joined (map group_spelling (g ∷ gs))) a b c k h.spelled).1;
   formed = h.formed;
+  nests = h.nests;
 }
 
 -- at the compound statement the groups end
@@ -274,20 +288,20 @@ pub statement_part_ends : (a : List Token) → BeginsStatementPart a → NoNext 
 statement_part_ends a h = other_kind (kind.Word word.Begin) kind.Identifier a h (λ e. cc)
 
 -- what comes next where variables may be declared
-variables_next : (a c : List Token) (groups : List VariableGroup) → BeginsVariables a c groups → BeginsStatementPart c → EndsTypes a
-variables_next a c [] h begins = statement_part (ap next_kind h.spelled ∙ begins)
-variables_next a c (g ∷ gs) h _ = variable_part (begins (word_symbol word.Var) (joined (map group_spelling (g ∷ gs))) a c h.spelled)
+variables_next : (levels : ℕ) (a c : List Token) (groups : List VariableGroup) → BeginsVariables levels a c groups → BeginsStatementPart c → EndsTypes a
+variables_next levels a c [] h begins = statement_part (ap next_kind h.spelled ∙ begins)
+variables_next levels a c (g ∷ gs) h _ = variable_part (begins (word_symbol word.Var) (joined (map group_spelling (g ∷ gs))) a c h.spelled)
 
 -- what comes next where types may be defined
-types_next : (a c : List Token) (types : List TypeDefinition) → BeginsTypePart a c types → EndsTypes c → EndsConstants a
-types_next a c [] h ends = no_types (subst EndsTypes (sym h.spelled) ends)
-types_next a c (t ∷ ts) h _ = type_part (begins (word_symbol word.Type) (joined (map type_definition_spelling (t ∷ ts))) a c h.spelled)
+types_next : (levels : ℕ) (a c : List Token) (types : List TypeDefinition) → BeginsTypePart levels a c types → EndsTypes c → EndsConstants a
+types_next levels a c [] h ends = no_types (subst EndsTypes (sym h.spelled) ends)
+types_next levels a c (t ∷ ts) h _ = type_part (begins (word_symbol word.Type) (joined (map type_definition_spelling (t ∷ ts))) a c h.spelled)
 
 -- what stands behind the types of a block
 pub record BlockBehindTypes (levels : ℕ) (tokens others : List Token) : Type 0 where
   pub groups : List VariableGroup
   pub middle : List Token
-  pub declared : BeginsVariables tokens middle groups
+  pub declared : BeginsVariables levels tokens middle groups
   pub begins : BeginsStatementPart middle
   pub statements : List Stmt
   pub end : Place
@@ -299,7 +313,7 @@ pub record BlockBehindTypes (levels : ℕ) (tokens others : List Token) : Type 0
 pub record BlockBehindConstants (levels : ℕ) (tokens others : List Token) : Type 0 where
   pub types : List TypeDefinition
   pub middle : List Token
-  pub defined : BeginsTypePart tokens middle types
+  pub defined : BeginsTypePart levels tokens middle types
   pub ends : EndsTypes middle
   pub behind : BlockBehindTypes levels middle others
 
@@ -325,7 +339,7 @@ abbrev pub is_body : Block → Bool
 is_body b = list_all is_group b.variables.items && (has_items b.statements.items && list_all is_statement b.statements.items)
 
 block_behind_types : (levels : ℕ) (a c : List Token) (b : Block) → Reads a (behind_types b) c → is_body b ≡ true
-    → 1 + deepest (map stmt_levels b.statements.items) ≤ levels → BlockBehindTypes levels a c
+    → block_levels b ≤ levels → BlockBehindTypes levels a c
 block_behind_types levels a c b h formed n =
     let compound : Spelling = word_symbol word.Begin ∷ separated symbol.Semicolon (map stmt_spelling b.statements.items) in
     let last : Spelling = of_kind_at (kind.Word word.End) b.end ∷ [] in
@@ -336,7 +350,7 @@ block_behind_types levels a c b h formed n =
     record {
       groups = b.variables.items;
       middle = r.0;
-      declared = record { spelled = r.1; formed = and_left (list_all is_group b.variables.items) statements formed };
+      declared = record { spelled = r.1; formed = and_left (list_all is_group b.variables.items) statements formed; nests = omega arith };
       begins = begins (word_symbol word.Begin) (separated symbol.Semicolon (map stmt_spelling b.statements.items) ++ last) r.0 c r.2;
       statements = b.statements.items;
       end = b.end;
@@ -355,7 +369,7 @@ abbrev pub is_typed_body : Block → Bool
 is_typed_body b = list_all is_type_definition b.types.items && is_body b
 
 block_behind_constants : (levels : ℕ) (a c : List Token) (b : Block) → Reads a (behind_constants b) c → is_typed_body b ≡ true
-    → 1 + deepest (map stmt_levels b.statements.items) ≤ levels → BlockBehindConstants levels a c
+    → block_levels b ≤ levels → BlockBehindConstants levels a c
 block_behind_constants levels a c b h formed n =
     let r = parted (types_spelling b.types.items) (behind_types b) a c h in
     let types = list_all is_type_definition b.types.items in
@@ -363,8 +377,8 @@ block_behind_constants levels a c b h formed n =
     record {
       types = b.types.items;
       middle = r.0;
-      defined = record { spelled = r.1; formed = and_left types (is_body b) formed };
-      ends = variables_next r.0 behind.middle behind.groups behind.declared behind.begins;
+      defined = record { spelled = r.1; formed = and_left types (is_body b) formed; nests = omega arith };
+      ends = variables_next levels r.0 behind.middle behind.groups behind.declared behind.begins;
       behind = behind;
     }
 
@@ -378,7 +392,7 @@ block_parts levels a c b h =
       definitions = b.constants.items;
       middle = r.0;
       defined = record { spelled = r.1; formed = and_left constants (is_typed_body b) h.formed };
-      ends = types_next r.0 behind.middle behind.types behind.defined behind.ends;
+      ends = types_next levels r.0 behind.middle behind.types behind.defined behind.ends;
       behind = behind;
     }
 

@@ -1,5 +1,6 @@
 -- Rows of spellings, and the first of their tokens.
 use Rattle.std.proofs.Common.{◌≡◌, ℕ, ◌≤◌, max, List, [], ◌∷◌, ◌++◌, Some, fold, refl, subst, sym, ap, ◌∙◌, arith}
+use Rattle.grammar.specs.Nesting.{deepest}
 use Rattle.lexer.specs.declared.token.Token.{Token}
 use Rattle.grammar.specs.Spelling.{Lexeme, Spelling, Reads}
 use Rattle.grammar.specs.Following.{next_kind}
@@ -32,3 +33,10 @@ start_below n a (x ∷ xs) h = let k = start_below n (max a x) xs h in omega ari
 pub other_start : (n a b : ℕ) (xs : List ℕ) → a ≤ n → fold max b xs ≤ n → fold max a xs ≤ n
 other_start n a b [] h k = h
 other_start n a b (x ∷ xs) h k = let m = start_below n (max b x) xs k in other_start n (max a x) (max b x) xs (omega arith) k
+
+-- where the deepest of several is allowed each is
+pub deepest_first : (n x : ℕ) (xs : List ℕ) → deepest (x ∷ xs) ≤ n → x ≤ n
+deepest_first n x xs h = let m = start_below n (max 0 x) xs h in omega arith
+
+pub deepest_others : (n x : ℕ) (xs : List ℕ) → deepest (x ∷ xs) ≤ n → deepest xs ≤ n
+deepest_others n x xs h = other_start n 0 (max 0 x) xs (omega arith) h

@@ -32,14 +32,16 @@ use Rattle.grammar.specs.Spelling.{Spelling, Reads, expr_spelling, link_spelling
 use Rattle.grammar.specs.Spelling.{joined, identifiers, group_spelling, variables_spelling, block_spelling}
 use Rattle.grammar.specs.Spelling.{program_spelling, separated, in_parentheses, word_symbol, identifier, direction_word}
 use Rattle.grammar.specs.Spelling.{constant_spelling, arm_spelling, case_end, of_kind_at, mark, definition_spelling}
-use Rattle.grammar.specs.Spelling.{constants_spelling, denoter_spelling, type_definition_spelling, types_spelling}
 use Rattle.grammar.specs.Spelling.{closing, selector_spelling, selectors_spelling}
+use Rattle.grammar.specs.Spelling.{constants_spelling, denoter_spelling, array_spelling, field_spelling}
+use Rattle.grammar.specs.Spelling.{record_spelling, type_definition_spelling, types_spelling}
 use Rattle.grammar.specs.WellFormed.{expr_form, link_form, fits, relation_level, is_link, is_actual, is_constant}
 use Rattle.grammar.specs.WellFormed.{is_expression, are_selectors, may_join}
 use Rattle.grammar.specs.WellFormed.{is_row, is_statement, is_definition, is_denoter, is_type_definition, is_group}
-use Rattle.grammar.specs.WellFormed.{is_block, is_program}
+use Rattle.grammar.specs.WellFormed.{is_block, is_program, has_items, may_end}
 use Rattle.grammar.specs.Following.{NoNext, NoSelector, LeavesNoElse}
-use Rattle.grammar.specs.Nesting.{expr_levels, link_levels, actual_levels, stmt_levels, deepest, index_levels, nesting}
+use Rattle.grammar.specs.Nesting.{expr_levels, link_levels, actual_levels, stmt_levels, deepest, index_levels}
+use Rattle.grammar.specs.Nesting.{denoter_levels, types_levels, groups_levels, block_levels, nesting}
 
 -- an expression of at least this level
 pub record BeginsExpr (level levels : ℕ) (tokens others : List Token) (e : Expr) : Type 0 where
@@ -221,48 +223,114 @@ pub record BeginsConstantPart (tokens others : List Token) (definitions : List C
   pub spelled : Reads tokens (constants_spelling definitions) others
   pub formed : list_all is_definition definitions ≡ true
 
--- a type denoter
-pub record BeginsDenoter (tokens others : List Token) (d : TypeDenoter) : Type 0 where
+-- a type denoter, which is a level of its own
+pub record BeginsDenoter (levels : ℕ) (tokens others : List Token) (d : TypeDenoter) : Type 0 where
   pub spelled : Reads tokens (denoter_spelling d) others
   pub formed : is_denoter d ≡ true
+  pub nests : denoter_levels d ≤ levels
+
+-- one or more index types of an array
+pub record BeginsIndexes (levels : ℕ) (tokens others : List Token) (indexes : List TypeDenoter) : Type 0 where
+  pub list : BeginsList symbol.Comma tokens others (map denoter_spelling indexes)
+  pub formed : list_all is_denoter indexes ≡ true
+  pub nests : deepest (map denoter_levels indexes) ≤ levels
+
+-- the word symbol of an array type with its place, and its opening bracket
+abbrev pub BeginsOpening : List Token → List Token → Place → Type 0
+BeginsOpening tokens others place =
+    Reads tokens (of_kind_at (kind.Word word.Array) place ∷ mark symbol.OpenBracket ∷ []) others
+
+-- the closing bracket of an array type, and its `of`
+abbrev pub BeginsClosing : List Token → List Token → Type 0
+BeginsClosing tokens others = Reads tokens (mark symbol.CloseBracket ∷ word_symbol word.Of ∷ []) others
+
+-- an array type behind `packed`: its place, its index types, and its element type
+pub record BeginsArray (levels : ℕ) (tokens others : List Token)
+    (found : Place × List TypeDenoter × TypeDenoter) : Type 0 where
+  pub spelled :
+      Reads tokens (array_spelling found.0 (map denoter_spelling found.1) (denoter_spelling found.2)) others
+  pub some : 0 < length found.1
+  pub formed : list_all is_denoter found.1 ≡ true
+  pub element_formed : is_denoter found.2 ≡ true
+  pub nests : deepest (map denoter_levels found.1) ≤ levels
+  pub element_nests : denoter_levels found.2 ≤ levels
+
+-- one or more names with the colon behind them
+pub record BeginsFieldNames (tokens others : List Token) (names : List Name) : Type 0 where
+  pub middle : List Token
+  pub list : BeginsNames tokens middle names
+  pub closed : Reads middle (mark symbol.Colon ∷ []) others
+
+-- fields declared together: their names, and their type
+abbrev pub Field : Type 0
+Field = List Name × TypeDenoter
+
+abbrev pub field_spelled : Field → Spelling
+field_spelled field = field_spelling (field.0, denoter_spelling field.1)
+
+abbrev pub field_well : Field → Bool
+field_well field = has_items field.0 && is_denoter field.1
+
+abbrev pub field_levels : Field → ℕ
+field_levels field = denoter_levels field.1
+
+-- one or more groups of fields, and the `end` of the record, with a semicolon before it or none
+pub record BeginsFields (levels : ℕ) (tokens others : List Token) (found : List Field × Bool) : Type 0 where
+  pub some : 0 < length found.0
+  pub spelled : Reads tokens (separated symbol.Semicolon (map field_spelled found.0) ++ case_end found.1) others
+  pub formed : list_all field_well found.0 ≡ true
+  pub nests : deepest (map field_levels found.0) ≤ levels
+
+-- a record type behind `packed`: its place, its fields, and whether a semicolon stands behind these
+pub record BeginsRecord (levels : ℕ) (tokens others : List Token) (found : Place × List Field × Bool) : Type 0 where
+  pub spelled : Reads tokens (record_spelling found.0 (map field_spelled found.1) found.2) others
+  pub formed : list_all field_well found.1 ≡ true
+  pub ended : may_end found.1 found.2 ≡ true
+  pub nests : deepest (map field_levels found.1) ≤ levels
 
 -- a type definition
-pub record BeginsTypeDefinition (tokens others : List Token) (d : TypeDefinition) : Type 0 where
+pub record BeginsTypeDefinition (levels : ℕ) (tokens others : List Token) (d : TypeDefinition) : Type 0 where
   pub spelled : Reads tokens (type_definition_spelling d) others
   pub formed : is_type_definition d ≡ true
+  pub nests : denoter_levels d.denoter ≤ levels
 
 -- one or more of these
-pub record BeginsTypeDefinitions (tokens others : List Token) (types : List TypeDefinition) : Type 0 where
+pub record BeginsTypeDefinitions (levels : ℕ) (tokens others : List Token) (types : List TypeDefinition) : Type 0 where
   pub some : 0 < length types
   pub spelled : Reads tokens (joined (map type_definition_spelling types)) others
   pub formed : list_all is_type_definition types ≡ true
+  pub nests : types_levels types ≤ levels
 
 -- a type definition part, or none
-pub record BeginsTypePart (tokens others : List Token) (types : List TypeDefinition) : Type 0 where
+pub record BeginsTypePart (levels : ℕ) (tokens others : List Token) (types : List TypeDefinition) : Type 0 where
   pub spelled : Reads tokens (types_spelling types) others
   pub formed : list_all is_type_definition types ≡ true
+  pub nests : types_levels types ≤ levels
 
 -- variables declared together
-pub record BeginsGroup (tokens others : List Token) (g : VariableGroup) : Type 0 where
+pub record BeginsGroup (levels : ℕ) (tokens others : List Token) (g : VariableGroup) : Type 0 where
   pub spelled : Reads tokens (group_spelling g) others
   pub formed : is_group g ≡ true
+  pub nests : denoter_levels g.denoter ≤ levels
 
 -- one or more of these
-pub record BeginsGroups (tokens others : List Token) (groups : List VariableGroup) : Type 0 where
+pub record BeginsGroups (levels : ℕ) (tokens others : List Token) (groups : List VariableGroup) : Type 0 where
   pub some : 0 < length groups
   pub spelled : Reads tokens (joined (map group_spelling groups)) others
   pub formed : list_all is_group groups ≡ true
+  pub nests : groups_levels groups ≤ levels
 
 -- a variable declaration part, or none
-pub record BeginsVariables (tokens others : List Token) (groups : List VariableGroup) : Type 0 where
+pub record BeginsVariables (levels : ℕ) (tokens others : List Token) (groups : List VariableGroup) : Type 0 where
   pub spelled : Reads tokens (variables_spelling groups) others
   pub formed : list_all is_group groups ≡ true
+  pub nests : groups_levels groups ≤ levels
 
--- a block, whose compound statement is a level of its own
+-- a block, whose compound statement is a level of its own, as each of its type denoters is
 pub record BeginsBlock (levels : ℕ) (tokens others : List Token) (b : Block) : Type 0 where
   pub spelled : Reads tokens (block_spelling b) others
   pub formed : is_block b ≡ true
-  pub nests : 1 + deepest (map stmt_levels b.statements.items) ≤ levels
+  pub nests : block_levels b ≤ levels
 
 -- a program
 pub record BeginsProgram (levels : ℕ) (tokens others : List Token) (p : Program) : Type 0 where

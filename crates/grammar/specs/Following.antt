@@ -78,9 +78,17 @@ pub data EndsConstants (others : List Token) : Type 0 where
   type_part : Next (kind.Word word.Type) others → EndsConstants others
   no_types : EndsTypes others → EndsConstants others
 
+-- no word symbol comes next
+abbrev pub NoWord : List Token → Type 0
+NoWord others = (w : Word) → NoNext (kind.Word w) others
+
 -- no `..` comes next, with which a name would go on to a subrange
 abbrev pub EndsDenoter : List Token → Type 0
 EndsDenoter = NoNext (kind.Symbol symbol.Range)
+
+-- what comes next behind index types: the closing bracket
+abbrev pub EndsIndexes : List Token → Type 0
+EndsIndexes = Next (kind.Symbol symbol.CloseBracket)
 
 -- where this word symbol comes each expression ends
 abbrev pub EndsEach : Word → Type 0

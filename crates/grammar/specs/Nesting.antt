@@ -1,11 +1,20 @@
 -- How deep a tree nests. The program's own compound statement is the first level. Each statement in another statement,
 -- each actual with its width, each index expression, each expression in parentheses and each operand of `not` is one
--- level below what it stands in.
+-- level below what it stands in. A type denoter is a level of its own too: each that no other one stands in is the
+-- first, and the index types and the element type of an array, and the types of a record's fields, are one level below
+-- it.
 -- A chain of operators is a list and no nesting. The standard sets no bound.
 use Rattle.std.specs.Prelude.{ℕ, ◌+◌, List, Option, Some, None, map, max, fold}
 use Rattle.std.specs.declared.alloc.Global.{Global}
 use Rattle.std.specs.declared.boxed.Box.{Box}
+use Rattle.syntax_tree.specs.declared.Block.{Block}
 use Rattle.syntax_tree.specs.declared.Program.{Program}
+use Rattle.syntax_tree.specs.declared.TypeDefinition.{TypeDefinition}
+use Rattle.syntax_tree.specs.declared.TypeDenoter.{TypeDenoter}
+use Rattle.syntax_tree.specs.declared.TypeDenoter.TheOpen.{TypeDenoter-F}
+use Rattle.syntax_tree.specs.declared.TypeDenoter.TheOpen as denoter
+use Rattle.syntax_tree.specs.declared.TypeDenoter.TheFolds.{fold-TypeDenoter}
+use Rattle.syntax_tree.specs.declared.VariableGroup.{VariableGroup}
 use Rattle.syntax_tree.specs.declared.Expr.{Expr}
 use Rattle.syntax_tree.specs.declared.Link.{Link}
 use Rattle.syntax_tree.specs.declared.Actual.{Actual}
@@ -82,6 +91,31 @@ stmt_step (stmt.Case place index constants arms semicolon) = 1 + max (expr_level
 abbrev pub stmt_levels : Stmt → ℕ
 stmt_levels = fold-Stmt ℕ stmt_step
 
+-- one layer of a type denoter: the levels in it and its own
+abbrev pub denoter_step : TypeDenoter-F ℕ → ℕ
+denoter_step (denoter.Name name) = 1
+denoter_step (denoter.Enumerated constants) = 1
+denoter_step (denoter.Subrange first between last) = 1
+denoter_step (denoter.Array packed place indexes element) = 1 + max (deepest indexes.items) element.value
+denoter_step (denoter.Record packed place names denoters semicolon) = 1 + deepest denoters.items
+
+-- the levels of a type denoter, its own among them
+abbrev pub denoter_levels : TypeDenoter → ℕ
+denoter_levels = fold-TypeDenoter ℕ denoter_step
+
+-- the levels in type definitions, and in variables that are declared
+abbrev pub types_levels : List TypeDefinition → ℕ
+types_levels types = deepest (map (λ d. denoter_levels d.denoter) types)
+
+abbrev pub groups_levels : List VariableGroup → ℕ
+groups_levels groups = deepest (map (λ g. denoter_levels g.denoter) groups)
+
+-- the levels in a block: its types and variables, and its compound statement, which is a level of its own
+abbrev pub block_levels : Block → ℕ
+block_levels b =
+    max (types_levels b.types.items)
+    (max (groups_levels b.variables.items) (1 + deepest (map stmt_levels b.statements.items)))
+
 -- the levels of a program
 abbrev pub nesting : Program → ℕ
-nesting p = 1 + deepest (map stmt_levels p.block.statements.items)
+nesting p = block_levels p.block

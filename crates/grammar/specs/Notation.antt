@@ -10,13 +10,15 @@ use Rattle.lexer.specs.declared.token.Symbol.TheVariants as symbol
 use Rattle.lexer.specs.declared.token.Word.TheVariants as word
 use Rattle.syntax_tree.specs.declared.ConstantDefinition.{ConstantDefinition}
 use Rattle.syntax_tree.specs.declared.Constant.{Constant}
-use Rattle.syntax_tree.specs.Places.{arms_of}
+use Rattle.syntax_tree.specs.Places.{arms_of, fields_of}
 use Rattle.syntax_tree.specs.declared.Name.{Name}
 use Rattle.syntax_tree.specs.declared.Selector.{Selector}
 use Rattle.syntax_tree.specs.declared.Selector.TheVariants.{Index, Field}
 use Rattle.syntax_tree.specs.declared.TypeDefinition.{TypeDefinition}
 use Rattle.syntax_tree.specs.declared.TypeDenoter.{TypeDenoter}
-use Rattle.syntax_tree.specs.declared.TypeDenoter.TheVariants as denoter
+use Rattle.syntax_tree.specs.declared.TypeDenoter.TheOpen.{TypeDenoter-F}
+use Rattle.syntax_tree.specs.declared.TypeDenoter.TheOpen as denoter
+use Rattle.syntax_tree.specs.declared.TypeDenoter.TheFolds.{fold-TypeDenoter}
 use Rattle.syntax_tree.specs.declared.VariableGroup.{VariableGroup}
 use Rattle.syntax_tree.specs.declared.Block.{Block}
 use Rattle.syntax_tree.specs.declared.Program.{Program}
@@ -31,7 +33,7 @@ use Rattle.syntax_tree.specs.declared.Stmt.TheOpen.{Stmt-F}
 use Rattle.syntax_tree.specs.declared.Stmt.TheOpen as stmt
 use Rattle.syntax_tree.specs.declared.Stmt.TheFolds.{fold-Stmt}
 use Rattle.grammar.specs.Spelling.{Lexeme, of_kind_at, word_symbol, identifier, character_string, sign, operator}
-use Rattle.grammar.specs.Spelling.{direction_word, constant_spelling, case_end}
+use Rattle.grammar.specs.Spelling.{direction_word, constant_spelling, case_end, packed_spelling}
 
 -- the forms of expressions, of statements and of declarations
 pub data Shape : Type 0 where
@@ -61,6 +63,9 @@ pub data Shape : Type 0 where
   type_definition : Shape
   enumeration : Shape
   subrange : Shape
+  array : Shape
+  field : Shape
+  fields : Shape
   group : Shape
   parameters : Shape
   block : Shape
@@ -190,13 +195,30 @@ stmt_notation = fold-Stmt Notation stmt_step
 abbrev pub definition_notation : ConstantDefinition → Notation
 definition_notation d = bracketed definition (token (identifier d.name) ∷ constant_notation d.value)
 
--- a type denoter
-abbrev pub denoter_notation : TypeDenoter → Notation
-denoter_notation (denoter.Name n) = token (identifier n) ∷ []
-denoter_notation (denoter.Enumerated constants) = bracketed enumeration (names_notation constants.items)
-denoter_notation (denoter.Subrange first between last) =
+-- fields declared together, their type last
+abbrev pub field_notation : List Name × Notation → Notation
+field_notation f = bracketed field (names_notation f.0 ++ f.1)
+
+-- one layer of a type denoter, its parts written out
+abbrev pub denoter_step : TypeDenoter-F Notation → Notation
+denoter_step (denoter.Name n) = token (identifier n) ∷ []
+denoter_step (denoter.Enumerated constants) = bracketed enumeration (names_notation constants.items)
+denoter_step (denoter.Subrange first between last) =
     bracketed subrange
     (constant_notation first ++ token (of_kind_at (kind.Symbol symbol.Range) between) ∷ constant_notation last)
+denoter_step (denoter.Array packed place indexes element) =
+    bracketed array
+    (map token (packed_spelling packed)
+    ++ (token (of_kind_at (kind.Word word.Array) place) ∷ row indexes.items ++ element.value))
+denoter_step (denoter.Record packed place names denoters semicolon) =
+    bracketed fields
+    (map token (packed_spelling packed)
+    ++ (token (of_kind_at (kind.Word word.Record) place)
+    ∷ row (map field_notation (fields_of names.items denoters.items)) ++ map token (case_end semicolon)))
+
+-- a type denoter
+abbrev pub denoter_notation : TypeDenoter → Notation
+denoter_notation = fold-TypeDenoter Notation denoter_step
 
 -- a type definition
 abbrev pub type_definition_notation : TypeDefinition → Notation

@@ -27,10 +27,12 @@ use Rattle.syntax_tree.specs.declared.Constant.{Constant}
 use Rattle.syntax_tree.specs.declared.ConstantValue.{ConstantValue}
 use Rattle.syntax_tree.specs.declared.ConstantValue.TheVariants as constant
 use Rattle.syntax_tree.specs.declared.SignAt.{SignAt}
-use Rattle.syntax_tree.specs.Places.{arms_of}
+use Rattle.syntax_tree.specs.Places.{arms_of, fields_of}
 use Rattle.syntax_tree.specs.declared.TypeDefinition.{TypeDefinition}
 use Rattle.syntax_tree.specs.declared.TypeDenoter.{TypeDenoter}
-use Rattle.syntax_tree.specs.declared.TypeDenoter.TheVariants as denoter
+use Rattle.syntax_tree.specs.declared.TypeDenoter.TheOpen.{TypeDenoter-F}
+use Rattle.syntax_tree.specs.declared.TypeDenoter.TheOpen as denoter
+use Rattle.syntax_tree.specs.declared.TypeDenoter.TheFolds.{fold-TypeDenoter}
 use Rattle.syntax_tree.specs.declared.VariableGroup.{VariableGroup}
 use Rattle.syntax_tree.specs.declared.Block.{Block}
 use Rattle.syntax_tree.specs.declared.Program.{Program}
@@ -225,7 +227,7 @@ constant_spelling c = sign_spelling c.sign ++ value_lexeme c.value ∷ []
 abbrev pub arm_spelling : List Constant × Spelling → Spelling
 arm_spelling arm = separated symbol.Comma (map constant_spelling arm.0) ++ mark symbol.Colon ∷ arm.1
 
--- the `end` of a case, with a semicolon before it or none
+-- the `end` of a case or of a record, with a semicolon before it or none
 abbrev pub case_end : Bool → Spelling
 case_end false = word_symbol word.End ∷ []
 case_end true = mark symbol.Semicolon ∷ word_symbol word.End ∷ []
@@ -269,12 +271,42 @@ abbrev pub constants_spelling : List ConstantDefinition → Spelling
 constants_spelling [] = []
 constants_spelling (one ∷ others) = word_symbol word.Const ∷ joined (map definition_spelling (one ∷ others))
 
--- a type denoter (6.4.1): a name, an enumerated type (6.4.2.3), or a subrange type (6.4.2.4)
-abbrev pub denoter_spelling : TypeDenoter → Spelling
-denoter_spelling (denoter.Name name) = identifier name ∷ []
-denoter_spelling (denoter.Enumerated constants) = in_parentheses (identifiers constants.items)
-denoter_spelling (denoter.Subrange first between last) =
+-- the word symbol of a packed type, where it stands (6.4.3.1)
+abbrev pub packed_spelling : Bool → Spelling
+packed_spelling false = []
+packed_spelling true = word_symbol word.Packed ∷ []
+
+-- an array type behind `packed`: its index types and its element type (6.4.3.2)
+abbrev pub array_spelling : Place → List Spelling → Spelling → Spelling
+array_spelling place indexes element =
+    of_kind_at (kind.Word word.Array) place ∷ mark symbol.OpenBracket ∷ separated symbol.Comma indexes
+    ++ (mark symbol.CloseBracket ∷ word_symbol word.Of ∷ element)
+
+-- fields declared together: their names, and their type behind a colon (6.4.3.3)
+abbrev pub field_spelling : List Name × Spelling → Spelling
+field_spelling field = separated symbol.Comma (identifiers field.0) ++ mark symbol.Colon ∷ field.1
+
+-- a record type behind `packed`: its fields, and its `end` (6.4.3.3)
+abbrev pub record_spelling : Place → List Spelling → Bool → Spelling
+record_spelling place fields semicolon =
+    of_kind_at (kind.Word word.Record) place ∷ separated symbol.Semicolon fields ++ case_end semicolon
+
+-- one layer of a type denoter, its parts spelled
+abbrev pub denoter_step : TypeDenoter-F Spelling → Spelling
+denoter_step (denoter.Name name) = identifier name ∷ []
+denoter_step (denoter.Enumerated constants) = in_parentheses (identifiers constants.items)
+denoter_step (denoter.Subrange first between last) =
     constant_spelling first ++ of_kind_at (kind.Symbol symbol.Range) between ∷ constant_spelling last
+denoter_step (denoter.Array packed place indexes element) =
+    packed_spelling packed ++ array_spelling place indexes.items element.value
+denoter_step (denoter.Record packed place names denoters semicolon) =
+    packed_spelling packed
+    ++ record_spelling place (map field_spelling (fields_of names.items denoters.items)) semicolon
+
+-- a type denoter (6.4.1): a name, an enumerated type (6.4.2.3), a subrange type (6.4.2.4), an array type (6.4.3.2), or
+-- a record type (6.4.3.3)
+abbrev pub denoter_spelling : TypeDenoter → Spelling
+denoter_spelling = fold-TypeDenoter Spelling denoter_step
 
 -- a type definition, with its semicolon (6.4.1)
 abbrev pub type_definition_spelling : TypeDefinition → Spelling

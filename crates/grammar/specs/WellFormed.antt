@@ -1,7 +1,7 @@
 -- Which trees there may be: operators nest by precedence (ISO 7185:1990, 6.7.1, 6.7.2.1), a sign stands at the first
 -- term of a sum or alone, a relation has one operator, an `else` belongs to the nearest `if` that has none (6.8.3.4),
--- no sign stands before a string (6.3), an index is joined to an index alone (6.5.3), and lists that the grammar wants
--- nonempty are nonempty.
+-- no sign stands before a string (6.3), an index is joined to an index alone (6.5.3), no semicolon stands in a record
+-- without fields (6.4.3.3), and lists that the grammar wants nonempty are nonempty.
 -- This says nothing of names and types.
 use Rattle.std.specs.Prelude.{ℕ, ◌+◌, if◌then◌else◌, List, [], ◌∷◌, length, Bool, true, false, not, ◌&&◌, ◌||◌, Option}
 use Rattle.std.specs.Prelude.{Some, None, nat_eq, nat_lt, nat_le, map}
@@ -18,12 +18,15 @@ use Rattle.syntax_tree.specs.declared.Selector.TheVariants.{Index, Field}
 use Rattle.syntax_tree.specs.declared.SignAt.{SignAt}
 use Rattle.syntax_tree.specs.declared.TypeDefinition.{TypeDefinition}
 use Rattle.syntax_tree.specs.declared.TypeDenoter.{TypeDenoter}
-use Rattle.syntax_tree.specs.declared.TypeDenoter.TheVariants as denoter
+use Rattle.syntax_tree.specs.declared.TypeDenoter.TheOpen.{TypeDenoter-F}
+use Rattle.syntax_tree.specs.declared.TypeDenoter.TheOpen as denoter
+use Rattle.syntax_tree.specs.declared.TypeDenoter.TheFolds.{fold-TypeDenoter}
 use Rattle.syntax_tree.specs.declared.VariableGroup.{VariableGroup}
 use Rattle.syntax_tree.specs.declared.Block.{Block}
 use Rattle.syntax_tree.specs.declared.Program.{Program}
 use Rattle.syntax_tree.specs.declared.Expr.{Expr}
 use Rattle.syntax_tree.specs.declared.Link.{Link}
+use Rattle.syntax_tree.specs.declared.Name.{Name}
 use Rattle.syntax_tree.specs.declared.Actual.{Actual}
 use Rattle.syntax_tree.specs.declared.Operator.{Operator}
 use Rattle.syntax_tree.specs.declared.Operator.TheVariants as op
@@ -235,11 +238,28 @@ is_statement s = (stmt_form s).well
 abbrev pub ends_open : Stmt → Bool
 ends_open s = (stmt_form s).ends_open
 
--- an enumerated type has one or more constants (6.4.2.3)
+-- a row of one or more names stands before each denoter of a record's fields
+abbrev pub are_name_rows : List (Vec Name Global) → ℕ → Bool
+are_name_rows rows denoters = nat_eq (length rows) denoters && list_all (λ row. has_items row.items) rows
+
+-- a semicolon stands behind fields alone
+abbrev pub may_end : {A : Type 0} → List A → Bool → Bool
+may_end fields semicolon = has_items fields || not semicolon
+
+-- one layer of a type denoter: an enumerated type has one or more constants (6.4.2.3), an array type one or more index
+-- types (6.4.3.2)
+abbrev pub denoter_step : TypeDenoter-F Bool → Bool
+denoter_step (denoter.Name name) = true
+denoter_step (denoter.Enumerated constants) = has_items constants.items
+denoter_step (denoter.Subrange first between last) = is_constant first && is_constant last
+denoter_step (denoter.Array packed place indexes element) =
+    (has_items indexes.items && list_all (λ well. well) indexes.items) && element.value
+denoter_step (denoter.Record packed place names denoters semicolon) =
+    are_name_rows names.items (length denoters.items)
+    && (list_all (λ well. well) denoters.items && may_end denoters.items semicolon)
+
 abbrev pub is_denoter : TypeDenoter → Bool
-is_denoter (denoter.Name name) = true
-is_denoter (denoter.Enumerated constants) = has_items constants.items
-is_denoter (denoter.Subrange first between last) = is_constant first && is_constant last
+is_denoter = fold-TypeDenoter Bool denoter_step
 
 abbrev pub is_type_definition : TypeDefinition → Bool
 is_type_definition d = is_denoter d.denoter

@@ -33,4 +33,6 @@ mod scoping;
 #[cfg(test)]
 mod sources;
 #[cfg(test)]
+mod structured_types;
+#[cfg(test)]
 mod syntax;

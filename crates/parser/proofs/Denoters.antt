@@ -1,4 +1,4 @@
--- What the rules of type denoters give, and which spellings of them they read.
+-- What the rules of type denoters that are no structured types give, and which spellings of them they read.
 use Rattle.std.proofs.Common.{◌≡◌, List, [], ◌∷◌, Ok, None, length, refl, subst, sym, ap, ◌∙◌, arith}
 use Rattle.std.proofs.lemmas.Bool.{lt-ltb}
 use Rattle.std.specs.declared.alloc.Global.{Global}
@@ -17,6 +17,8 @@ use Rattle.grammar.specs.Following.{next_kind, NoNext, EndsDenoter, Anything}
 use Rattle.grammar.specs.Spelling.{Reads, of_kind_at, identifier, identifiers, constant_spelling}
 use Rattle.grammar.specs.WellFormed.{is_constant}
 use Rattle.grammar.specs.Begins.{BeginsNames, BeginsConstant, BeginsDenoter}
+use Rattle.grammar.proofs.DenoterEquations.{spelling-NamedType, form-NamedType, levels-NamedType, spelling-Enumerated, form-Enumerated, levels-Enumerated}
+use Rattle.grammar.proofs.DenoterEquations.{spelling-Subrange, form-Subrange, levels-Subrange}
 use Rattle.grammar.proofs.Lists.{length_map, and_true}
 use Rattle.grammar.proofs.Reading.{both}
 use Rattle.grammar.proofs.Rows.{begins, same_first}
@@ -28,29 +30,36 @@ use Rattle.expression_parser.proofs.Lists.{in_their_parentheses}
 -- an enumerated type
 pub enumerated_stands : (a b c d : Cursor) (p q : Place) (names : Vec Name Global) → Took a b (of_kind_at (kind.Symbol symbol.OpenParenthesis) p ∷ [])
     → Read BeginsNames b c names.items → Took c d (of_kind_at (kind.Symbol symbol.CloseParenthesis) q ∷ [])
-    → Read BeginsDenoter a d (denoter.Enumerated names)
+    → Read (BeginsDenoter 1) a d (denoter.Enumerated names)
 enumerated_stands a b c d p q names opened list closed = record {
-  spelled = in_their_parentheses a b c d p q (identifiers names.items) opened list closed;
-  formed = lt-ltb 0 (length names.items)
-      (let k = length_map (λ name. identifier name ∷ []) names.items in let h = list.some in omega arith);
+  spelled = subst (λ s. Took a d s) (sym (spelling-Enumerated names)) (in_their_parentheses a b c d p q (identifiers names.items) opened list closed);
+  formed = form-Enumerated names
+      ∙ lt-ltb 0 (length names.items) (let k = length_map (λ name. identifier name ∷ []) names.items in let h = list.some in omega arith);
+  nests = let n = levels-Enumerated names in omega arith;
 }
 
 -- a subrange
 pub subrange_stands : (a b c d : Cursor) (p : Place) (first last : Constant) → Read BeginsConstant a b first
-    → Took b c (of_kind_at (kind.Symbol symbol.Range) p ∷ []) → Read BeginsConstant c d last → Read BeginsDenoter a d (denoter.Subrange first p last)
+    → Took b c (of_kind_at (kind.Symbol symbol.Range) p ∷ []) → Read BeginsConstant c d last → Read (BeginsDenoter 1) a d (denoter.Subrange first p last)
 subrange_stands a b c d p first last one between two = record {
-  spelled = both (constant_spelling first) (of_kind_at (kind.Symbol symbol.Range) p ∷ constant_spelling last) a.rest.now b.rest.now d.rest.now one.spelled
-      (both (of_kind_at (kind.Symbol symbol.Range) p ∷ []) (constant_spelling last) b.rest.now c.rest.now d.rest.now between two.spelled);
-  formed = and_true (is_constant first) (is_constant last) one.formed two.formed;
+  spelled = subst (λ s. Took a d s) (sym (spelling-Subrange first p last))
+      (both (constant_spelling first) (of_kind_at (kind.Symbol symbol.Range) p ∷ constant_spelling last) a.rest.now b.rest.now d.rest.now one.spelled
+      (both (of_kind_at (kind.Symbol symbol.Range) p ∷ []) (constant_spelling last) b.rest.now c.rest.now d.rest.now between two.spelled));
+  formed = form-Subrange first p last ∙ and_true (is_constant first) (is_constant last) one.formed two.formed;
+  nests = let n = levels-Subrange first p last in omega arith;
 }
 
 -- a name alone
 pub name_stands : (a b c : Cursor) (n : Name) (read : Constant) → Read BeginsConstant a b read → (read.sign ≡ None) × (read.value ≡ constant.Name n)
-    → c ≡ b → Read BeginsDenoter a c (denoter.Name n)
+    → c ≡ b → Read (BeginsDenoter 1) a c (denoter.Name n)
 name_stands a b c n read given is kept =
     let same : read ≡ record { sign = None; value = constant.Name n } = (λ i. record { sign = is.0 i; value = is.1 i }) in
     let named = subst (λ x. Read BeginsConstant a b x) same given in
-    record { spelled = subst (λ x. Took a x (identifier n ∷ [])) (sym kept) named.spelled; formed = refl }
+    record {
+      spelled = subst (λ s. Took a c s) (sym (spelling-NamedType n)) (subst (λ x. Took a x (identifier n ∷ [])) (sym kept) named.spelled);
+      formed = form-NamedType n;
+      nests = let m = levels-NamedType n in omega arith;
+    }
 
 -- a name is a constant without a sign
 name_is_constant : (n : Name) (a c : List Token) → Reads a (identifier n ∷ []) c

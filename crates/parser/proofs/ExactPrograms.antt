@@ -29,23 +29,24 @@ use Rattle.grammar.proofs.Programs.{program_parameters_end}
 
 -- behind the names read
 pub group_behind_names : (a b : Cursor) (names : Vec Name Global) → ReadsEach BeginsNames (NoNext (kind.Symbol symbol.Comma)) a b (Ok names)
-    → (g : VariableGroup) (others : List Token) → BeginsGroup a.rest.now others g → GroupBehindNames b.rest.now others
-group_behind_names a b names reads g others h =
-    let p = group_begins a.rest.now others g h in
-    let same : b.rest.now ≡ p.middle = reads p.names p.middle p.begun (group_names_end a.rest.now others p) in
+    → (depth : ℕ) (g : VariableGroup) (others : List Token) → BeginsGroup depth a.rest.now others g → GroupBehindNames depth b.rest.now others
+group_behind_names a b names reads depth g others h =
+    let p = group_begins depth a.rest.now others g h in
+    let same : b.rest.now ≡ p.middle = reads p.names p.middle p.begun (group_names_end depth a.rest.now others p) in
     record {
       type = p.type;
       spelled = subst (λ x. Reads x (mark symbol.Colon ∷ denoter_spelling p.type ++ mark symbol.Semicolon ∷ []) others) (sym same) p.behind;
       formed = p.formed;
+      nests = p.nests;
     }
 
 -- behind a group
-pub groups_left : (start : List Token) (a b : Cursor) (g : VariableGroup) → ReadsEach BeginsGroup Anything a b (Ok g) → GroupNext start a.rest.now
-    → EachGroupsLeft start b.rest.now
-groups_left start a b g reads next groups others h ends =
-    let p = next groups others h ends in
-    let same : b.rest.now ≡ p.middle = reads p.group p.middle p.begun tt in
-    subst (λ x. GroupsLeft x others) (sym same) p.left
+pub groups_left : (levels : ℕ) (start : List Token) (a b : Cursor) (g : VariableGroup) → ReadsDeep levels BeginsGroup Anything a b (Ok g)
+    → GroupNext start a.rest.now → EachGroupsLeft start b.rest.now
+groups_left levels start a b g reads next depth groups others h ends =
+    let p = next depth groups others h ends in
+    let same : b.rest.now ≡ p.middle = reads depth p.group p.middle p.begun tt in
+    subst (λ x. GroupsLeft depth x others) (sym same) p.left
 
 -- where none comes there are none
 pub no_parameters : (a b : Cursor) (others : List Token) (names : List Name) → b ≡ a → NoNext (kind.Symbol symbol.OpenParenthesis) a.rest.now
@@ -69,18 +70,18 @@ block_behind_constants levels a b others constants reads p =
     subst (λ x. BlockBehindConstants levels x others) (sym same) p.behind
 
 -- behind the types read
-pub block_behind_types : (levels : ℕ) (a b : Cursor) (others : List Token) (types : Vec TypeDefinition Global)
-    → ReadsEach BeginsTypePart EndsTypes a b (Ok types) → BlockBehindConstants levels a.rest.now others → BlockBehindTypes levels b.rest.now others
-block_behind_types levels a b others types reads p =
-    let same : b.rest.now ≡ p.middle = reads p.types p.middle p.defined p.ends in
-    subst (λ x. BlockBehindTypes levels x others) (sym same) p.behind
+pub block_behind_types : (levels depth : ℕ) (a b : Cursor) (others : List Token) (types : Vec TypeDefinition Global)
+    → ReadsDeep levels BeginsTypePart EndsTypes a b (Ok types) → BlockBehindConstants depth a.rest.now others → BlockBehindTypes depth b.rest.now others
+block_behind_types levels depth a b others types reads p =
+    let same : b.rest.now ≡ p.middle = reads depth p.types p.middle p.defined p.ends in
+    subst (λ x. BlockBehindTypes depth x others) (sym same) p.behind
 
 -- behind the variables read
-pub block_behind_variables : (levels : ℕ) (a b : Cursor) (others : List Token) (variables : Vec VariableGroup Global)
-    → ReadsEach BeginsVariables BeginsStatementPart a b (Ok variables)
-    → BlockBehindTypes levels a.rest.now others → BlockBehindVariables levels b.rest.now others
-block_behind_variables levels a b others variables reads p =
-    let same : b.rest.now ≡ p.middle = reads p.groups p.middle p.declared p.begins in
+pub block_behind_variables : (levels depth : ℕ) (a b : Cursor) (others : List Token) (variables : Vec VariableGroup Global)
+    → ReadsDeep levels BeginsVariables BeginsStatementPart a b (Ok variables)
+    → BlockBehindTypes depth a.rest.now others → BlockBehindVariables depth b.rest.now others
+block_behind_variables levels depth a b others variables reads p =
+    let same : b.rest.now ≡ p.middle = reads depth p.groups p.middle p.declared p.begins in
     record {
       statements = p.statements;
       end = p.end;

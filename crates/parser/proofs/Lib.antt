@@ -3,4 +3,5 @@ pub mod Denoters
 pub mod ExactPrograms
 pub mod Order
 pub mod Programs
+pub mod Structured
 pub mod TypeDefinitions

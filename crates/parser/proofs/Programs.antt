@@ -1,5 +1,6 @@
 -- What the rules of declarations, blocks and programs give.
-use Rattle.std.proofs.Common.{◌≡◌, ℕ, ◌+◌, ◌<◌, true, ◌&&◌, List, [], ◌∷◌, ◌++◌, length, map, subst, sym, ap, ◌∙◌, append_assoc, append-nil, refl, arith}
+use Rattle.std.proofs.Common.{◌≡◌, ℕ, ◌+◌, ◌<◌, ◌≤◌, true, ◌&&◌, List, [], ◌∷◌, ◌++◌, length, map, Result, Ok, Err, MatchResult}
+use Rattle.std.proofs.Common.{subst, sym, ap, ◌∙◌, append_assoc, append-nil, refl, arith}
 use Rattle.std.specs.List.{list_all}
 use Rattle.std.specs.declared.alloc.Global.{Global}
 use Rattle.std.specs.declared.vec.Vec.{Vec}
@@ -9,6 +10,7 @@ use Rattle.lexer.specs.declared.token.Kind.TheVariants as kind
 use Rattle.lexer.specs.declared.token.Symbol.TheVariants as symbol
 use Rattle.lexer.specs.declared.token.Word.TheVariants as word
 use Rattle.token_cursor.specs.declared.cursor.Cursor.{Cursor}
+use Rattle.token_cursor.specs.declared.fault.ParseFault.{ParseFault}
 use Rattle.syntax_tree.specs.declared.ConstantDefinition.{ConstantDefinition}
 use Rattle.syntax_tree.specs.declared.Name.{Name}
 use Rattle.syntax_tree.specs.declared.Stmt.{Stmt}
@@ -20,11 +22,14 @@ use Rattle.token_cursor.specs.Cursor.{Took}
 use Rattle.grammar.specs.Spelling.{of_kind_at, mark, word_symbol, identifier, identifiers, stmt_spelling, separated, joined, in_parentheses, group_spelling}
 use Rattle.grammar.specs.Spelling.{Spelling, denoter_spelling, constants_spelling, types_spelling, variables_spelling, block_spelling}
 use Rattle.grammar.specs.WellFormed.{is_definition, is_denoter, is_type_definition, is_group, is_statement, has_items}
+use Rattle.grammar.specs.Nesting.{denoter_levels, deepest}
+use Rattle.expression_parser.specs.Refusing.{Refused}
 use Rattle.expression_parser.specs.Rules.{Read}
+use Rattle.expression_parser.proofs.Deep.{refused_behind}
 use Rattle.grammar.specs.Begins.{BeginsList, BeginsGroup, BeginsGroups, BeginsConstantPart, BeginsVariables, BeginsCompound, BeginsBlock, Stop}
 use Rattle.grammar.specs.Begins.{BeginsDenoter, BeginsTypePart}
 use Rattle.parser.specs.Syntax.{most, IsTreeOf}
-use Rattle.grammar.proofs.Lists.{map_push, all_push, and_true, length_map}
+use Rattle.grammar.proofs.Lists.{map_push, all_push, deepest_push, and_true, length_map}
 use Rattle.grammar.proofs.Reading.{both, without_place, joined_push}
 use Rattle.grammar.proofs.Programs.{behind_types, behind_constants}
 use Rattle.expression_parser.proofs.Lists.{list_goes_on, some_grown}
@@ -54,11 +59,11 @@ pub names_grow : (a b c : Cursor) (names : List Name) (p : Place) → Read (Begi
 names_grow a b c names p list comma d n taken = names_go_on a b c d names (names ++ n ∷ []) p n list comma taken refl
 
 -- variables declared together
-pub group_stands : (a b c d e : Cursor) (p q : Place) (names : Vec Name Global) (denoter : TypeDenoter)
-    → Read (BeginsList symbol.Comma) a b (identifiers names.items) → Took b c (of_kind_at (kind.Symbol symbol.Colon) p ∷ []) → Read BeginsDenoter c d denoter
-    → Took d e (of_kind_at (kind.Symbol symbol.Semicolon) q ∷ [])
-    → Read BeginsGroup a e (record { names = names; denoter = denoter })
-group_stands a b c d e p q names denoter list colon type semicolon = record {
+pub group_stands : (levels : ℕ) (a b c d e : Cursor) (p q : Place) (names : Vec Name Global) (denoter : TypeDenoter)
+    → Read (BeginsList symbol.Comma) a b (identifiers names.items) → Took b c (of_kind_at (kind.Symbol symbol.Colon) p ∷ [])
+    → Read (BeginsDenoter levels) c d denoter → Took d e (of_kind_at (kind.Symbol symbol.Semicolon) q ∷ [])
+    → Read (BeginsGroup levels) a e (record { names = names; denoter = denoter })
+group_stands levels a b c d e p q names denoter list colon type semicolon = record {
   spelled = both (separated symbol.Comma (identifiers names.items) ++ mark symbol.Colon ∷ denoter_spelling denoter)
       (mark symbol.Semicolon ∷ []) a.rest.now d.rest.now e.rest.now
       (both (separated symbol.Comma (identifiers names.items)) (mark symbol.Colon ∷ denoter_spelling denoter) a.rest.now b.rest.now d.rest.now list.spelled
@@ -67,41 +72,58 @@ group_stands a b c d e p q names denoter list colon type semicolon = record {
       (without_place (kind.Symbol symbol.Semicolon) q [] d.rest.now e.rest.now semicolon);
   formed = and_true (has_items names.items) (is_denoter denoter)
       (has names.items (let k = length_map (λ name. identifier name ∷ []) names.items in let h = list.some in omega arith)) type.formed;
-}
-
--- one more group
-pub groups_go_on : (a b c : Cursor) (groups grown : List VariableGroup) (g : VariableGroup) → Read BeginsGroups a b groups → Read BeginsGroup b c g
-    → grown ≡ groups ++ g ∷ [] → Read BeginsGroups a c grown
-groups_go_on a b c groups grown g list given is = record {
-  some = subst (λ x. 0 < length x) (sym is) (some_grown groups g);
-  spelled = subst (λ x. Took a c x) (sym (ap (λ x. joined (map group_spelling x)) is ∙ ap joined (map_push group_spelling groups g) ∙ joined_push
-      (map group_spelling groups) (group_spelling g)))
-      (both (joined (map group_spelling groups)) (group_spelling g) a.rest.now b.rest.now c.rest.now list.spelled given.spelled);
-  formed = subst (λ x. list_all is_group x ≡ true) (sym is) (all_push is_group groups g list.formed given.formed);
+  nests = type.nests;
 }
 
 -- with one more group there is a row
-abbrev pub GroupsGrow : Cursor → Cursor → List VariableGroup → Type 0
-GroupsGrow old now groups = (new : Cursor) (g : VariableGroup) → Read BeginsGroup now new g → Read BeginsGroups old new (groups ++ g ∷ [])
+abbrev pub GroupsGrow : ℕ → Cursor → Cursor → List VariableGroup → Type 0
+GroupsGrow levels old now groups =
+    (new : Cursor) (g : VariableGroup) → Read (BeginsGroup levels) now new g → Read (BeginsGroups levels) old new (groups ++ g ∷ [])
 
 -- the first group
-pub groups_grow_first : (a : Cursor) → GroupsGrow a a []
-groups_grow_first a b g given = record {
+pub groups_grow_first : (levels : ℕ) (a : Cursor) → GroupsGrow levels a a []
+groups_grow_first levels a b g given = record {
   some = omega arith;
   spelled = subst (λ s. Took a b s) (sym (append-nil (group_spelling g))) given.spelled;
   formed = and_true (is_group g) true given.formed refl;
+  nests = deepest_push levels [] (denoter_levels g.denoter) (omega arith) given.nests;
 }
 
 -- behind a group
-pub groups_grow : (a b : Cursor) (groups : List VariableGroup) → Read BeginsGroups a b groups → GroupsGrow a b groups
-groups_grow a b groups list c g given = groups_go_on a b c groups (groups ++ g ∷ []) g list given refl
+pub groups_grow : (levels : ℕ) (a b : Cursor) (groups : List VariableGroup) → Read (BeginsGroups levels) a b groups → GroupsGrow levels a b groups
+groups_grow levels a b gs list c g given = record {
+  some = some_grown gs g;
+  spelled = subst (λ x. Took a c x) (sym (ap joined (map_push group_spelling gs g) ∙ joined_push (map group_spelling gs) (group_spelling g)))
+      (both (joined (map group_spelling gs)) (group_spelling g) a.rest.now b.rest.now c.rest.now list.spelled given.spelled);
+  formed = all_push is_group gs g list.formed given.formed;
+  nests = subst (λ x. deepest x ≤ levels) (sym (map_push (λ (g : VariableGroup). denoter_levels g.denoter) gs g))
+      (deepest_push levels (map (λ (g : VariableGroup). denoter_levels g.denoter) gs) (denoter_levels g.denoter) list.nests given.nests);
+}
+
+-- behind `var` they are a part of a block
+variable_part_read : (levels : ℕ) (a b c : Cursor) (p : Place) (groups : List VariableGroup) → Took a b (of_kind_at (kind.Word word.Var) p ∷ [])
+    → Read (BeginsGroups levels) b c groups → Read (BeginsVariables levels) a c groups
+variable_part_read levels a b c p [] taken given = let some = given.some in absurd (omega arith)
+variable_part_read levels a b c p (g ∷ gs) taken given = record {
+  spelled = both (word_symbol word.Var ∷ []) (joined (map group_spelling (g ∷ gs))) a.rest.now b.rest.now c.rest.now
+      (without_place (kind.Word word.Var) p [] a.rest.now b.rest.now taken) given.spelled;
+  formed = given.formed;
+  nests = given.nests;
+}
+
+pub variables_answer : (levels : ℕ) (a b c : Cursor) (p : Place) (answer : Result (Vec VariableGroup Global) ParseFault)
+    → Took a b (of_kind_at (kind.Word word.Var) p ∷ [])
+    → MatchResult answer (λ found. Read (BeginsGroups levels) b c found.items) (Refused levels b)
+    → MatchResult answer (λ found. Read (BeginsVariables levels) a c found.items) (Refused levels a)
+variables_answer levels a b c p (Ok groups) taken given = variable_part_read levels a b c p groups.items taken given
+variables_answer levels a b c p (Err fault) taken given = refused_behind levels a b (of_kind_at (kind.Word word.Var) p ∷ []) fault taken given
 
 -- what stands behind the types of a block
-block_body : (inner : ℕ) (a b c : Cursor) (variables : List VariableGroup) (statements : List Stmt) (end : Place)
-    → Read BeginsVariables a b variables → Read (BeginsCompound inner) b c (statements, end)
+block_body : (levels inner : ℕ) (a b c : Cursor) (variables : List VariableGroup) (statements : List Stmt) (end : Place)
+    → Read (BeginsVariables levels) a b variables → Read (BeginsCompound inner) b c (statements, end)
     → Took a c (variables_spelling variables
     ++ word_symbol word.Begin ∷ separated symbol.Semicolon (map stmt_spelling statements) ++ of_kind_at (kind.Word word.End) end ∷ [])
-block_body inner a b c variables statements end declared given =
+block_body levels inner a b c variables statements end declared given =
     let compound : Spelling = word_symbol word.Begin ∷ separated symbol.Semicolon (map stmt_spelling statements) in
     let last : Spelling = of_kind_at (kind.Word word.End) end ∷ [] in
     subst (λ x. Took a c x) (sym (append_assoc (variables_spelling variables) compound last))
@@ -110,21 +132,22 @@ block_body inner a b c variables statements end declared given =
 -- a block
 pub block_stands : (levels inner : ℕ) (a b c d e : Cursor) (constants : Vec ConstantDefinition Global) (types : Vec TypeDefinition Global)
     (variables : Vec VariableGroup Global) (statements : Vec Stmt Global) (end : Place)
-    → inner + 1 ≡ levels → Read BeginsConstantPart a b constants.items → Read BeginsTypePart b c types.items → Read BeginsVariables c d variables.items
+    → inner + 1 ≡ levels → Read BeginsConstantPart a b constants.items → Read (BeginsTypePart levels) b c types.items
+    → Read (BeginsVariables levels) c d variables.items
     → Read (BeginsCompound inner) d e (statements.items, end)
     → Read (BeginsBlock levels) a e (record { constants = constants; types = types; variables = variables; statements = statements; end = end })
 block_stands levels inner a b c d e constants types variables statements end less defined typed declared given = record {
   spelled = let block : Block = record { constants = constants; types = types; variables = variables; statements = statements; end = end } in
       both (constants_spelling constants.items) (behind_constants block) a.rest.now b.rest.now e.rest.now defined.spelled
       (both (types_spelling types.items) (behind_types block) b.rest.now c.rest.now e.rest.now typed.spelled
-      (block_body inner c d e variables.items statements.items end declared given));
+      (block_body levels inner c d e variables.items statements.items end declared given));
   formed = let last = has_items statements.items && list_all is_statement statements.items in
       and_true (list_all is_definition constants.items) (list_all is_type_definition types.items && (list_all is_group variables.items && last))
       defined.formed
       (and_true (list_all is_type_definition types.items) (list_all is_group variables.items && last) typed.formed
       (and_true (list_all is_group variables.items) last declared.formed
       (and_true (has_items statements.items) (list_all is_statement statements.items) (has statements.items given.some) given.formed)));
-  nests = let n = given.nests in omega arith;
+  nests = let n = given.nests in let types = typed.nests in let groups = declared.nests in omega arith;
 }
 
 -- a program

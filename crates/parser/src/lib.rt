@@ -6,5 +6,6 @@ mod denoter;
 mod names;
 mod program;
 mod types;
+mod unstructured;
 
 pub use program::parse;

@@ -2,8 +2,8 @@ ghost use Rattle.std.specs.Prelude.{MatchResult};
 ghost use Rattle.expression_parser.specs.Reading.{ReadsEach};
 ghost use Rattle.expression_parser.specs.Refusing.{IsPlain};
 ghost use Rattle.expression_parser.specs.Rules.{Read};
-ghost use Rattle.grammar.specs.Begins.{BeginsNames};
-ghost use Rattle.grammar.specs.Following.{NoNext};
+ghost use Rattle.grammar.specs.Begins.{BeginsNames, BeginsFieldNames};
+ghost use Rattle.grammar.specs.Following.{NoNext, Anything};
 
 use expression_parser::memory::put;
 use lexer::token::{Kind, Symbol};
@@ -27,4 +27,18 @@ pub(crate) fn names<'a>(
             return Ok(names);
         };
     }
+}
+
+// field_names = names ":"
+/// The names of fields that are declared together (6.4.3.3), and their colon.
+pub(crate) fn field_names<'a>(
+    alloc: Global,
+    cursor: &mut Cursor<'_, 'a>,
+) -> Result<Vec<Name<'a>>, ParseFault>
+    ensures given { MatchResult result (λ found. Read BeginsFieldNames cursor.old cursor.new found.items) IsPlain }
+    ensures exact { ReadsEach BeginsFieldNames Anything cursor.old cursor.new result }
+{
+    let names = names(alloc, cursor)?;
+    cursor.expect_symbol(Symbol::Colon)?;
+    Ok(names)
 }

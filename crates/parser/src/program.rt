@@ -93,8 +93,8 @@ fn block<'a>(
     ensures exact { ReadsDeep levels BeginsBlock Anything cursor.old cursor.new result }
 {
     let constants = constants(alloc, cursor)?;
-    let types = types(alloc, cursor)?;
-    let variables = variables(alloc, cursor)?;
+    let types = types(alloc, cursor, levels)?;
+    let variables = variables(alloc, cursor, levels)?;
     let levels = inside(levels, cursor.place())?;
     let (statements, end) = compound(alloc, cursor, levels)?;
     Ok(Block {
@@ -110,27 +110,31 @@ fn block<'a>(
 fn variables<'a>(
     alloc: Global,
     cursor: &mut Cursor<'_, 'a>,
+    levels: u32,
 ) -> Result<Vec<VariableGroup<'a>>, ParseFault>
-    ensures given { MatchResult result (λ found. Read BeginsVariables cursor.old cursor.new found.items) IsPlain }
-    ensures exact { ReadsEach BeginsVariables BeginsStatementPart cursor.old cursor.new result }
+    ensures given { MatchResult result (λ found. Read (BeginsVariables levels) cursor.old cursor.new found.items)
+        (Refused levels cursor.old) }
+    ensures exact { ReadsDeep levels BeginsVariables BeginsStatementPart cursor.old cursor.new result }
 {
     let Some(_) = cursor.take_word(Word::Var) else {
         return Ok(Vec::new(alloc));
     };
-    groups(alloc, cursor)
+    groups(alloc, cursor, levels)
 }
 
 // groups = group {group}
 fn groups<'a>(
     alloc: Global,
     cursor: &mut Cursor<'_, 'a>,
+    levels: u32,
 ) -> Result<Vec<VariableGroup<'a>>, ParseFault>
-    ensures given { MatchResult result (λ found. Read BeginsGroups cursor.old cursor.new found.items) IsPlain }
-    ensures exact { ReadsEach BeginsGroups (NoNext Kind.Identifier) cursor.old cursor.new result }
+    ensures given { MatchResult result (λ found. Read (BeginsGroups levels) cursor.old cursor.new found.items)
+        (Refused levels cursor.old) }
+    ensures exact { ReadsDeep levels BeginsGroups (NoNext Kind.Identifier) cursor.old cursor.new result }
 {
     let mut groups = Vec::new(alloc);
     loop {
-        put(&mut groups, group(alloc, cursor))?;
+        put(&mut groups, group(alloc, cursor, levels))?;
         let Some(Kind::Identifier) = cursor.peek() else {
             return Ok(groups);
         };
@@ -138,13 +142,18 @@ fn groups<'a>(
 }
 
 // group = names ":" denoter ";"
-fn group<'a>(alloc: Global, cursor: &mut Cursor<'_, 'a>) -> Result<VariableGroup<'a>, ParseFault>
-    ensures given { MatchResult result (Read BeginsGroup cursor.old cursor.new) IsPlain }
-    ensures exact { ReadsEach BeginsGroup Anything cursor.old cursor.new result }
+fn group<'a>(
+    alloc: Global,
+    cursor: &mut Cursor<'_, 'a>,
+    levels: u32,
+) -> Result<VariableGroup<'a>, ParseFault>
+    ensures given { MatchResult result (Read (BeginsGroup levels) cursor.old cursor.new)
+        (Refused levels cursor.old) }
+    ensures exact { ReadsDeep levels BeginsGroup Anything cursor.old cursor.new result }
 {
     let names = names(alloc, cursor)?;
     cursor.expect_symbol(Symbol::Colon)?;
-    let denoter = denoter(alloc, cursor)?;
+    let denoter = denoter(alloc, cursor, levels)?;
     cursor.expect_symbol(Symbol::Semicolon)?;
     Ok(VariableGroup { names, denoter })
 }

@@ -1,6 +1,6 @@
 ghost use Rattle.std.specs.Prelude.{MatchResult};
-ghost use Rattle.expression_parser.specs.Reading.{ReadsEach};
-ghost use Rattle.expression_parser.specs.Refusing.{IsPlain};
+ghost use Rattle.expression_parser.specs.Reading.{ReadsDeep};
+ghost use Rattle.expression_parser.specs.Refusing.{Refused};
 ghost use Rattle.expression_parser.specs.Rules.{Read};
 ghost use Rattle.grammar.specs.Begins.{BeginsTypeDefinition, BeginsTypeDefinitions, BeginsTypePart};
 ghost use Rattle.grammar.specs.Following.{NoNext, EndsTypes, Anything};
@@ -14,32 +14,36 @@ use token_cursor::cursor::Cursor;
 use token_cursor::fault::ParseFault;
 
 // types = ["type" definitions]
-/// The type definition part of a block (6.2.1), which may be left out.
+/// The type definition part of a block (6.2.1), which may be left out. In a denoter `levels` levels
+/// are left.
 pub(crate) fn types<'a>(
     alloc: Global,
     cursor: &mut Cursor<'_, 'a>,
+    levels: u32,
 ) -> Result<Vec<TypeDefinition<'a>>, ParseFault>
-    ensures given { MatchResult result (λ found. Read BeginsTypePart cursor.old cursor.new found.items) IsPlain }
-    ensures exact { ReadsEach BeginsTypePart EndsTypes cursor.old cursor.new result }
+    ensures given { MatchResult result (λ found. Read (BeginsTypePart levels) cursor.old cursor.new found.items)
+        (Refused levels cursor.old) }
+    ensures exact { ReadsDeep levels BeginsTypePart EndsTypes cursor.old cursor.new result }
 {
     let Some(_) = cursor.take_word(Word::Type) else {
         return Ok(Vec::new(alloc));
     };
-    definitions(alloc, cursor)
+    definitions(alloc, cursor, levels)
 }
 
 // definitions = definition {definition}
 fn definitions<'a>(
     alloc: Global,
     cursor: &mut Cursor<'_, 'a>,
+    levels: u32,
 ) -> Result<Vec<TypeDefinition<'a>>, ParseFault>
     ensures given { MatchResult result
-        (λ found. Read BeginsTypeDefinitions cursor.old cursor.new found.items) IsPlain }
-    ensures exact { ReadsEach BeginsTypeDefinitions (NoNext Kind.Identifier) cursor.old cursor.new result }
+        (λ found. Read (BeginsTypeDefinitions levels) cursor.old cursor.new found.items) (Refused levels cursor.old) }
+    ensures exact { ReadsDeep levels BeginsTypeDefinitions (NoNext Kind.Identifier) cursor.old cursor.new result }
 {
     let mut definitions = Vec::new(alloc);
     loop {
-        put(&mut definitions, definition(alloc, cursor))?;
+        put(&mut definitions, definition(alloc, cursor, levels))?;
         let Some(Kind::Identifier) = cursor.peek() else {
             return Ok(definitions);
         };
@@ -51,13 +55,15 @@ fn definitions<'a>(
 fn definition<'a>(
     alloc: Global,
     cursor: &mut Cursor<'_, 'a>,
+    levels: u32,
 ) -> Result<TypeDefinition<'a>, ParseFault>
-    ensures given { MatchResult result (Read BeginsTypeDefinition cursor.old cursor.new) IsPlain }
-    ensures exact { ReadsEach BeginsTypeDefinition Anything cursor.old cursor.new result }
+    ensures given { MatchResult result (Read (BeginsTypeDefinition levels) cursor.old cursor.new)
+        (Refused levels cursor.old) }
+    ensures exact { ReadsDeep levels BeginsTypeDefinition Anything cursor.old cursor.new result }
 {
     let name = cursor.expect_name()?;
     cursor.expect_symbol(Symbol::Equal)?;
-    let denoter = denoter(alloc, cursor)?;
+    let denoter = denoter(alloc, cursor, levels)?;
     cursor.expect_symbol(Symbol::Semicolon)?;
     Ok(TypeDefinition { name, denoter })
 }

@@ -16,7 +16,7 @@ use token_cursor::fault::ParseFault;
 
 // row = constants ":"
 /// The constants before an arm of a case (6.8.3.5), and their colon.
-pub fn row<'a>(alloc: Global, cursor: &mut Cursor<'_, 'a>) -> Result<Vec<Constant<'a>>, ParseFault>
+pub(crate) fn row<'a>(alloc: Global, cursor: &mut Cursor<'_, 'a>) -> Result<Vec<Constant<'a>>, ParseFault>
     ensures given { MatchResult result (λ found. Read BeginsRow cursor.old cursor.new found.items) IsPlain }
     ensures exact { ReadsEach BeginsRow Anything cursor.old cursor.new result }
 {
@@ -44,8 +44,8 @@ fn constants<'a>(
 }
 
 // behind_arm = ";" | [";"] "end"
-/// Behind an arm: whether a semicolon stands before the `end` of the case, or none where another
-/// arm follows.
+/// Behind an arm of a case, or behind fields of a record: whether a semicolon stands before the
+/// `end`, or none where more arms or fields follow.
 pub fn behind_arm(cursor: &mut Cursor<'_, '_>) -> Result<Option<bool>, ParseFault>
     ensures given { MatchResult result (ReadBehindArm cursor.old cursor.new) IsPlain }
     ensures missed { IfErr result (λ _.

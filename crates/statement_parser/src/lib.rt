@@ -2,6 +2,6 @@
 //! and all that stands in it, and that of the constants which cases and definitions have (6.3).
 #![tactic(auto)]
 
-mod arm;
+pub mod arm;
 pub mod constant;
 pub mod statement;

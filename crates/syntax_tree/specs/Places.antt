@@ -10,7 +10,10 @@ use Rattle.place.specs.declared.Place.{Place}
 use Rattle.syntax_tree.specs.declared.Name.{Name}
 use Rattle.syntax_tree.specs.declared.TypeDefinition.{TypeDefinition}
 use Rattle.syntax_tree.specs.declared.TypeDenoter.{TypeDenoter}
-use Rattle.syntax_tree.specs.declared.TypeDenoter.TheVariants.{Name as NamedType, Enumerated, Subrange}
+use Rattle.syntax_tree.specs.declared.TypeDenoter.TheOpen.{TypeDenoter-F}
+use Rattle.syntax_tree.specs.declared.TypeDenoter.TheOpen.TypeDenoter-F.{Name as NamedType, Enumerated, Subrange}
+use Rattle.syntax_tree.specs.declared.TypeDenoter.TheOpen.TypeDenoter-F.{Array, Record}
+use Rattle.syntax_tree.specs.declared.TypeDenoter.TheFolds.{fold-TypeDenoter}
 use Rattle.syntax_tree.specs.declared.Selector.{Selector}
 use Rattle.syntax_tree.specs.declared.Selector.TheVariants.{Index, Field}
 use Rattle.syntax_tree.specs.declared.VariableGroup.{VariableGroup}
@@ -128,10 +131,26 @@ stmt_places = fold-Stmt Places statement_step
 abbrev pub name_places : List Name → Places
 name_places names = map (λ name. name.place) names
 
+-- groups of fields: the n-th row of names stands before the n-th denoter
+abbrev pub fields_of : {A : Type 0} → List (Vec Name Global) → List A → List (List Name × A)
+fields_of [] denoters = []
+fields_of (row ∷ rows) [] = []
+fields_of (row ∷ rows) (denoter ∷ denoters) = (row.items, denoter) ∷ fields_of rows denoters
+
+abbrev pub field_places : List Name × Places → Places
+field_places field = name_places field.0 ++ field.1
+
+abbrev pub denoter_step : TypeDenoter-F Places → Places
+denoter_step (NamedType name) = name.place ∷ []
+denoter_step (Enumerated constants) = name_places constants.items
+denoter_step (Subrange first between last) = constant_places first ++ between ∷ constant_places last
+denoter_step (Array packed place indexes element) = place ∷ (joined_places indexes.items ++ element.value)
+denoter_step (Record packed place names denoters semicolon) =
+    place ∷ flat_map field_places (fields_of names.items denoters.items)
+
+-- the places of what denotes a type
 abbrev pub denoter_places : TypeDenoter → Places
-denoter_places (NamedType name) = name.place ∷ []
-denoter_places (Enumerated constants) = name_places constants.items
-denoter_places (Subrange first between last) = constant_places first ++ between ∷ constant_places last
+denoter_places = fold-TypeDenoter Places denoter_step
 
 -- the places of a constant definition
 abbrev pub definition_places : ConstantDefinition → Places

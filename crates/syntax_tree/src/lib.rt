@@ -92,6 +92,23 @@ pub enum TypeDenoter<'a> {
         between: Place,
         last: Constant<'a>,
     },
+    /// `array [indexes] of element`, perhaps packed (6.4.3.2), with the place of the word `array`: one or more index
+    /// types.
+    Array {
+        packed: bool,
+        place: Place,
+        indexes: Vec<TypeDenoter<'a>>,
+        element: Box<TypeDenoter<'a>>,
+    },
+    /// `record` fields `end`, perhaps packed (6.4.3.3), with the place of the word `record`: groups of fields, the n-th
+    /// row of one or more names before the n-th denoter, and perhaps a semicolon behind the last.
+    Record {
+        packed: bool,
+        place: Place,
+        names: Vec<Vec<Name<'a>>>,
+        denoters: Vec<TypeDenoter<'a>>,
+        semicolon: bool,
+    },
 }
 
 /// What selects a component of a variable (6.5.3).
