@@ -1,5 +1,5 @@
 -- What the rules of array types and record types give, and which spellings of them they read.
-use Rattle.std.proofs.Common.{◌≡◌, ℕ, ◌+◌, ◌<◌, ◌≤◌, Bool, true, false, not, ◌&&◌, ◌||◌, nat_eq, List, [], ◌∷◌, ◌++◌, map, length, Result, Ok, Err, MatchResult}
+use Rattle.std.proofs.Common.{◌≡◌, ℕ, ◌+◌, ◌<◌, ◌≤◌, Bool, true, ◌&&◌, nat_eq, List, [], ◌∷◌, ◌++◌, map, length, Result, Ok, Err}
 use Rattle.std.proofs.Common.{refl, subst, sym, ap, ◌∙◌, arith}
 use Rattle.std.proofs.lemmas.Bool.{lt-ltb, eq-eqb}
 use Rattle.std.specs.List.{list_all}
@@ -26,18 +26,15 @@ use Rattle.grammar.specs.Following.{NoNext, EndsDenoter, EndsIndexes, Anything}
 use Rattle.grammar.specs.Begins.{BeginsDenoter, BeginsIndexes, BeginsOpening, BeginsClosing, BeginsArray, BeginsFieldNames, Field, field_spelled, field_well}
 use Rattle.grammar.specs.Begins.{field_levels, BeginsFields, BeginsRecord}
 use Rattle.grammar.proofs.DenoterEquations.{spelling-Array, form-Array, levels-Array, spelling-Record, form-Record, levels-Record}
-use Rattle.grammar.proofs.Denoters.{denoter_within}
 use Rattle.grammar.proofs.Ended.{EndedLeft}
 use Rattle.grammar.proofs.Lists.{map_push, all_push, deepest_push, and_true, and_left, and_right, length_map}
 use Rattle.grammar.proofs.Parts.{PartsLeft, PartThenOthers}
-use Rattle.grammar.proofs.Reading.{both, without_place, separated_more}
+use Rattle.grammar.proofs.Reading.{both, separated_more}
 use Rattle.grammar.proofs.Structured.{fields_computed, fields_levels, fields_length, fields_formed, ends_as, index_list_parts, IndexesLeft, IndexNext}
 use Rattle.grammar.proofs.Structured.{array_parts, index_ends, field_list_parts, FieldNext, EachFieldsLeft, field_parts, field_ends, FieldsAt}
 use Rattle.grammar.proofs.Structured.{record_opened, fields_at}
 use Rattle.expression_parser.specs.Reading.{ReadTo, ReadWithin, ReadsEach, ReadsDeep}
-use Rattle.expression_parser.specs.Refusing.{IsPlain, Refused}
 use Rattle.expression_parser.specs.Rules.{Read}
-use Rattle.expression_parser.proofs.Deep.{refused_plain}
 use Rattle.expression_parser.proofs.Exact.{stops_memory}
 use Rattle.expression_parser.proofs.Lists.{list_goes_on, some_grown}
 use Rattle.parser.specs.Fields.{ReadFields, ReadRecord}
