@@ -1,5 +1,5 @@
 -- The rules of type denoters read each spelling of their form.
-use Rattle.std.proofs.Common.{◌≡◌, ℕ, ◌<◌, ◌≤◌, Bool, true, false, List, [], ◌∷◌, ◌++◌, Some, None, Option, refl, subst, sym, ap, ◌∙◌, arith}
+use Rattle.std.proofs.Common.{◌≡◌, ℕ, ◌≤◌, Bool, true, false, List, [], ◌∷◌, ◌++◌, Some, None, Option, refl, subst, sym, ap, ◌∙◌, arith}
 use Rattle.place.specs.declared.Place.{Place}
 use Rattle.lexer.specs.declared.token.Kind.{Kind}
 use Rattle.lexer.specs.declared.token.Kind.TheVariants as kind
@@ -32,29 +32,11 @@ use Rattle.grammar.proofs.Lists.{and_left, and_right}
 use Rattle.grammar.proofs.Rows.{parted, begins}
 use Rattle.grammar.proofs.Programs.{NamesThenClosed, names_opened, some_items, other_kind}
 
--- no constant begins with a parenthesis
-
-value_first : (v : ConstantValue) (a c : List Token) → Reads a (value_lexeme v ∷ []) c → NoNext (kind.Symbol symbol.OpenParenthesis) a
-value_first (constant.Number m p) a c h e =
-    let no : Some (kind.Number m) ≡ Some (kind.Symbol symbol.OpenParenthesis) = sym (begins (of_kind_at (kind.Number m) p) [] a c h) ∙ e in cc
-value_first (constant.Name n) a c h e =
-    other_kind kind.Identifier (kind.Symbol symbol.OpenParenthesis) a (begins (identifier n) [] a c h) (λ same. cc) e
-value_first (constant.String t p) a c h e =
-    other_kind kind.Text (kind.Symbol symbol.OpenParenthesis) a (begins (character_string t.now p) [] a c h) (λ same. cc) e
-
 -- a sign is none, nor a name
 sign_other : (s : Sign) (p : Place) (k : Kind) (v : ConstantValue) (a c : List Token) → ¬ (Some (kind.Symbol symbol.Plus) ≡ Some k)
     → ¬ (Some (kind.Symbol symbol.Minus) ≡ Some k) → Reads a (sign s p ∷ value_lexeme v ∷ []) c → NoNext k a
 sign_other Plus p k v a c plus minus h = other_kind (kind.Symbol symbol.Plus) k a (begins (sign Plus p) (value_lexeme v ∷ []) a c h) plus
 sign_other Minus p k v a c plus minus h = other_kind (kind.Symbol symbol.Minus) k a (begins (sign Minus p) (value_lexeme v ∷ []) a c h) minus
-
-signed_first : (o : Option SignAt) (v : ConstantValue) (a c : List Token) → Reads a (sign_spelling o ++ value_lexeme v ∷ []) c
-    → NoNext (kind.Symbol symbol.OpenParenthesis) a
-signed_first None v a c h = value_first v a c h
-signed_first (Some s) v a c h = sign_other s.sign s.place (kind.Symbol symbol.OpenParenthesis) v a c (λ e. cc) (λ e. cc) h
-
-pub constant_opens_none : (x : Constant) (a c : List Token) → Reads a (constant_spelling x) c → NoNext (kind.Symbol symbol.OpenParenthesis) a
-constant_opens_none x a c h = signed_first x.sign x.value a c h
 
 -- where a name stands a constant is a name without a sign
 
@@ -103,17 +85,6 @@ denoter_layer levels a c d h =
       formed = sym (ap is_denoter o ∙ denoter_form_of x) ∙ h.formed;
       nests = subst (λ n. n ≤ levels) (ap denoter_levels o ∙ denoter_levels_of x) h.nests;
     }
-
-levels_some : (levels : ℕ) (a c : List Token) (d : denoter.TypeDenoter-F TypeDenoter) → DenoterLayer levels a c d → 0 < levels
-levels_some levels a c (denoter.Name n) h = let m = h.nests in omega arith
-levels_some levels a c (denoter.Enumerated v) h = let m = h.nests in omega arith
-levels_some levels a c (denoter.Subrange f p l) h = let m = h.nests in omega arith
-levels_some levels a c (denoter.Array b p v e) h = let m = h.nests in omega arith
-levels_some levels a c (denoter.Record b p rows v l) h = let m = h.nests in omega arith
-
--- each denoter is a level
-pub denoter_some : (levels : ℕ) (a c : List Token) (d : TypeDenoter) → BeginsDenoter levels a c d → 0 < levels
-denoter_some levels a c d h = levels_some levels a c (out-TypeDenoter d) (denoter_layer levels a c d h)
 
 -- a denoter stands in more levels too
 pub denoter_within : (less levels : ℕ) (a c : List Token) (d : TypeDenoter) → less ≤ levels → BeginsDenoter less a c d → BeginsDenoter levels a c d

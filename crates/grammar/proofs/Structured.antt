@@ -385,11 +385,6 @@ no_end f a c h well =
     let p = field_parts (field_levels f) a c f h well (omega arith) in
     other_kind kind.Identifier (kind.Word word.End) a (names_first a p.headed.middle p.names p.headed.list) (λ e. cc)
 
--- at the colon the names end
-pub field_names_end : (a c : List Token) (names : List Name) (h : BeginsFieldNames a c names) → NoNext (kind.Symbol symbol.Comma) h.middle
-field_names_end a c names h =
-    other_kind (kind.Symbol symbol.Colon) (kind.Symbol symbol.Comma) h.middle (begins (mark symbol.Colon) [] h.middle c h.closed) (λ e. cc)
-
 -- behind fields no `..` comes
 pub field_ends : (levels : ℕ) (a c : List Token) → EndedLeft Field field_list_parts levels a c → EndsDenoter a
 field_ends levels a c h =

@@ -81,8 +81,14 @@ fn types_nest_to_the_bound(rt: HostRuntime) -> Result<(), Fail> {
     let element = nested(alloc, 127, "array [char] of ")?;
     assert_eq!(rt; told(alloc, element.as_str())?.as_str(), "");
     let index = nested(alloc, 128, "array [char] of ")?;
-    assert_eq!(rt; told(alloc, index.as_str())?.as_str(), "1:2060: nested deeper than 128");
+    assert_eq!(rt;
+        told(alloc, index.as_str())?.as_str(),
+        "1:2060: nested deeper than 128"
+    );
     let field = nested(alloc, 128, "record a: ")?;
-    assert_eq!(rt; told(alloc, field.as_str())?.as_str(), "1:1301: nested deeper than 128");
+    assert_eq!(rt;
+        told(alloc, field.as_str())?.as_str(),
+        "1:1301: nested deeper than 128"
+    );
     Ok(())
 }

@@ -1,5 +1,5 @@
 -- What the rules of array types and record types give, and which spellings of them they read.
-use Rattle.std.proofs.Common.{◌≡◌, ℕ, ◌+◌, ◌<◌, ◌≤◌, Bool, true, false, not, ◌&&◌, ◌||◌, nat_eq, List, [], ◌∷◌, ◌++◌, map, length, Result, Ok, Err, MatchResult}
+use Rattle.std.proofs.Common.{◌≡◌, ℕ, ◌+◌, ◌<◌, ◌≤◌, Bool, true, ◌&&◌, nat_eq, List, [], ◌∷◌, ◌++◌, map, length, Result, Ok, Err}
 use Rattle.std.proofs.Common.{refl, subst, sym, ap, ◌∙◌, arith}
 use Rattle.std.proofs.lemmas.Bool.{lt-ltb, eq-eqb}
 use Rattle.std.specs.List.{list_all}
@@ -26,28 +26,20 @@ use Rattle.grammar.specs.Following.{NoNext, EndsDenoter, EndsIndexes, Anything}
 use Rattle.grammar.specs.Begins.{BeginsDenoter, BeginsIndexes, BeginsOpening, BeginsClosing, BeginsArray, BeginsFieldNames, Field, field_spelled, field_well}
 use Rattle.grammar.specs.Begins.{field_levels, BeginsFields, BeginsRecord}
 use Rattle.grammar.proofs.DenoterEquations.{spelling-Array, form-Array, levels-Array, spelling-Record, form-Record, levels-Record}
-use Rattle.grammar.proofs.Denoters.{denoter_within}
 use Rattle.grammar.proofs.Ended.{EndedLeft}
 use Rattle.grammar.proofs.Lists.{map_push, all_push, deepest_push, and_true, and_left, and_right, length_map}
 use Rattle.grammar.proofs.Parts.{PartsLeft, PartThenOthers}
-use Rattle.grammar.proofs.Reading.{both, without_place, separated_more}
+use Rattle.grammar.proofs.Reading.{both, separated_more}
 use Rattle.grammar.proofs.Structured.{fields_computed, fields_levels, fields_length, fields_formed, ends_as, index_list_parts, IndexesLeft, IndexNext}
 use Rattle.grammar.proofs.Structured.{array_parts, index_ends, field_list_parts, FieldNext, EachFieldsLeft, field_parts, field_ends, FieldsAt}
 use Rattle.grammar.proofs.Structured.{record_opened, fields_at}
 use Rattle.expression_parser.specs.Reading.{ReadTo, ReadWithin, ReadsEach, ReadsDeep}
-use Rattle.expression_parser.specs.Refusing.{IsPlain, Refused}
 use Rattle.expression_parser.specs.Rules.{Read}
-use Rattle.expression_parser.proofs.Deep.{refused_plain}
 use Rattle.expression_parser.proofs.Exact.{stops_memory}
 use Rattle.expression_parser.proofs.Lists.{list_goes_on, some_grown}
 use Rattle.parser.specs.Fields.{ReadFields, ReadRecord}
 
 -- ---- a denoter of one level where more are left
-
-pub plain_within : (levels : ℕ) (a b : Cursor) (answer : Result TypeDenoter ParseFault) → 1 ≤ levels
-    → MatchResult answer (Read (BeginsDenoter 1) a b) IsPlain → MatchResult answer (Read (BeginsDenoter levels) a b) (Refused levels a)
-plain_within levels a b (Ok d) few h = denoter_within 1 levels a.rest.now b.rest.now d few h
-plain_within levels a b (Err fault) few h = refused_plain levels a fault h
 
 pub each_within : (levels depth : ℕ) (others : List Token) (new : Cursor) (answer : Result TypeDenoter ParseFault) → ReadTo others new answer
     → ReadWithin levels depth others new answer
@@ -276,39 +268,6 @@ fields_close levels a b c rows ds last list taken = record {
 }
 
 -- ---- record types
-
--- a record type without fields
-pub record_empty : (levels : ℕ) (a b c : Cursor) (p q : Place) (rows : List (Vec Name Global)) (ds : List TypeDenoter) → rows ≡ [] → ds ≡ []
-    → Took a b (of_kind_at (kind.Word word.Record) p ∷ []) → Took b c (of_kind_at (kind.Word word.End) q ∷ []) → ReadRecord levels a c p rows ds false
-record_empty levels a b c p q [] [] i j opened closed = record {
-  each = refl;
-  begun = record {
-    spelled = both (of_kind_at (kind.Word word.Record) p ∷ []) (word_symbol word.End ∷ []) a.rest.now b.rest.now c.rest.now opened
-        (without_place (kind.Word word.End) q [] b.rest.now c.rest.now closed);
-    formed = refl;
-    ended = refl;
-    nests = omega arith;
-  };
-}
-record_empty levels a b c p q (r ∷ rows) ds i j opened closed = let no : r ∷ rows ≡ [] = i in cc
-record_empty levels a b c p q [] (d ∷ ds) i j opened closed = let no : d ∷ ds ≡ [] = j in cc
-
-may_end_some : (fs : List Field) (last : Bool) → 0 < length fs → may_end fs last ≡ true
-may_end_some fs last some = ap (λ b. b || not last) (lt-ltb 0 (length fs) some)
-
--- one with fields
-pub record_read : (levels : ℕ) (a b c : Cursor) (p : Place) (rows : List (Vec Name Global)) (ds : List TypeDenoter) (last : Bool)
-    → Took a b (of_kind_at (kind.Word word.Record) p ∷ []) → ReadFields levels b c rows ds last → ReadRecord levels a c p rows ds last
-record_read levels a b c p rows ds last opened given = record {
-  each = given.each;
-  begun = record {
-    spelled = both (of_kind_at (kind.Word word.Record) p ∷ []) (separated symbol.Semicolon (map field_spelled (fields_of rows ds)) ++ case_end last)
-        a.rest.now b.rest.now c.rest.now opened given.begun.spelled;
-    formed = given.begun.formed;
-    ended = may_end_some (fields_of rows ds) last given.begun.some;
-    nests = given.begun.nests;
-  };
-}
 
 pub gives-Record : (levels : ℕ) (a b c : Cursor) (packed : Bool) (p : Place) (rows : Vec (Vec Name Global) Global) (v : Vec TypeDenoter Global) (last : Bool)
     → Took a b (packed_spelling packed) → ReadRecord levels b c p rows.items v.items last

@@ -16,7 +16,10 @@ use token_cursor::fault::ParseFault;
 
 // row = constants ":"
 /// The constants before an arm of a case (6.8.3.5), and their colon.
-pub(crate) fn row<'a>(alloc: Global, cursor: &mut Cursor<'_, 'a>) -> Result<Vec<Constant<'a>>, ParseFault>
+pub(crate) fn row<'a>(
+    alloc: Global,
+    cursor: &mut Cursor<'_, 'a>,
+) -> Result<Vec<Constant<'a>>, ParseFault>
     ensures given { MatchResult result (λ found. Read BeginsRow cursor.old cursor.new found.items) IsPlain }
     ensures exact { ReadsEach BeginsRow Anything cursor.old cursor.new result }
 {
