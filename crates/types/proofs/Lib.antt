@@ -1,2 +1,4 @@
+pub mod Growing
 pub mod Counts
+pub mod Laid
 mod Examples
