@@ -2,4 +2,5 @@ pub mod Growing
 pub mod Counts
 pub mod Laid
 pub mod Elements
+pub mod Fields
 mod Examples
