@@ -3,4 +3,5 @@ pub mod Counts
 pub mod Laid
 pub mod Elements
 pub mod Fields
+pub mod Once
 mod Examples
