@@ -4,4 +4,6 @@ pub mod Laid
 pub mod Elements
 pub mod Fields
 pub mod Once
+pub mod Scalars
+pub mod Longer
 mod Examples

@@ -32,7 +32,7 @@ once_one x j k item one other =
     omega (arith, m, n)
 
 -- an item of two lists is in one of them
-in_either : {A : Type 0} (items more : List A) (k : ℕ) (item : A) → slice_get (items ++ more) k ≡ Some item
+pub in_either : {A : Type 0} (items more : List A) (k : ℕ) (item : A) → slice_get (items ++ more) k ≡ Some item
     → (slice_get items k ≡ Some item) ⊎ ((m : ℕ) × (k ≡ length items + m) × (slice_get more m ≡ Some item))
 in_either [] more k item is = let e : k ≡ 0 + k = omega arith in inr (k, e, is)
 in_either (x ∷ items) more zero item is = inl is
