@@ -10,13 +10,11 @@ use Rattle.types.specs.Components.{LaidOut, Steps, behind_step, components_at, c
 use Rattle.types.specs.Types.{before, cells_at, cells_of, field_among, field_at, field_in, field_of, fields_in, form_at, own_field, placed_fields}
 use Rattle.types.specs.declared.form.Field.{Field}
 use Rattle.types.specs.declared.form.RecordField.{RecordField}
-use Rattle.types.specs.declared.form.Step.{Step}
 use Rattle.types.specs.declared.form.Step.TheVariants as step
 use Rattle.types.specs.declared.form.TypeForm.{TypeForm}
 use Rattle.types.specs.declared.form.TypeForm.TheVariants.{Record}
 use Rattle.types.specs.declared.form.TypeId.{TypeId}
 use Rattle.types.specs.declared.table.Entry.{Entry}
-use Rattle.types.proofs.Counts.{cells_before}
 use Rattle.types.proofs.Growing.{slice_get-left, slice_get-right}
 use Rattle.types.proofs.Laid.{components_before, components_of_form, laid_before, length_behind, length_components}
 
@@ -54,19 +52,19 @@ module _ (entries : List Entry) where
   named position offset (field ∷ fields) name f h =
       by (bytes_eq field.name.items name) (λ h. named (position + 1) (offset + cells_at entries field.type_id) fields name f h) h
     where
-    made : RecordField
-    made = record { position = position; offset = offset; type_id = field.type_id }
+      made : RecordField
+      made = record { position = position; offset = offset; type_id = field.type_id }
 
-    later : Option RecordField
-    later = field_among entries (position + 1) (offset + cells_at entries field.type_id) fields name
+      later : Option RecordField
+      later = field_among entries (position + 1) (offset + cells_at entries field.type_id) fields name
 
-    placed : List RecordField
-    placed = placed_fields entries (position + 1) (offset + cells_at entries field.type_id) fields
+      placed : List RecordField
+      placed = placed_fields entries (position + 1) (offset + cells_at entries field.type_id) fields
 
-    by : (b : Bool) → (later ≡ Some f → (n : ℕ) × (slice_get placed n ≡ Some f)) → cond b (Some made) later ≡ Some f
-        → (n : ℕ) × (slice_get (made ∷ placed) n ≡ Some f)
-    by true more h = (0, h)
-    by false more h = let found = more h in (suc found.0, found.1)
+      by : (b : Bool) → (later ≡ Some f → (n : ℕ) × (slice_get placed n ≡ Some f)) → cond b (Some made) later ≡ Some f
+          → (n : ℕ) × (slice_get (made ∷ placed) n ≡ Some f)
+      by true more h = (0, h)
+      by false more h = let found = more h in (suc found.0, found.1)
 
 -- a field lies behind so many components of those before it
 record Lies (laid : List LaidOut) (position offset : ℕ) (fields : List Field) (n : ℕ) (f : RecordField) : Type 0 where
@@ -98,9 +96,9 @@ module _ (laid : List LaidOut) (position offset : ℕ) (field : Field) (fields :
     offset_is = omega arith;
     ends = omega (arith, length_all);
     reads = λ k h.
-      let e : 0 + k ≡ k = omega arith in
-      let within : k < length mine = omega (arith, h, length_behind (step.Field position) rows) in
-      ap (slice_get (mine ++ later)) e ∙ slice_get-left mine later k within;
+        let e : 0 + k ≡ k = omega arith in
+        let within : k < length mine = omega (arith, h, length_behind (step.Field position) rows) in
+        ap (slice_get (mine ++ later)) e ∙ slice_get-left mine later k within;
   }
 
   lies_later : (entries : List Entry) → length rows ≡ cells_at entries field.type_id → (n : ℕ) (f : RecordField)
@@ -111,8 +109,8 @@ module _ (laid : List LaidOut) (position offset : ℕ) (field : Field) (fields :
     offset_is = omega (arith, there.offset_is, same);
     ends = omega (arith, there.ends, length_all);
     reads = λ k h.
-      let e : length rows + there.skipped + k ≡ length mine + (there.skipped + k) = omega (arith, length_behind (step.Field position) rows) in
-      ap (slice_get (mine ++ later)) e ∙ slice_get-right mine later (there.skipped + k) ∙ there.reads k h;
+        let e : length rows + there.skipped + k ≡ length mine + (there.skipped + k) = omega (arith, length_behind (step.Field position) rows) in
+        ap (slice_get (mine ++ later)) e ∙ slice_get-right mine later (there.skipped + k) ∙ there.reads k h;
   }
 
 module _ (laid : List LaidOut) (entries : List Entry) (same : (id : TypeId) → length (components_at laid id) ≡ cells_at entries id) where

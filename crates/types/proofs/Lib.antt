@@ -5,5 +5,6 @@ pub mod Elements
 pub mod Fields
 pub mod Once
 pub mod Scalars
+pub mod Strings
 pub mod Longer
 mod Examples

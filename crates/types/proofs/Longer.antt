@@ -1,19 +1,18 @@
 -- A table with more types behind says the same of each of its types.
-use Rattle.std.proofs.Common.{◌≡◌, ⊎_elim, ℕ, ◌<◌, ◌≤◌, Bool, true, false, ◌&&◌, cond, ltb, List, [], ◌∷◌, ◌++◌, length, take}
+use Rattle.std.proofs.Common.{◌≡◌, ⊎_elim, ℕ, ◌<◌, ◌≤◌, Bool, true, false, cond, ltb, List, ◌++◌, length, take}
 use Rattle.std.proofs.Common.{Option, Some, None, refl, sym, ap, subst, ◌∙◌, arith}
 use Rattle.std.proofs.lemmas.Bool.{and_left, cases_lt, le-ltb}
 use Rattle.std.proofs.lemmas.List.{take-append-le}
 use Rattle.std.proofs.lemmas.Option.{none-some, slice_get_past}
 use Rattle.std.specs.Option.{option_map, option_and_then}
 use Rattle.std.specs.Prelude.{is_some, slice_get}
-use Rattle.types.specs.Components.{LaidOut, Steps, components_of, entry_components, laid_out}
+use Rattle.types.specs.Components.{components_of, entry_components, laid_out}
 use Rattle.types.specs.Types.{before, cells_at, cells_of, char, counted, element_in, element_of, elements, entry_cells, field_at, field_in, field_of, fields_in, form_at, form_range, is_ordinal}
 use Rattle.types.specs.Types.{is_same, is_string, own_field, range_of, string_in, string_last, string_length}
 use Rattle.types.specs.declared.form.ArrayElement.{ArrayElement}
 use Rattle.types.specs.declared.form.OrdinalRange.{OrdinalRange}
-use Rattle.types.specs.declared.form.RecordField.{RecordField}
 use Rattle.types.specs.declared.form.TypeForm.{TypeForm}
-use Rattle.types.specs.declared.form.TypeForm.TheVariants.{Array, Record}
+use Rattle.types.specs.declared.form.TypeForm.TheVariants.{Array}
 use Rattle.types.specs.declared.form.TypeId.{TypeId}
 use Rattle.types.specs.declared.table.Entry.{Entry}
 use Rattle.types.proofs.Counts.{entry_at, entry_over}
@@ -99,13 +98,13 @@ module _ (types more : List TypeForm) where
   string_in_stays (Some (Array true index element)) n is =
       ⊎_elim (λ h. string_in_longer (Some (Array true index element)) h ∙ is)
       (λ h. absurd
-        (no_string (is_same element char)
-        (ap (λ form. cond (is_same element char) (string_last form) None) (sym (slice_get_past types index.index h)) ∙ is)))
+      (no_string (is_same element char)
+      (ap (λ form. cond (is_same element char) (string_last form) None) (sym (slice_get_past types index.index h)) ∙ is)))
       (cases_lt index.index (length types))
     where
-    no_string : (b : Bool) → cond b (string_last None) None ≡ Some n → ⊥
-    no_string true is = none-some n is
-    no_string false is = none-some n is
+      no_string : (b : Bool) → cond b (string_last None) None ≡ Some n → ⊥
+      no_string true is = none-some n is
+      no_string false is = none-some n is
   string_in_stays other n is = is
 
   module _ (id : TypeId) (there : id.index < length types) where

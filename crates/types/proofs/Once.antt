@@ -6,7 +6,7 @@ use Rattle.std.proofs.lemmas.Option.{none-some, same_Some, slice_get-map, slice_
 use Rattle.std.specs.Option.{option_map}
 use Rattle.std.specs.Prelude.{slice_get}
 use Rattle.types.specs.Components.{LaidOut, Steps, behind_step, components_at, components_of, entry_values, fields_components, form_components}
-use Rattle.types.specs.Components.{range_values, values_at, values_from}
+use Rattle.types.specs.Components.{range_values, values_from}
 use Rattle.types.specs.Types.{form_at, form_range, values_in}
 use Rattle.types.specs.declared.form.Field.{Field}
 use Rattle.types.specs.declared.form.OrdinalRange.{OrdinalRange}
@@ -93,10 +93,10 @@ module _ (rows : List Steps) where
       once_both (behind_step (step.Element first) rows) (elements_components rows (values_from (first +ℤ pos 1) n)) (once_behind (step.Element first) rows once)
       (once_elements (first +ℤ pos 1) n once)
       (λ j k steps one other.
-        let a = behind (step.Element first) rows j steps one in
-        let b = from_first (first +ℤ pos 1) n k steps other in
-        let same = same_Some first b.0 (ap first_index a.2 ∙ b.1) in
-        omega (arith, ints, same, b.2))
+      let a = behind (step.Element first) rows j steps one in
+      let b = from_first (first +ℤ pos 1) n k steps other in
+      let same = same_Some first b.0 (ap first_index a.2 ∙ b.1) in
+      omega (arith, ints, same, b.2))
 
   once_range : (range : Option OrdinalRange) → AreOnce rows → AreOnce (elements_components rows (range_values range))
   once_range None once = once_none
@@ -125,10 +125,10 @@ module _ (laid : List LaidOut) where
         once_both (behind_step (step.Field position) (components_at laid field.type_id)) (fields_components laid (position + 1) fields)
         (once_behind (step.Field position) (components_at laid field.type_id) (once field.type_id)) (once_fields (position + 1) fields)
         (λ j k steps one other.
-          let a = behind (step.Field position) (components_at laid field.type_id) j steps one in
-          let b = from_place (position + 1) fields k steps other in
-          let same = same_Some position b.0 (ap first_place a.2 ∙ b.1) in
-          omega (arith, same, b.2))
+        let a = behind (step.Field position) (components_at laid field.type_id) j steps one in
+        let b = from_place (position + 1) fields k steps other in
+        let same = same_Some position b.0 (ap first_place a.2 ∙ b.1) in
+        omega (arith, same, b.2))
 
     once_form : (form : TypeForm) → AreOnce (form_components laid form)
     once_form Integer = once_one []

@@ -1,11 +1,11 @@
 -- The one component of an ordinal type, which no step leads to.
-use Rattle.std.proofs.Common.{◌≡◌, ⊎_elim, ℕ, ◌+◌, true, ℤ, List, [], ◌∷◌, ◌++◌, length, Option, Some, None, refl, sym, ap, ◌∙◌}
+use Rattle.std.proofs.Common.{◌≡◌, ⊎_elim, ℕ, ◌+◌, true, ℤ, List, [], ◌∷◌, length, Option, Some, None, refl, sym, ap, ◌∙◌}
 use Rattle.std.proofs.lemmas.Bool.{false≢true}
 use Rattle.std.proofs.lemmas.Option.{none-some}
 use Rattle.std.specs.Option.{option_and_then}
 use Rattle.std.specs.Prelude.{slice_get, is_some}
 use Rattle.types.specs.Components.{LaidOut, Steps, behind_step, components_at, components_of, fields_components, form_components, values_at}
-use Rattle.types.specs.Types.{before, cells_of, form_at, form_range, is_ordinal}
+use Rattle.types.specs.Types.{cells_of, form_at, form_range, is_ordinal}
 use Rattle.types.specs.declared.form.Field.{Field}
 use Rattle.types.specs.declared.form.Step.{Step}
 use Rattle.types.specs.declared.form.Step.TheVariants as step
