@@ -8,10 +8,10 @@ use Rattle.std.specs.declared.alloc.AllocError.{AllocError}
 use Rattle.typed_tree.specs.declared.tree.Stmt.{Stmt}
 use Rattle.typed_tree.specs.declared.tree.Stmt.TheOpen.{Stmt-F}
 use Rattle.typed_tree.specs.declared.tree.Stmt.TheOpen.Stmt-F.{Empty, Assign, Write, Compound, If, While, Repeat, For}
-use Rattle.typed_tree.specs.declared.tree.Stmt.TheOpen.Stmt-F.{Case}
+use Rattle.typed_tree.specs.declared.tree.Stmt.TheOpen.Stmt-F.{Case, Copy}
 use Rattle.typed_tree.specs.declared.tree.Stmt.TheFolds.{fold-Stmt}
-use Rattle.code_emitter.specs.declared.scope.Scope.{Scope}
-use Rattle.code_emitter.specs.Code.{assign_code, expr_code, holding, write_code}
+use Rattle.code_scheme.specs.Scopes.{Scope, holding}
+use Rattle.code_scheme.specs.Code.{assign_code, copy_code, expr_code, write_code}
 
 -- a number, or the greatest number of 32 bits
 abbrev pub capped : ℕ → ℕ
@@ -58,8 +58,10 @@ arms_table (row ∷ rows) (m ∷ ms) = table_of m ++ arms_table rows ms
 
 abbrev pub measured_step : Stmt-F (Scope → Measured) → Scope → Measured
 measured_step (Empty number) scope = record { size = 0; inner = [] }
-measured_step (Assign number becomes target fits value) scope =
-    record { size = length (assign_code scope target.root fits value); inner = [] }
+measured_step (Assign number becomes target indexes fits value) scope =
+    record { size = length (assign_code scope target indexes.items fits value); inner = [] }
+measured_step (Copy number becomes target indexes type_id value value_indexes) scope =
+    record { size = length (copy_code scope target indexes.items value value_indexes.items); inner = [] }
 measured_step (Write number name parameters ends_line) scope =
     record { size = length (write_code scope parameters.items ends_line); inner = [] }
 measured_step (Compound number statements) scope =

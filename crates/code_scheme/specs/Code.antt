@@ -1,17 +1,17 @@
 -- The code of a typed tree: of an expression (ISO 7185:1990, 6.7), of a statement (6.8) and of a program (6.10), as
 -- functions of the tree, of where in a frame its variables lie and, for a statement, of its place in the code. It does
 -- not say what the code does: that is for the machine to say.
-use Rattle.std.specs.Prelude.{ℕ, ℤ, pos, neg_ℤ, ◌+◌, max, min, Bool, true, false, List, [], ◌∷◌, ◌++◌, Option, Some}
-use Rattle.std.specs.Prelude.{None, length, map, slice_get, fold}
+use Rattle.std.specs.Prelude.{ℕ, zero, suc, ℤ, pos, neg_ℤ, ◌+◌, Bool, true, false, List, [], ◌∷◌, ◌++◌, Option, Some}
+use Rattle.std.specs.Prelude.{None, length, map, slice_get, sum}
 use Rattle.std.specs.Global.{Vec}
 use Rattle.std.specs.List.{flat_map}
-use Rattle.std.specs.declared.alloc.Global.{Global}
-use Rattle.std.specs.declared.boxed.Box.{Box}
-use Rattle.code_emitter.specs.declared.scope.Scope.{Scope}
 use Rattle.pcode_assembler.specs.declared.instr.Instr.{Instr}
 use Rattle.pcode_assembler.specs.declared.instr.Instr.TheVariants as instr
 use Rattle.typed_tree.specs.declared.tree.Tree.{Tree}
 use Rattle.typed_tree.specs.declared.tree.Block.{Block}
+use Rattle.typed_tree.specs.declared.tree.Access.{Access}
+use Rattle.typed_tree.specs.declared.tree.Selector.{Selector}
+use Rattle.typed_tree.specs.declared.tree.Selector.TheVariants.{Element, Field}
 use Rattle.typed_tree.specs.declared.tree.Monadic.{Monadic}
 use Rattle.typed_tree.specs.declared.tree.Monadic.TheVariants as monadic
 use Rattle.typed_tree.specs.declared.tree.Dyadic.{Dyadic}
@@ -28,7 +28,7 @@ use Rattle.typed_tree.specs.declared.tree.WriteParameter.{WriteParameter}
 use Rattle.typed_tree.specs.declared.tree.Written.{Written}
 use Rattle.typed_tree.specs.declared.tree.Written.TheVariants.{Ordinal, String}
 use Rattle.typed_tree.specs.declared.tree.Whole.{Whole}
-use Rattle.typed_tree.specs.declared.tree.Whole.TheVariants.{Text}
+use Rattle.typed_tree.specs.declared.tree.Whole.TheVariants.{Text, Variable as VariableOf}
 use Rattle.typed_tree.specs.declared.tree.Expr.{Expr}
 use Rattle.typed_tree.specs.declared.tree.Link.{Link}
 use Rattle.typed_tree.specs.declared.tree.Expr.TheOpen.{Expr-F, Link-F}
@@ -38,9 +38,12 @@ use Rattle.typed_tree.specs.declared.tree.Expr.TheFolds.{fold-Expr, fold-Link}
 use Rattle.typed_tree.specs.declared.tree.Stmt.{Stmt}
 use Rattle.typed_tree.specs.declared.tree.Stmt.TheOpen.{Stmt-F}
 use Rattle.typed_tree.specs.declared.tree.Stmt.TheOpen.Stmt-F.{Empty, Assign, Write, Compound, If, While, Repeat, For}
-use Rattle.typed_tree.specs.declared.tree.Stmt.TheOpen.Stmt-F.{Case}
+use Rattle.typed_tree.specs.declared.tree.Stmt.TheOpen.Stmt-F.{Case, Copy}
 use Rattle.typed_tree.specs.declared.tree.Stmt.TheFolds.{fold-Stmt}
 use Rattle.typed_tree.specs.WellFormed.{length_of}
+use Rattle.code_scheme.specs.Scopes.{Scope, offset, count, row_length, variable_offset, held_offset, holding}
+use Rattle.code_scheme.specs.Scopes.{access_offset, behind_fields, program_scope, variable_cells}
+use Rattle.code_scheme.specs.Depth.{stmt_depth}
 
 -- the pieces one after another
 abbrev pub joined : List (List Instr) → List Instr
@@ -50,26 +53,6 @@ joined pieces = flat_map (λ piece. piece) pieces
 abbrev pub placed : List (ℕ → List Instr) → ℕ → List Instr
 placed [] place = []
 placed (piece ∷ pieces) place = piece place ++ placed pieces (place + length (piece place))
-
--- the greatest of some numbers, or 0
-abbrev pub greatest : List ℕ → ℕ
-greatest depths = fold max 0 depths
-
--- a number as an offset, or the greatest offset
-abbrev pub offset : ℕ → ℕ
-offset n = min n 16777215
-
--- a number of cells as a count, or the greatest count
-abbrev pub count : ℕ → ℕ
-count n = min n 16777216
-
--- a number of components as a length, or the greatest length
-abbrev pub row_length : ℕ → ℕ
-row_length n = min n 65536
-
--- where a variable lies in its block's frame
-abbrev pub variable_offset : Scope → ℕ → ℕ
-variable_offset scope root = offset (scope.variables + root)
 
 -- what an operation does to the value before it, checked; succ and pred check the number beside it, which is out of
 -- range too where it wraps at 32 bits
@@ -111,27 +94,69 @@ dyadic_code dyadic.And = instr.And ∷ []
 dyadic_code dyadic.Or = instr.Or ∷ []
 dyadic_code (dyadic.Relation r) = relation_instr r ∷ []
 
--- the value of a variable, checked
-abbrev pub variable_code : Scope → ℕ → ℕ → List Instr
-variable_code scope root defined = instr.Load 0 (variable_offset scope root) ∷ instr.CheckDefined defined 1 ∷ []
+-- the test of a value
+abbrev pub range_check : RangeTest → Instr
+range_check fits = instr.CheckRange fits.site fits.range.first fits.range.last
 
--- the code of a whole value, which pushes its components, the first one first
-abbrev pub whole_code : Whole → List Instr
-whole_code (Text number characters) = map (λ c. instr.LoadConstant (pos c)) characters.items
+-- a field behind so many cells of its record, whose address is on top
+abbrev pub field_code : ℕ → List Instr
+field_code zero = []
+field_code (suc n) = instr.Increase (offset (suc n)) ∷ []
 
--- the code of a relation of two whole values: both, their order, and what that is to 0
-abbrev pub compare_code : Relation → Whole → Whole → List Instr
-compare_code r left right =
-    whole_code left
-    ++ (whole_code right
-    ++ (instr.Compare (row_length (length_of left)) ∷ instr.LoadConstant (pos 0) ∷ relation_instr r ∷ []))
+-- The code of selectors, over the address of what they select from: of an index its code, its test, and the address of
+-- its element (6.5.3.2); of a field its address (6.5.3.3). An index that isn't there has no code.
+abbrev pub selectors_code : List Selector → List (List Instr) → List Instr
+selectors_code [] indexes = []
+selectors_code (Field position before ∷ selectors) indexes = field_code before ++ selectors_code selectors indexes
+selectors_code (Element fits cells ∷ selectors) [] = selectors_code selectors []
+selectors_code (Element fits cells ∷ selectors) (index ∷ indexes) =
+    index
+    ++ (range_check fits ∷ instr.IndexAddress fits.range.first (row_length cells) ∷ selectors_code selectors indexes)
+
+-- the code of an address: that of the component at an offset, and what is selected from it
+abbrev pub address_at : ℕ → List Selector → List (List Instr) → List Instr
+address_at start selectors indexes = instr.LoadAddress 0 start ∷ selectors_code selectors indexes
+
+-- the code of the address of what is accessed (6.5.1)
+abbrev pub address_code : Scope → Access → List (List Instr) → List Instr
+address_code scope access indexes =
+    address_at (access_offset scope access) (behind_fields access.selectors.items) indexes
+
+-- the code that pushes the ordinal that is selected from the component at an offset: that itself, or behind an index
+-- what stands at its address
+abbrev pub fetch_at : ℕ → List Selector → List (List Instr) → List Instr
+fetch_at start [] indexes = instr.Load 0 start ∷ []
+fetch_at start (selector ∷ selectors) indexes =
+    address_at start (selector ∷ selectors) indexes ++ (instr.LoadIndirect 0 ∷ [])
+
+-- the value of what is accessed, an ordinal, checked
+abbrev pub variable_code : Scope → Access → List (List Instr) → ℕ → List Instr
+variable_code scope access indexes defined =
+    fetch_at (access_offset scope access) (behind_fields access.selectors.items) indexes
+    ++ (instr.CheckDefined defined 1 ∷ [])
+
+-- the code of a whole value, which pushes its components, the first one first: those of a variable stand from its
+-- address on, and all are checked
+abbrev pub whole_code : Scope → Whole → List (List Instr) → List Instr
+whole_code scope (Text number characters) indexes = map (λ c. instr.LoadConstant (pos c)) characters.items
+whole_code scope (VariableOf access type_id cells defined) indexes =
+    address_code scope access indexes
+    ++ (instr.LoadMany (row_length cells) ∷ instr.CheckDefined defined (row_length cells) ∷ [])
+
+-- the code of a relation of two whole values, which are pushed first: their order, and what that is to 0
+abbrev pub compare_code : Relation → ℕ → List Instr → List Instr → List Instr
+compare_code r components left right =
+    left
+    ++ (right ++ (instr.Compare (row_length components) ∷ instr.LoadConstant (pos 0) ∷ relation_instr r ∷ []))
 
 abbrev pub expr_step : Scope → Expr-F (List Instr) (List Instr) → List Instr
 expr_step scope (Constant number value) = instr.LoadConstant value ∷ []
-expr_step scope (Variable access defined) = variable_code scope access.root defined
+expr_step scope (Variable access indexes defined) = variable_code scope access indexes.items defined
 expr_step scope (MonadicOf number operation operand) = operand.value ++ monadic_code operation
 expr_step scope (Chain first rest) = first.value ++ joined rest.items
-expr_step scope (Compare number relation left right) = compare_code relation left right
+expr_step scope (Compare number relation left left_indexes right right_indexes) =
+    compare_code relation (length_of left) (whole_code scope left left_indexes.items)
+    (whole_code scope right right_indexes.items)
 
 abbrev pub link_step : Link-F (List Instr) (List Instr) → List Instr
 link_step link = link.operand ++ dyadic_code link.operation
@@ -144,12 +169,29 @@ expr_code scope = fold-Expr (List Instr) (List Instr) (expr_step scope) link_ste
 abbrev pub link_code : Scope → Link → List Instr
 link_code scope = fold-Link (List Instr) (List Instr) (expr_step scope) link_step
 
--- the code of an assignment: the value, its check, and the store
-abbrev pub assign_code : Scope → ℕ → RangeTest → Expr → List Instr
-assign_code scope root fits value =
-    expr_code scope value
-    ++ (instr.CheckRange fits.site fits.range.first fits.range.last
-    ∷ instr.Store 0 (variable_offset scope root) ∷ [])
+-- the code of each index expression of an access
+abbrev pub index_codes : Scope → List Expr → List (List Instr)
+index_codes scope = map (expr_code scope)
+
+-- the code that stores into an ordinal that is selected from the component at an offset: behind an index its address
+-- comes before the value
+abbrev pub store_at : ℕ → List Selector → List (List Instr) → List Instr → List Instr
+store_at start [] indexes value = value ++ (instr.Store 0 start ∷ [])
+store_at start (selector ∷ selectors) indexes value =
+    address_at start (selector ∷ selectors) indexes ++ (value ++ (instr.StoreIndirect ∷ []))
+
+-- the code of an assignment (6.8.2.2): the target's address, if an index leads to it; the value, its check, and the store
+abbrev pub assign_code : Scope → Access → List Expr → RangeTest → Expr → List Instr
+assign_code scope target indexes fits value =
+    store_at (access_offset scope target) (behind_fields target.selectors.items) (index_codes scope indexes)
+    (expr_code scope value ++ (range_check fits ∷ []))
+
+-- the code of an assignment of a whole value: the target's address, the components of the value, and their store
+abbrev pub copy_code : Scope → Access → List Expr → Whole → List Expr → List Instr
+copy_code scope target indexes value value_indexes =
+    address_code scope target (index_codes scope indexes)
+    ++ (whole_code scope value (index_codes scope value_indexes)
+    ++ (instr.StoreMany (row_length (length_of value)) ∷ []))
 
 -- the width of an ordinal that has none
 abbrev pub ordinal_width : Representation → ℤ
@@ -160,7 +202,7 @@ ordinal_width representation.Boolean = pos 5
 -- the width of a value that has none: of a string it is its length
 abbrev pub default_width : Written → Instr
 default_width (Ordinal value representation) = instr.LoadConstant (ordinal_width representation)
-default_width (String value) = instr.LoadConstant (pos (row_length (length_of value)))
+default_width (String value indexes) = instr.LoadConstant (pos (row_length (length_of value)))
 
 -- the code of a width, checked
 abbrev pub width_code : Scope → Option Width → Written → List Instr
@@ -176,12 +218,12 @@ ordinal_instr representation.Boolean = instr.WriteBoolean
 -- the same of any value
 abbrev pub write_instr : Written → Instr
 write_instr (Ordinal value representation) = ordinal_instr representation
-write_instr (String value) = instr.WriteString (row_length (length_of value))
+write_instr (String value indexes) = instr.WriteString (row_length (length_of value))
 
 -- the code of a value that is written
 abbrev pub written_code : Scope → Written → List Instr
 written_code scope (Ordinal value representation) = expr_code scope value
-written_code scope (String value) = whole_code value
+written_code scope (String value indexes) = whole_code scope value (index_codes scope indexes.items)
 
 -- the code that writes a value
 abbrev pub parameter_code : Scope → WriteParameter → List Instr
@@ -227,18 +269,6 @@ while_code test body scope place =
 -- the code of a repeat statement (6.8.3.7): where the condition is false, a jump back to the first statement
 abbrev pub repeat_code : (ℕ → List Instr) → List Instr → ℕ → List Instr
 repeat_code statements test place = statements place ++ (test ++ (instr.JumpIfFalse place ∷ []))
-
--- where the n-th cell lies in the frame that is held above the variables and above those that are held already
-abbrev pub held_offset : Scope → ℕ → ℕ
-held_offset scope n = offset (scope.above + scope.height + n)
-
--- the scope of code that runs while so many cells more are held
-abbrev pub holding : ℕ → Scope → Scope
-holding cells scope = record scope { height = count (scope.height + cells) }
-
--- the test of a value
-abbrev pub range_check : RangeTest → Instr
-range_check fits = instr.CheckRange fits.site fits.range.first fits.range.last
 
 -- whether there is a value from the first bound of a for statement to the last, and the next value
 abbrev pub order_instr : Direction → Instr
@@ -314,7 +344,10 @@ case_code site index rows arms scope place =
 
 abbrev pub stmt_step : Stmt-F Placed → Placed
 stmt_step (Empty number) scope place = []
-stmt_step (Assign number becomes target fits value) scope place = assign_code scope target.root fits value
+stmt_step (Assign number becomes target indexes fits value) scope place =
+    assign_code scope target indexes.items fits value
+stmt_step (Copy number becomes target indexes type_id value value_indexes) scope place =
+    copy_code scope target indexes.items value value_indexes.items
 stmt_step (Write number name parameters ends_line) scope place = write_code scope parameters.items ends_line
 stmt_step (Compound number statements) scope place = placed (map (λ code. code scope) statements.items) place
 stmt_step (If number condition consequence None) scope place =
@@ -334,96 +367,20 @@ stmt_step (Case number site index constants arms) scope place =
 abbrev pub stmt_code : Stmt → Placed
 stmt_code = fold-Stmt Placed stmt_step
 
--- how many cells an operation on one operand needs at once; succ and pred have a 1 beside it
-abbrev pub monadic_depth : Monadic → ℕ
-monadic_depth (monadic.Succ no_successor last) = 2
-monadic_depth (monadic.Pred no_predecessor first) = 2
-monadic_depth other = 1
+-- the code of some statements one after another, from this place on
+abbrev pub statements_code : Scope → List Stmt → ℕ → List Instr
+statements_code scope statements place = placed (map (λ s. stmt_code s scope) statements) place
 
-abbrev pub expr_depth_step : Expr-F ℕ ℕ → ℕ
-expr_depth_step (Constant number value) = 1
-expr_depth_step (Variable access defined) = 1
-expr_depth_step (MonadicOf number operation operand) = max operand.value (monadic_depth operation)
-expr_depth_step (Chain first rest) = fold max first.value rest.items
-expr_depth_step (Compare number relation left right) = max (length_of left + length_of right) 2
-
-abbrev pub link_depth_step : Link-F ℕ ℕ → ℕ
-link_depth_step link = link.operand + 1
-
--- how many cells the evaluation of an expression needs at once
-abbrev pub expr_depth : Expr → ℕ
-expr_depth = fold-Expr ℕ ℕ expr_depth_step link_depth_step
-
--- the same of a right operand, beside the value to its left
-abbrev pub link_depth : Link → ℕ
-link_depth = fold-Link ℕ ℕ expr_depth_step link_depth_step
-
--- the same of a width: a default width is pushed too
-abbrev pub width_depth : Option Width → ℕ
-width_depth None = 1
-width_depth (Some width) = expr_depth width.value
-
--- the same of a value that is written
-abbrev pub written_depth : Written → ℕ
-written_depth (Ordinal value representation) = expr_depth value
-written_depth (String value) = length_of value
-
--- how many cells it has
-abbrev pub written_cells : Written → ℕ
-written_cells (Ordinal value representation) = 1
-written_cells (String value) = length_of value
-
--- how many cells are needed at once to write it: beside it, its width is evaluated
-abbrev pub parameter_depth : WriteParameter → ℕ
-parameter_depth parameter =
-    max (written_depth parameter.value) (width_depth parameter.width + written_cells parameter.value)
-
--- the same of what may be there
-abbrev pub alternative_depth : Option (Box ℕ Global) → ℕ
-alternative_depth None = 0
-alternative_depth (Some depth) = depth.value
-
--- the same of the arms of a case statement, each of which stands behind a row of constants
-abbrev pub arms_depth : List (Vec ℤ) → List ℕ → ℕ
-arms_depth [] depths = 0
-arms_depth (row ∷ rows) [] = 0
-arms_depth (row ∷ rows) (depth ∷ depths) = max depth (arms_depth rows depths)
-
-abbrev pub stmt_depth_step : Stmt-F ℕ → ℕ
-stmt_depth_step (Empty number) = 0
-stmt_depth_step (Assign number becomes target fits value) = expr_depth value
-stmt_depth_step (Write number name parameters ends_line) = greatest (map parameter_depth parameters.items)
-stmt_depth_step (Compound number statements) = greatest statements.items
-stmt_depth_step (If number condition consequence alternative) =
-    max (expr_depth condition) (max consequence.value (alternative_depth alternative))
-stmt_depth_step (While number loop_number word condition body) = max (expr_depth condition) body.value
-stmt_depth_step (Repeat number loop_number word statements condition) =
-    max (greatest statements.items) (expr_depth condition)
-stmt_depth_step (For number loop_number word control first first_fits way last last_fits body) =
-    max (max (expr_depth first) (expr_depth last + 1)) (max 4 (body.value + 2))
-stmt_depth_step (Case number site index constants arms) =
-    max (expr_depth index) (max 3 (arms_depth constants.items arms.items + 1))
-
--- how many cells the evaluation of a statement needs at once
-abbrev pub stmt_depth : Stmt → ℕ
-stmt_depth = fold-Stmt ℕ stmt_depth_step
-
--- the scope of a program's block with so many variables: they lie behind the four links of the frame, and nothing is
--- held above
-abbrev pub program_scope : ℕ → Scope
-program_scope variables = record { variables = 4; above = 4 + variables; height = 0 }
-
--- the code of a block with so many variables, at a place
+-- the code of a block with so many cells of variables, at a place
 abbrev pub block_code : ℕ → Stmt → Placed
 block_code variables body scope place =
     instr.Enter variables (count (stmt_depth body)) ∷ stmt_code body scope (place + 1)
 
--- the code of the program's block; a tree that has none does nothing
-abbrev pub body_code : ℕ → Option Block → List Instr
-body_code variables None = instr.Enter variables 0 ∷ []
-body_code variables (Some block) = block_code variables block.body (program_scope variables) 0
+-- the code of the program's block, whose variables take so many cells; a tree that has none does nothing
+abbrev pub body_code : List ℕ → Option Block → List Instr
+body_code cells None = instr.Enter (count (sum cells)) 0 ∷ []
+body_code cells (Some block) = block_code (count (sum cells)) block.body (program_scope cells) 0
 
 -- the code of a program: its block, and the end of the run
 abbrev pub program_code : Tree → List Instr
-program_code tree =
-    body_code (count (length tree.variables.items)) (slice_get tree.blocks.items 0) ++ (instr.Stop ∷ [])
+program_code tree = body_code (variable_cells tree) (slice_get tree.blocks.items 0) ++ (instr.Stop ∷ [])

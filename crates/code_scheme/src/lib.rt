@@ -1,0 +1,5 @@
+//! The scheme of a program's code: its definition over the typed tree, how many instructions each part has, how many
+//! cells it needs, and where variables lie.
+#![tactic(auto)]
+
+pub mod scope;
