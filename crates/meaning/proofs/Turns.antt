@@ -46,7 +46,8 @@ use Rattle.meaning.specs.Effect.{State, Reply, Gives, Stops, Action, Round, ◌>
 use Rattle.meaning.specs.Effect.{looped}
 use Rattle.meaning.specs.Effect.{fetched, fetch, fetch_all, store, store_all, undefine, write, is_in, is_positive, number_of, row_text, text_of}
 use Rattle.meaning.specs.Meaning.{Evaluation, Combination, Execution, value_step, link_step, effect_step, whole, operated, combined, in_turn, all_of}
-use Rattle.meaning.specs.Meaning.{compared, selected, accessed, whole_of, values_of, default_width, width_of, written_of, parameter_of, line_ended, is_so, turn_if, while_round}
+use Rattle.meaning.specs.Meaning.{compared, selected, accessed, whole_of, values_of, default_width, width_of, written_of, parameter_of}
+use Rattle.meaning.specs.Meaning.{line_ended, is_so, turn_if, while_round}
 use Rattle.meaning.specs.Meaning.{repeat_round, for_round, for_rounds, for_between, is_among}
 use Rattle.meaning.specs.Meaning.{arm_of, value_of, link_of, effect_of, Meaning, run_of, run, ended}
 use Rattle.meaning.specs.Meaning.{program_environment, first_state}
