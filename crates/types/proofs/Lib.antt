@@ -1,2 +1,5 @@
+pub mod Growing
 pub mod Counts
+pub mod Laid
+pub mod Elements
 mod Examples
