@@ -40,13 +40,13 @@ use Rattle.stack_machine.specs.Frames as frames
 use Rattle.stack_machine.specs.Frames.{Attempt}
 use Rattle.stack_machine.specs.Rows as rows
 use Rattle.stack_machine.specs.Machine.{State, obeyed, and_then, checked, with_frames}
-use Rattle.code_emitter.specs.Code.{joined, variable_offset, monadic_code, dyadic_code, relation_instr, variable_code, width_code, check_positive, expr_code}
-use Rattle.code_emitter.specs.Code.{link_code, expr_step, link_step, expr_depth, link_depth, expr_depth_step, link_depth_step, width_depth, monadic_depth}
-use Rattle.code_emitter.specs.Code.{compare_code, default_width, row_length}
+use Rattle.code_scheme.specs.Code.{joined, variable_offset, monadic_code, dyadic_code, relation_instr, variable_code, width_code, check_positive, expr_code}
+use Rattle.code_scheme.specs.Code.{link_code, expr_step, link_step, expr_depth, link_depth, expr_depth_step, link_depth_step, width_depth, monadic_depth}
+use Rattle.code_scheme.specs.Code.{compare_code, default_width, row_length}
 use Rattle.typed_tree.specs.WellFormed.{all_hold, monadic_is_well_formed, dyadic_is_well_formed, expr_is_well_formed, link_is_well_formed, is_well_formed_expr}
 use Rattle.typed_tree.specs.WellFormed.{is_well_formed_link, is_well_formed_width, is_whole, are_characters, length_of}
 use Rattle.check_remover.specs.Strip.{moved}
-use Rattle.code_emitter.proofs.Pieces.{start_within}
+use Rattle.code_scheme.proofs.Pieces.{start_within}
 use Rattle.code_generator.proofs.Reach.{StandsAt, Stands, stands_front, stands_back, Comes, comes_less, comes_on, stays_here}
 use Rattle.code_generator.proofs.Rows.{cells_of, length-cells_of, compares, same_order, order_fits}
 use Rattle.code_generator.proofs.Setting.{Setting, on, Based, linked, Here, acts, passes, fails, Evaluates, gives, evaluates_from, then_evaluates}
@@ -58,34 +58,6 @@ use Rattle.code_generator.proofs.Numbers.{quotient_is, fits_remainder, fits_trut
 use Rattle.code_generator.proofs.Numbers.{same_above, same_char}
 
 module _ (g : Setting) where
-  abbrev variables : ℕ
-  variables = length g.tree.variables.items
-
-  abbrev sites : ℕ
-  sites = length g.tree.sites.items
-
-  -- the store in the running frame
-  abbrev frames_of : List Cell → frames.Frames
-  frames_of = framed g.running.frame g.limit g.size
-
-  -- the machine behind the fetch of an instruction
-  abbrev fetched_at : List Cell → ℕ → List ℕ → State
-  fetched_at cells place output = record (on g cells place output) { place = g.target.to place + 1 }
-
-  -- the code c of an evaluation
-  abbrev pub RunsAs : List Instr → ℕ → Bool → Evaluation → Type 0
-  RunsAs c depth well evaluation =
-      (place : ℕ) (base held : List Cell) (s : effect.State) → Stands g.target place c → well ≡ true → Based g s.store base
-      → g.below + length held + depth ≤ g.limit
-      → Evaluates g s.turns (on g (base ++ held) place s.output) held (place + length c) (evaluation g.environment s)
-
-  -- the code c of an operator and its right operand
-  abbrev pub CombinesAs : List Instr → ℕ → Bool → Combination → Type 0
-  CombinesAs c depth well combination =
-      (place : ℕ) (base held : List Cell) (a : ℤ) (s : effect.State) → Stands g.target place c → well ≡ true → Based g s.store base
-      → g.below + length held + depth ≤ g.limit → Fits a
-      → Evaluates g s.turns (on g ((base ++ held) ++ Number a ∷ []) place s.output) held (place + length c) (combination g.environment (value.Number a) s)
-
   -- a number that is pushed
   number_runs : (n : ℤ) (place : ℕ) (base held : List Cell) (s : effect.State) → Here g place (instr.LoadConstant n) → Fits n → Based g s.store base
       → g.below + length held + 1 ≤ g.limit → Evaluates g s.turns (on g (base ++ held) place s.output) held (place + 1) (give (value.Number n) s)
@@ -101,20 +73,6 @@ module _ (g : Setting) where
   constant_runs number n place base held s stands well based room =
       number_runs n place base held (record s { visited = s.visited ++ record { number = number; environment = g.environment; store = s.store } ∷ [] })
       stands.0 (record { is = well }) (record { full = based.full; alike = based.alike }) room
-
-  -- what a variable holds, on top, and its check
-  fetched_runs : (place defined : ℕ) (base held : List Cell) (s : effect.State) (found : Option Value)
-      → StandsAt g.target place (instr.CheckDefined defined 1) (g.target.is_open defined) → defined < sites → Based g s.store base
-      → g.below + length held < g.limit → HasFit found
-      → Evaluates g s.turns (on g ((base ++ held) ++ cell_of found ∷ []) place s.output) held (place + 1) (fetched found defined s)
-  fetched_runs place defined base held s None stands within based room fit =
-      fails g (instr.CheckDefined defined 1) ((base ++ held) ++ Undefined ∷ []) place defined s.output _ refl refl s.turns stands within
-      (defines g.running.frame g.limit g.size (base ++ held) (linked g s.store base held based) Undefined)
-  fetched_runs place defined base held s (Some (value.Number n)) stands within based room fit =
-      gives g 0 _ base held (place + 1) n s based
-      (passes g (instr.CheckDefined defined 1) ((base ++ held) ++ Number n ∷ []) place defined s.output _ refl refl stands
-      (defines g.running.frame g.limit g.size (base ++ held) (linked g s.store base held based) (Number n)))
-      fit room
 
   variable_runs : (access : Access) (defined : ℕ) → RunsAs (variable_code g.scope access.root defined) 1
       (nat_lt access.root variables && nat_lt defined sites) (value_step (Variable access defined))
@@ -489,10 +447,6 @@ module _ (g : Setting) where
       (subst (λ o. Evaluates g s.turns (on g cells place s.output) held (there + 1 + 1 + 1) (give (value.Number (truth (relates r o (pos 0)))) s')) is_order
       whole)
 
-  -- what is held with one number more on top, over the same cells
-  pub one_held : (base held : List Cell) (a : ℤ) → base ++ (held ++ Number a ∷ []) ≡ (base ++ held) ++ Number a ∷ []
-  one_held base held a = sym (append_assoc base held (Number a ∷ []))
-
   -- a value above what is held and one number more
   above_one : (turns : ℕ) (m : State) (held : List Cell) (a : ℤ) (held' : List Cell) (place place' : ℕ) (r : Reply Value) (next : Value → Action Value)
       → Evaluates g turns m (held ++ Number a ∷ []) place r
@@ -524,13 +478,6 @@ module _ (g : Setting) where
       (effect.and_then (v g.environment s') next)) (one_held base held a)
       (above_one s.turns _ held a held (place + length c) (place + length c + length (dyadic_code operation)) (v g.environment s') next operand
       (λ base2 n s2 based2 fit2 room2. combined_runs (place + length c) base2 held a n s2 based2 room2 fit fit2 operation rest parts.0)))
-
-  -- what is shown of an expression, and of an operator and its right operand
-  abbrev pub ExprRuns : Expr → Type 0
-  ExprRuns e = RunsAs (expr_code g.scope e) (expr_depth e) (is_well_formed_expr variables sites e) (value_of e)
-
-  abbrev LinkRuns : Link → Type 0
-  LinkRuns l = CombinesAs (link_code g.scope l) (link_depth l) (is_well_formed_link variables sites l) (link_of l)
 
   -- the operators of a chain, from left to right
   links_run : (links : List ((l : Link) × LinkRuns l)) (depth place : ℕ) (base held : List Cell) (a : ℤ) (s : effect.State)

@@ -25,7 +25,7 @@ use Rattle.stack_machine.specs.declared.arithmetic.Dyadic.TheVariants as dyadic
 use Rattle.stack_machine.specs.Frames as frames
 use Rattle.stack_machine.specs.Frames.{is_true, truth, on_two}
 use Rattle.stack_machine.specs.Machine.{State, obeyed, and_then, with_frames}
-use Rattle.code_emitter.specs.Code.{variable_offset, held_offset, row_code, range_check}
+use Rattle.code_scheme.specs.Code.{variable_offset, held_offset, row_code, range_check}
 use Rattle.code_generator.proofs.Reach.{Comes, Stands, StandsAt, comes_on, comes_less, stays_here}
 use Rattle.code_generator.proofs.Numbers.{Fits, same_range}
 use Rattle.code_generator.proofs.Setting.{Setting, running_at, on, Based, linked, Here, acts, passes, fails, branches_on, jumps, Executes, executes_from}

@@ -29,17 +29,17 @@ use Rattle.stack_machine.specs.Machine.{State, Next}
 use Rattle.stack_machine.specs.Run as runs
 use Rattle.stack_machine.specs.Run.{Outcome, machine, steps}
 use Rattle.check_remover.specs.Strip.{check_site, is_among, stays, moved, moved_place, KeepsInstructions}
-use Rattle.code_emitter.specs.Code.{count, variable_offset, program_scope, stmt_code, stmt_depth, body_code, program_code}
+use Rattle.code_scheme.specs.Code.{count, variable_offset, program_scope, stmt_code, stmt_depth, body_code, program_code}
 use Rattle.code_generator.specs.Follows.{BeginsWith, StopsAs, DoesAll, DoesAsMuch, IsExplained, Follows}
 use Rattle.code_generator.specs.Laws.{StrippedFollows}
-use Rattle.code_emitter.specs.Need.{body_need, program_need}
+use Rattle.code_scheme.specs.Need.{body_need, program_need}
 use Rattle.code_generator.specs.Tables.{site_table}
 use Rattle.typed_tree.specs.WellFormed.{is_well_formed_block, IsWellFormed}
 use Rattle.code_generator.proofs.Reach.{Target, StandsAt, Stands, stands_front, stands_back, Comes, IsOver, comes_by, comes_on, comes_less, stays_here}
 use Rattle.code_generator.proofs.Reach.{stops_on, stops_by, longer, one_end, grows_to}
 use Rattle.code_generator.proofs.Setting.{Setting, on, Based, Halts, Ends, Executes, done}
 use Rattle.stack_machine.proofs.Growing.{begins_itself}
-use Rattle.code_emitter.proofs.Depths.{Within, stmt_within}
+use Rattle.code_scheme.proofs.Depths.{Within, stmt_within}
 use Rattle.code_generator.proofs.Alike.{Shown, Direct}
 use Rattle.code_generator.proofs.ProgramWorld.{program_activation, program_world, program_lives, program_apart, entered_cells, length_entered, program_begins}
 use Rattle.code_generator.proofs.ProgramWorld.{ShowsProgram, shows_program}

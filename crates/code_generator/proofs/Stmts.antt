@@ -49,12 +49,12 @@ use Rattle.stack_machine.specs.Frames.{Attempt}
 use Rattle.stack_machine.specs.Machine as machine
 use Rattle.stack_machine.specs.Machine.{State, with_text}
 use Rattle.stack_machine.specs.Texts as texts
-use Rattle.code_emitter.specs.declared.scope.Scope.{Scope}
-use Rattle.code_emitter.specs.Code.{Placed, placed, if_code, if_else_code, while_code, repeat_code, for_code, for_entry, for_begin, for_next, for_end}
-use Rattle.code_emitter.specs.Code.{holding, held_offset, order_instr, next_instr, row_code, arms_code, case_code, count, greatest, variable_offset}
-use Rattle.code_emitter.specs.Code.{expr_code, width_code, write_instr, parameter_code, line_end_code, write_code, stmt_code, stmt_step, stmt_depth}
-use Rattle.code_emitter.specs.Code.{stmt_depth_step, arms_depth, expr_depth, parameter_depth, width_depth, default_width, ordinal_instr, ordinal_width}
-use Rattle.code_emitter.specs.Code.{row_length}
+use Rattle.code_scheme.specs.Scopes.{Scope}
+use Rattle.code_scheme.specs.Code.{Placed, placed, if_code, if_else_code, while_code, repeat_code, for_code, for_entry, for_begin, for_next, for_end}
+use Rattle.code_scheme.specs.Code.{holding, held_offset, order_instr, next_instr, row_code, arms_code, case_code, count, greatest, variable_offset}
+use Rattle.code_scheme.specs.Code.{expr_code, width_code, write_instr, parameter_code, line_end_code, write_code, stmt_code, stmt_step, stmt_depth}
+use Rattle.code_scheme.specs.Code.{stmt_depth_step, arms_depth, expr_depth, parameter_depth, width_depth, default_width, ordinal_instr, ordinal_width}
+use Rattle.code_scheme.specs.Code.{row_length}
 use Rattle.typed_tree.specs.WellFormed.{all_hold, is_well_formed_expr, is_well_formed_width, is_well_formed_parameter, is_well_formed_test, is_well_formed_stmt}
 use Rattle.typed_tree.specs.WellFormed.{stmt_is_well_formed, are_characters}
 use Rattle.code_generator.proofs.Reach.{Stands, StandsAt, stands_front, stands_back, Comes, comes_less, comes_on, stays_here}
@@ -63,7 +63,7 @@ use Rattle.code_generator.proofs.Setting.{executes_from, then_executes, then_lea
 use Rattle.code_generator.proofs.Loops.{Rounds, RoundRuns, rounds_on, then_rounds, value_rounds, turned, loops, reset, rounds_from_reset, executes_from_reset}
 use Rattle.code_generator.proofs.Held.{slot, stores_variable, variable_kept, variable_forgotten, loads_held, stores_held, decides, begins, steps, leaves, tests}
 use Rattle.code_generator.proofs.Held.{compares_row, last_is, next_fits, one_fits}
-use Rattle.code_emitter.proofs.Pieces.{length-For, start_within}
+use Rattle.code_scheme.proofs.Pieces.{length-For, start_within}
 use Rattle.code_generator.proofs.Acts.{framed, length_one, is_in_range, writes}
 use Rattle.code_generator.proofs.Numbers.{Fits, fits_by_abs, same_range, sum_is, difference_is}
 use Rattle.code_generator.proofs.Rows.{cells_of, length-cells_of, same_byte, same_bytes, writes_string}

@@ -12,9 +12,9 @@ use Rattle.typed_tree.specs.WellFormed.{IsWellFormed}
 use Rattle.meaning.specs.declared.outcome.Ending.TheVariants.{Error}
 use Rattle.meaning.specs.Meaning.{meaning}
 use Rattle.check_remover.specs.Strip.{is_among, KeepsInstructions}
-use Rattle.code_emitter.specs.Code.{program_code}
+use Rattle.code_scheme.specs.Code.{program_code}
 use Rattle.code_generator.specs.Follows.{Follows}
-use Rattle.code_emitter.specs.Need.{program_need}
+use Rattle.code_scheme.specs.Need.{program_need}
 use Rattle.code_generator.specs.Tables.{site_table, in_plain_numbers}
 use Rattle.stack_machine.specs.declared.stop.Stop.TheVariants as stop
 use Rattle.stack_machine.specs.Run.{machine}

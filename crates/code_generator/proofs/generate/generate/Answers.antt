@@ -1,6 +1,6 @@
 -- The code follows the program, since it has the instructions and the sites of the tree, and few enough of them.
 use Rattle.std.proofs.Common.{rules, ◌≡◌, ◌≤◌, length}
-use Rattle.code_emitter.specs.Code.{program_code}
+use Rattle.code_scheme.specs.Code.{program_code}
 use Rattle.code_generator.specs.Tables.{site_table}
 use Rattle.code_generator.proofs.Program.{follows}
 use Rattle.code_generator.proofs.generate.generate.Goals as goal
