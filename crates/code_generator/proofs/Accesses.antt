@@ -438,17 +438,62 @@ module _ (g : Setting) where
         (addresses_from 1 s.turns _ _ held (place + 1 + length (selectors_code rest (codes indexes))) last
         (selected rest (map value_of (expressions indexes)) g.environment (Some there) s) loaded runs)
 
-  -- the value of a scalar whose cell is known, checked
-  module _ (defined : ℕ) (within : defined < sites g) (ordinal : TypeId → Bool) where
-    pub loaded_runs : (load : Instr) (place : ℕ) (cells base held : List Cell) (p : Place) (d : ℕ) (s : effect.State) → LiesIn g.world p d
-        → StandsAt g.target (place + 1) (instr.CheckDefined defined 1) (g.target.is_open defined) → Based g s.store base → g.below + length held < g.limit
-        → ((cell : Cell) → d < length (base ++ held) → slice_get (base ++ held) d ≡ Some cell
-        → Comes g.target 1 (on g cells place s.output) (on g ((base ++ held) ++ cell ∷ []) (place + 1) s.output))
-        → Evaluates g s.turns (on g cells place s.output) held (place + 2) (fetch (Some p) defined s)
-    loaded_runs load place cells base held p d s lies stands based room does =
-        let above = alike_above g.world s.store base held based.alike in
-        let loaded = does (cell_of (stored s.store p)) (cell_within g.world s.store (base ++ held) p d above lies) (above.scalars p d lies) in
-        let rest = fetched_runs g (place + 1) defined base held s (stored s.store p) stands within based room (above.fits p d lies) in
-        let e : place + 1 + 1 ≡ place + 2 = omega arith in
-        subst (λ q. Evaluates g s.turns (on g cells place s.output) held q (fetch (Some p) defined s)) e
-        (evaluates_from g 1 s.turns _ _ held (place + 1 + 1) (fetch (Some p) defined s) loaded rest)
+  -- the value of a scalar that is loaded, checked
+  loaded_runs : (defined place : ℕ) (cells base held : List Cell) (p : Place) (d : ℕ) (s : effect.State) → defined < sites g → LiesIn g.world p d
+      → StandsAt g.target (place + 1) (instr.CheckDefined defined 1) (g.target.is_open defined) → Based g s.store base → g.below + length held < g.limit
+      → ((cell : Cell) → d < length (base ++ held) → slice_get (base ++ held) d ≡ Some cell
+      → Comes g.target 1 (on g cells place s.output) (on g ((base ++ held) ++ cell ∷ []) (place + 1) s.output))
+      → Evaluates g s.turns (on g cells place s.output) held (place + 1 + 1) (fetch (Some p) defined s)
+  loaded_runs defined place cells base held p d s within lies stands based room does =
+      let above = alike_above g.world s.store base held based.alike in
+      let loaded = does (cell_of (stored s.store p)) (cell_within g.world s.store (base ++ held) p d above lies) (above.scalars p d lies) in
+      evaluates_from g 1 s.turns _ _ held (place + 1 + 1) (fetch (Some p) defined s) loaded
+      (fetched_runs g (place + 1) defined base held s (stored s.store p) stands within based room (above.fits p d lies))
+
+  -- the code of the value of an ordinal that is selected from a part, checked
+  pub fetch_runs : (rest : List Selector) (indexes : Indexes) (start : ℕ) (there : Place) (its last : TypeId) (defined place : ℕ) (base held : List Cell)
+      (s : effect.State) → PartAt there its (g.running.frame + start) → led g.tree.types rest its ≡ Some last → is_ordinal g.tree.types last ≡ true
+      → are_selectors rest ≡ true → are_well_formed_indexes indexes ≡ true → length (expressions indexes) ≡ index_count rest → defined < sites g
+      → Stands g.target place (fetch_at start rest (codes indexes) ++ (instr.CheckDefined defined 1 ∷ [])) → Based g s.store base
+      → g.below + length held + access_depth (depths indexes) ≤ g.limit
+      → Evaluates g s.turns (on g (base ++ held) place s.output) held
+      (place + length (fetch_at start rest (codes indexes) ++ (instr.CheckDefined defined 1 ∷ [])))
+      (effect.and_then (selected rest (map value_of (expressions indexes)) g.environment (Some there) s) (λ q. fetch q defined))
+  fetch_runs [] indexes start there its last defined place base held s part ends ordinal well wells counts within stands based deep =
+      let cells = base ++ held in
+      let more = start_within 1 (map (λ i. i + 1) (depths indexes)) in
+      let same = same_Some its last ends in
+      let lies = ordinal_part g.tree.types g.world g.below there last (g.running.frame + start) ordinal (subst (λ u. PartAt there u (g.running.frame + start)) same part) in
+      let full = based.full in
+      let long = length-append base held in
+      let e : place + 1 + 1 ≡ place + 2 = omega arith in
+      subst (λ q. Evaluates g s.turns (on g cells place s.output) held q (fetch (Some there) defined s)) e
+      (loaded_runs defined place cells base held there (g.running.frame + start) s within lies stands.1.0 based (omega arith)
+      (λ cell inside at.
+      acts g (instr.Load 0 start) cells (cells ++ cell ∷ []) place s.output _ stands.0 refl
+      (loads g.running.frame g.limit g.size cells 0 start g.running.frame cell (omega arith) refl inside at)))
+  fetch_runs (x ∷ rest) indexes start there its last defined place base held s part ends ordinal well wells counts within stands based deep =
+      let check = instr.CheckDefined defined 1 ∷ [] in
+      let load = instr.LoadIndirect 0 ∷ [] in
+      let c = address_at start (x ∷ rest) (codes indexes) in
+      let loading = stands_front g.target place (c ++ load) check stands in
+      let checking = stands_back g.target place (c ++ load) check stands in
+      let at : place + length (c ++ load) ≡ place + length c + 1 = omega (arith, length-append c load) in
+      let e : place + length c + 1 + 1 ≡ place + length ((c ++ load) ++ check) = omega (arith, length-append c load, length-append (c ++ load) check) in
+      let here = stands_back g.target place c load loading in
+      let tested = subst (λ q. Stands g.target q check) at checking in
+      let next : Option Place → Action Value = λ q. fetch q defined in
+      let far = g.far in
+      subst (λ q. Evaluates g s.turns (on g (base ++ held) place s.output) held q
+      (effect.and_then (selected (x ∷ rest) (map value_of (expressions indexes)) g.environment (Some there) s) next)) e
+      (address_evaluates s.turns _ held held (place + length c) (place + length c + 1 + 1) last
+      (selected (x ∷ rest) (map value_of (expressions indexes)) g.environment (Some there) s) next
+      (address_runs (x ∷ rest) indexes start there its last part ends well wells counts place base held s (stands_front g.target place c load loading) based deep)
+      (λ base2 d p s2 based2 part2 room2.
+      let full = based2.full in
+      let long = length-append base2 held in
+      loaded_runs defined (place + length c) ((base2 ++ held) ++ Number (pos d) ∷ []) base2 held p d s2 within
+      (ordinal_part g.tree.types g.world g.below p last d ordinal part2) tested.0 based2 room2
+      (λ cell inside at.
+      acts g (instr.LoadIndirect 0) ((base2 ++ held) ++ Number (pos d) ∷ []) ((base2 ++ held) ++ cell ∷ []) (place + length c) s2.output _ here.0 refl
+      (loads_indirect g.running.frame g.limit g.size (base2 ++ held) (linked g s2.store base2 held based2) d cell (omega arith) (omega arith) inside at))))

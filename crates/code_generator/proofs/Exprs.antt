@@ -68,53 +68,46 @@ module _ (g : Setting) where
       (pushes g.running.frame g.limit g.size (base ++ held) n (omega arith))) fit (omega arith)
 
   -- a constant
-  constant_runs : (number : ℕ) (n : ℤ) → RunsAs (expr_step g.scope (Constant number n)) (expr_depth_step (Constant number n))
-      (expr_is_well_formed variables sites (Constant number n)) (value_step (Constant number n))
+  constant_runs : (number : ℕ) (n : ℤ) → RunsAs g (expr_step g.scope (Constant number n)) (expr_depth_step (Constant number n))
+      (expr_is_well_formed g.tree.variables.items g.tree.types (sites g) (Constant number n)) (value_step (Constant number n))
   constant_runs number n place base held s stands well based room =
       number_runs n place base held (record s { visited = s.visited ++ record { number = number; environment = g.environment; store = s.store } ∷ [] })
       stands.0 (record { is = well }) (record { full = based.full; alike = based.alike }) room
 
-  variable_runs : (access : Access) (defined : ℕ) → RunsAs (variable_code g.scope access.root defined) 1
-      (nat_lt access.root variables && nat_lt defined sites) (value_step (Variable access defined))
-  variable_runs access defined place base held s stands well based room =
-      let parts = and_parts _ _ well in
-      let root_within = ltb-true access.root variables parts.0 in
-      let site_within = ltb-true defined sites parts.1 in
-      let offset = variable_offset g.scope access.root in
-      let way = direct_lies g.environment g.world g.running access.root 0 offset (g.shows access.root root_within) in
-      let owner = way.0 in
-      let p = way.2.0 in
-      let lies = way.2.2 in
-      let cells = base ++ held in
-      let above = alike_above g.world s.store base held based.alike in
-      let s' : effect.State = record s { visited = s.visited ++ record { number = access.number; environment = g.environment; store = s.store } ∷ [] } in
-      let cell = cell_of (stored s.store p) in
-      let long = length-append base held in
-      let full = based.full in
-      let loaded = acts g (instr.Load 0 offset) cells (cells ++ cell ∷ []) place s.output _ stands.0 refl
-      (loads g.running.frame g.limit g.size cells 0 offset owner.frame cell (omega arith) (base_is g.world s.store cells 0 g.running owner above way.1)
-      (cell_within g.world s.store cells p (owner.frame + offset) above lies) (above.scalars p (owner.frame + offset) lies)) in
-      let rest = fetched_runs (place + 1) defined base held s' (stored s.store p) stands.1.0 site_within (record { full = full; alike = based.alike })
-      (omega arith) (above.fits p (owner.frame + offset) lies) in
-      let whole = evaluates_from g 1 s.turns _ _ held (place + 1 + 1) (fetched (stored s.store p) defined s') loaded rest in
-      let e : place + 1 + 1 ≡ place + 2 = omega arith in
-      subst (λ o. Evaluates g s.turns (on g cells place s.output) held (place + 2) (fetched o defined s')) (sym (ap (meant.held s.store) way.2.1))
-      (subst (λ q. Evaluates g s.turns (on g cells place s.output) held q (fetched (stored s.store p) defined s')) e whole)
+  -- what a variable or a component holds
+  variable_runs : (access : Access) (indexes : Vec ((e : Expr) × ExprRuns g e)) (defined : ℕ)
+      → RunsAs g (variable_code g.scope access (codes g indexes.items) defined) (access_depth (depths g indexes.items))
+      (all_hold (map (is_well_formed_expr g.tree.variables.items g.tree.types (sites g)) (expressions g indexes.items))
+      && (leads_to_ordinal g.tree.variables.items g.tree.types (sites g) access.root access.selectors.items (length (expressions g indexes.items))
+      && nat_lt defined (sites g)))
+      (value_step (Variable access (record indexes { items = map value_of (expressions g indexes.items) }) defined))
+  variable_runs access indexes defined place base held s stands good based room =
+      let parts = and_parts _ _ good in
+      let parts' = and_parts _ _ parts.1 in
+      let more = start_within 1 (map (λ i. i + 1) (depths g indexes.items)) in
+      let far = g.far in
+      let led_to = leads g (is_ordinal g.tree.types) access.root access.selectors.items (length (expressions g indexes.items)) parts'.0 in
+      let start = begins g access (is_ordinal g.tree.types) (length (expressions g indexes.items)) (omega arith) led_to in
+      subst (λ r. Evaluates g s.turns (on g (base ++ held) place s.output) held (place + length (variable_code g.scope access (codes g indexes.items) defined))
+      (effect.and_then r (λ q. fetch q defined))) (sym (start.meant (map value_of (expressions g indexes.items)) s))
+      (fetch_runs g (behind_fields access.selectors.items) indexes.items (access_offset g.scope access) start.there start.its led_to.last defined place base held
+      (entered g access.number s) start.part start.ends led_to.is_wanted start.well parts.0 (led_to.counts ∙ sym start.counts)
+      (ltb-true defined (sites g) parts'.1) stands (record { full = based.full; alike = based.alike }) room)
 
   -- an operation that is never in error: the instruction leaves a number, which is the one that is meant
   given_runs : (apply : Instr) (place : ℕ) (stack base held : List Cell) (c d : ℤ) (s : effect.State) (attempt : Attempt frames.Frames) → Here g place apply
-      → obeyed g.target.sites apply (fetched_at stack place s.output) ≡ and_then attempt (with_frames (fetched_at stack place s.output))
-      → attempt ≡ Ok (frames_of ((base ++ held) ++ Number d ∷ [])) → d ≡ c → Fits c → Based g s.store base → g.below + length held < g.limit
+      → obeyed g.target.sites apply (fetched_at g stack place s.output) ≡ and_then attempt (with_frames (fetched_at g stack place s.output))
+      → attempt ≡ Ok (frames_of g ((base ++ held) ++ Number d ∷ [])) → d ≡ c → Fits c → Based g s.store base → g.below + length held < g.limit
       → Evaluates g s.turns (on g stack place s.output) held (place + 1) (give (value.Number c) s)
   given_runs apply place stack base held c d s attempt here rule does same fit based room =
       gives g 1 _ base held (place + 1) c s based (acts g apply stack ((base ++ held) ++ Number c ∷ []) place s.output attempt here rule (does ∙ ap (λ v. Ok
-      (frames_of ((base ++ held) ++ Number v ∷ []))) same)) fit room
+      (frames_of g ((base ++ held) ++ Number v ∷ []))) same)) fit room
 
   -- a test of the number on top, which stays there
   tested_runs : (check : Instr) (site place : ℕ) (base held : List Cell) (n : ℤ) (s : effect.State) (holds : Attempt Bool) (good : Bool)
       → StandsAt g.target place check (g.target.is_open site) → moved g.target.to check ≡ check
-      → obeyed g.target.sites check (fetched_at ((base ++ held) ++ Number n ∷ []) place s.output) ≡ checked g.target.sites site
-      (fetched_at ((base ++ held) ++ Number n ∷ []) place s.output) holds → holds ≡ Ok good → site < sites → Based g s.store base
+      → obeyed g.target.sites check (fetched_at g ((base ++ held) ++ Number n ∷ []) place s.output) ≡ checked g.target.sites site
+      (fetched_at g ((base ++ held) ++ Number n ∷ []) place s.output) holds → holds ≡ Ok good → site < (sites g) → Based g s.store base
       → g.below + length held < g.limit → Fits n
       → Evaluates g s.turns (on g ((base ++ held) ++ Number n ∷ []) place s.output) held (place + 1)
       (effect.and_then (require good site s) (λ _. give (value.Number n)))
@@ -127,10 +120,10 @@ module _ (g : Setting) where
   checked_runs : (check apply : Instr) (site place : ℕ) (stack base held : List Cell) (c d : ℤ) (s : effect.State) (holds : Attempt Bool)
       (attempt : Attempt frames.Frames) (good : Bool) → StandsAt g.target place check (g.target.is_open site) → Here g (place + 1) apply
       → moved g.target.to check ≡ check
-      → obeyed g.target.sites check (fetched_at stack place s.output) ≡ checked g.target.sites site (fetched_at stack place s.output) holds
-      → obeyed g.target.sites apply (fetched_at stack (place + 1) s.output) ≡ and_then attempt (with_frames (fetched_at stack (place + 1) s.output))
+      → obeyed g.target.sites check (fetched_at g stack place s.output) ≡ checked g.target.sites site (fetched_at g stack place s.output) holds
+      → obeyed g.target.sites apply (fetched_at g stack (place + 1) s.output) ≡ and_then attempt (with_frames (fetched_at g stack (place + 1) s.output))
       → holds ≡ Ok good
-      → (good ≡ true → (attempt ≡ Ok (frames_of ((base ++ held) ++ Number d ∷ []))) × (d ≡ c) × Fits c) → site < sites → Based g s.store base
+      → (good ≡ true → (attempt ≡ Ok (frames_of g ((base ++ held) ++ Number d ∷ []))) × (d ≡ c) × Fits c) → site < (sites g) → Based g s.store base
       → g.below + length held < g.limit
       → Evaluates g s.turns (on g stack place s.output) held (place + 2) (effect.and_then (require good site s) (λ _. give (value.Number c)))
   checked_runs check apply site place stack base held c d s holds attempt true stands here same rule rule' e does within based room =
@@ -146,10 +139,10 @@ module _ (g : Setting) where
   -- a result that is checked to be of type integer
   result_runs : (check apply : Instr) (overflow place : ℕ) (stack base held : List Cell) (c d : ℤ) (s : effect.State) (holds : Attempt Bool)
       (attempt : Attempt frames.Frames) → StandsAt g.target place check (g.target.is_open overflow) → Here g (place + 1) apply → moved g.target.to check ≡ check
-      → obeyed g.target.sites check (fetched_at stack place s.output) ≡ checked g.target.sites overflow (fetched_at stack place s.output) holds
-      → obeyed g.target.sites apply (fetched_at stack (place + 1) s.output) ≡ and_then attempt (with_frames (fetched_at stack (place + 1) s.output))
+      → obeyed g.target.sites check (fetched_at g stack place s.output) ≡ checked g.target.sites overflow (fetched_at g stack place s.output) holds
+      → obeyed g.target.sites apply (fetched_at g stack (place + 1) s.output) ≡ and_then attempt (with_frames (fetched_at g stack (place + 1) s.output))
       → holds ≡ Ok (frames.is_integer c)
-      → attempt ≡ Ok (frames_of ((base ++ held) ++ Number d ∷ [])) → (Fits c → d ≡ c) → overflow < sites → Based g s.store base
+      → attempt ≡ Ok (frames_of g ((base ++ held) ++ Number d ∷ [])) → (Fits c → d ≡ c) → overflow < (sites g) → Based g s.store base
       → g.below + length held < g.limit
       → Evaluates g s.turns (on g stack place s.output) held (place + 2) (meaning.whole overflow c s)
   result_runs check apply overflow place stack base held c d s holds attempt stands here same rule rule' e does is within based room =
@@ -174,16 +167,16 @@ module _ (g : Setting) where
     below_limit = let full = based.full in omega (arith, length-append base held)
 
     one_given : (apply : Instr) (f : ℤ → ℤ) (c : ℤ) → Here g place apply
-        → obeyed g.target.sites apply (fetched_at one place s.output) ≡ and_then (frames.on_one f (frames_of one))
-        (with_frames (fetched_at one place s.output)) → f n ≡ c → Fits c
+        → obeyed g.target.sites apply (fetched_at g one place s.output) ≡ and_then (frames.on_one f (frames_of g one))
+        (with_frames (fetched_at g one place s.output)) → f n ≡ c → Fits c
         → Evaluates g s.turns (on g one place s.output) held (place + 1) (give (value.Number c) s)
     one_given apply f c here rule same fit' =
-        given_runs apply place one base held c (f n) s (frames.on_one f (frames_of one)) here rule
+        given_runs apply place one base held c (f n) s (frames.on_one f (frames_of g one)) here rule
         (on_one_is g.running.frame g.limit g.size cells within_frame f n below_limit) same fit' based room
 
     truth_given : (apply : Instr) (test : ℤ → Bool) → Here g place apply
-        → obeyed g.target.sites apply (fetched_at one place s.output) ≡ and_then (frames.on_one (λ v. frames.truth (test v)) (frames_of one))
-        (with_frames (fetched_at one place s.output)) → Evaluates g s.turns (on g one place s.output) held (place + 1) (give (value.Number (truth (test n))) s)
+        → obeyed g.target.sites apply (fetched_at g one place s.output) ≡ and_then (frames.on_one (λ v. frames.truth (test v)) (frames_of g one))
+        (with_frames (fetched_at g one place s.output)) → Evaluates g s.turns (on g one place s.output) held (place + 1) (give (value.Number (truth (test n))) s)
     truth_given apply test here rule =
         one_given apply (λ v. frames.truth (test v)) (truth (test n)) here rule (same_truth (test n)) (subst Fits (same_truth (test n)) (fits_truth (test n)))
 
@@ -197,8 +190,8 @@ module _ (g : Setting) where
     -- a test of a number that is meant where the test holds
     step_tested : (check : Instr) (site : ℕ) (d c : ℤ) (there : ℕ) (good : Bool) → StandsAt g.target there check (g.target.is_open site)
         → moved g.target.to check ≡ check
-        → obeyed g.target.sites check (fetched_at (cells ++ Number d ∷ []) there s.output) ≡ checked g.target.sites site
-        (fetched_at (cells ++ Number d ∷ []) there s.output) (Ok good)
+        → obeyed g.target.sites check (fetched_at g (cells ++ Number d ∷ []) there s.output) ≡ checked g.target.sites site
+        (fetched_at g (cells ++ Number d ∷ []) there s.output) (Ok good)
         → (good ≡ true → (d ≡ c) × Fits c) → site < sites
         → Evaluates g s.turns (on g (cells ++ Number d ∷ []) there s.output) held (there + 1)
         (effect.and_then (require good site s) (λ _. give (value.Number c)))
@@ -214,9 +207,9 @@ module _ (g : Setting) where
     stepped_runs : (step check : Instr) (site : ℕ) (f : ℤ → ℤ → ℤ) (c : ℤ) (good : Bool) → Here g place (instr.LoadConstant (pos 1))
         → Here g (place + 1) step → StandsAt g.target (place + 1 + 1) check (g.target.is_open site)
         → ((m : State) → obeyed g.target.sites step m ≡ and_then (frames.on_two f m.frames) (with_frames m)) → moved g.target.to check ≡ check
-        → obeyed g.target.sites check (fetched_at (cells ++ Number (f n (pos 1)) ∷ []) (place + 1 + 1) s.output) ≡ checked g.target.sites site
-        (fetched_at (cells ++ Number (f n (pos 1)) ∷ []) (place + 1 + 1) s.output) (Ok good)
-        → (good ≡ true → (f n (pos 1) ≡ c) × Fits c) → site < sites → g.below + length held + 2 ≤ g.limit
+        → obeyed g.target.sites check (fetched_at g (cells ++ Number (f n (pos 1)) ∷ []) (place + 1 + 1) s.output) ≡ checked g.target.sites site
+        (fetched_at g (cells ++ Number (f n (pos 1)) ∷ []) (place + 1 + 1) s.output) (Ok good)
+        → (good ≡ true → (f n (pos 1) ≡ c) × Fits c) → site < (sites g) → g.below + length held + 2 ≤ g.limit
         → Evaluates g s.turns (on g one place s.output) held (place + 3) (effect.and_then (require good site s) (λ _. give (value.Number c)))
     stepped_runs step check site f c good at1 at2 at3 rule same rule' does within deep =
         let full = based.full in
@@ -224,14 +217,14 @@ module _ (g : Setting) where
         let after = cells ++ Number (f n (pos 1)) ∷ [] in
         let pushed = acts g (instr.LoadConstant (pos 1)) one two place s.output _ at1 refl
         (pushes g.running.frame g.limit g.size one (pos 1) (omega (arith, length_one cells (Number n), length-append base held))) in
-        let stepped = acts g step two after (place + 1) s.output (frames.on_two f (frames_of two)) at2 (rule (fetched_at two (place + 1) s.output))
+        let stepped = acts g step two after (place + 1) s.output (frames.on_two f (frames_of g two)) at2 (rule (fetched_at g two (place + 1) s.output))
         (on_two_is g.running.frame g.limit g.size cells within_frame n (pos 1) f below_limit) in
         let p : place + 1 + 1 + 1 ≡ place + 3 = omega arith in
         subst (λ q. Evaluates g s.turns (on g one place s.output) held q (effect.and_then (require good site s) (λ _. give (value.Number c)))) p
         (evaluates_from g 2 s.turns _ _ held (place + 1 + 1 + 1) (effect.and_then (require good site s) (λ _. give (value.Number c)))
         (comes_on g.target 1 1 _ _ _ pushed stepped) (step_tested check site (f n (pos 1)) c (place + 1 + 1) good at3 same rule' does within))
 
-    operated_runs : (operation : Monadic) → Stands g.target place (monadic_code operation) → monadic_is_well_formed variables sites operation ≡ true
+    operated_runs : (operation : Monadic) → Stands g.target place (monadic_code operation) → monadic_is_well_formed g.tree.variables.items g.tree.types (sites g) operation ≡ true
         → g.below + length held + monadic_depth operation ≤ g.limit
         → Evaluates g s.turns (on g one place s.output) held (place + length (monadic_code operation)) (operated operation (value.Number n) s)
     operated_runs monadic.Plus stands well deep = left_as_it_is
@@ -245,41 +238,41 @@ module _ (g : Setting) where
         refl refl
         (squares g.running.frame g.limit g.size cells within_frame n)
         (on_one_is g.running.frame g.limit g.size cells within_frame (λ v. int_wrapping_mul w32 v v) n below_limit) (product_is n n fit fit)
-        (ltb-true overflow sites well) based room
+        (ltb-true overflow (sites g) well) based room
     operated_runs monadic.Odd stands well deep = truth_given instr.Odd frames.is_odd stands.0 refl
     operated_runs monadic.Ord stands well deep = left_as_it_is
     operated_runs (monadic.Chr no_char) stands well deep =
         tested_runs (instr.CheckRange no_char (pos 0) (pos 127)) no_char place base held n s _ (is_within (pos 0) (pos 127) n) stands.0 refl refl
-        (is_in_range g.running.frame g.limit g.size cells within_frame (pos 0) (pos 127) n ∙ ap Ok (same_char n)) (ltb-true no_char sites well) based room fit
+        (is_in_range g.running.frame g.limit g.size cells within_frame (pos 0) (pos 127) n ∙ ap Ok (same_char n)) (ltb-true no_char (sites g) well) based room fit
     operated_runs (monadic.Succ no_successor last) stands well deep =
-        let parts = and_parts (nat_lt no_successor sites) (is_whole last) well in
+        let parts = and_parts (nat_lt no_successor (sites g)) (is_whole last) well in
         let good : Fits last = record { is = parts.1 } in
         let low = neg_ℤ (pos 2147483647) in
         let m = int_wrapping_add w32 n (pos 1) in
         let tested = is_in_range g.running.frame g.limit g.size cells within_frame low last m ∙ ap Ok (same_below n last fit good) in
         stepped_runs instr.Add (instr.CheckRange no_successor low last) no_successor (int_wrapping_add w32) (n +ℤ pos 1) (int_lt n last) stands.0 stands.1.0
-        stands.1.1.0 (λ m. refl) refl (ap (checked g.target.sites no_successor (fetched_at (cells ++ Number m ∷ []) (place + 1 + 1) s.output)) tested)
+        stands.1.1.0 (λ m. refl) refl (ap (checked g.target.sites no_successor (fetched_at g (cells ++ Number m ∷ []) (place + 1 + 1) s.output)) tested)
         (λ less. let f = fits_next n last fit good less in (sum_is n (pos 1) fit (record { is = refl }) f, f))
-        (ltb-true no_successor sites parts.0) deep
+        (ltb-true no_successor (sites g) parts.0) deep
     operated_runs (monadic.Pred no_predecessor first) stands well deep =
-        let parts = and_parts (nat_lt no_predecessor sites) (is_whole first) well in
+        let parts = and_parts (nat_lt no_predecessor (sites g)) (is_whole first) well in
         let good : Fits first = record { is = parts.1 } in
         let high = pos 2147483647 in
         let m = int_wrapping_sub w32 n (pos 1) in
         let tested = is_in_range g.running.frame g.limit g.size cells within_frame first high m ∙ ap Ok (same_above n first fit good) in
         stepped_runs instr.Subtract (instr.CheckRange no_predecessor first high) no_predecessor (int_wrapping_sub w32) (n -ℤ pos 1) (int_lt first n) stands.0
         stands.1.0 stands.1.1.0 (λ m. refl) refl
-        (ap (checked g.target.sites no_predecessor (fetched_at (cells ++ Number m ∷ []) (place + 1 + 1) s.output)) tested)
+        (ap (checked g.target.sites no_predecessor (fetched_at g (cells ++ Number m ∷ []) (place + 1 + 1) s.output)) tested)
         (λ more. let f = fits_previous n first fit good more in (difference_is n (pos 1) fit (record { is = refl }) f, f))
-        (ltb-true no_predecessor sites parts.0) deep
+        (ltb-true no_predecessor (sites g) parts.0) deep
 
   -- an operation on one operand
-  monadic_runs : (number : ℕ) (operation : Monadic) (c : List Instr) (depth : ℕ) (well : Bool) (v : Evaluation) → RunsAs c depth well v
-      → RunsAs (c ++ monadic_code operation) (max depth (monadic_depth operation)) (monadic_is_well_formed variables sites operation && well)
+  monadic_runs : (number : ℕ) (operation : Monadic) (c : List Instr) (depth : ℕ) (well : Bool) (v : Evaluation) → RunsAs g c depth well v
+      → RunsAs g (c ++ monadic_code operation) (max depth (monadic_depth operation)) (monadic_is_well_formed g.tree.variables.items g.tree.types (sites g) operation && well)
       (λ e. effect.enter number e >>= λ _. v e >>= operated operation)
   monadic_runs number operation c depth well v runs place base held s stands good based room =
       let s' : effect.State = record s { visited = s.visited ++ record { number = number; environment = g.environment; store = s.store } ∷ [] } in
-      let parts = and_parts (monadic_is_well_formed variables sites operation) well good in
+      let parts = and_parts (monadic_is_well_formed g.tree.variables.items g.tree.types (sites g) operation) well good in
       let e : place + length c + length (monadic_code operation) ≡ place + length (c ++ monadic_code operation) = omega
       (arith, length-append c (monadic_code operation)) in
       let rest = stands_back g.target place c (monadic_code operation) stands in
@@ -308,11 +301,11 @@ module _ (g : Setting) where
     within_limit = let full = based.full in omega (arith, length-append base held)
 
     truths_given : (apply : Instr) (test : ℤ → ℤ → Bool) → Here g place apply
-        → obeyed g.target.sites apply (fetched_at two place s.output) ≡ and_then (frames.on_two (λ x y. frames.truth (test x y)) (frames_of two))
-        (with_frames (fetched_at two place s.output)) → Evaluates g s.turns (on g two place s.output) held (place + 1)
+        → obeyed g.target.sites apply (fetched_at g two place s.output) ≡ and_then (frames.on_two (λ x y. frames.truth (test x y)) (frames_of g two))
+        (with_frames (fetched_at g two place s.output)) → Evaluates g s.turns (on g two place s.output) held (place + 1)
         (give (value.Number (truth (test a b))) s)
     truths_given apply test here rule =
-        given_runs apply place two base held (truth (test a b)) (frames.truth (test a b)) s (frames.on_two (λ x y. frames.truth (test x y)) (frames_of two))
+        given_runs apply place two base held (truth (test a b)) (frames.truth (test a b)) s (frames.on_two (λ x y. frames.truth (test x y)) (frames_of g two))
         here rule
         (on_two_is g.running.frame g.limit g.size (base ++ held) in_frame a b (λ x y. frames.truth (test x y)) within_limit) (same_truth (test a b))
         (subst Fits (same_truth (test a b)) (fits_truth (test a b))) based room
@@ -329,14 +322,14 @@ module _ (g : Setting) where
     -- a result of type integer of both, checked
     both_checked : (check apply : Instr) (overflow : ℕ) (c d : ℤ) (holds : Attempt Bool) (attempt : Attempt frames.Frames)
         → StandsAt g.target place check (g.target.is_open overflow) → Here g (place + 1) apply → moved g.target.to check ≡ check
-        → obeyed g.target.sites check (fetched_at two place s.output) ≡ checked g.target.sites overflow (fetched_at two place s.output) holds
-        → obeyed g.target.sites apply (fetched_at two (place + 1) s.output) ≡ and_then attempt (with_frames (fetched_at two (place + 1) s.output))
-        → holds ≡ Ok (frames.is_integer c) → attempt ≡ Ok (frames_of ((base ++ held) ++ Number d ∷ [])) → (Fits c → d ≡ c) → nat_lt overflow sites ≡ true
+        → obeyed g.target.sites check (fetched_at g two place s.output) ≡ checked g.target.sites overflow (fetched_at g two place s.output) holds
+        → obeyed g.target.sites apply (fetched_at g two (place + 1) s.output) ≡ and_then attempt (with_frames (fetched_at g two (place + 1) s.output))
+        → holds ≡ Ok (frames.is_integer c) → attempt ≡ Ok (frames_of g ((base ++ held) ++ Number d ∷ [])) → (Fits c → d ≡ c) → nat_lt overflow (sites g) ≡ true
         → Evaluates g s.turns (on g two place s.output) held (place + 2) (meaning.whole overflow c s)
     both_checked check apply overflow c d holds attempt stands here same rule rule' e does is well =
-        result_runs check apply overflow place two base held c d s holds attempt stands here same rule rule' e does is (ltb-true overflow sites well) based room
+        result_runs check apply overflow place two base held c d s holds attempt stands here same rule rule' e does is (ltb-true overflow (sites g) well) based room
 
-    combined_runs : (operation : Dyadic) → Stands g.target place (dyadic_code operation) → dyadic_is_well_formed variables sites operation ≡ true
+    combined_runs : (operation : Dyadic) → Stands g.target place (dyadic_code operation) → dyadic_is_well_formed g.tree.variables.items g.tree.types (sites g) operation ≡ true
         → Evaluates g s.turns (on g two place s.output) held (place + length (dyadic_code operation)) (combined operation (value.Number a) (value.Number b) s)
     combined_runs (dyadic.Plus overflow) stands well =
         both_checked (instr.CheckSum overflow) instr.Add overflow (a +ℤ b) (int_wrapping_add w32 a b) _ _ stands.0 stands.1.0 refl refl refl
@@ -355,13 +348,13 @@ module _ (g : Setting) where
         stands.0 stands.1.0 refl refl refl
         (is_not_zero g.running.frame g.limit g.size left_held above b)
         (λ good. (divides g.running.frame g.limit g.size (base ++ held) in_frame a b within_limit good, quotient_is a b fit, fits_quotient a b fit))
-        (ltb-true by_zero sites well) based room
+        (ltb-true by_zero (sites g) well) based room
     combined_runs (dyadic.Mod by_zero_or_less) stands well =
         checked_runs (check_positive by_zero_or_less) instr.Modulo by_zero_or_less place two base held (int_rem_euclid a b) (int_rem_euclid a b) s _ _
         (int_le (pos 1) b) stands.0 stands.1.0 refl refl refl
         (is_in_range g.running.frame g.limit g.size left_held above (pos 1) (pos 2147483647) b ∙ ap Ok (same_positive b fit'))
         (λ good. (leaves g.running.frame g.limit g.size (base ++ held) in_frame a b within_limit good, refl, fits_remainder a b fit' good))
-        (ltb-true by_zero_or_less sites well) based room
+        (ltb-true by_zero_or_less (sites g) well) based room
     combined_runs dyadic.And stands well = truths_given instr.And (λ x y. frames.is_true x && frames.is_true y) stands.0 refl
     combined_runs dyadic.Or stands well = truths_given instr.Or (λ x y. frames.is_true x || frames.is_true y) stands.0 refl
     combined_runs (dyadic.Relation r) stands well = relation_runs r stands
@@ -393,7 +386,7 @@ module _ (g : Setting) where
 
   -- two strings are compared
   compare_runs : (number : ℕ) (r : Relation) (left right : Whole)
-      → RunsAs (compare_code r left right) (max (length_of left + length_of right) 2) (expr_is_well_formed variables sites (Compare number r left right))
+      → RunsAs g (compare_code r left right) (max (length_of left + length_of right) 2) (expr_is_well_formed g.tree.variables.items g.tree.types (sites g) (Compare number r left right))
       (value_step (Compare number r left right))
   compare_runs number r (Text a left) (Text b right) place base held s stands good based room =
       let entered : ℕ → effect.State → effect.State = λ entry t. record t
@@ -457,16 +450,16 @@ module _ (g : Setting) where
       then_evaluates g turns m (held ++ Number a ∷ []) held' place place' r next e
       (λ base n s based fit room.
       let one = length_one held (Number a) in
-      subst (λ cells. Evaluates g s.turns (on g (cells ++ Number n ∷ []) place s.output) held' place' (next (value.Number n) s)) (sym (one_held base held a))
+      subst (λ cells. Evaluates g s.turns (on g (cells ++ Number n ∷ []) place s.output) held' place' (next (value.Number n) s)) (sym (one_held g base held a))
       (h base n s based fit (omega arith)))
 
   -- an operator and its right operand
-  link_runs : (number : ℕ) (operation : Dyadic) (c : List Instr) (depth : ℕ) (well : Bool) (v : Evaluation) → RunsAs c depth well v
-      → CombinesAs (c ++ dyadic_code operation) (depth + 1) (dyadic_is_well_formed variables sites operation && well)
+  link_runs : (number : ℕ) (operation : Dyadic) (c : List Instr) (depth : ℕ) (well : Bool) (v : Evaluation) → RunsAs g c depth well v
+      → CombinesAs g (c ++ dyadic_code operation) (depth + 1) (dyadic_is_well_formed g.tree.variables.items g.tree.types (sites g) operation && well)
       (meaning.link_step (record { number = number; operation = operation; operand = v }))
   link_runs number operation c depth well v runs place base held a s stands good based room fit =
       let s' : effect.State = record s { visited = s.visited ++ record { number = number; environment = g.environment; store = s.store } ∷ [] } in
-      let parts = and_parts (dyadic_is_well_formed variables sites operation) well good in
+      let parts = and_parts (dyadic_is_well_formed g.tree.variables.items g.tree.types (sites g) operation) well good in
       let one = length_one held (Number a) in
       let e : place + length c + length (dyadic_code operation) ≡ place + length (c ++ dyadic_code operation) = omega
       (arith, length-append c (dyadic_code operation)) in
@@ -475,14 +468,14 @@ module _ (g : Setting) where
       let operand = runs place base (held ++ Number a ∷ []) s' (stands_front g.target place c (dyadic_code operation) stands) parts.1 based (omega arith) in
       subst (λ p. Evaluates g s.turns (on g ((base ++ held) ++ Number a ∷ []) place s.output) held p (effect.and_then (v g.environment s') next)) e
       (subst (λ cells. Evaluates g s.turns (on g cells place s.output) held (place + length c + length (dyadic_code operation))
-      (effect.and_then (v g.environment s') next)) (one_held base held a)
+      (effect.and_then (v g.environment s') next)) (one_held g base held a)
       (above_one s.turns _ held a held (place + length c) (place + length c + length (dyadic_code operation)) (v g.environment s') next operand
       (λ base2 n s2 based2 fit2 room2. combined_runs (place + length c) base2 held a n s2 based2 room2 fit fit2 operation rest parts.0)))
 
   -- the operators of a chain, from left to right
-  links_run : (links : List ((l : Link) × LinkRuns l)) (depth place : ℕ) (base held : List Cell) (a : ℤ) (s : effect.State)
+  links_run : (links : List ((l : Link) × LinkRuns g l)) (depth place : ℕ) (base held : List Cell) (a : ℤ) (s : effect.State)
       → Stands g.target place (joined (map (link_code g.scope) (map (λ l. l.0) links)))
-      → all_hold (map (is_well_formed_link variables sites) (map (λ l. l.0) links)) ≡ true → Based g s.store base
+      → all_hold (map (is_well_formed_link g.tree.variables.items g.tree.types (sites g)) (map (λ l. l.0) links)) ≡ true → Based g s.store base
       → g.below + length held + fold max depth (map link_depth (map (λ l. l.0) links)) ≤ g.limit → g.below + length held < g.limit → Fits a
       → Evaluates g s.turns (on g ((base ++ held) ++ Number a ∷ []) place s.output) held
       (place + length (joined (map (link_code g.scope) (map (λ l. l.0) links))))
@@ -504,10 +497,10 @@ module _ (g : Setting) where
       (λ base2 n s2 based2 fit2 room2. links_run links (max depth (link_depth l.0)) (place + length c) base2 held n s2
       (stands_back g.target place c rest stands) (and_parts _ _ good).1 based2 deep room2 fit2))
 
-  chain_runs : (first : (e : Expr) × ExprRuns e) (links : List ((l : Link) × LinkRuns l))
-      → RunsAs (expr_code g.scope first.0 ++ joined (map (link_code g.scope) (map (λ l. l.0) links)))
+  chain_runs : (first : (e : Expr) × ExprRuns g e) (links : List ((l : Link) × LinkRuns g l))
+      → RunsAs g (expr_code g.scope first.0 ++ joined (map (link_code g.scope) (map (λ l. l.0) links)))
       (fold max (expr_depth first.0) (map link_depth (map (λ l. l.0) links)))
-      (is_well_formed_expr variables sites first.0 && all_hold (map (is_well_formed_link variables sites) (map (λ l. l.0) links)))
+      (is_well_formed_expr g.tree.variables.items g.tree.types (sites g) first.0 && all_hold (map (is_well_formed_link g.tree.variables.items g.tree.types (sites g)) (map (λ l. l.0) links)))
       (λ e. value_of first.0 e >>= λ v. in_turn (map link_of (map (λ l. l.0) links)) e v)
   chain_runs first links place base held s stands good based deep =
       let c = expr_code g.scope first.0 in
@@ -521,76 +514,76 @@ module _ (g : Setting) where
       (λ base2 n s2 based2 fit2 room2. links_run links (expr_depth first.0) (place + length c) base2 held n s2 (stands_back g.target place c rest stands)
       (and_parts _ _ good).1 based2 deep room2 fit2))
 
-  same_runs : (c c' : List Instr) (d d' : ℕ) (w w' : Bool) (v v' : Evaluation) → c ≡ c' → d ≡ d' → w ≡ w' → v ≡ v' → RunsAs c' d' w' v' → RunsAs c d w v
+  same_runs : (c c' : List Instr) (d d' : ℕ) (w w' : Bool) (v v' : Evaluation) → c ≡ c' → d ≡ d' → w ≡ w' → v ≡ v' → RunsAs g c' d' w' v' → RunsAs g c d w v
   same_runs c c' d d' w w' v v' p q r t runs =
-      subst (λ x. RunsAs x d w v) (sym p) (subst (λ x. RunsAs c' x w v) (sym q) (subst (λ x. RunsAs c' d' x v) (sym r) (subst (λ x. RunsAs c' d' w' x) (sym t)
+      subst (λ x. RunsAs g x d w v) (sym p) (subst (λ x. RunsAs g c' x w v) (sym q) (subst (λ x. RunsAs g c' d' x v) (sym r) (subst (λ x. RunsAs g c' d' w' x) (sym t)
       runs)))
 
-  same_combines : (c c' : List Instr) (d d' : ℕ) (w w' : Bool) (v v' : Combination) → c ≡ c' → d ≡ d' → w ≡ w' → v ≡ v' → CombinesAs c' d' w' v'
-      → CombinesAs c d w v
+  same_combines : (c c' : List Instr) (d d' : ℕ) (w w' : Bool) (v v' : Combination) → c ≡ c' → d ≡ d' → w ≡ w' → v ≡ v' → CombinesAs g c' d' w' v'
+      → CombinesAs g c d w v
   same_combines c c' d d' w w' v v' p q r t runs =
-      subst (λ x. CombinesAs x d w v) (sym p) (subst (λ x. CombinesAs c' x w v) (sym q) (subst (λ x. CombinesAs c' d' x v) (sym r) (subst (λ x. CombinesAs c'
+      subst (λ x. CombinesAs g x d w v) (sym p) (subst (λ x. CombinesAs g c' x w v) (sym q) (subst (λ x. CombinesAs g c' d' x v) (sym r) (subst (λ x. CombinesAs g c'
       d' w' x) (sym t) runs)))
 
   abbrev is_step : Expr-F Bool Bool → Bool
-  is_step = expr_is_well_formed variables sites
+  is_step = expr_is_well_formed g.tree.variables.items g.tree.types (sites g)
 
   abbrev is_link_step : Link-F Bool Bool → Bool
-  is_link_step = link_is_well_formed variables sites
+  is_link_step = link_is_well_formed g.tree.variables.items g.tree.types (sites g)
 
-  rolled_expr : (x : Expr-F Expr Link) → RunsAs (expr_step g.scope (map-Expr Expr Link (List Instr) (List Instr) (expr_code g.scope) (link_code g.scope) x))
+  rolled_expr : (x : Expr-F Expr Link) → RunsAs g (expr_step g.scope (map-Expr Expr Link (List Instr) (List Instr) (expr_code g.scope) (link_code g.scope) x))
       (expr_depth_step (map-Expr Expr Link ℕ ℕ expr_depth link_depth x))
       (is_step (map-Expr Expr Link Bool Bool (fold-Expr Bool Bool is_step is_link_step) (fold-Link Bool Bool is_step is_link_step) x))
-      (value_step (map-Expr Expr Link Evaluation Combination value_of link_of x)) → ExprRuns (roll-Expr x)
+      (value_step (map-Expr Expr Link Evaluation Combination value_of link_of x)) → ExprRuns g (roll-Expr x)
   rolled_expr x =
       same_runs _ _ _ _ _ _ _ _ (fold-roll-Expr (List Instr) (List Instr) (expr_step g.scope) link_step x)
       (fold-roll-Expr ℕ ℕ expr_depth_step link_depth_step x) (fold-roll-Expr Bool Bool is_step is_link_step x)
       (fold-roll-Expr Evaluation Combination value_step meaning.link_step x)
 
-  rolled_link : (x : Link-F Expr Link) → CombinesAs (link_step (map-Link Expr Link (List Instr) (List Instr) (expr_code g.scope) (link_code g.scope) x))
+  rolled_link : (x : Link-F Expr Link) → CombinesAs g (link_step (map-Link Expr Link (List Instr) (List Instr) (expr_code g.scope) (link_code g.scope) x))
       (link_depth_step (map-Link Expr Link ℕ ℕ expr_depth link_depth x))
       (is_link_step (map-Link Expr Link Bool Bool (fold-Expr Bool Bool is_step is_link_step) (fold-Link Bool Bool is_step is_link_step) x))
-      (meaning.link_step (map-Link Expr Link Evaluation Combination value_of link_of x)) → LinkRuns (roll-Link x)
+      (meaning.link_step (map-Link Expr Link Evaluation Combination value_of link_of x)) → LinkRuns g (roll-Link x)
   rolled_link x =
       same_combines _ _ _ _ _ _ _ _ (fold-roll-Link (List Instr) (List Instr) (expr_step g.scope) link_step x)
       (fold-roll-Link ℕ ℕ expr_depth_step link_depth_step x) (fold-roll-Link Bool Bool is_step is_link_step x)
       (fold-roll-Link Evaluation Combination value_step meaning.link_step x)
 
-  expr_layer : (y : Expr-F ((e : Expr) × ExprRuns e) ((l : Link) × LinkRuns l))
-      → ExprRuns (roll-Expr (map-Expr ((e : Expr) × ExprRuns e) ((l : Link) × LinkRuns l) Expr Link (λ e. e.0) (λ l. l.0) y))
+  expr_layer : (y : Expr-F ((e : Expr) × ExprRuns g e) ((l : Link) × LinkRuns g l))
+      → ExprRuns g (roll-Expr (map-Expr ((e : Expr) × ExprRuns g e) ((l : Link) × LinkRuns g l) Expr Link (λ e. e.0) (λ l. l.0) y))
   expr_layer (Constant number n) = rolled_expr (Constant number n) (constant_runs number n)
   expr_layer (Variable access defined) = rolled_expr (Variable access defined) (variable_runs access defined)
   expr_layer (MonadicOf number operation operand) =
       rolled_expr (MonadicOf number operation (record { ptr = operand.ptr; alloc = operand.alloc; value = operand.value.0 }))
       (monadic_runs number operation (expr_code g.scope operand.value.0) (expr_depth operand.value.0)
-      (is_well_formed_expr variables sites operand.value.0) (value_of operand.value.0) operand.value.1)
+      (is_well_formed_expr g.tree.variables.items g.tree.types (sites g) operand.value.0) (value_of operand.value.0) operand.value.1)
   expr_layer (Chain first rest) =
-      rolled_expr (map-Expr ((e : Expr) × ExprRuns e) ((l : Link) × LinkRuns l) Expr Link (λ e. e.0) (λ l. l.0) (Chain first rest))
+      rolled_expr (map-Expr ((e : Expr) × ExprRuns g e) ((l : Link) × LinkRuns g l) Expr Link (λ e. e.0) (λ l. l.0) (Chain first rest))
       (chain_runs first.value rest.items)
   expr_layer (Compare number r left right) = rolled_expr (Compare number r left right) (compare_runs number r left right)
 
-  link_layer : (y : Link-F ((e : Expr) × ExprRuns e) ((l : Link) × LinkRuns l))
-      → LinkRuns (roll-Link (map-Link ((e : Expr) × ExprRuns e) ((l : Link) × LinkRuns l) Expr Link (λ e. e.0) (λ l. l.0) y))
+  link_layer : (y : Link-F ((e : Expr) × ExprRuns g e) ((l : Link) × LinkRuns g l))
+      → LinkRuns g (roll-Link (map-Link ((e : Expr) × ExprRuns g e) ((l : Link) × LinkRuns g l) Expr Link (λ e. e.0) (λ l. l.0) y))
   link_layer y =
-      rolled_link (map-Link ((e : Expr) × ExprRuns e) ((l : Link) × LinkRuns l) Expr Link (λ e. e.0) (λ l. l.0) y)
-      (link_runs y.number y.operation (expr_code g.scope y.operand.0) (expr_depth y.operand.0) (is_well_formed_expr variables sites y.operand.0)
+      rolled_link (map-Link ((e : Expr) × ExprRuns g e) ((l : Link) × LinkRuns g l) Expr Link (λ e. e.0) (λ l. l.0) y)
+      (link_runs y.number y.operation (expr_code g.scope y.operand.0) (expr_depth y.operand.0) (is_well_formed_expr g.tree.variables.items g.tree.types (sites g) y.operand.0)
       (value_of y.operand.0) y.operand.1)
 
   -- the code of an expression leaves its value on top, or stops as the expression does
-  pub expr_runs : (e : Expr) → ExprRuns e
+  pub expr_runs : (e : Expr) → ExprRuns g e
   expr_runs =
-      ind-Expr ExprRuns LinkRuns (λ x y is. subst (λ z. ExprRuns (roll-Expr z)) is (expr_layer y))
-      (λ x y is. subst (λ z. LinkRuns (roll-Link z)) is (link_layer y))
+      ind-Expr ExprRuns g LinkRuns g (λ x y is. subst (λ z. ExprRuns g (roll-Expr z)) is (expr_layer y))
+      (λ x y is. subst (λ z. LinkRuns g (roll-Link z)) is (link_layer y))
 
   -- the code of a width leaves it on top, or stops as the width does; a value has this one where none is given
   pub width_runs : (width : Option Width) (v : Written) (default : ℤ) → default_width v ≡ instr.LoadConstant default → Fits default
-      → RunsAs (width_code g.scope width v) (width_depth width) (is_well_formed_width variables sites width) (width_of width default)
+      → RunsAs g (width_code g.scope width v) (width_depth width) (is_well_formed_width g.tree.variables.items g.tree.types (sites g) width) (width_of width default)
   width_runs None v default is fit place base held s stands good based room =
       number_runs default place base held s (subst (λ i. Stands g.target place (i ∷ [])) is stands).0 fit based room
   width_runs (Some width) v default is fit place base held s stands good based room =
       let c = expr_code g.scope width.value in
       let check = check_positive width.site in
-      let parts = and_parts (nat_lt width.site sites) (is_well_formed_expr variables sites width.value) good in
+      let parts = and_parts (nat_lt width.site (sites g)) (is_well_formed_expr g.tree.variables.items g.tree.types (sites g) width.value) good in
       let e : place + length c + 1 ≡ place + length (c ++ check ∷ []) = omega (arith, length-append c (check ∷ [])) in
       let next : Value → Action Value = λ w. require (effect.is_positive w) width.site >>= λ _. give w in
       subst (λ p. Evaluates g s.turns (on g (base ++ held) place s.output) held p (effect.and_then (value_of width.value g.environment s) next)) e
@@ -599,4 +592,4 @@ module _ (g : Setting) where
       (λ base2 n s2 based2 fit room2.
       tested_runs check width.site (place + length c) base2 held n s2 _ (int_le (pos 1) n) (stands_back g.target place c (check ∷ []) stands).0 refl refl
       (is_in_range g.running.frame g.limit g.size (base2 ++ held) (linked g s2.store base2 held based2) (pos 1) (pos 2147483647) n
-      ∙ ap Ok (same_positive n fit)) (ltb-true width.site sites parts.0) based2 room2 fit))
+      ∙ ap Ok (same_positive n fit)) (ltb-true width.site (sites g) parts.0) based2 room2 fit))

@@ -705,7 +705,7 @@ module _ (g : Setting) (control : ℕ) (within : control < length g.tree.variabl
   for_round_runs : Stands g.target head (for_begin g.scope control) → Stands g.target (head + 2) body_code
       → Stands g.target behind (for_next g.scope way head out) → RoundRuns g fit hold head out (hold l) round
   for_round_runs beginning inside next n base s fits based =
-      let s1 : effect.State = record s { store = kept s.store (g.environment control) (value.Number n) } in
+      let s1 : effect.State = record s { store = kept s.store (g.environment.variables control) (value.Number n) } in
       let base1 = slice_set base (slot g control within) (Number n) in
       let based1 = variable_kept g control within s.store base n based fits.0 in
       let came = begins g s.store base held n l s.output based high enough control head within fits.0 beginning.0 beginning.1.0 in
@@ -728,11 +728,11 @@ module _ (g : Setting) (control : ℕ) (within : control < length g.tree.variabl
   -- behind the loop
   module _ (ending : Stands g.target out (for_end g.scope control)) where
     leaves_it : (n : ℤ) (base : List Cell) (s : effect.State) → Fits n → Based g s.store base
-        → Executes g s.turns (on g (base ++ hold n) out s.output) held (out + 4) (effect.undefine (g.environment control) s)
+        → Executes g s.turns (on g (base ++ hold n) out s.output) held (out + 4) (effect.undefine (g.environment.variables control) s)
     leaves_it n base s fits based =
         let c = slot g control within in
         let based' = variable_forgotten g control within s.store base based in
-        done g 4 _ (slice_set base c Undefined) held (out + 4) (record s { store = forgotten s.store (g.environment control) })
+        done g 4 _ (slice_set base c Undefined) held (out + 4) (record s { store = forgotten s.store (g.environment.variables control) })
         (record { full = based'.full; alike = based'.alike })
         (leaves g s.store base held n l s.output based high enough control out within fits fit_last ending.0 ending.1.0 ending.1.1.0 ending.1.1.1.0)
 
@@ -781,20 +781,20 @@ module _ (g : Setting) (control : ℕ) (within : control < length g.tree.variabl
           → Comes g.target 4 (on g (base ++ hold n) place s.output) (on g (base ++ hold n) (if has then place + 4 else out) s.output)
           → Executes g s.turns (on g (base ++ hold n) place s.output) held (out + 4)
           (((if has then for_rounds control first_fits way last_fits (effect_of body.0) g.environment n l else give tt) >>= λ _. effect.undefine
-          (g.environment control)) s)
+          (g.environment.variables control)) s)
       from_bounds n base s true has fits based came =
           executes_from g 4 s.turns _ _ held (out + 4)
-          ((for_rounds control first_fits way last_fits (effect_of body.0) g.environment n l >>= λ _. effect.undefine (g.environment control)) s) came
+          ((for_rounds control first_fits way last_fits (effect_of body.0) g.environment n l >>= λ _. effect.undefine (g.environment.variables control)) s) came
           (then_leaves g s.turns _ (hold l) held out (out + 4) (for_rounds control first_fits way last_fits (effect_of body.0) g.environment n l s)
-          (λ _. effect.undefine (g.environment control)) (tested n base s fits has based)
+          (λ _. effect.undefine (g.environment.variables control)) (tested n base s fits has based)
           (λ base2 t based2. leaves_it l base2 t fit_last based2))
       from_bounds n base s false has fits based came =
-          executes_from g 4 s.turns _ _ held (out + 4) (effect.undefine (g.environment control) s) came (leaves_it n base s fits based)
+          executes_from g 4 s.turns _ _ held (out + 4) (effect.undefine (g.environment.variables control) s) came (leaves_it n base s fits based)
 
       for_between_runs : (n : ℤ) (base : List Cell) (s : effect.State) → Fits n → Based g s.store base
           → Executes g s.turns (on g (base ++ hold n) place s.output) held (out + 4)
           ((for_between control first_fits way last_fits (effect_of body.0) g.environment (value.Number n) (value.Number l) >>= λ _. effect.undefine
-          (g.environment control)) s)
+          (g.environment.variables control)) s)
       for_between_runs n base s fits based =
           from_bounds n base s (has_values way n l) refl fits based
           (ordered g s.store base held n l s.output way place out based high enough entry.0 entry.1.0 entry.1.1.0 entry.1.1.1.0)
@@ -844,7 +844,7 @@ for_runs g number control first first_fits way last last_fits body few place bas
     let site_last = ltb-true last_fits.site (sites g) (and_parts (nat_lt last_fits.site (sites g)) _ p5.0).0 in
     let within = ltb-true control (variables g) p1.0 in
     let rest : Value → Value → Action (Unit {0}) = λ v w. for_between control first_fits way last_fits (effect_of body.0) g.environment v w >>= λ _.
-    effect.undefine (g.environment control) in
+    effect.undefine (g.environment.variables control) in
     subst (λ q. Executes g s.turns (on g (base ++ held) place s.output) held q
     (effect.and_then (value_of first g.environment s1) (λ v. value_of last g.environment >>= λ w. rest v w))) e
     (after_value g s.turns _ held held (place + length a) (out' + 4) (value_of first g.environment s1) (λ v. value_of last g.environment >>= λ w. rest v w)
