@@ -359,31 +359,6 @@ module _ (g : Setting) where
     combined_runs dyadic.Or stands well = truths_given instr.Or (λ x y. frames.is_true x || frames.is_true y) stands.0 refl
     combined_runs (dyadic.Relation r) stands well = relation_runs r stands
 
-  -- characters are pushed, the first one first
-  pub characters_come : (characters : List ℕ) (place : ℕ) (cells : List Cell) (output : List ℕ)
-      → Stands g.target place (map (λ c. instr.LoadConstant (pos c)) characters) → length cells + length characters ≤ g.limit
-      → Comes g.target 0 (on g cells place output) (on g (cells ++ cells_of (map pos characters)) (place + length characters) output)
-  characters_come [] place cells output stands room =
-      let e : place ≡ place + 0 = omega arith in
-      subst (λ p. Comes g.target 0 (on g cells place output) (on g (cells ++ []) p output)) e
-      (subst (λ cs. Comes g.target 0 (on g cells place output) (on g cs place output)) (sym (append-nil cells)) (stays_here g.target _))
-  characters_come (c ∷ characters) place cells output stands room =
-      let one = cells ++ Number (pos c) ∷ [] in
-      let long = length_one cells (Number (pos c)) in
-      let rest = cells_of (map pos characters) in
-      let e : place + 1 + length characters ≡ place + length (c ∷ characters) = omega arith in
-      let first = acts g (instr.LoadConstant (pos c)) cells one place output _ stands.0 refl
-      (pushes g.running.frame g.limit g.size cells (pos c) (omega arith)) in
-      let others = characters_come characters (place + 1) one output stands.1 (omega arith) in
-      let all = comes_less g.target 0 (1 + 0) _ _ (omega arith) (comes_on g.target 1 0 _ _ _ first others) in
-      subst (λ cs. Comes g.target 0 (on g cells place output) (on g cs (place + length (c ∷ characters)) output))
-      (append_assoc cells (Number (pos c) ∷ []) rest)
-      (subst (λ p. Comes g.target 0 (on g cells place output) (on g (one ++ rest) p output)) e all)
-
-  -- a length that is no greater than the greatest
-  pub same_length : (characters : List ℕ) → are_characters characters ≡ true → length characters ≡ row_length (length characters)
-  same_length characters well = let few = leb-true (length characters) 65536 (and_parts _ _ well).0 in omega arith
-
   -- two strings are compared
   compare_runs : (number : ℕ) (r : Relation) (left right : Whole)
       → RunsAs g (compare_code r left right) (max (length_of left + length_of right) 2) (expr_is_well_formed g.tree.variables.items g.tree.types (sites g) (Compare number r left right))
