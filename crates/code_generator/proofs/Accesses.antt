@@ -66,8 +66,14 @@ module _ (g : Setting) where
   abbrev pub expressions : Indexes → List Expr
   expressions indexes = map (λ e. e.0) indexes
 
+  abbrev pub wells : Indexes → List Bool
+  wells indexes = map (is_well_formed_expr g.tree.variables.items g.tree.types (sites g)) (expressions indexes)
+
   abbrev pub are_well_formed_indexes : Indexes → Bool
-  are_well_formed_indexes indexes = all_hold (map (is_well_formed_expr g.tree.variables.items g.tree.types (sites g)) (expressions indexes))
+  are_well_formed_indexes indexes = all_hold (wells indexes)
+
+  pub as_many_wells : (indexes : Indexes) → length (wells indexes) ≡ length (expressions indexes)
+  as_many_wells indexes = length-map (expressions indexes) (is_well_formed_expr g.tree.variables.items g.tree.types (sites g))
 
   -- what the code of an address does, with so many turns left here: the address of a part of a place comes on top of what
   -- is held, over cells alike to the store; or an index ends the run
@@ -415,7 +421,7 @@ module _ (g : Setting) where
       }
 
   module _ (rest : List Selector) (indexes : Indexes) (start : ℕ) (there : Place) (its last : TypeId) (part : PartAt there its (g.running.frame + start))
-      (ends : led g.tree.types rest its ≡ Some last) (well : are_selectors rest ≡ true) (wells : are_well_formed_indexes indexes ≡ true)
+      (ends : led g.tree.types rest its ≡ Some last) (well : are_selectors rest ≡ true) (good : are_well_formed_indexes indexes ≡ true)
       (counts : length (expressions indexes) ≡ index_count rest) where
     -- the code of an address
     pub address_runs : (place : ℕ) (base held : List Cell) (s : effect.State) → Stands g.target place (address_at start rest (codes indexes))
@@ -433,7 +439,7 @@ module _ (g : Setting) where
         let e : place + 1 + length (selectors_code rest (codes indexes)) ≡ place + length (address_at start rest (codes indexes)) = omega arith in
         let loaded = acts g (instr.LoadAddress 0 start) cells (cells ++ Number (pos d) ∷ []) place s.output _ stands.0 refl
         (loads_address g.running.frame g.limit g.size cells 0 start g.running.frame (omega arith) refl (omega arith)) in
-        let runs = selectors_run rest indexes 1 (place + 1) d base held there its last s stands.1 wells well counts ends part based deep (omega arith) in
+        let runs = selectors_run rest indexes 1 (place + 1) d base held there its last s stands.1 good well counts ends part based deep (omega arith) in
         subst (λ q. Addresses s.turns (on g cells place s.output) held q last (selected rest (map value_of (expressions indexes)) g.environment (Some there) s)) e
         (addresses_from 1 s.turns _ _ held (place + 1 + length (selectors_code rest (codes indexes))) last
         (selected rest (map value_of (expressions indexes)) g.environment (Some there) s) loaded runs)

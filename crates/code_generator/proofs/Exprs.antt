@@ -1,14 +1,17 @@
 -- The code of an expression leaves its value on top, or stops as the expression does.
 use Rattle.std.proofs.Common.{◌≡◌, ℕ, ◌+◌, ◌<◌, ◌≤◌, max, List, [], ◌∷◌, ◌++◌, length, map, Option, Some, None, Ok, refl, sym, ap, ◌∙◌, subst, arith}
 use Rattle.std.proofs.Common.{length-append, append_assoc, append-nil, Bool, true, false}
-use Rattle.std.specs.Prelude.{ℤ, pos, neg_ℤ, ◌+ℤ◌, ◌-ℤ◌, ◌*ℤ◌, int_le, int_lt, int_div, unsigned_abs, nat_lt, not, ◌&&◌, ◌||◌, fold}
+use Rattle.std.specs.Prelude.{ℤ, pos, neg_ℤ, ◌+ℤ◌, ◌-ℤ◌, ◌*ℤ◌, int_le, int_lt, int_div, unsigned_abs, nat_eq, nat_lt, not, ◌&&◌, ◌||◌, fold}
 use Rattle.std.specs.Int.{w32, cast_signed, int_rem_euclid, int_wrapping_add, int_wrapping_sub, int_wrapping_mul, int_wrapping_div, int_wrapping_neg}
 use Rattle.std.specs.Ordering.{int_eq}
 use Rattle.std.proofs.lemmas.Bool.{eqb-true, leb-true, ltb-true, and_parts}
 use Rattle.std.proofs.lemmas.List.{length-map}
 use Rattle.pcode_assembler.specs.declared.instr.Instr.{Instr}
 use Rattle.pcode_assembler.specs.declared.instr.Instr.TheVariants as instr
+use Rattle.types.specs.Types.{is_ordinal}
+use Rattle.types.specs.declared.form.TypeForm.{TypeForm}
 use Rattle.typed_tree.specs.declared.tree.Access.{Access}
+use Rattle.typed_tree.specs.declared.tree.Variable.{Variable as DeclaredVariable}
 use Rattle.typed_tree.specs.declared.tree.Monadic.{Monadic}
 use Rattle.typed_tree.specs.declared.tree.Monadic.TheVariants as monadic
 use Rattle.typed_tree.specs.declared.tree.Dyadic.{Dyadic}
@@ -30,7 +33,7 @@ use Rattle.meaning.specs.declared.store.Value.TheVariants as value
 use Rattle.meaning.specs.Store as meant
 use Rattle.meaning.specs.Store.{Environment, held, stored}
 use Rattle.meaning.specs.Effect as effect
-use Rattle.meaning.specs.Effect.{Reply, Gives, Action, ◌>>=◌, fetched, require, give}
+use Rattle.meaning.specs.Effect.{Reply, Gives, Action, ◌>>=◌, fetch, require, give}
 use Rattle.meaning.specs.Meaning.{Evaluation, Combination, value_of, link_of, value_step, operated, combined, relates, in_turn, width_of, order_of}
 use Rattle.meaning.specs.Meaning as meaning
 use Rattle.meaning.specs.Integers.{is_within, magnitude, truth}
@@ -40,24 +43,33 @@ use Rattle.stack_machine.specs.Frames as frames
 use Rattle.stack_machine.specs.Frames.{Attempt}
 use Rattle.stack_machine.specs.Rows as rows
 use Rattle.stack_machine.specs.Machine.{State, obeyed, and_then, checked, with_frames}
-use Rattle.code_scheme.specs.Code.{joined, variable_offset, monadic_code, dyadic_code, relation_instr, variable_code, width_code, check_positive, expr_code}
-use Rattle.code_scheme.specs.Code.{link_code, expr_step, link_step, expr_depth, link_depth, expr_depth_step, link_depth_step, width_depth, monadic_depth}
-use Rattle.code_scheme.specs.Code.{compare_code, default_width, row_length}
+use Rattle.code_scheme.specs.Code.{joined, monadic_code, dyadic_code, relation_instr, variable_code, width_code, check_positive, expr_code, link_code, expr_step}
+use Rattle.code_scheme.specs.Code.{link_step, compare_code, default_width, whole_code}
+use Rattle.code_scheme.specs.Depth.{access_depth, expr_depth, link_depth, expr_depth_step, link_depth_step, width_depth, monadic_depth, whole_depth}
+use Rattle.code_scheme.specs.Scopes.{access_offset, behind_fields, row_length}
 use Rattle.typed_tree.specs.WellFormed.{all_hold, monadic_is_well_formed, dyadic_is_well_formed, expr_is_well_formed, link_is_well_formed, is_well_formed_expr}
-use Rattle.typed_tree.specs.WellFormed.{is_well_formed_link, is_well_formed_width, is_whole, are_characters, length_of}
+use Rattle.typed_tree.specs.WellFormed.{is_well_formed_link, is_well_formed_width, is_well_formed_whole, is_whole, leads_to_ordinal, length_of, whole_indexes}
 use Rattle.check_remover.specs.Strip.{moved}
 use Rattle.code_scheme.proofs.Pieces.{start_within}
 use Rattle.code_generator.proofs.Reach.{StandsAt, Stands, stands_front, stands_back, Comes, comes_less, comes_on, stays_here}
 use Rattle.code_generator.proofs.Rows.{cells_of, length-cells_of, compares, same_order, order_fits}
 use Rattle.code_generator.proofs.Setting.{Setting, on, Based, linked, Here, acts, passes, fails, Evaluates, gives, evaluates_from, then_evaluates}
-use Rattle.code_generator.proofs.Alike.{cell_of, HasFit, cell_within, alike_above, base_is, direct_lies}
-use Rattle.code_generator.proofs.Acts.{framed, length_one, pushes, loads, defines, on_one_is, is_in_range, is_not_zero, squares, sums, differs, multiplies}
+use Rattle.code_generator.proofs.Accesses.{Indexes, expressions, wells, as_many_wells, codes, depths, leads, begins, entered, fetch_runs}
+use Rattle.code_generator.proofs.Evaluating.{sites, frames_of, fetched_at, RunsAs, CombinesAs, ExprRuns, LinkRuns, one_held}
+use Rattle.code_generator.proofs.Wholes.{few_components, row_evaluates, whole_runs}
+use Rattle.code_generator.proofs.Acts.{framed, length_one, pushes, on_one_is, is_in_range, is_not_zero, squares, sums, differs, multiplies}
 use Rattle.code_generator.proofs.Acts.{on_two_is, divides, leaves}
 use Rattle.code_generator.proofs.Numbers.{Fits, sum_is, difference_is, product_is, fits_negated, negated_is, fits_magnitude, magnitude_is, fits_quotient}
 use Rattle.code_generator.proofs.Numbers.{quotient_is, fits_remainder, fits_truth, same_truth, same_test, same_positive, fits_next, fits_previous, same_below}
 use Rattle.code_generator.proofs.Numbers.{same_above, same_char}
 
 module _ (g : Setting) where
+  abbrev variables : List DeclaredVariable
+  variables = g.tree.variables.items
+
+  abbrev types : List TypeForm
+  types = g.tree.types
+
   -- a number that is pushed
   number_runs : (n : ℤ) (place : ℕ) (base held : List Cell) (s : effect.State) → Here g place (instr.LoadConstant n) → Fits n → Based g s.store base
       → g.below + length held + 1 ≤ g.limit → Evaluates g s.turns (on g (base ++ held) place s.output) held (place + 1) (give (value.Number n) s)
@@ -69,28 +81,29 @@ module _ (g : Setting) where
 
   -- a constant
   constant_runs : (number : ℕ) (n : ℤ) → RunsAs g (expr_step g.scope (Constant number n)) (expr_depth_step (Constant number n))
-      (expr_is_well_formed g.tree.variables.items g.tree.types (sites g) (Constant number n)) (value_step (Constant number n))
+      (expr_is_well_formed variables types (sites g) (Constant number n)) (value_step (Constant number n))
   constant_runs number n place base held s stands well based room =
       number_runs n place base held (record s { visited = s.visited ++ record { number = number; environment = g.environment; store = s.store } ∷ [] })
       stands.0 (record { is = well }) (record { full = based.full; alike = based.alike }) room
 
   -- what a variable or a component holds
-  variable_runs : (access : Access) (indexes : Vec ((e : Expr) × ExprRuns g e)) (defined : ℕ)
-      → RunsAs g (variable_code g.scope access (codes g indexes.items) defined) (access_depth (depths g indexes.items))
-      (all_hold (map (is_well_formed_expr g.tree.variables.items g.tree.types (sites g)) (expressions g indexes.items))
-      && (leads_to_ordinal g.tree.variables.items g.tree.types (sites g) access.root access.selectors.items (length (expressions g indexes.items))
+  variable_runs : (access : Access) (indexes : Indexes g) (defined : ℕ)
+      → RunsAs g (variable_code g.scope access (codes g indexes) defined) (access_depth (depths g indexes))
+      (all_hold (wells g indexes) && (leads_to_ordinal variables types (sites g) access.root access.selectors.items (length (wells g indexes))
       && nat_lt defined (sites g)))
-      (value_step (Variable access (record indexes { items = map value_of (expressions g indexes.items) }) defined))
+      (λ env. meaning.accessed access (map value_of (expressions g indexes)) env >>= λ q. fetch q defined)
   variable_runs access indexes defined place base held s stands good based room =
+      let more = start_within 1 (map (λ i. i + 1) (depths g indexes)) in
+      let far = g.far in
+      let small : g.below ≤ 16777215 = omega arith in
       let parts = and_parts _ _ good in
       let parts' = and_parts _ _ parts.1 in
-      let more = start_within 1 (map (λ i. i + 1) (depths g indexes.items)) in
-      let far = g.far in
-      let led_to = leads g (is_ordinal g.tree.types) access.root access.selectors.items (length (expressions g indexes.items)) parts'.0 in
-      let start = begins g access (is_ordinal g.tree.types) (length (expressions g indexes.items)) (omega arith) led_to in
-      subst (λ r. Evaluates g s.turns (on g (base ++ held) place s.output) held (place + length (variable_code g.scope access (codes g indexes.items) defined))
-      (effect.and_then r (λ q. fetch q defined))) (sym (start.meant (map value_of (expressions g indexes.items)) s))
-      (fetch_runs g (behind_fields access.selectors.items) indexes.items (access_offset g.scope access) start.there start.its led_to.last defined place base held
+      let led_to = leads g (is_ordinal types) access.root access.selectors.items (length (expressions g indexes))
+      (subst (λ k. leads_to_ordinal variables types (sites g) access.root access.selectors.items k ≡ true) (as_many_wells g indexes) parts'.0) in
+      let start = begins g access (is_ordinal g.tree.types) (length (expressions g indexes)) small led_to in
+      subst (λ r. Evaluates g s.turns (on g (base ++ held) place s.output) held (place + length (variable_code g.scope access (codes g indexes) defined))
+      (effect.and_then r (λ q. fetch q defined))) (sym (start.meant (map value_of (expressions g indexes)) s))
+      (fetch_runs g (behind_fields access.selectors.items) indexes (access_offset g.scope access) start.there start.its led_to.last defined place base held
       (entered g access.number s) start.part start.ends led_to.is_wanted start.well parts.0 (led_to.counts ∙ sym start.counts)
       (ltb-true defined (sites g) parts'.1) stands (record { full = based.full; alike = based.alike }) room)
 
@@ -192,7 +205,7 @@ module _ (g : Setting) where
         → moved g.target.to check ≡ check
         → obeyed g.target.sites check (fetched_at g (cells ++ Number d ∷ []) there s.output) ≡ checked g.target.sites site
         (fetched_at g (cells ++ Number d ∷ []) there s.output) (Ok good)
-        → (good ≡ true → (d ≡ c) × Fits c) → site < sites
+        → (good ≡ true → (d ≡ c) × Fits c) → site < sites g
         → Evaluates g s.turns (on g (cells ++ Number d ∷ []) there s.output) held (there + 1)
         (effect.and_then (require good site s) (λ _. give (value.Number c)))
     step_tested check site d c there true stands same rule does within =
@@ -224,7 +237,7 @@ module _ (g : Setting) where
         (evaluates_from g 2 s.turns _ _ held (place + 1 + 1 + 1) (effect.and_then (require good site s) (λ _. give (value.Number c)))
         (comes_on g.target 1 1 _ _ _ pushed stepped) (step_tested check site (f n (pos 1)) c (place + 1 + 1) good at3 same rule' does within))
 
-    operated_runs : (operation : Monadic) → Stands g.target place (monadic_code operation) → monadic_is_well_formed g.tree.variables.items g.tree.types (sites g) operation ≡ true
+    operated_runs : (operation : Monadic) → Stands g.target place (monadic_code operation) → monadic_is_well_formed variables types (sites g) operation ≡ true
         → g.below + length held + monadic_depth operation ≤ g.limit
         → Evaluates g s.turns (on g one place s.output) held (place + length (monadic_code operation)) (operated operation (value.Number n) s)
     operated_runs monadic.Plus stands well deep = left_as_it_is
@@ -268,11 +281,11 @@ module _ (g : Setting) where
 
   -- an operation on one operand
   monadic_runs : (number : ℕ) (operation : Monadic) (c : List Instr) (depth : ℕ) (well : Bool) (v : Evaluation) → RunsAs g c depth well v
-      → RunsAs g (c ++ monadic_code operation) (max depth (monadic_depth operation)) (monadic_is_well_formed g.tree.variables.items g.tree.types (sites g) operation && well)
+      → RunsAs g (c ++ monadic_code operation) (max depth (monadic_depth operation)) (monadic_is_well_formed variables types (sites g) operation && well)
       (λ e. effect.enter number e >>= λ _. v e >>= operated operation)
   monadic_runs number operation c depth well v runs place base held s stands good based room =
       let s' : effect.State = record s { visited = s.visited ++ record { number = number; environment = g.environment; store = s.store } ∷ [] } in
-      let parts = and_parts (monadic_is_well_formed g.tree.variables.items g.tree.types (sites g) operation) well good in
+      let parts = and_parts (monadic_is_well_formed variables types (sites g) operation) well good in
       let e : place + length c + length (monadic_code operation) ≡ place + length (c ++ monadic_code operation) = omega
       (arith, length-append c (monadic_code operation)) in
       let rest = stands_back g.target place c (monadic_code operation) stands in
@@ -329,7 +342,7 @@ module _ (g : Setting) where
     both_checked check apply overflow c d holds attempt stands here same rule rule' e does is well =
         result_runs check apply overflow place two base held c d s holds attempt stands here same rule rule' e does is (ltb-true overflow (sites g) well) based room
 
-    combined_runs : (operation : Dyadic) → Stands g.target place (dyadic_code operation) → dyadic_is_well_formed g.tree.variables.items g.tree.types (sites g) operation ≡ true
+    combined_runs : (operation : Dyadic) → Stands g.target place (dyadic_code operation) → dyadic_is_well_formed variables types (sites g) operation ≡ true
         → Evaluates g s.turns (on g two place s.output) held (place + length (dyadic_code operation)) (combined operation (value.Number a) (value.Number b) s)
     combined_runs (dyadic.Plus overflow) stands well =
         both_checked (instr.CheckSum overflow) instr.Add overflow (a +ℤ b) (int_wrapping_add w32 a b) _ _ stands.0 stands.1.0 refl refl refl
@@ -359,61 +372,79 @@ module _ (g : Setting) where
     combined_runs dyadic.Or stands well = truths_given instr.Or (λ x y. frames.is_true x || frames.is_true y) stands.0 refl
     combined_runs (dyadic.Relation r) stands well = relation_runs r stands
 
-  -- two strings are compared
-  compare_runs : (number : ℕ) (r : Relation) (left right : Whole)
-      → RunsAs g (compare_code r left right) (max (length_of left + length_of right) 2) (expr_is_well_formed g.tree.variables.items g.tree.types (sites g) (Compare number r left right))
-      (value_step (Compare number r left right))
-  compare_runs number r (Text a left) (Text b right) place base held s stands good based room =
-      let entered : ℕ → effect.State → effect.State = λ entry t. record t
-      { visited = t.visited ++ record { number = entry; environment = g.environment; store = t.store } ∷ [] } in
-      let s' = entered b (entered number (entered a s)) in
-      let c = map (λ x. instr.LoadConstant (pos x)) left.items in
-      let d = map (λ x. instr.LoadConstant (pos x)) right.items in
-      let n = length left.items in
-      let m = row_length n in
-      let relate = instr.LoadConstant (pos 0) ∷ relation_instr r ∷ [] in
-      let last = instr.Compare m ∷ relate in
-      let parts = and_parts (are_characters left.items) _ good in
-      let parts' = and_parts (are_characters right.items) _ parts.1 in
-      let same = same_length left.items parts.0 in
-      let as_long : n ≡ length right.items = eqb-true n (length right.items) parts'.1 in
-      let numbers = map pos left.items in
-      let others = map pos right.items in
-      let long = length-map left.items pos in
-      let long' = length-map right.items pos in
+  -- two rows give way to their order, and that is compared with 0
+  ordered_runs : (r : Relation) (count place : ℕ) (base held : List Cell) (ns ms : List ℤ) (s : effect.State) → length ns ≡ count → length ms ≡ count
+      → Stands g.target place (instr.Compare count ∷ instr.LoadConstant (pos 0) ∷ relation_instr r ∷ []) → Based g s.store base
+      → g.below + length held + 2 ≤ g.limit
+      → Evaluates g s.turns (on g (((base ++ held) ++ cells_of ns) ++ cells_of ms) place s.output) held (place + 3) (give (meaning.compared r ns ms) s)
+  ordered_runs r count place base held ns ms s long as_long stands based deep =
       let cells = base ++ held in
-      let one = cells ++ cells_of numbers in
-      let both = one ++ cells_of others in
       let full = based.full in
       let few = length-append base held in
-      let in_frame = linked g s.store base held based in
-      let first_codes = length-map left.items (λ x. instr.LoadConstant (pos x)) in
-      let other_codes = length-map right.items (λ x. instr.LoadConstant (pos x)) in
-      let behind = stands_back g.target place c (d ++ last) stands in
-      let here = place + n in
-      let there = here + length right.items in
-      let stands1 : Stands g.target here (d ++ last) = subst (λ l. Stands g.target (place + l) (d ++ last)) first_codes behind in
-      let stands2 : Stands g.target there last = subst (λ l. Stands g.target (here + l) last) other_codes (stands_back g.target here d last stands1) in
-      let pushed = characters_come left.items place cells s.output (stands_front g.target place c (d ++ last) stands) (omega arith) in
-      let pushed' = characters_come right.items here one s.output (stands_front g.target here d last stands1)
-      (omega (arith, length-append cells (cells_of numbers), length-cells_of numbers)) in
-      let order = rows.order numbers others in
+      let both = (cells ++ cells_of ns) ++ cells_of ms in
+      let order = rows.order ns ms in
       let ordered = cells ++ Number order ∷ [] in
-      let is_order : order ≡ order_of numbers others = same_order numbers others (long ∙ as_long ∙ sym long') in
-      let compared = acts g (instr.Compare m) both ordered there s.output _ stands2.0 refl
-      (compares g.running.frame g.limit g.size cells in_frame numbers others m (long ∙ same) (long' ∙ sym as_long ∙ same) (omega arith)) in
-      let zero = acts g (instr.LoadConstant (pos 0)) ordered (ordered ++ Number (pos 0) ∷ []) (there + 1) s.output _ stands2.1.0 refl
+      let is_order : order ≡ order_of ns ms = same_order ns ms (long ∙ sym as_long) in
+      let compared = acts g (instr.Compare count) both ordered place s.output _ stands.0 refl
+      (compares g.running.frame g.limit g.size cells (linked g s.store base held based) ns ms count long as_long (omega arith)) in
+      let zero = acts g (instr.LoadConstant (pos 0)) ordered (ordered ++ Number (pos 0) ∷ []) (place + 1) s.output _ stands.1.0 refl
       (pushes g.running.frame g.limit g.size ordered (pos 0) (omega (arith, length_one cells (Number order)))) in
-      let fit : Fits order = subst Fits (sym is_order) (order_fits numbers others) in
-      let zero_fits : Fits (pos 0) = record { is = refl } in
-      let based' : Based g s'.store base = record { full = based.full; alike = based.alike } in
-      let related = relation_runs (there + 1 + 1) base held order (pos 0) s' based' (omega arith) fit zero_fits r stands2.1.1 in
-      let all = comes_on g.target 0 2 _ _ _ pushed (comes_on g.target 0 2 _ _ _ pushed' (comes_on g.target 1 1 _ _ _ compared zero)) in
-      let whole = evaluates_from g 2 s.turns _ _ held (there + 1 + 1 + 1) (give (value.Number (truth (relates r order (pos 0)))) s') all related in
-      let e : there + 1 + 1 + 1 ≡ place + length (c ++ (d ++ last)) = omega (arith, length-append c (d ++ last), length-append d last) in
-      subst (λ p. Evaluates g s.turns (on g cells place s.output) held p (give (value.Number (truth (relates r (order_of numbers others) (pos 0)))) s')) e
-      (subst (λ o. Evaluates g s.turns (on g cells place s.output) held (there + 1 + 1 + 1) (give (value.Number (truth (relates r o (pos 0)))) s')) is_order
-      whole)
+      let fit : Fits order = subst Fits (sym is_order) (order_fits ns ms) in
+      let related = relation_runs (place + 1 + 1) base held order (pos 0) s based (omega arith) fit (record { is = refl }) r stands.1.1 in
+      let whole = evaluates_from g 2 s.turns _ _ held (place + 1 + 1 + 1) (give (value.Number (truth (relates r order (pos 0)))) s)
+      (comes_on g.target 1 1 _ _ _ compared zero) related in
+      let e : place + 1 + 1 + 1 ≡ place + 3 = omega arith in
+      subst (λ p. Evaluates g s.turns (on g both place s.output) held p (give (meaning.compared r ns ms) s)) e
+      (subst (λ o. Evaluates g s.turns (on g both place s.output) held (place + 1 + 1 + 1) (give (value.Number (truth (relates r o (pos 0)))) s)) is_order whole)
+
+  -- two whole values are compared
+  compare_runs : (number : ℕ) (r : Relation) (left : Whole) (left_indexes : Indexes g) (right : Whole)
+      (right_indexes : Indexes g)
+      → RunsAs g (compare_code r (length_of left) (whole_code g.scope left (codes g left_indexes)) (whole_code g.scope right (codes g right_indexes)))
+      (max (whole_depth left (depths g left_indexes)) (max (whole_depth right (depths g right_indexes) + length_of left) 2))
+      (all_hold (whole_indexes left (wells g left_indexes)) && (is_well_formed_whole variables types (sites g) left (length (wells g left_indexes))
+      && (all_hold (whole_indexes right (wells g right_indexes))
+      && (is_well_formed_whole variables types (sites g) right (length (wells g right_indexes)) && nat_eq (length_of left) (length_of right)))))
+      (λ env. meaning.whole_of left (map value_of (expressions g left_indexes)) env >>= λ ns. effect.enter number env >>= λ _.
+      meaning.whole_of right (map value_of (expressions g right_indexes)) env >>= λ ms. give (meaning.compared r ns ms))
+  compare_runs number r left left_indexes right right_indexes place base held s stands good based deep =
+      let n = length_of left in
+      let c = whole_code g.scope left (codes g left_indexes) in
+      let d = whole_code g.scope right (codes g right_indexes) in
+      let last = instr.Compare (row_length n) ∷ instr.LoadConstant (pos 0) ∷ relation_instr r ∷ [] in
+      let one = and_parts (all_hold (whole_indexes left (wells g left_indexes))) _ good in
+      let two = and_parts (is_well_formed_whole variables types (sites g) left (length (wells g left_indexes))) _ one.1 in
+      let three = and_parts (all_hold (whole_indexes right (wells g right_indexes))) _ two.1 in
+      let four = and_parts (is_well_formed_whole variables types (sites g) right (length (wells g right_indexes))) (nat_eq n (length_of right)) three.1 in
+      let as_long : n ≡ length_of right = eqb-true n (length_of right) four.1 in
+      let left_well = subst (λ k. is_well_formed_whole variables types (sites g) left k ≡ true) (as_many_wells g left_indexes) two.0 in
+      let right_well = subst (λ k. is_well_formed_whole variables types (sites g) right k ≡ true) (as_many_wells g right_indexes) four.0 in
+      let same : n ≡ row_length n = few_components g left (length (expressions g left_indexes)) left_well in
+      let behind = stands_back g.target place c (d ++ last) stands in
+      let there = place + length c in
+      let end = there + length d + 3 in
+      let e : end ≡ place + length (c ++ (d ++ last)) = omega (arith, length-append c (d ++ last), length-append d last) in
+      let next' : List ℤ → List ℤ → Action Value = λ ns ms. give (meaning.compared r ns ms) in
+      let next : List ℤ → Action Value = λ ns. effect.enter number g.environment >>= λ _.
+      meaning.whole_of right (map value_of (expressions g right_indexes)) g.environment >>= next' ns in
+      subst (λ p. Evaluates g s.turns (on g (base ++ held) place s.output) held p
+      (effect.and_then (meaning.whole_of left (map value_of (expressions g left_indexes)) g.environment s) next)) e
+      (row_evaluates g s.turns _ held held there end n (meaning.whole_of left (map value_of (expressions g left_indexes)) g.environment s) next
+      (whole_runs g left left_indexes place base held s (stands_front g.target place c (d ++ last) stands) one.0 left_well based (omega arith))
+      (λ base2 ns s2 based2 long fits.
+      let above = held ++ cells_of ns in
+      let high = length-append held (cells_of ns) in
+      let s3 = entered g number s2 in
+      let wide = length-cells_of ns in
+      subst (λ cells. Evaluates g s2.turns (on g cells there s2.output) held end (next ns s2)) (sym (append_assoc base2 held (cells_of ns)))
+      (row_evaluates g s2.turns _ above held (there + length d) end (length_of right)
+      (meaning.whole_of right (map value_of (expressions g right_indexes)) g.environment s3) (next' ns)
+      (whole_runs g right right_indexes there base2 above s3 (stands_front g.target there d last behind) three.0 right_well
+      (record { full = based2.full; alike = based2.alike }) (omega arith))
+      (λ base3 ms s4 based4 long' fits'.
+      subst (λ cells. Evaluates g s4.turns (on g (cells ++ cells_of ms) (there + length d) s4.output) held end (next' ns ms s4)) (append_assoc base3 held (cells_of ns))
+      (ordered_runs r (row_length n) (there + length d) base3 held ns ms s4 (long ∙ same) (long' ∙ sym as_long ∙ same) (stands_back g.target there d last behind)
+      based4 (omega arith))))))
 
   -- a value above what is held and one number more
   above_one : (turns : ℕ) (m : State) (held : List Cell) (a : ℤ) (held' : List Cell) (place place' : ℕ) (r : Reply Value) (next : Value → Action Value)
@@ -430,11 +461,11 @@ module _ (g : Setting) where
 
   -- an operator and its right operand
   link_runs : (number : ℕ) (operation : Dyadic) (c : List Instr) (depth : ℕ) (well : Bool) (v : Evaluation) → RunsAs g c depth well v
-      → CombinesAs g (c ++ dyadic_code operation) (depth + 1) (dyadic_is_well_formed g.tree.variables.items g.tree.types (sites g) operation && well)
+      → CombinesAs g (c ++ dyadic_code operation) (depth + 1) (dyadic_is_well_formed variables types (sites g) operation && well)
       (meaning.link_step (record { number = number; operation = operation; operand = v }))
   link_runs number operation c depth well v runs place base held a s stands good based room fit =
       let s' : effect.State = record s { visited = s.visited ++ record { number = number; environment = g.environment; store = s.store } ∷ [] } in
-      let parts = and_parts (dyadic_is_well_formed g.tree.variables.items g.tree.types (sites g) operation) well good in
+      let parts = and_parts (dyadic_is_well_formed variables types (sites g) operation) well good in
       let one = length_one held (Number a) in
       let e : place + length c + length (dyadic_code operation) ≡ place + length (c ++ dyadic_code operation) = omega
       (arith, length-append c (dyadic_code operation)) in
@@ -450,7 +481,7 @@ module _ (g : Setting) where
   -- the operators of a chain, from left to right
   links_run : (links : List ((l : Link) × LinkRuns g l)) (depth place : ℕ) (base held : List Cell) (a : ℤ) (s : effect.State)
       → Stands g.target place (joined (map (link_code g.scope) (map (λ l. l.0) links)))
-      → all_hold (map (is_well_formed_link g.tree.variables.items g.tree.types (sites g)) (map (λ l. l.0) links)) ≡ true → Based g s.store base
+      → all_hold (map (is_well_formed_link variables types (sites g)) (map (λ l. l.0) links)) ≡ true → Based g s.store base
       → g.below + length held + fold max depth (map link_depth (map (λ l. l.0) links)) ≤ g.limit → g.below + length held < g.limit → Fits a
       → Evaluates g s.turns (on g ((base ++ held) ++ Number a ∷ []) place s.output) held
       (place + length (joined (map (link_code g.scope) (map (λ l. l.0) links))))
@@ -475,7 +506,7 @@ module _ (g : Setting) where
   chain_runs : (first : (e : Expr) × ExprRuns g e) (links : List ((l : Link) × LinkRuns g l))
       → RunsAs g (expr_code g.scope first.0 ++ joined (map (link_code g.scope) (map (λ l. l.0) links)))
       (fold max (expr_depth first.0) (map link_depth (map (λ l. l.0) links)))
-      (is_well_formed_expr g.tree.variables.items g.tree.types (sites g) first.0 && all_hold (map (is_well_formed_link g.tree.variables.items g.tree.types (sites g)) (map (λ l. l.0) links)))
+      (is_well_formed_expr variables types (sites g) first.0 && all_hold (map (is_well_formed_link variables types (sites g)) (map (λ l. l.0) links)))
       (λ e. value_of first.0 e >>= λ v. in_turn (map link_of (map (λ l. l.0) links)) e v)
   chain_runs first links place base held s stands good based deep =
       let c = expr_code g.scope first.0 in
@@ -501,10 +532,10 @@ module _ (g : Setting) where
       d' w' x) (sym t) runs)))
 
   abbrev is_step : Expr-F Bool Bool → Bool
-  is_step = expr_is_well_formed g.tree.variables.items g.tree.types (sites g)
+  is_step = expr_is_well_formed variables types (sites g)
 
   abbrev is_link_step : Link-F Bool Bool → Bool
-  is_link_step = link_is_well_formed g.tree.variables.items g.tree.types (sites g)
+  is_link_step = link_is_well_formed variables types (sites g)
 
   rolled_expr : (x : Expr-F Expr Link) → RunsAs g (expr_step g.scope (map-Expr Expr Link (List Instr) (List Instr) (expr_code g.scope) (link_code g.scope) x))
       (expr_depth_step (map-Expr Expr Link ℕ ℕ expr_depth link_depth x))
@@ -527,38 +558,42 @@ module _ (g : Setting) where
   expr_layer : (y : Expr-F ((e : Expr) × ExprRuns g e) ((l : Link) × LinkRuns g l))
       → ExprRuns g (roll-Expr (map-Expr ((e : Expr) × ExprRuns g e) ((l : Link) × LinkRuns g l) Expr Link (λ e. e.0) (λ l. l.0) y))
   expr_layer (Constant number n) = rolled_expr (Constant number n) (constant_runs number n)
-  expr_layer (Variable access defined) = rolled_expr (Variable access defined) (variable_runs access defined)
+  expr_layer (Variable access indexes defined) =
+      rolled_expr (map-Expr ((e : Expr) × ExprRuns g e) ((l : Link) × LinkRuns g l) Expr Link (λ e. e.0) (λ l. l.0) (Variable access indexes defined))
+      (variable_runs access indexes.items defined)
   expr_layer (MonadicOf number operation operand) =
       rolled_expr (MonadicOf number operation (record { ptr = operand.ptr; alloc = operand.alloc; value = operand.value.0 }))
       (monadic_runs number operation (expr_code g.scope operand.value.0) (expr_depth operand.value.0)
-      (is_well_formed_expr g.tree.variables.items g.tree.types (sites g) operand.value.0) (value_of operand.value.0) operand.value.1)
+      (is_well_formed_expr variables types (sites g) operand.value.0) (value_of operand.value.0) operand.value.1)
   expr_layer (Chain first rest) =
       rolled_expr (map-Expr ((e : Expr) × ExprRuns g e) ((l : Link) × LinkRuns g l) Expr Link (λ e. e.0) (λ l. l.0) (Chain first rest))
       (chain_runs first.value rest.items)
-  expr_layer (Compare number r left right) = rolled_expr (Compare number r left right) (compare_runs number r left right)
+  expr_layer (Compare number r left left_indexes right right_indexes) =
+      rolled_expr (map-Expr ((e : Expr) × ExprRuns g e) ((l : Link) × LinkRuns g l) Expr Link (λ e. e.0) (λ l. l.0)
+      (Compare number r left left_indexes right right_indexes)) (compare_runs number r left left_indexes.items right right_indexes.items)
 
   link_layer : (y : Link-F ((e : Expr) × ExprRuns g e) ((l : Link) × LinkRuns g l))
       → LinkRuns g (roll-Link (map-Link ((e : Expr) × ExprRuns g e) ((l : Link) × LinkRuns g l) Expr Link (λ e. e.0) (λ l. l.0) y))
   link_layer y =
       rolled_link (map-Link ((e : Expr) × ExprRuns g e) ((l : Link) × LinkRuns g l) Expr Link (λ e. e.0) (λ l. l.0) y)
-      (link_runs y.number y.operation (expr_code g.scope y.operand.0) (expr_depth y.operand.0) (is_well_formed_expr g.tree.variables.items g.tree.types (sites g) y.operand.0)
+      (link_runs y.number y.operation (expr_code g.scope y.operand.0) (expr_depth y.operand.0) (is_well_formed_expr variables types (sites g) y.operand.0)
       (value_of y.operand.0) y.operand.1)
 
   -- the code of an expression leaves its value on top, or stops as the expression does
   pub expr_runs : (e : Expr) → ExprRuns g e
   expr_runs =
-      ind-Expr ExprRuns g LinkRuns g (λ x y is. subst (λ z. ExprRuns g (roll-Expr z)) is (expr_layer y))
+      ind-Expr (ExprRuns g) (LinkRuns g) (λ x y is. subst (λ z. ExprRuns g (roll-Expr z)) is (expr_layer y))
       (λ x y is. subst (λ z. LinkRuns g (roll-Link z)) is (link_layer y))
 
   -- the code of a width leaves it on top, or stops as the width does; a value has this one where none is given
   pub width_runs : (width : Option Width) (v : Written) (default : ℤ) → default_width v ≡ instr.LoadConstant default → Fits default
-      → RunsAs g (width_code g.scope width v) (width_depth width) (is_well_formed_width g.tree.variables.items g.tree.types (sites g) width) (width_of width default)
+      → RunsAs g (width_code g.scope width v) (width_depth width) (is_well_formed_width variables types (sites g) width) (width_of width default)
   width_runs None v default is fit place base held s stands good based room =
       number_runs default place base held s (subst (λ i. Stands g.target place (i ∷ [])) is stands).0 fit based room
   width_runs (Some width) v default is fit place base held s stands good based room =
       let c = expr_code g.scope width.value in
       let check = check_positive width.site in
-      let parts = and_parts (nat_lt width.site (sites g)) (is_well_formed_expr g.tree.variables.items g.tree.types (sites g) width.value) good in
+      let parts = and_parts (nat_lt width.site (sites g)) (is_well_formed_expr variables types (sites g) width.value) good in
       let e : place + length c + 1 ≡ place + length (c ++ check ∷ []) = omega (arith, length-append c (check ∷ [])) in
       let next : Value → Action Value = λ w. require (effect.is_positive w) width.site >>= λ _. give w in
       subst (λ p. Evaluates g s.turns (on g (base ++ held) place s.output) held p (effect.and_then (value_of width.value g.environment s) next)) e

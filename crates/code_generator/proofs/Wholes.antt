@@ -34,7 +34,7 @@ use Rattle.code_scheme.specs.Code.{address_code, whole_code}
 use Rattle.code_scheme.specs.Depth.{whole_depth}
 use Rattle.code_scheme.specs.Scopes.{access_offset, behind_fields, row_length}
 use Rattle.code_scheme.proofs.Pieces.{start_within}
-use Rattle.code_generator.proofs.Accesses.{Indexes, expressions, codes, depths, PartAt, Addresses, leads, begins, entered, address_runs}
+use Rattle.code_generator.proofs.Accesses.{Indexes, expressions, wells, codes, depths, PartAt, Addresses, leads, begins, entered, address_runs}
 use Rattle.code_generator.proofs.Acts.{framed, length_one, pushes}
 use Rattle.code_generator.proofs.Addressing.{loads_many, all_defined}
 use Rattle.code_generator.proofs.Evaluating.{sites}
@@ -296,10 +296,6 @@ module _ (g : Setting) where
       (append_assoc cells (Number (pos c) ∷ []) rest)
       (subst (λ p. Comes g.target 0 (on g cells place output) (on g (one ++ rest) p output)) e all)
 
-  -- a length that is no greater than the greatest
-  pub same_length : (characters : List ℕ) → are_characters characters ≡ true → length characters ≡ row_length (length characters)
-  same_length characters well = let few = leb-true (length characters) 65536 (and_parts _ _ well).0 in omega arith
-
   characters_fit : (characters : List ℕ) → list_all is_character characters ≡ true → AllFit (map pos characters)
   characters_fit [] well = tt
   characters_fit (c ∷ characters) well =
@@ -364,15 +360,29 @@ module _ (g : Setting) where
       pushes_from 1 s.turns _ _ held (place + 1 + 1) count (fetch_all (Some p) components defined s) there
       (checked_row p type_id count d defined (place + 1) base held s (row_fetched s.store p components defined fits) stands.1.0 within all based)
 
+  -- a row is no longer than the longest
+  pub few_components : (v : Whole) (indexes : ℕ) → is_well_formed_whole g.tree.variables.items g.tree.types (sites g) v indexes ≡ true
+      → length_of v ≡ row_length (length_of v)
+  few_components (Text number characters) indexes well =
+      let few = leb-true (length characters.items) 65536
+      (and_parts (nat_le (length characters.items) 65536) (list_all is_character characters.items) well).0 in
+      omega arith
+  few_components (VariableOf access type_id cells defined) indexes well =
+      let parts = and_parts (leads_to_whole g.tree.variables.items g.tree.types (sites g) type_id access.root access.selectors.items indexes)
+      (is_value_of g.tree.variables.items g.tree.types (sites g) type_id cells && nat_lt defined (sites g)) well in
+      let parts' = and_parts (is_value_of g.tree.variables.items g.tree.types (sites g) type_id cells) (nat_lt defined (sites g)) parts.1 in
+      let few = leb-true cells 65536 (and_parts (nat_eq cells (cells_of g.tree.types type_id)) (nat_le cells 65536) parts'.0).1 in
+      omega arith
+
   -- the code of a whole value pushes its numbers
   pub whole_runs : (v : Whole) (indexes : Indexes g) (place : ℕ) (base held : List Cell) (s : effect.State)
       → Stands g.target place (whole_code g.scope v (codes g indexes))
-      → all_hold (whole_indexes v (map (is_well_formed_expr g.tree.variables.items g.tree.types (sites g)) (expressions g indexes))) ≡ true
+      → all_hold (whole_indexes v (wells g indexes)) ≡ true
       → is_well_formed_whole g.tree.variables.items g.tree.types (sites g) v (length (expressions g indexes)) ≡ true → Based g s.store base
       → g.below + length held + whole_depth v (depths g indexes) ≤ g.limit
       → Pushes s.turns (on g (base ++ held) place s.output) held (place + length (whole_code g.scope v (codes g indexes))) (length_of v)
       (whole_of v (map value_of (expressions g indexes)) g.environment s)
-  whole_runs (Text number characters) indexes place base held s stands wells well based deep =
+  whole_runs (Text number characters) indexes place base held s stands good well based deep =
       let codes_long = length-map characters.items (λ x. instr.LoadConstant (pos x)) in
       let e : place + length characters.items ≡ place + length (map (λ x. instr.LoadConstant (pos x)) characters.items) = omega arith in
       let full = based.full in
@@ -382,7 +392,7 @@ module _ (g : Setting) where
       (pushes_row 0 _ base held (place + length characters.items) (length characters.items) ns (entered g number s)
       (record { full = based.full; alike = based.alike }) pushed (length-map characters.items pos)
       (characters_fit characters.items (and_parts (nat_le (length characters.items) 65536) (list_all is_character characters.items) well).1))
-  whole_runs (VariableOf access type_id cells defined) indexes place base held s stands wells well based deep =
+  whole_runs (VariableOf access type_id cells defined) indexes place base held s stands good well based deep =
       let wanted : TypeId → Bool = λ id. is_same id type_id && not (is_ordinal g.tree.types id) in
       let parts = and_parts (leads_to_whole g.tree.variables.items g.tree.types (sites g) type_id access.root access.selectors.items
       (length (expressions g indexes))) (is_value_of g.tree.variables.items g.tree.types (sites g) type_id cells && nat_lt defined (sites g)) well in
@@ -404,7 +414,7 @@ module _ (g : Setting) where
       let e : place + length c + 1 + 1 ≡ place + length (c ++ load) = omega (arith, length-append c load) in
       let next : Option Place → Action (List ℤ) = λ q. fetch_all q (components_of g.environment.types type_id) defined in
       let next' : Option Place → Action (List ℤ) = λ q. fetch_all q (components_of g.tree.types type_id) defined in
-      let addressed = address_runs g rest indexes (access_offset g.scope access) start.there start.its led_to.last start.part start.ends start.well wells
+      let addressed = address_runs g rest indexes (access_offset g.scope access) start.there start.its led_to.last start.part start.ends start.well good
       (led_to.counts ∙ sym start.counts) place base held (entered g access.number s) (stands_front g.target place c load stands)
       (record { full = based.full; alike = based.alike }) (omega arith) in
       subst (λ r. Pushes s.turns (on g (base ++ held) place s.output) held (place + length (c ++ load)) cells (effect.and_then r next))
