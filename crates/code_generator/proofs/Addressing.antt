@@ -121,7 +121,7 @@ module _ (frame limit size : ℕ) where
     -- ---- rows
 
     -- so many cells from an address on
-    row_place_is : (address more : ℕ) → address + suc more ≤ length below → row_place (pos address) (suc more) (length below) ≡ Ok address
+    pub row_place_is : (address more : ℕ) → address + suc more ≤ length below → row_place (pos address) (suc more) (length below) ≡ Ok address
     row_place_is address more h =
         ap (λ r. r >>= λ place. in_use (place + more) (length below) >>= λ _. Ok place) (in_use_is frame limit size address (length below) (omega arith))
         ∙ ap (λ r. r >>= λ _. Ok address) (in_use_is frame limit size (address + more) (length below) (omega arith))
@@ -162,10 +162,7 @@ module _ (frame limit size : ℕ) where
         ap (λ r. r >>= λ _. Ok (list_all is_defined (drop (length cells - n) cells))) (has_some frame limit size n cells (omega arith))
         ∙ ap (λ m. Ok (list_all is_defined (drop m cells))) start ∙ ap (λ cs. Ok (list_all is_defined cs)) (drop-append_seam below row)
 
-    -- a row and the address below it are popped, and the row is stored from there on
-    stored_row : (new : List Cell) (n address : ℕ) → Frames → ℕ → Attempt Frames
-    stored_row new n address s place = Ok (with_row place (row n n s) (popped (n + 1) s))
-
+    -- a row and the address below it are popped, and the row is stored from a place on
     module _ (new : List Cell) (n address : ℕ) (long : length new ≡ n) where
       abbrev above : List Cell
       above = (below ++ Number (pos address) ∷ []) ++ new
@@ -187,7 +184,7 @@ module _ (frame limit size : ℕ) where
           row_place a n (length (popped (n + 1) (framed frame limit size above)).cells) >>= λ place. Ok
           (with_row place (row n n (framed frame limit size above)) (popped (n + 1) (framed frame limit size above)))
 
-      stores_at : (place : ℕ) → row_place (pos address) n (length below) ≡ Ok place
+      pub stores_at : (place : ℕ) → row_place (pos address) n (length below) ≡ Ok place
           → store_many n (framed frame limit size above) ≡ Ok (framed frame limit size (take place below ++ new ++ drop (place + length new) below))
       stores_at place at =
           let s = framed frame limit size above in

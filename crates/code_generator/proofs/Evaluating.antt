@@ -1,4 +1,5 @@
--- What is shown of the code of an expression: it leaves the expression's value on top, or stops as the expression does.
+-- What is shown of the code of an expression: it leaves the expression's value on top, or stops as the expression does; and
+-- of a statement: it keeps store and cells alike, or stops as the statement does.
 use Rattle.std.proofs.Common.{◌≡◌, ℕ, ◌+◌, ◌<◌, ◌≤◌, List, [], ◌∷◌, ◌++◌, length, Option, Some, None, refl, sym, append_assoc, Bool, true}
 use Rattle.std.specs.Prelude.{ℤ}
 use Rattle.pcode_assembler.specs.declared.instr.Instr.{Instr}
@@ -10,18 +11,18 @@ use Rattle.meaning.specs.declared.store.Value.{Value}
 use Rattle.meaning.specs.declared.store.Value.TheVariants as value
 use Rattle.meaning.specs.Effect as effect
 use Rattle.meaning.specs.Effect.{fetched}
-use Rattle.meaning.specs.Meaning.{Evaluation, Combination, value_of, link_of}
+use Rattle.meaning.specs.Meaning.{Evaluation, Combination, Execution, value_of, link_of}
 use Rattle.stack_machine.specs.declared.cell.Cell.{Cell}
 use Rattle.stack_machine.specs.declared.cell.Cell.TheVariants.{Undefined, Number}
 use Rattle.stack_machine.specs.Frames as frames
 use Rattle.stack_machine.specs.Machine.{State}
-use Rattle.code_scheme.specs.Code.{expr_code, link_code}
+use Rattle.code_scheme.specs.Code.{Placed, expr_code, link_code}
 use Rattle.code_scheme.specs.Depth.{expr_depth, link_depth}
 use Rattle.code_generator.proofs.Acts.{framed, defines}
 use Rattle.code_generator.proofs.Alike.{cell_of, HasFit}
 use Rattle.code_generator.proofs.Numbers.{Fits}
 use Rattle.code_generator.proofs.Reach.{StandsAt, Stands}
-use Rattle.code_generator.proofs.Setting.{Setting, on, Based, linked, passes, fails, Evaluates, gives}
+use Rattle.code_generator.proofs.Setting.{Setting, on, Based, linked, passes, fails, Evaluates, gives, Executes}
 
 module _ (g : Setting) where
   abbrev pub sites : ℕ
@@ -48,6 +49,13 @@ module _ (g : Setting) where
       (place : ℕ) (base held : List Cell) (a : ℤ) (s : effect.State) → Stands g.target place c → well ≡ true → Based g s.store base
       → g.below + length held + depth ≤ g.limit → Fits a
       → Evaluates g s.turns (on g ((base ++ held) ++ Number a ∷ []) place s.output) held (place + length c) (combination g.environment (value.Number a) s)
+
+  -- the code c of an execution
+  abbrev pub ExecutesAs : Placed → ℕ → Bool → Execution → Type 0
+  ExecutesAs c depth well execution =
+      (place : ℕ) (base held : List Cell) (s : effect.State) → Stands g.target place (c g.scope place) → well ≡ true → Based g s.store base
+      → length held ≡ g.scope.height → g.below + length held + depth ≤ g.limit
+      → Executes g s.turns (on g (base ++ held) place s.output) held (place + length (c g.scope place)) (execution g.environment s)
 
   -- what is shown of an expression, and of an operator and its right operand
   abbrev pub ExprRuns : Expr → Type 0

@@ -36,7 +36,8 @@ use Rattle.code_scheme.specs.Scopes.{access_offset, behind_fields, row_length}
 use Rattle.code_scheme.proofs.Pieces.{start_within}
 use Rattle.code_generator.proofs.Accesses.{Indexes, expressions, wells, codes, depths, PartAt, Addresses, leads, begins, entered, address_runs}
 use Rattle.code_generator.proofs.Acts.{framed, length_one, pushes}
-use Rattle.code_generator.proofs.Addressing.{loads_many, all_defined}
+use Rattle.code_generator.proofs.Addressing.{loads_many, all_defined, row_place_is, stores_at}
+use Rattle.stack_machine.specs.Addresses.{store_many}
 use Rattle.code_generator.proofs.Evaluating.{sites}
 use Rattle.code_generator.proofs.Held.{set_front, scalar_kept}
 use Rattle.code_generator.proofs.Reach.{Stands, StandsAt, stands_front, stands_back, Comes, comes_less, comes_on, stays_here}
@@ -183,6 +184,16 @@ set_row_front xs ys d (c ∷ row) h =
     let long = length-set xs d c in
     ap (λ cells. set_row cells (d + 1) row) (set_front xs ys d c (omega arith)) ∙ set_row_front (slice_set xs d c) ys (d + 1) row (omega arith)
 
+-- a row and the address below it give way to the cells with that row
+pub stores_many : (frame limit size : ℕ) (below : List Cell) (linked : frame + 4 ≤ length below) (new : List Cell) (n d : ℕ) → length new ≡ n
+    → d + n ≤ length below
+    → store_many n (framed frame limit size ((below ++ Number (pos d) ∷ []) ++ new)) ≡ Ok (framed frame limit size (set_row below d new))
+stores_many frame limit size below linked [] zero d long h = stores_at frame limit size below linked [] zero d long 0 refl
+stores_many frame limit size below linked (c ∷ new) zero d long h = absurd (omega arith)
+stores_many frame limit size below linked new (suc more) d long h =
+    stores_at frame limit size below linked new (suc more) d long d (row_place_is frame limit size below linked d more h)
+    ∙ ap (λ cs. Ok (framed frame limit size cs)) (sym (set_row_is below d new (omega arith)))
+
 -- the store after numbers were written to the components of a place
 abbrev pub stored_all : meant.Store → Place → List Steps → List ℤ → meant.Store
 stored_all store p [] ns = store
@@ -304,7 +315,7 @@ module _ (g : Setting) where
       (fits_by_abs (pos c) (omega arith), characters_fit characters parts.1)
 
   -- what is known of the type of a whole value
-  same_type : (t type_id : TypeId) → is_same t type_id ≡ true → t ≡ type_id
+  pub same_type : (t type_id : TypeId) → is_same t type_id ≡ true → t ≡ type_id
   same_type t type_id e = ap (λ n. record { index = n }) (eqb-true t.index type_id.index e)
 
   -- the cells from the address of a part on, and their check
