@@ -398,9 +398,10 @@ module _ (g : Setting) where
     pub meant : (evaluations : List Evaluation) (s : effect.State) → meaning.accessed access evaluations g.environment s
         ≡ selected (behind_fields access.selectors.items) evaluations g.environment (Some there) (entered access.number s)
 
-  pub begins : (access : Access) (wanted : TypeId → Bool) (indexes : ℕ) → g.below ≤ 16777215
+  pub begins : (access : Access) (wanted : TypeId → Bool) (indexes : ℕ)
       → (l : Leads wanted access.root access.selectors.items indexes) → Begins access l.last
-  begins access wanted indexes small l =
+  begins access wanted indexes l =
+      let small = g.near in
       let selectors = access.selectors.items in
       let ends = g.ends access.root l.variable l.declared in
       let above = g.above_is in

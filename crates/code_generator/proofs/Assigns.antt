@@ -9,6 +9,7 @@ use Rattle.std.proofs.lemmas.Option.{same_Some}
 use Rattle.pcode_assembler.specs.declared.instr.Instr.{Instr}
 use Rattle.pcode_assembler.specs.declared.instr.Instr.TheVariants as instr
 use Rattle.place.specs.declared.Place.{Place as SourcePlace}
+use Rattle.types.specs.declared.form.TypeForm.{TypeForm}
 use Rattle.types.specs.declared.form.TypeId.{TypeId}
 use Rattle.types.specs.Components.{components_of}
 use Rattle.types.specs.Types.{cells_of, have_one_length, is_assignable, is_ordinal, is_same, string_length}
@@ -160,3 +161,153 @@ module _ (g : Setting) where
         (sym (one_held g base2 held (pos d)))
         (done g 1 _ (slice_set base2 d (Number n)) held end (record t { store = kept t.store (Some p) (value.Number n) })
         (record { full = kept_base.full; alike = kept_base.alike }) stored)))))
+
+  -- an assignment to an ordinal
+  module _ (number : ℕ) (target : Access) (fits : RangeTest) (v : Expr) where
+    abbrev AssignRuns : List Expr → Type 0
+    AssignRuns es =
+        ExecutesAs g (λ scope place. store_at (access_offset scope target) (behind_fields target.selectors.items) (map (expr_code scope) es)
+        (expr_code scope v ++ (range_check fits ∷ [])))
+        (store_depth (behind_fields target.selectors.items) (map expr_depth es) (expr_depth v))
+        (all_hold (map (is_well_formed_expr g.tree.variables.items g.tree.types (sites g)) es)
+        && (leads_to_ordinal g.tree.variables.items g.tree.types (sites g) target.root target.selectors.items (length es)
+        && (is_well_formed_expr g.tree.variables.items g.tree.types (sites g) v && is_well_formed_test g.tree.variables.items g.tree.types (sites g) fits)))
+        (λ env. effect.enter number env >>= λ _. accessed target (map value_of es) env >>= λ q. value_of v env >>= λ w.
+        require (effect.is_in fits.range w) fits.site >>= λ _. effect.store q w)
+
+    assigned : (indexes : Indexes g) → AssignRuns (expressions g indexes)
+    assigned indexes place base held s stands good based high deep =
+        let count = length (expressions g indexes) in
+        let one = and_parts (are_well_formed_indexes g indexes) (leads_to_ordinal g.tree.variables.items g.tree.types (sites g) target.root target.selectors.items
+        count && (is_well_formed_expr g.tree.variables.items g.tree.types (sites g) v && is_well_formed_test g.tree.variables.items g.tree.types (sites g) fits))
+        good in
+        let two = and_parts (leads_to_ordinal g.tree.variables.items g.tree.types (sites g) target.root target.selectors.items count)
+        (is_well_formed_expr g.tree.variables.items g.tree.types (sites g) v && is_well_formed_test g.tree.variables.items g.tree.types (sites g) fits) one.1 in
+        let three = and_parts (is_well_formed_expr g.tree.variables.items g.tree.types (sites g) v)
+        (is_well_formed_test g.tree.variables.items g.tree.types (sites g) fits) two.1 in
+        let site_within = ltb-true fits.site (sites g) (and_parts (nat_lt fits.site (sites g)) (is_whole fits.range.first && is_whole fits.range.last) three.1).0 in
+        let led_to = leads g (is_ordinal g.tree.types) target.root target.selectors.items count two.0 in
+        let start = begins g target (is_ordinal g.tree.types) count led_to in
+        let s2 = entered g target.number (entered g number s) in
+        let c = store_at (access_offset g.scope target) (behind_fields target.selectors.items) (codes g indexes) (expr_code g.scope v ++ (range_check fits ∷ [])) in
+        let next : Option Place → Action (Unit {0}) = λ q. value_of v g.environment >>= λ w. require (effect.is_in fits.range w) fits.site >>= λ _. effect.store q w
+        in
+        subst (λ r. Executes g s.turns (on g (base ++ held) place s.output) held (place + length c) (effect.and_then r next))
+        (sym (start.meant (map value_of (expressions g indexes)) (entered g number s)))
+        (store_runs v fits three.0 site_within (behind_fields target.selectors.items) indexes (access_offset g.scope target) start.there start.its led_to.last place
+        base held s2 start.part start.ends led_to.is_wanted start.well one.0 (led_to.counts ∙ sym start.counts) stands
+        (record { full = based.full; alike = based.alike }) deep)
+
+    pub assign_runs : (es : List Expr) → AssignRuns es
+    assign_runs es = subst AssignRuns (told_back es) (assigned (told es))
+
+  -- ---- whole values
+
+  -- a value is copied to as many cells as it has
+  copied_cells : (target : TypeId) (o : Option TypeId) (cells : ℕ) → may_copy g.tree.variables.items g.tree.types (sites g) target o cells ≡ true
+      → cells_of g.tree.types target ≡ cells
+  copied_cells target None cells e =
+      let parts = and_parts (have_one_length (string_length g.tree.types target) (Some cells)) (nat_eq (cells_of g.tree.types target) cells) e in
+      eqb-true (cells_of g.tree.types target) cells parts.1
+  copied_cells target (Some type_id) cells e =
+      let parts = and_parts (is_assignable g.tree.types target type_id) (nat_eq (cells_of g.tree.types target) cells) e in
+      eqb-true (cells_of g.tree.types target) cells parts.1
+
+  -- a row gives way to the components that got it
+  row_stored : (p : Place) (type_id : TypeId) (d count place : ℕ) (base held : List Cell) (ns : List ℤ) (s : effect.State) → PartAt g p type_id d
+      → cells_of g.tree.types type_id ≡ count → length ns ≡ count → AllFit ns → Stands g.target place (instr.StoreMany count ∷ []) → Based g s.store base
+      → Executes g s.turns (on g (((base ++ held) ++ Number (pos d) ∷ []) ++ number_cells ns) place s.output) held (place + 1)
+      (store_all (Some p) (components_of g.tree.types type_id) ns s)
+  row_stored p type_id d count place base held ns s part cells long fit stands based =
+      let below = base ++ held in
+      let components = components_of g.tree.types type_id in
+      let row = number_cells ns in
+      let wide = length-cells_of ns in
+      let high = length-append base held in
+      let inside = part.within in
+      let full = based.full in
+      let many = length_components g.tree.types type_id in
+      let kept_base = row_kept g p components d ns s.store base part.from.each (omega arith) fit based in
+      let stored = acts g (instr.StoreMany count) ((below ++ Number (pos d) ∷ []) ++ row) (set_row base d row ++ held) place s.output _ stands.0 refl
+      (stores_many g.running.frame g.limit g.size below (linked g s.store base held based) row count d (omega arith) (omega arith)
+      ∙ ap (λ cs. Ok (frames_of g cs)) (set_row_front base held d row (omega arith))) in
+      subst (λ r. Executes g s.turns (on g ((below ++ Number (pos d) ∷ []) ++ row) place s.output) held (place + 1) r) (sym (store_all_is p components ns s))
+      (done g 1 _ (set_row base d row) held (place + 1) (record s { store = stored_all s.store p components ns })
+      (record { full = kept_base.full; alike = kept_base.alike }) stored)
+
+  -- an assignment of a whole value
+  module _ (number : ℕ) (target : Access) (type_id : TypeId) (v : Whole) where
+    abbrev wanted : TypeId → Bool
+    wanted id = is_same id type_id && not (is_ordinal g.tree.types id)
+
+    abbrev CopyRuns : List Expr → List Expr → Type 0
+    CopyRuns es vs =
+        ExecutesAs g (λ scope place. address_code scope target (map (expr_code scope) es)
+        ++ (whole_code scope v (map (expr_code scope) vs) ++ (instr.StoreMany (row_length (length_of v)) ∷ [])))
+        (max (access_depth (map expr_depth es)) (whole_depth v (map expr_depth vs) + 1))
+        (all_hold (map (is_well_formed_expr g.tree.variables.items g.tree.types (sites g)) es)
+        && (leads_to_whole g.tree.variables.items g.tree.types (sites g) type_id target.root target.selectors.items (length es)
+        && ((all_hold (whole_indexes v (map (is_well_formed_expr g.tree.variables.items g.tree.types (sites g)) vs))
+        && is_well_formed_whole g.tree.variables.items g.tree.types (sites g) v (length vs))
+        && may_copy g.tree.variables.items g.tree.types (sites g) type_id (type_of v) (length_of v))))
+        (λ env. effect.enter number env >>= λ _. accessed target (map value_of es) env >>= λ q. whole_of v (map value_of vs) env >>= λ ns.
+        store_all q (components_of env.types type_id) ns)
+
+    copied : (indexes value_indexes : Indexes g) → CopyRuns (expressions g indexes) (expressions g value_indexes)
+    copied indexes value_indexes place base held s stands good based high deep =
+        let count = length (expressions g indexes) in
+        let n = length_of v in
+        let wf_value = all_hold (whole_indexes v (wells g value_indexes))
+        && is_well_formed_whole g.tree.variables.items g.tree.types (sites g) v (length (expressions g value_indexes)) in
+        let may = may_copy g.tree.variables.items g.tree.types (sites g) type_id (type_of v) n in
+        let one = and_parts (are_well_formed_indexes g indexes)
+        (leads_to_whole g.tree.variables.items g.tree.types (sites g) type_id target.root target.selectors.items count && (wf_value && may)) good in
+        let two = and_parts (leads_to_whole g.tree.variables.items g.tree.types (sites g) type_id target.root target.selectors.items count) (wf_value && may) one.1
+        in
+        let three = and_parts wf_value may two.1 in
+        let four = and_parts (all_hold (whole_indexes v (wells g value_indexes)))
+        (is_well_formed_whole g.tree.variables.items g.tree.types (sites g) v (length (expressions g value_indexes))) three.0 in
+        let cells = copied_cells type_id (type_of v) n three.1 in
+        let same : n ≡ row_length n = few_components g v (length (expressions g value_indexes)) four.1 in
+        let more = start_within 1 (map (λ i. i + 1) (depths g indexes)) in
+        let far = g.far in
+        let led_to = leads g wanted target.root target.selectors.items count two.0 in
+        let its = same_type g led_to.last type_id (and_parts (is_same led_to.last type_id) (not (is_ordinal g.tree.types led_to.last)) led_to.is_wanted).0 in
+        let start = begins g target wanted count led_to in
+        let rest = behind_fields target.selectors.items in
+        let c = address_code g.scope target (codes g indexes) in
+        let d = whole_code g.scope v (codes g value_indexes) in
+        let store = instr.StoreMany (row_length n) ∷ [] in
+        let behind = stands_back g.target place c (d ++ store) stands in
+        let from = place + length c in
+        let there = from + length d in
+        let storing = subst (λ k. Stands g.target there (instr.StoreMany k ∷ [])) (sym same) (stands_back g.target from d store behind) in
+        let e : there + 1 ≡ place + length (c ++ (d ++ store)) = omega (arith, length-append c (d ++ store), length-append d store) in
+        let s2 = entered g target.number (entered g number s) in
+        let meant = selected rest (map value_of (expressions g indexes)) g.environment (Some start.there) s2 in
+        let next : List TypeForm → Option Place → Action (Unit {0}) = λ types q.
+        whole_of v (map value_of (expressions g value_indexes)) g.environment >>= λ ns. store_all q (components_of types type_id) ns in
+        subst (λ r. Executes g s.turns (on g (base ++ held) place s.output) held (place + length (c ++ (d ++ store)))
+        (effect.and_then r (next g.environment.types))) (sym (start.meant (map value_of (expressions g indexes)) (entered g number s)))
+        (subst (λ types. Executes g s.turns (on g (base ++ held) place s.output) held (place + length (c ++ (d ++ store))) (effect.and_then meant (next types)))
+        (sym g.types_are)
+        (subst (λ q. Executes g s.turns (on g (base ++ held) place s.output) held q (effect.and_then meant (next g.tree.types))) e
+        (address_executes g s.turns _ held held from (there + 1) led_to.last meant (next g.tree.types)
+        (address_runs g rest indexes (access_offset g.scope target) start.there start.its led_to.last start.part start.ends start.well one.0
+        (led_to.counts ∙ sym start.counts) place base held s2 (stands_front g.target place c (d ++ store) stands)
+        (record { full = based.full; alike = based.alike }) (omega arith))
+        (λ base1 a p s1 based1 part1 room1.
+        let above = held ++ Number (pos a) ∷ [] in
+        let taller = length_one held (Number (pos a)) in
+        let part = subst (λ t. PartAt g p t a) its part1 in
+        subst (λ cs. Executes g s1.turns (on g cs from s1.output) held (there + 1) (next g.tree.types (Some p) s1)) (one_held g base1 held (pos a))
+        (row_executes g s1.turns _ above held there (there + 1) n (whole_of v (map value_of (expressions g value_indexes)) g.environment s1)
+        (λ ns. store_all (Some p) (components_of g.tree.types type_id) ns)
+        (whole_runs g v value_indexes from base1 above s1 (stands_front g.target from d store behind) four.0 four.1 based1 (omega arith))
+        (λ base2 ns t based2 long fit.
+        subst (λ cs. Executes g t.turns (on g (cs ++ number_cells ns) there t.output) held (there + 1)
+        (store_all (Some p) (components_of g.tree.types type_id) ns t)) (sym (one_held g base2 held (pos a)))
+        (row_stored p type_id a n there base2 held ns t part cells long fit storing based2)))))))
+
+    pub copy_runs : (es vs : List Expr) → CopyRuns es vs
+    copy_runs es vs = subst (λ xs. CopyRuns xs vs) (told_back es) (subst (λ xs. CopyRuns (expressions g (told es)) xs) (told_back vs) (copied (told es) (told vs)))

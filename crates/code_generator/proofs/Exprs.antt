@@ -93,14 +93,11 @@ module _ (g : Setting) where
       && nat_lt defined (sites g)))
       (λ env. meaning.accessed access (map value_of (expressions g indexes)) env >>= λ q. fetch q defined)
   variable_runs access indexes defined place base held s stands good based room =
-      let more = start_within 1 (map (λ i. i + 1) (depths g indexes)) in
-      let far = g.far in
-      let small : g.below ≤ 16777215 = omega arith in
       let parts = and_parts _ _ good in
       let parts' = and_parts _ _ parts.1 in
       let led_to = leads g (is_ordinal types) access.root access.selectors.items (length (expressions g indexes))
       (subst (λ k. leads_to_ordinal variables types (sites g) access.root access.selectors.items k ≡ true) (as_many_wells g indexes) parts'.0) in
-      let start = begins g access (is_ordinal g.tree.types) (length (expressions g indexes)) small led_to in
+      let start = begins g access (is_ordinal g.tree.types) (length (expressions g indexes)) led_to in
       subst (λ r. Evaluates g s.turns (on g (base ++ held) place s.output) held (place + length (variable_code g.scope access (codes g indexes) defined))
       (effect.and_then r (λ q. fetch q defined))) (sym (start.meant (map value_of (expressions g indexes)) s))
       (fetch_runs g (behind_fields access.selectors.items) indexes (access_offset g.scope access) start.there start.its led_to.last defined place base held

@@ -57,8 +57,9 @@ pub record Setting : Type 0 where
   pub environment : Environment
   -- where the cells begin that are held
   pub above_is : below ≡ running.frame + scope.above
-  -- an offset reaches each cell
+  -- an offset reaches each cell, and the first above the variables
   pub far : limit ≤ 16777216
+  pub near : below ≤ 16777215
   -- until routines come, it is the program's block
   pub outermost : running.outer ≡ None
   pub types_are : environment.types ≡ tree.types

@@ -416,7 +416,7 @@ module _ (g : Setting) where
       let far = g.far in
       let led_to = leads g wanted access.root access.selectors.items (length (expressions g indexes)) parts.0 in
       let its = same_type led_to.last type_id (and_parts (is_same led_to.last type_id) (not (is_ordinal g.tree.types led_to.last)) led_to.is_wanted).0 in
-      let start = begins g access wanted (length (expressions g indexes)) (omega arith) led_to in
+      let start = begins g access wanted (length (expressions g indexes)) led_to in
       let rest = behind_fields access.selectors.items in
       let c = address_code g.scope access (codes g indexes) in
       let load = instr.LoadMany (row_length cells) ∷ instr.CheckDefined defined (row_length cells) ∷ [] in
