@@ -141,7 +141,3 @@ order_fits (a ∷ left) (b ∷ right) = order_fits_by (int_lt a b) (int_lt b a) 
 pub same_byte : (n : ℤ) → Fits n → texts.byte_of n ≡ meant.byte_of n
 same_byte (pos n) h = refl
 same_byte (negsuc n) h = let e = h.is in let f : n < 2147483648 = grind (arith, ints) in omega arith
-
-pub same_bytes : (characters : List ℕ) → map texts.byte_of (map pos characters) ≡ map meant.byte_of (map pos characters)
-same_bytes [] = refl
-same_bytes (c ∷ characters) = ap (λ bytes. texts.byte_of (pos c) ∷ bytes) (same_bytes characters)

@@ -30,6 +30,8 @@ use Rattle.stack_machine.specs.declared.cell.Cell.{Cell}
 use Rattle.stack_machine.specs.declared.cell.Cell.TheVariants.{Undefined, Number}
 use Rattle.stack_machine.specs.Frames.{is_defined}
 use Rattle.stack_machine.specs.Machine.{State}
+use Rattle.stack_machine.specs.Texts as texts
+use Rattle.meaning.specs.Integers as integers
 use Rattle.code_scheme.specs.Code.{address_code, whole_code}
 use Rattle.code_scheme.specs.Depth.{whole_depth}
 use Rattle.code_scheme.specs.Scopes.{access_offset, behind_fields, row_length}
@@ -45,12 +47,17 @@ use Rattle.code_generator.proofs.Setting.{Setting, on, Based, linked, acts, pass
 use Rattle.code_generator.proofs.Alike.{LiesIn, World, cell_of, HasFit, alike_above}
 use Rattle.code_generator.proofs.Numbers.{Fits, fits_by_abs}
 use Rattle.code_generator.proofs.Parts.{inner}
-use Rattle.code_generator.proofs.Rows.{cells_of as number_cells, length-cells_of}
+use Rattle.code_generator.proofs.Rows.{cells_of as number_cells, length-cells_of, same_byte}
 
 -- numbers of type integer
 abbrev pub AllFit : List ℤ → Type 0
 AllFit [] = Unit {0}
 AllFit (n ∷ ns) = Fits n × AllFit ns
+
+-- their bytes
+pub fitting_bytes : (ns : List ℤ) → AllFit ns → map texts.byte_of ns ≡ map integers.byte_of ns
+fitting_bytes [] fit = refl
+fitting_bytes (n ∷ ns) fit = ap (λ b. b ∷ map texts.byte_of ns) (same_byte n fit.0) ∙ ap (λ bs. integers.byte_of n ∷ bs) (fitting_bytes ns fit.1)
 
 -- ---- rows in a list of cells
 
