@@ -1,8 +1,9 @@
-ghost use Rattle.std.specs.Prelude.{◌≡◌, ◌<◌, ◌↔◌, true, length, IfOk};
+ghost use Rattle.std.specs.Prelude.{◌≡◌, ◌↔◌, true, IfOk};
 ghost use Rattle.std.specs.List.{list_all};
 ghost use Rattle.pcode_assembler.specs.Bounds.{in_bounds};
 ghost use Rattle.code_scheme.specs.Code.{program_code};
 ghost use Rattle.code_generator.specs.Follows.{Follows};
+ghost use Rattle.code_generator.specs.Large.{frame_cells, is_too_large};
 ghost use Rattle.code_generator.specs.Tables.{point_table, site_table};
 ghost use Rattle.typed_tree.specs.WellFormed.{IsWellFormed};
 
@@ -10,15 +11,19 @@ use crate::fault::GenFault;
 use crate::tables::{points_of, sites_of};
 use code_emitter::program::instructions_of;
 use pcode_assembler::code::Code;
+use pcode_assembler::instr::Instr;
 use std::alloc::Global;
 use typed_tree::tree::Tree;
+
+/// The most cells of a machine.
+const MOST_CELLS: u64 = 16777216;
 
 /// The code of the program: its instructions, and the tables of the tree's sites and points. Each check has its site,
 /// and the text of a code has room for each operand. For every input and every number of cells the code follows the
 /// program, if the tree is well formed.
 pub fn generate(alloc: Global, tree: &Tree) -> Result<Code, GenFault>
     ensures instructions { IfOk result (λ code. code.instructions.items ≡ program_code tree.now) }
-    ensures too_large { (result ≡ Err GenFault.TooLarge) ↔ (1000000 < length (program_code tree.now)) }
+    ensures too_large { (result ≡ Err GenFault.TooLarge) ↔ (is_too_large (program_code tree.now) ≡ true) }
     ensures in_bounds { IfOk result (λ code. list_all in_bounds code.instructions.items ≡ true) }
     ensures sites { IfOk result (λ code. code.sites.items ≡ site_table tree.now.sites.items) }
     ensures points { IfOk result (λ code. code.points.items ≡ point_table tree.now.points.items) }
@@ -27,9 +32,22 @@ pub fn generate(alloc: Global, tree: &Tree) -> Result<Code, GenFault>
     let Some(instructions) = instructions_of(alloc, tree)? else {
         return Err(GenFault::TooLarge);
     };
+    if first_frame(instructions.as_slice()) > MOST_CELLS {
+        return Err(GenFault::TooLarge);
+    }
     Ok(Code {
         sites: sites_of(alloc, tree.sites.as_slice())?,
         points: points_of(alloc, tree.points.as_slice())?,
         instructions,
     })
+}
+
+// How many cells the frame has that the code opens first.
+fn first_frame(instructions: &[Instr]) -> u64
+    ensures { result ≡ frame_cells instructions.now }
+{
+    match instructions.first() {
+        Some(Instr::Enter { variables, evaluation }) => 4 + u64::from(*variables) + u64::from(*evaluation),
+        _ => 0,
+    }
 }
