@@ -180,7 +180,7 @@ store_at start [] indexes value = value ++ (instr.Store 0 start ∷ [])
 store_at start (selector ∷ selectors) indexes value =
     address_at start (selector ∷ selectors) indexes ++ (value ++ (instr.StoreIndirect ∷ []))
 
--- the code of an assignment (6.8.2.2): the target's address, if an index leads to it; the value, its check, and the store
+-- the code of an assignment (6.8.2.2): the target's address, if an index leads to it; the value, its check, its store
 abbrev pub assign_code : Scope → Access → List Expr → RangeTest → Expr → List Instr
 assign_code scope target indexes fits value =
     store_at (access_offset scope target) (behind_fields target.selectors.items) (index_codes scope indexes)

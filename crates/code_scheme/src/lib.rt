@@ -2,4 +2,7 @@
 //! cells it needs, and where variables lie.
 #![tactic(auto)]
 
+pub mod depth;
+pub mod frame;
 pub mod scope;
+pub mod size;
