@@ -10,13 +10,12 @@ ghost use Rattle.typed_tree.specs.WellFormed.{IsWellFormed};
 use crate::fault::GenFault;
 use crate::tables::{points_of, sites_of};
 use code_emitter::program::instructions_of;
+use code_scheme::depth::needed_by;
+use code_scheme::frame::variable_count;
+use code_scheme::scope::{LINKS, MOST_CELLS};
 use pcode_assembler::code::Code;
-use pcode_assembler::instr::Instr;
 use std::alloc::Global;
 use typed_tree::tree::Tree;
-
-/// The most cells of a machine.
-const MOST_CELLS: u64 = 16777216;
 
 /// The code of the program: its instructions, and the tables of the tree's sites and points. Each check has its site,
 /// and the text of a code has room for each operand. For every input and every number of cells the code follows the
@@ -29,12 +28,12 @@ pub fn generate(alloc: Global, tree: &Tree) -> Result<Code, GenFault>
     ensures points { IfOk result (λ code. code.points.items ≡ point_table tree.now.points.items) }
     ensures follows { IfOk result (λ code. IsWellFormed tree.now → Follows code tree.now) }
 {
+    if first_frame(tree) > MOST_CELLS {
+        return Err(GenFault::TooLarge);
+    }
     let Some(instructions) = instructions_of(alloc, tree)? else {
         return Err(GenFault::TooLarge);
     };
-    if first_frame(instructions.as_slice()) > MOST_CELLS {
-        return Err(GenFault::TooLarge);
-    }
     Ok(Code {
         sites: sites_of(alloc, tree.sites.as_slice())?,
         points: points_of(alloc, tree.points.as_slice())?,
@@ -42,12 +41,13 @@ pub fn generate(alloc: Global, tree: &Tree) -> Result<Code, GenFault>
     })
 }
 
-// How many cells the frame has that the code opens first.
-fn first_frame(instructions: &[Instr]) -> u64
-    ensures { result ≡ frame_cells instructions.now }
+// How many cells the frame has that the code of the program opens first.
+fn first_frame(tree: &Tree) -> u32
+    ensures { result ≡ frame_cells (program_code tree.now) }
 {
-    match instructions.first() {
-        Some(Instr::Enter { variables, evaluation }) => 4 + u64::from(*variables) + u64::from(*evaluation),
-        _ => 0,
-    }
+    let evaluation = match tree.blocks.first() {
+        Some(program) => needed_by(&program.body).min(MOST_CELLS),
+        None => 0,
+    };
+    LINKS + variable_count(tree) + evaluation
 }
