@@ -1,5 +1,6 @@
 -- The code of an access: it leaves the address of the part that selectors lead to on top, or stops as an index does.
-use Rattle.std.proofs.Common.{◌≡◌, ℕ, zero, suc, ◌+◌, ◌-◌, ◌*◌, ◌<◌, ◌≤◌, max, List, [], ◌∷◌, ◌++◌, length, map, Option, Some, None, Ok, refl, sym, ap, ◌∙◌, subst}
+use Rattle.std.proofs.Common.{◌≡◌, ℕ, zero, suc, ◌+◌, ◌-◌, ◌*◌, ◌<◌, ◌≤◌, max, List, [], ◌∷◌, ◌++◌, length, map, Option, Some, None, Ok, refl, sym, ap, ◌∙◌}
+use Rattle.std.proofs.Common.{subst}
 use Rattle.std.proofs.Common.{arith, length-append, Bool, true, false}
 use Rattle.std.specs.Prelude.{ℤ, pos, negsuc, ◌-ℤ◌, ◌≤ℤ◌, int_le, ◌&&◌, fold, nat_lt, slice_get}
 use Rattle.std.specs.List.{list_all}
@@ -47,7 +48,8 @@ use Rattle.code_generator.proofs.Evaluating.{ExprRuns, fetched_runs, frames_of, 
 use Rattle.code_generator.proofs.Numbers.{Fits, same_range}
 use Rattle.code_generator.proofs.Parts.{inner, IsPart, IsElement, element_part, field_part, is_element, is_field_of, led_on, ordinal_part, variable_part}
 use Rattle.code_generator.proofs.Reach.{Stands, StandsAt, stands_front, stands_back, Comes, comes_less, comes_on, stays_here}
-use Rattle.code_generator.proofs.Setting.{Setting, on, Based, linked, Here, acts, passes, fails, Ends, ends_on, Evaluates, evaluates_on, evaluates_from, Executes, executes_on}
+use Rattle.code_generator.proofs.Setting.{Setting, on, Based, linked, Here, acts, passes, fails, Ends, ends_on, Evaluates, evaluates_on, evaluates_from}
+use Rattle.code_generator.proofs.Setting.{Executes, executes_on}
 
 -- how far a number lies above another
 counted : (z : ℤ) → pos 0 ≤ℤ z → (n : ℕ) × (pos n ≡ z)
@@ -153,9 +155,11 @@ module _ (g : Setting) where
   field_steps zero place d base held s stands based room within =
       let here : place ≡ place + 0 = omega arith in
       let at : d ≡ d + 0 = omega arith in
-      subst (λ q. Comes g.target 0 (on g ((base ++ held) ++ Number (pos d) ∷ []) place s.output) (on g ((base ++ held) ++ Number (pos (d + 0)) ∷ []) q s.output))
+      subst (λ q. Comes g.target 0 (on g ((base ++ held) ++ Number (pos d) ∷ []) place s.output) (on g ((base ++ held) ++ Number (pos
+      (d + 0)) ∷ []) q s.output))
       here
-      (subst (λ e. Comes g.target 0 (on g ((base ++ held) ++ Number (pos d) ∷ []) place s.output) (on g ((base ++ held) ++ Number (pos e) ∷ []) place s.output)) at
+      (subst (λ e. Comes g.target 0 (on g ((base ++ held) ++ Number (pos d) ∷ []) place s.output) (on g ((base ++ held) ++ Number
+      (pos e) ∷ []) place s.output)) at
       (stays_here g.target _))
   field_steps (suc n) place d base held s stands based room within =
       let full = based.full in
@@ -189,8 +193,7 @@ module _ (g : Setting) where
       (subst (λ z. index ≤ℤ z) e.last high) n (counts ∙ ap (λ z. index -ℤ z) e.first) whole in
       let few = lies.few in
       let same = element_cells g.tree.types t e.element e.found in
-      let as_told = e.cells_are in
-      (
+      let as_told = e.cells_are in (
         subst (λ k. PartAt (inner p (step.Element index ∷ [])) part (d + n * k)) (sym e.cells_are)
             (subst (λ u. PartAt (inner p (step.Element index ∷ [])) u (d + n * e.element.cells)) e.type_is lies),
         omega arith,
@@ -209,7 +212,8 @@ module _ (g : Setting) where
   -- what is shown of the code of selectors over an address, from some depth on
   abbrev SelectorsRun : List Selector → Indexes → Type 0
   SelectorsRun selectors indexes =
-      (depth place d : ℕ) (base held : List Cell) (p : Place) (t last : TypeId) (s : effect.State) → Stands g.target place (selectors_code selectors (codes indexes))
+      (depth place d : ℕ) (base held : List Cell) (p : Place) (t last : TypeId) (s : effect.State) → Stands g.target place (selectors_code selectors
+      (codes indexes))
       → are_well_formed_indexes indexes ≡ true → are_selectors selectors ≡ true → length (expressions indexes) ≡ index_count selectors
       → led g.tree.types selectors t ≡ Some last → PartAt p t d → Based g s.store base
       → g.below + length held + fold max depth (map (λ i. i + 1) (depths indexes)) ≤ g.limit → g.below + length held < g.limit
@@ -221,14 +225,16 @@ module _ (g : Setting) where
       (p : Place) (t part last : TypeId) (s : effect.State) → (int_le fits.range.first n && int_le n fits.range.last) ≡ good → SelectorsRun selectors indexes
       → Stands g.target place (range_check fits ∷ instr.IndexAddress fits.range.first (row_length cells) ∷ selectors_code selectors (codes indexes))
       → are_well_formed_indexes indexes ≡ true → is_well_formed_test g.tree.variables.items g.tree.types (sites g) fits ≡ true → are_selectors selectors ≡ true
-      → length (expressions indexes) ≡ index_count selectors → chosen g.tree.types (Element fits cells) t ≡ Some part → led g.tree.types selectors part ≡ Some last
+      → length (expressions indexes) ≡ index_count selectors → chosen g.tree.types (Element fits cells) t ≡ Some part
+      → led g.tree.types selectors part ≡ Some last
       → PartAt p t d → Based g s.store base → g.below + length held + fold max depth (map (λ i. i + 1) (depths indexes)) ≤ g.limit
       → g.below + length held < g.limit → Fits n
       → Addresses s.turns (on g (((base ++ held) ++ Number (pos d) ∷ []) ++ Number n ∷ []) place s.output) held
       (place + 1 + 1 + length (selectors_code selectors (codes indexes))) last
       (effect.and_then (require good fits.site s) (λ _. selected selectors (map value_of (expressions indexes)) g.environment
       (Some (inner p (step.Element n ∷ [])))))
-  indexed_by true fits cells selectors indexes depth place d base held n p t part last s holds runs stands wells test well counts is ends whole based deep room fit =
+  indexed_by true fits cells selectors indexes depth place d base held n p t part last s holds runs stands wells test well counts is ends whole based deep
+      room fit =
       let below = base ++ held in
       let one = below ++ Number (pos d) ∷ [] in
       let both = and_parts (int_le fits.range.first n) (int_le n fits.range.last) holds in
@@ -252,23 +258,28 @@ module _ (g : Setting) where
       (ap (λ size. on_two (element fits.range.first size) (frames_of g (one ++ Number n ∷ []))) same
       ∙ element_indexed g.running.frame g.limit g.size below in_frame fits.range.first n cells d far.0 (omega arith) (record { is = bounds.0 }) fit far.1 small
       (omega arith)) in
-      let rest = runs depth (place + 1 + 1) (d + far.0 * cells) base held (inner p (step.Element n ∷ [])) part last s stands.1.1 wells well counts ends lies.0 based
+      let rest = runs depth (place + 1 + 1) (d + far.0 * cells) base held (inner p (step.Element n ∷ [])) part last s stands.1.1 wells well counts ends
+      lies.0 based
       deep room in
       addresses_from 1 s.turns _ _ held (place + 1 + 1 + length (selectors_code selectors (codes indexes))) last
       (selected selectors (map value_of (expressions indexes)) g.environment (Some (inner p (step.Element n ∷ []))) s)
       (comes_on g.target 0 1 _ _ _ passed reached) rest
-  indexed_by false fits cells selectors indexes depth place d base held n p t part last s holds runs stands wells test well counts is ends whole based deep room fit =
+  indexed_by false fits cells selectors indexes depth place d base held n p t part last s holds runs stands wells test well counts is ends whole based deep
+      room fit =
       let one = (base ++ held) ++ Number (pos d) ∷ [] in
       let in_frame = linked g s.store base held based in
-      fails g (range_check fits) (one ++ Number n ∷ []) place fits.site s.output _ refl refl s.turns stands.0 (ltb-true fits.site (sites g) (and_parts (nat_lt fits.site (sites g)) (is_whole fits.range.first && is_whole fits.range.last) test).0)
-      (is_in_range g.running.frame g.limit g.size one (omega (arith, length_one (base ++ held) (Number (pos d)))) fits.range.first fits.range.last n ∙ ap Ok holds)
+      fails g (range_check fits) (one ++ Number n ∷ []) place fits.site s.output _ refl refl s.turns stands.0 (ltb-true fits.site (sites g) (and_parts
+      (nat_lt fits.site (sites g)) (is_whole fits.range.first && is_whole fits.range.last) test).0)
+      (is_in_range g.running.frame g.limit g.size one (omega (arith, length_one (base ++ held) (Number (pos d)))) fits.range.first fits.range.last n
+      ∙ ap Ok holds)
 
   pub selectors_run : (selectors : List Selector) (indexes : Indexes) → SelectorsRun selectors indexes
   selectors_run [] indexes depth place d base held p t last s stands wells well counts ends whole based deep room =
       let here : place ≡ place + 0 = omega arith in
       let same = same_Some t last ends in
       addresses 0 _ base held (place + 0) d p last s based (subst (λ u. PartAt p u d) same whole)
-      (subst (λ q. Comes g.target 0 (on g ((base ++ held) ++ Number (pos d) ∷ []) place s.output) (on g ((base ++ held) ++ Number (pos d) ∷ []) q s.output)) here
+      (subst (λ q. Comes g.target 0 (on g ((base ++ held) ++ Number (pos d) ∷ []) place s.output) (on g ((base ++ held) ++ Number
+      (pos d) ∷ []) q s.output)) here
       (stays_here g.target _)) room
   selectors_run (Field position before ∷ selectors) indexes depth place d base held p t last s stands wells well counts ends whole based deep room =
       let on_led = led_on g.tree.types (Field position before) selectors t last ends in
@@ -279,13 +290,15 @@ module _ (g : Setting) where
       let q = inner p (step.Field position ∷ []) in
       let e : place + length c + length rest ≡ place + length (c ++ rest) = omega (arith, length-append c rest) in
       let stepped = field_steps before place d base held s (stands_front g.target place c rest stands) based room (omega arith) in
-      let runs = selectors_run selectors indexes depth (place + length c) (d + before) base held q on_led.0 last s (stands_back g.target place c rest stands) wells
+      let runs = selectors_run selectors indexes depth (place + length c) (d + before) base held q on_led.0 last s
+      (stands_back g.target place c rest stands) wells
       well counts on_led.2 inside based deep room in
       subst (λ there. Addresses s.turns (on g ((base ++ held) ++ Number (pos d) ∷ []) place s.output) held there last
       (selected selectors (map value_of (expressions indexes)) g.environment (Some q) s)) e
       (addresses_from 0 s.turns _ _ held (place + length c + length rest) last
       (selected selectors (map value_of (expressions indexes)) g.environment (Some q) s) stepped runs)
-  selectors_run (Element fits cells ∷ selectors) [] depth place d base held p t last s stands wells well counts ends whole based deep room = absurd (omega arith)
+  selectors_run (Element fits cells ∷ selectors) [] depth place d base held p t last s stands wells well counts ends whole based deep room =
+      absurd (omega arith)
   selectors_run (Element fits cells ∷ selectors) (index ∷ indexes) depth place d base held p t last s stands wells well counts ends whole based deep room =
       let on_led = led_on g.tree.types (Element fits cells) selectors t last ends in
       let c = expr_code g.scope index.0 in
@@ -314,7 +327,8 @@ module _ (g : Setting) where
       (effect.and_then (require test fits.site s2) (λ _. selected selectors (map value_of (expressions indexes)) g.environment
       (Some (inner p (step.Element n ∷ [])))))) (sym (same_range fits.range n fit2))
       (indexed_by _ fits cells selectors indexes (max depth (expr_depth index.0 + 1)) (place + length c) d base2 held n p t on_led.0 last s2 refl
-      (selectors_run selectors indexes) (stands_back g.target place c rest stands) parts.1 selector_parts.0 selector_parts.1 (omega arith) on_led.1 on_led.2 whole
+      (selectors_run selectors indexes) (stands_back g.target place c rest stands) parts.1 selector_parts.0 selector_parts.1
+      (omega arith) on_led.1 on_led.2 whole
       based2 deep (omega arith) fit2)))))
 
   -- ---- an access
@@ -336,18 +350,19 @@ module _ (g : Setting) where
         let parts' = and_parts _ _ parts.1 in
         to_variable (eqb-true indexes (index_count selectors) parts.0) parts'.0 (slice_get g.tree.variables.items root) refl parts'.1
       where
-      to_type : indexes ≡ index_count selectors → are_selectors selectors ≡ true → (variable : Variable)
-          → slice_get g.tree.variables.items root ≡ Some variable → (o : Option TypeId) → led g.tree.types selectors variable.type_id ≡ o → is_type wanted o ≡ true
-          → Leads wanted root selectors indexes
-      to_type counts well variable declared None ends e = absurd (false≢true e)
-      to_type counts well variable declared (Some last) ends e =
-          record { counts = counts; well = well; variable = variable; declared = declared; last = last; ends = ends; is_wanted = e }
+        to_type : indexes ≡ index_count selectors → are_selectors selectors ≡ true → (variable : Variable)
+            → slice_get g.tree.variables.items root ≡ Some variable → (o : Option TypeId) → led g.tree.types selectors variable.type_id ≡ o
+            → is_type wanted o ≡ true
+            → Leads wanted root selectors indexes
+        to_type counts well variable declared None ends e = absurd (false≢true e)
+        to_type counts well variable declared (Some last) ends e =
+            record { counts = counts; well = well; variable = variable; declared = declared; last = last; ends = ends; is_wanted = e }
 
-      to_variable : indexes ≡ index_count selectors → are_selectors selectors ≡ true → (o : Option Variable) → slice_get g.tree.variables.items root ≡ o
-          → is_type wanted (option_and_then (λ (v : Variable). led g.tree.types selectors v.type_id) o) ≡ true → Leads wanted root selectors indexes
-      to_variable counts well None declared e = absurd (false≢true e)
-      to_variable counts well (Some variable) declared e =
-          to_type counts well variable declared (led g.tree.types selectors variable.type_id) refl e
+        to_variable : indexes ≡ index_count selectors → are_selectors selectors ≡ true → (o : Option Variable) → slice_get g.tree.variables.items root ≡ o
+            → is_type wanted (option_and_then (λ (v : Variable). led g.tree.types selectors v.type_id) o) ≡ true → Leads wanted root selectors indexes
+        to_variable counts well None declared e = absurd (false≢true e)
+        to_variable counts well (Some variable) declared e =
+            to_type counts well variable declared (led g.tree.types selectors variable.type_id) refl e
 
   -- where the fields before the first index lead to
   pub record Ahead (selectors : List Selector) (p : Place) (d : ℕ) (last : TypeId) : Type 0 where
@@ -441,7 +456,8 @@ module _ (g : Setting) where
         let loaded = acts g (instr.LoadAddress 0 start) cells (cells ++ Number (pos d) ∷ []) place s.output _ stands.0 refl
         (loads_address g.running.frame g.limit g.size cells 0 start g.running.frame (omega arith) refl (omega arith)) in
         let runs = selectors_run rest indexes 1 (place + 1) d base held there its last s stands.1 good well counts ends part based deep (omega arith) in
-        subst (λ q. Addresses s.turns (on g cells place s.output) held q last (selected rest (map value_of (expressions indexes)) g.environment (Some there) s)) e
+        subst (λ q. Addresses s.turns (on g cells place s.output) held q last (selected rest (map value_of (expressions indexes)) g.environment
+        (Some there) s)) e
         (addresses_from 1 s.turns _ _ held (place + 1 + length (selectors_code rest (codes indexes))) last
         (selected rest (map value_of (expressions indexes)) g.environment (Some there) s) loaded runs)
 
@@ -470,7 +486,8 @@ module _ (g : Setting) where
       let cells = base ++ held in
       let more = start_within 1 (map (λ i. i + 1) (depths indexes)) in
       let same = same_Some its last ends in
-      let lies = ordinal_part g.tree.types g.world g.below there last (g.running.frame + start) ordinal (subst (λ u. PartAt there u (g.running.frame + start)) same part) in
+      let lies = ordinal_part g.tree.types g.world g.below there last (g.running.frame + start) ordinal (subst (λ u. PartAt there u
+      (g.running.frame + start)) same part) in
       let full = based.full in
       let long = length-append base held in
       let e : place + 1 + 1 ≡ place + 2 = omega arith in
@@ -495,7 +512,8 @@ module _ (g : Setting) where
       (effect.and_then (selected (x ∷ rest) (map value_of (expressions indexes)) g.environment (Some there) s) next)) e
       (address_evaluates s.turns _ held held (place + length c) (place + length c + 1 + 1) last
       (selected (x ∷ rest) (map value_of (expressions indexes)) g.environment (Some there) s) next
-      (address_runs (x ∷ rest) indexes start there its last part ends well wells counts place base held s (stands_front g.target place c load loading) based deep)
+      (address_runs (x ∷ rest) indexes start there its last part ends well wells counts place base held s
+      (stands_front g.target place c load loading) based deep)
       (λ base2 d p s2 based2 part2 room2.
       let full = based2.full in
       let long = length-append base2 held in

@@ -13,11 +13,14 @@ use Rattle.std.proofs.Math.Seq.{take-append_seam, drop-append_seam}
 use Rattle.stack_machine.specs.declared.cell.Cell.{Cell}
 use Rattle.stack_machine.specs.declared.cell.Cell.TheVariants.{Undefined, Number}
 use Rattle.stack_machine.specs.declared.stop.MachineFault.TheVariants.{OutOfBounds}
-use Rattle.stack_machine.specs.Addresses.{further, element, row_place, has_room_for, with_row, load_address, load_indirect, store_indirect, load_many, store_many}
-use Rattle.stack_machine.specs.Frames.{Frames, Attempt, ◌>>=◌, unless_fault, has, has_room_after, number, number_at, base, address_of, in_use, cell_at, popped, pushed}
+use Rattle.stack_machine.specs.Addresses.{further, element, row_place, has_room_for, with_row, load_address, load_indirect, store_indirect, load_many}
+use Rattle.stack_machine.specs.Addresses.{store_many}
+use Rattle.stack_machine.specs.Frames.{Frames, Attempt, ◌>>=◌, unless_fault, has, has_room_after, number, number_at, base, address_of, in_use, cell_at}
+use Rattle.stack_machine.specs.Frames.{popped, pushed}
 use Rattle.stack_machine.specs.Frames.{is_defined, top_is_defined, on_one, on_two}
 use Rattle.stack_machine.specs.Rows.{row}
-use Rattle.code_generator.proofs.Acts.{framed, length_one, length_two, has_some, has_room, in_use_is, top_at, one_popped, has_one, on_one_is, on_two_is, left_at, has_two, slice_get_seam}
+use Rattle.code_generator.proofs.Acts.{framed, length_one, length_two, has_some, has_room, in_use_is, top_at, one_popped, has_one, on_one_is, on_two_is}
+use Rattle.code_generator.proofs.Acts.{left_at, has_two, slice_get_seam}
 use Rattle.code_generator.proofs.Acts.{two_popped, two, right_at}
 use Rattle.code_generator.proofs.Alike.{slice_get-front}
 use Rattle.code_generator.proofs.Rows.{popped_is, top_row_is}
@@ -80,7 +83,8 @@ module _ (frame limit size : ℕ) where
         ∙ ap (λ a. Ok (framed frame limit size (below ++ Number a ∷ []))) (element_is low index cells address n fit fit' counts small h)
 
     -- an address gives way to the cell there
-    pub loads_indirect : (address : ℕ) (cell : Cell) → length below < limit → address ≤ 2147483647 → address < length below → slice_get below address ≡ Some cell
+    pub loads_indirect : (address : ℕ) (cell : Cell) → length below < limit → address ≤ 2147483647 → address < length below
+        → slice_get below address ≡ Some cell
         → load_indirect 0 (framed frame limit size (below ++ Number (pos address) ∷ [])) ≡ Ok (framed frame limit size (below ++ cell ∷ []))
     loads_indirect address cell room small h e =
         let cells = below ++ Number (pos address) ∷ [] in
@@ -110,7 +114,8 @@ module _ (frame limit size : ℕ) where
         (record (popped 2 s) { cells = slice_set (popped 2 s).cells place (cell_at (length s.cells - 1) s) }))
         (has_two frame limit size below linked (pos address) n)
         ∙ ap (λ o. number o >>= λ a. address_of a (length (popped 2 s).cells) >>= λ place. Ok
-        (record (popped 2 s) { cells = slice_set (popped 2 s).cells place (cell_at (length s.cells - 1) s) })) (left_at frame limit size below linked (pos address) n)
+        (record (popped 2 s) { cells = slice_set (popped 2 s).cells place (cell_at (length s.cells - 1) s) })) (left_at frame limit size below linked
+        (pos address) n)
         ∙ ap (λ cs. in_use address (length cs) >>= λ place. Ok (framed frame limit size (slice_set cs place (cell_at (length s.cells - 1) s))))
         (two_popped frame limit size below linked (pos address) n)
         ∙ ap (λ r. r >>= λ place. Ok (framed frame limit size (slice_set below place (cell_at (length s.cells - 1) s))))
@@ -134,7 +139,8 @@ module _ (frame limit size : ℕ) where
         let s = framed frame limit size (below ++ Number (pos address) ∷ []) in
         ap (λ r. r >>= λ _. number_at 1 s >>= λ a. Ok (record (popped 1 s) { cells = (popped 1 s).cells ++ [] }))
         (has_one frame limit size below linked (Number (pos address)))
-        ∙ ap (λ o. number o >>= λ a. Ok (record (popped 1 s) { cells = (popped 1 s).cells ++ [] })) (top_at frame limit size below linked (Number (pos address)))
+        ∙ ap (λ o. number o >>= λ a. Ok (record (popped 1 s) { cells = (popped 1 s).cells ++ [] })) (top_at frame limit size below linked (Number
+        (pos address)))
         ∙ ap (λ cs. Ok (framed frame limit size (cs ++ []))) (one_popped frame limit size below linked (Number (pos address)))
     loads_many (suc more) address room h =
         let cells = below ++ Number (pos address) ∷ [] in
@@ -177,7 +183,12 @@ module _ (frame limit size : ℕ) where
 
       has_all : has (n + 1) (framed frame limit size above) ≡ Ok tt
       has_all =
-          has_some frame limit size (n + 1) above (omega (arith, length-append (below ++ Number (pos address) ∷ []) new, length_one below (Number (pos address))))
+          has_some frame limit size (n + 1) above (omega (
+            arith,
+            length-append (below ++ Number (pos address) ∷ []) new,
+            length_one below (Number
+                (pos address)),
+          ))
 
       abbrev then_stored : ℤ → Attempt Frames
       then_stored a =

@@ -21,7 +21,8 @@ use Rattle.typed_tree.specs.declared.tree.Selector.{Selector}
 use Rattle.typed_tree.specs.declared.tree.Stmt.TheOpen.Stmt-F.{Assign, Copy}
 use Rattle.typed_tree.specs.declared.tree.Whole.{Whole}
 use Rattle.typed_tree.specs.Accesses.{index_count, led}
-use Rattle.typed_tree.specs.WellFormed.{all_hold, is_well_formed_expr, is_well_formed_test, is_well_formed_value, is_well_formed_whole, is_whole, leads_to_ordinal}
+use Rattle.typed_tree.specs.WellFormed.{all_hold, is_well_formed_expr, is_well_formed_test, is_well_formed_value, is_well_formed_whole, is_whole}
+use Rattle.typed_tree.specs.WellFormed.{leads_to_ordinal}
 use Rattle.typed_tree.specs.WellFormed.{leads_to_whole, length_of, may_copy, stmt_is_well_formed, type_of, whole_indexes}
 use Rattle.meaning.specs.declared.store.Value.{Value}
 use Rattle.meaning.specs.declared.store.Value.TheVariants as value
@@ -36,7 +37,8 @@ use Rattle.code_scheme.specs.Code.{address_at, address_code, expr_code, range_ch
 use Rattle.code_scheme.specs.Depth.{access_depth, expr_depth, stmt_depth_step, store_depth, whole_depth}
 use Rattle.code_scheme.specs.Scopes.{access_offset, behind_fields, row_length}
 use Rattle.code_scheme.proofs.Pieces.{start_within}
-use Rattle.code_generator.proofs.Accesses.{Indexes, expressions, wells, as_many_wells, codes, depths, are_selectors, are_well_formed_indexes, PartAt, address_executes}
+use Rattle.code_generator.proofs.Accesses.{Indexes, expressions, wells, as_many_wells, codes, depths, are_selectors, are_well_formed_indexes, PartAt}
+use Rattle.code_generator.proofs.Accesses.{address_executes}
 use Rattle.code_generator.proofs.Accesses.{leads, begins, entered, address_runs}
 use Rattle.code_generator.proofs.Acts.{framed, length_one, is_in_range}
 use Rattle.code_generator.proofs.Addressing.{stores_indirect}
@@ -75,7 +77,8 @@ module _ (g : Setting) where
       fails g (range_check fits) (below ++ Number n ∷ []) place fits.site s.output _ refl refl s.turns stands.0 within
       (is_in_range g.running.frame g.limit g.size below in_frame fits.range.first fits.range.last n ∙ ap Ok holds)
 
-  module _ (v : Expr) (fits : RangeTest) (good : is_well_formed_expr g.tree.variables.items g.tree.types (sites g) v ≡ true) (site_within : fits.site < sites g) where
+  module _ (v : Expr) (fits : RangeTest) (good : is_well_formed_expr g.tree.variables.items g.tree.types (sites g) v ≡ true)
+      (site_within : fits.site < sites g) where
     abbrev value_code : List Instr
     value_code = expr_code g.scope v ++ (range_check fits ∷ [])
 
@@ -100,11 +103,14 @@ module _ (g : Setting) where
         (effect.and_then (require test fits.site t) (λ _. next (value.Number n)))) (sym (same_range fits.range n fit))
         (tested_by _ fits (place + length c) end (base2 ++ held) held' n t (next (value.Number n)) refl (stands_back g.target place c check stands) site_within
         (linked g t.store base2 held based2)
-        (subst (λ p. Executes g t.turns (on g ((base2 ++ held) ++ Number n ∷ []) p t.output) held' end (next (value.Number n) t)) e (stored base2 n t based2 fit))))
+        (subst (λ p. Executes g t.turns (on g ((base2 ++ held) ++ Number n ∷ []) p t.output) held' end (next (value.Number n) t)) e
+        (stored base2 n t based2 fit))))
 
     -- the code that stores into an ordinal that is selected from a part
-    store_runs : (rest : List Selector) (indexes : Indexes g) (start : ℕ) (there : Place) (its last : TypeId) (place : ℕ) (base held : List Cell) (s : effect.State)
-        → PartAt g there its (g.running.frame + start) → led g.tree.types rest its ≡ Some last → is_ordinal g.tree.types last ≡ true → are_selectors g rest ≡ true
+    store_runs : (rest : List Selector) (indexes : Indexes g) (start : ℕ) (there : Place) (its last : TypeId) (place : ℕ) (base held : List Cell)
+        (s : effect.State)
+        → PartAt g there its (g.running.frame + start) → led g.tree.types rest its ≡ Some last → is_ordinal g.tree.types last ≡ true
+        → are_selectors g rest ≡ true
         → are_well_formed_indexes g indexes ≡ true → length (expressions g indexes) ≡ index_count rest
         → Stands g.target place (store_at start rest (codes g indexes) value_code) → Based g s.store base
         → g.below + length held + store_depth rest (depths g indexes) (expr_depth v) ≤ g.limit
@@ -120,13 +126,15 @@ module _ (g : Setting) where
         let here = stands_back g.target place value_code store stands in
         subst (λ q. Executes g s.turns (on g (base ++ held) place s.output) held q
         (effect.and_then (value_of v g.environment s) (tested (effect.store (Some there))))) e
-        (value_stored place (place + length value_code + 1) base held held s (effect.store (Some there)) (stands_front g.target place value_code store stands) based
+        (value_stored place (place + length value_code + 1) base held held s (effect.store (Some there))
+        (stands_front g.target place value_code store stands) based
         deep
         (λ base2 n t based2 fit.
         let kept_base = scalar_kept g there (g.running.frame + start) t.store base2 n lies based2 fit in
         done g 1 _ (slice_set base2 (g.running.frame + start) (Number n)) held (place + length value_code + 1)
         (record t { store = kept t.store (Some there) (value.Number n) }) (record { full = kept_base.full; alike = kept_base.alike })
-        (stores_scalar g there start lies t.store base2 held ((base2 ++ held) ++ Number n ∷ []) (Number n) (place + length value_code) t.output based2 refl here.0)))
+        (stores_scalar g there start lies t.store base2 held ((base2 ++ held) ++ Number n ∷ []) (Number n)
+        (place + length value_code) t.output based2 refl here.0)))
     store_runs (x ∷ rest) indexes start there its last place base held s part ends ordinal well wells counts stands based deep =
         let c = address_at start (x ∷ rest) (codes g indexes) in
         let store = instr.StoreIndirect ∷ [] in
@@ -139,13 +147,15 @@ module _ (g : Setting) where
         subst (λ q. Executes g s.turns (on g (base ++ held) place s.output) held q
         (effect.and_then (selected (x ∷ rest) (map value_of (expressions g indexes)) g.environment (Some there) s) next)) e
         (address_executes g s.turns _ held held from end last (selected (x ∷ rest) (map value_of (expressions g indexes)) g.environment (Some there) s) next
-        (address_runs g (x ∷ rest) indexes start there its last part ends well wells counts place base held s (stands_front g.target place c (value_code ++ store)
+        (address_runs g (x ∷ rest) indexes start there its last part ends well wells counts place base held s (stands_front g.target place c
+        (value_code ++ store)
         stands) based (omega arith))
         (λ base1 d p s1 based1 part1 room1.
         let lies = ordinal_part g.tree.types g.world g.below p last d ordinal part1 in
         let above = held ++ Number (pos d) ∷ [] in
         let high = length_one held (Number (pos d)) in
-        subst (λ cells. Executes g s1.turns (on g cells from s1.output) held end (effect.and_then (value_of v g.environment s1) (tested (effect.store (Some p)))))
+        subst (λ cells. Executes g s1.turns (on g cells from s1.output) held end (effect.and_then (value_of v g.environment s1) (tested (effect.store
+        (Some p)))))
         (one_held g base1 held (pos d))
         (value_stored from end base1 above held s1 (effect.store (Some p)) (stands_front g.target from value_code store behind) based1 (omega arith)
         (λ base2 n t based2 fit.
@@ -153,7 +163,8 @@ module _ (g : Setting) where
         let inside = cell_within g.world t.store base2 p d based2.alike lies in
         let long = length-append base2 held in
         let kept_base = scalar_kept g p d t.store base2 n lies based2 fit in
-        let stored = acts g instr.StoreIndirect ((cells ++ Number (pos d) ∷ []) ++ Number n ∷ []) (slice_set base2 d (Number n) ++ held) (from + length value_code)
+        let stored = acts g instr.StoreIndirect ((cells ++ Number (pos d) ∷ []) ++ Number n ∷ []) (slice_set base2 d (Number n) ++ held)
+        (from + length value_code)
         t.output (store_indirect (frames_of g ((cells ++ Number (pos d) ∷ []) ++ Number n ∷ []))) here.0 refl
         (stores_indirect g.running.frame g.limit g.size cells (linked g t.store base2 held based2) d n (omega arith)
         ∙ ap (λ cs. Ok (frames_of g cs)) (set_front base2 held d (Number n) inside)) in
@@ -178,23 +189,29 @@ module _ (g : Setting) where
     assigned : (indexes : Indexes g) → AssignRuns (expressions g indexes)
     assigned indexes place base held s stands good based high deep =
         let count = length (expressions g indexes) in
-        let one = and_parts (are_well_formed_indexes g indexes) (leads_to_ordinal g.tree.variables.items g.tree.types (sites g) target.root target.selectors.items
-        count && (is_well_formed_expr g.tree.variables.items g.tree.types (sites g) v && is_well_formed_test g.tree.variables.items g.tree.types (sites g) fits))
+        let one = and_parts (are_well_formed_indexes g indexes) (leads_to_ordinal g.tree.variables.items g.tree.types
+        (sites g) target.root target.selectors.items
+        count && (is_well_formed_expr g.tree.variables.items g.tree.types (sites g) v && is_well_formed_test g.tree.variables.items g.tree.types
+        (sites g) fits))
         good in
         let two = and_parts (leads_to_ordinal g.tree.variables.items g.tree.types (sites g) target.root target.selectors.items count)
         (is_well_formed_expr g.tree.variables.items g.tree.types (sites g) v && is_well_formed_test g.tree.variables.items g.tree.types (sites g) fits) one.1 in
         let three = and_parts (is_well_formed_expr g.tree.variables.items g.tree.types (sites g) v)
         (is_well_formed_test g.tree.variables.items g.tree.types (sites g) fits) two.1 in
-        let site_within = ltb-true fits.site (sites g) (and_parts (nat_lt fits.site (sites g)) (is_whole fits.range.first && is_whole fits.range.last) three.1).0 in
+        let site_within = ltb-true fits.site (sites g) (and_parts (nat_lt fits.site (sites g)) (is_whole fits.range.first
+        && is_whole fits.range.last) three.1).0 in
         let led_to = leads g (is_ordinal g.tree.types) target.root target.selectors.items count two.0 in
         let start = begins g target (is_ordinal g.tree.types) count led_to in
         let s2 = entered g target.number (entered g number s) in
-        let c = store_at (access_offset g.scope target) (behind_fields target.selectors.items) (codes g indexes) (expr_code g.scope v ++ (range_check fits ∷ [])) in
-        let next : Option Place → Action (Unit {0}) = λ q. value_of v g.environment >>= λ w. require (effect.is_in fits.range w) fits.site >>= λ _. effect.store q w
+        let c = store_at (access_offset g.scope target) (behind_fields target.selectors.items) (codes g indexes) (expr_code g.scope v ++
+        (range_check fits ∷ [])) in
+        let next : Option Place → Action (Unit {0}) = λ q. value_of v g.environment >>= λ w. require
+        (effect.is_in fits.range w) fits.site >>= λ _. effect.store q w
         in
         subst (λ r. Executes g s.turns (on g (base ++ held) place s.output) held (place + length c) (effect.and_then r next))
         (sym (start.meant (map value_of (expressions g indexes)) (entered g number s)))
-        (store_runs v fits three.0 site_within (behind_fields target.selectors.items) indexes (access_offset g.scope target) start.there start.its led_to.last place
+        (store_runs v fits three.0 site_within (behind_fields target.selectors.items) indexes (access_offset g.scope target) start.there start.its
+        led_to.last place
         base held s2 start.part start.ends led_to.is_wanted start.well one.0 (led_to.counts ∙ sym start.counts) stands
         (record { full = based.full; alike = based.alike }) deep)
 
@@ -262,7 +279,8 @@ module _ (g : Setting) where
         let may = may_copy g.tree.variables.items g.tree.types (sites g) type_id (type_of v) n in
         let one = and_parts (are_well_formed_indexes g indexes)
         (leads_to_whole g.tree.variables.items g.tree.types (sites g) type_id target.root target.selectors.items count && (wf_value && may)) good in
-        let two = and_parts (leads_to_whole g.tree.variables.items g.tree.types (sites g) type_id target.root target.selectors.items count) (wf_value && may) one.1
+        let two = and_parts (leads_to_whole g.tree.variables.items g.tree.types (sites g) type_id target.root target.selectors.items count) (wf_value
+        && may) one.1
         in
         let three = and_parts wf_value may two.1 in
         let four = and_parts (all_hold (whole_indexes v (wells g value_indexes)))
@@ -310,4 +328,5 @@ module _ (g : Setting) where
         (row_stored p type_id a n there base2 held ns t part cells long fit storing based2)))))))
 
     pub copy_runs : (es vs : List Expr) → CopyRuns es vs
-    copy_runs es vs = subst (λ xs. CopyRuns xs vs) (told_back es) (subst (λ xs. CopyRuns (expressions g (told es)) xs) (told_back vs) (copied (told es) (told vs)))
+    copy_runs es vs =
+        subst (λ xs. CopyRuns xs vs) (told_back es) (subst (λ xs. CopyRuns (expressions g (told es)) xs) (told_back vs) (copied (told es) (told vs)))

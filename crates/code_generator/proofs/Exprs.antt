@@ -43,7 +43,8 @@ use Rattle.stack_machine.specs.Frames as frames
 use Rattle.stack_machine.specs.Frames.{Attempt}
 use Rattle.stack_machine.specs.Rows as rows
 use Rattle.stack_machine.specs.Machine.{State, obeyed, and_then, checked, with_frames}
-use Rattle.code_scheme.specs.Code.{joined, monadic_code, dyadic_code, relation_instr, variable_code, width_code, check_positive, expr_code, link_code, expr_step}
+use Rattle.code_scheme.specs.Code.{joined, monadic_code, dyadic_code, relation_instr, variable_code, width_code, check_positive, expr_code, link_code}
+use Rattle.code_scheme.specs.Code.{expr_step}
 use Rattle.code_scheme.specs.Code.{link_step, compare_code, default_width, whole_code}
 use Rattle.code_scheme.specs.Depth.{access_depth, expr_depth, link_depth, expr_depth_step, link_depth_step, width_depth, monadic_depth, whole_depth}
 use Rattle.code_scheme.specs.Scopes.{access_offset, behind_fields, row_length}
@@ -186,7 +187,8 @@ module _ (g : Setting) where
 
     truth_given : (apply : Instr) (test : ℤ → Bool) → Here g place apply
         → obeyed g.target.sites apply (fetched_at g one place s.output) ≡ and_then (frames.on_one (λ v. frames.truth (test v)) (frames_of g one))
-        (with_frames (fetched_at g one place s.output)) → Evaluates g s.turns (on g one place s.output) held (place + 1) (give (value.Number (truth (test n))) s)
+        (with_frames (fetched_at g one place s.output)) → Evaluates g s.turns (on g one place s.output) held (place + 1) (give (value.Number (truth
+        (test n))) s)
     truth_given apply test here rule =
         one_given apply (λ v. frames.truth (test v)) (truth (test n)) here rule (same_truth (test n)) (subst Fits (same_truth (test n)) (fits_truth (test n)))
 
@@ -253,7 +255,8 @@ module _ (g : Setting) where
     operated_runs monadic.Ord stands well deep = left_as_it_is
     operated_runs (monadic.Chr no_char) stands well deep =
         tested_runs (instr.CheckRange no_char (pos 0) (pos 127)) no_char place base held n s _ (is_within (pos 0) (pos 127) n) stands.0 refl refl
-        (is_in_range g.running.frame g.limit g.size cells within_frame (pos 0) (pos 127) n ∙ ap Ok (same_char n)) (ltb-true no_char (sites g) well) based room fit
+        (is_in_range g.running.frame g.limit g.size cells within_frame (pos 0) (pos 127) n ∙ ap Ok (same_char n)) (ltb-true no_char
+        (sites g) well) based room fit
     operated_runs (monadic.Succ no_successor last) stands well deep =
         let parts = and_parts (nat_lt no_successor (sites g)) (is_whole last) well in
         let good : Fits last = record { is = parts.1 } in
@@ -337,7 +340,8 @@ module _ (g : Setting) where
         → holds ≡ Ok (frames.is_integer c) → attempt ≡ Ok (frames_of g ((base ++ held) ++ Number d ∷ [])) → (Fits c → d ≡ c) → nat_lt overflow (sites g) ≡ true
         → Evaluates g s.turns (on g two place s.output) held (place + 2) (meaning.whole overflow c s)
     both_checked check apply overflow c d holds attempt stands here same rule rule' e does is well =
-        result_runs check apply overflow place two base held c d s holds attempt stands here same rule rule' e does is (ltb-true overflow (sites g) well) based room
+        result_runs check apply overflow place two base held c d s holds attempt stands here same rule rule' e does is (ltb-true overflow
+        (sites g) well) based room
 
     combined_runs : (operation : Dyadic) → Stands g.target place (dyadic_code operation) → dyadic_is_well_formed variables types (sites g) operation ≡ true
         → Evaluates g s.turns (on g two place s.output) held (place + length (dyadic_code operation)) (combined operation (value.Number a) (value.Number b) s)
@@ -392,7 +396,8 @@ module _ (g : Setting) where
       (comes_on g.target 1 1 _ _ _ compared zero) related in
       let e : place + 1 + 1 + 1 ≡ place + 3 = omega arith in
       subst (λ p. Evaluates g s.turns (on g both place s.output) held p (give (meaning.compared r ns ms) s)) e
-      (subst (λ o. Evaluates g s.turns (on g both place s.output) held (place + 1 + 1 + 1) (give (value.Number (truth (relates r o (pos 0)))) s)) is_order whole)
+      (subst (λ o. Evaluates g s.turns (on g both place s.output) held (place + 1 + 1 + 1) (give (value.Number (truth (relates r o
+      (pos 0)))) s)) is_order whole)
 
   -- two whole values are compared
   compare_runs : (number : ℕ) (r : Relation) (left : Whole) (left_indexes : Indexes g) (right : Whole)
@@ -439,8 +444,10 @@ module _ (g : Setting) where
       (whole_runs g right right_indexes there base2 above s3 (stands_front g.target there d last behind) three.0 right_well
       (record { full = based2.full; alike = based2.alike }) (omega arith))
       (λ base3 ms s4 based4 long' fits'.
-      subst (λ cells. Evaluates g s4.turns (on g (cells ++ cells_of ms) (there + length d) s4.output) held end (next' ns ms s4)) (append_assoc base3 held (cells_of ns))
-      (ordered_runs r (row_length n) (there + length d) base3 held ns ms s4 (long ∙ same) (long' ∙ sym as_long ∙ same) (stands_back g.target there d last behind)
+      subst (λ cells. Evaluates g s4.turns (on g (cells ++ cells_of ms) (there + length d) s4.output) held end (next' ns ms s4)) (append_assoc base3 held
+      (cells_of ns))
+      (ordered_runs r (row_length n) (there + length d) base3 held ns ms s4 (long ∙ same) (long' ∙ sym as_long ∙ same)
+      (stands_back g.target there d last behind)
       based4 (omega arith))))))
 
   -- a value above what is held and one number more
@@ -519,13 +526,15 @@ module _ (g : Setting) where
 
   same_runs : (c c' : List Instr) (d d' : ℕ) (w w' : Bool) (v v' : Evaluation) → c ≡ c' → d ≡ d' → w ≡ w' → v ≡ v' → RunsAs g c' d' w' v' → RunsAs g c d w v
   same_runs c c' d d' w w' v v' p q r t runs =
-      subst (λ x. RunsAs g x d w v) (sym p) (subst (λ x. RunsAs g c' x w v) (sym q) (subst (λ x. RunsAs g c' d' x v) (sym r) (subst (λ x. RunsAs g c' d' w' x) (sym t)
+      subst (λ x. RunsAs g x d w v) (sym p) (subst (λ x. RunsAs g c' x w v) (sym q) (subst (λ x. RunsAs g c' d' x v) (sym r) (subst
+      (λ x. RunsAs g c' d' w' x) (sym t)
       runs)))
 
   same_combines : (c c' : List Instr) (d d' : ℕ) (w w' : Bool) (v v' : Combination) → c ≡ c' → d ≡ d' → w ≡ w' → v ≡ v' → CombinesAs g c' d' w' v'
       → CombinesAs g c d w v
   same_combines c c' d d' w w' v v' p q r t runs =
-      subst (λ x. CombinesAs g x d w v) (sym p) (subst (λ x. CombinesAs g c' x w v) (sym q) (subst (λ x. CombinesAs g c' d' x v) (sym r) (subst (λ x. CombinesAs g c'
+      subst (λ x. CombinesAs g x d w v) (sym p) (subst (λ x. CombinesAs g c' x w v) (sym q) (subst (λ x. CombinesAs g c' d' x v) (sym r) (subst
+      (λ x. CombinesAs g c'
       d' w' x) (sym t) runs)))
 
   abbrev is_step : Expr-F Bool Bool → Bool

@@ -118,10 +118,10 @@ pub led_on : (types : List TypeForm) (s : Selector) (selectors : List Selector) 
     → (part : TypeId) × (selected types s t ≡ Some part) × (led types selectors part ≡ Some last)
 led_on types s selectors t last e = by (selected types s t) refl e
   where
-  by : (o : Option TypeId) → selected types s t ≡ o → option_and_then (led types selectors) o ≡ Some last
-      → (part : TypeId) × (selected types s t ≡ Some part) × (led types selectors part ≡ Some last)
-  by None is e = absurd (none-some last e)
-  by (Some part) is e = (part, is, e)
+    by : (o : Option TypeId) → selected types s t ≡ o → option_and_then (led types selectors) o ≡ Some last
+        → (part : TypeId) × (selected types s t ≡ Some part) × (led types selectors part ≡ Some last)
+    by None is e = absurd (none-some last e)
+    by (Some part) is e = (part, is, e)
 
 module _ (types : List TypeForm) (world : World) (end : ℕ) where
   -- the part of a place that is of a type lies from a cell on, and ends before another; it has no more cells than a type

@@ -1,6 +1,7 @@
 -- The world of a program that calls no routine: its own activation, whose variables lie one behind the other behind the
 -- four links of the first frame. It has no variable parameters.
-use Rattle.std.proofs.Common.{◌≡◌, ℕ, zero, suc, ◌+◌, ◌<◌, ◌≤◌, ◌-◌, ◌⊎◌, ℤ, List, [], ◌∷◌, ◌++◌, length, replicate, Option, Some, None, refl, sym, ap, ◌∙◌, subst, inl, inr}
+use Rattle.std.proofs.Common.{◌≡◌, ℕ, zero, suc, ◌+◌, ◌<◌, ◌≤◌, ◌-◌, ◌⊎◌, ℤ, List, [], ◌∷◌, ◌++◌, length, replicate, Option, Some, None, refl, sym, ap, ◌∙◌}
+use Rattle.std.proofs.Common.{subst, inl, inr}
 use Rattle.std.proofs.Common.{⊎_elim, arith, length-append, Bool, true, false, eq-eqb, Contains}
 use Rattle.std.specs.Prelude.{slice_get, slice_index_or, nat_eq, ◌&&◌}
 use Rattle.std.specs.Cmp.Lexicographic.{pointwise}
@@ -140,11 +141,17 @@ module _ (rows : List (List Steps)) (once : (root : ℕ) (row : List Steps) → 
         let reached : slice_get l.extent.components m.inward ≡ Some q.steps = ap (λ (x : Extent). slice_get x.components m.inward) same ∙ m.reached in
         ⊎_elim
         (λ (e : l.inward ≡ m.inward).
-        inl (omega arith, place_same p q same_activation same_variable
-        (same_Some p.steps q.steps (sym l.reached ∙ ap (slice_get l.extent.components) e ∙ reached))))
+        inl (
+          omega arith,
+          place_same p q same_activation same_variable
+              (same_Some p.steps q.steps (sym l.reached ∙ ap (slice_get l.extent.components) e ∙ reached)),
+        ))
         (λ (e : l.inward ≡ m.inward → ⊥).
-        inr ((λ f. e (omega arith)), place_other p q (λ v s. e
-        (once p.variable l.extent.components row l.inward m.inward p.steps l.reached (reached ∙ ap Some (sym s))))))
+        inr (
+          (λ f. e (omega arith)),
+          place_other p q (λ v s. e
+              (once p.variable l.extent.components row l.inward m.inward p.steps l.reached (reached ∙ ap Some (sym s)))),
+        ))
         at
 
     inward_within : (a : Place) (x : ℕ) (n : Lies (program_activation rows) a x) → n.inward < length n.extent.components
@@ -157,13 +164,16 @@ module _ (rows : List (List Steps)) (once : (root : ℕ) (row : List Steps) → 
         let there = m.cell_is in
         let inside = inward_within p c l in
         let inside' = inward_within q d m in
-        inr ((λ f.
-        ⊎_elim
-        (λ (less : p.variable < q.variable).
-        let a = extents_apart 4 rows p.variable q.variable l.extent m.extent less l.owned m.owned in absurd (omega arith))
-        (λ (more : q.variable ≤ p.variable).
-        let a = extents_apart 4 rows q.variable p.variable m.extent l.extent (omega (arith, differ)) m.owned l.owned in absurd (omega arith))
-        (cases_lt p.variable q.variable)), place_other p q (λ v s. differ v))
+        inr (
+          (λ f.
+              ⊎_elim
+              (λ (less : p.variable < q.variable).
+              let a = extents_apart 4 rows p.variable q.variable l.extent m.extent less l.owned m.owned in absurd (omega arith))
+              (λ (more : q.variable ≤ p.variable).
+              let a = extents_apart 4 rows q.variable p.variable m.extent l.extent (omega (arith, differ)) m.owned l.owned in absurd (omega arith))
+              (cases_lt p.variable q.variable)),
+          place_other p q (λ v s. differ v),
+        )
 
     scalars_apart : ((c ≡ d) × (place_eq p q ≡ true)) ⊎ ((c ≡ d → ⊥) × (place_eq p q ≡ false))
     scalars_apart =

@@ -65,7 +65,8 @@ use Rattle.code_generator.proofs.Accesses.{Indexes, expressions, wells, codes as
 use Rattle.code_generator.proofs.Assigns.{told, told_back, assign_runs, copy_runs}
 use Rattle.code_generator.proofs.Evaluating.{sites, ExecutesAs, fetched_at, frames_of, one_held}
 use Rattle.code_generator.proofs.Wholes.{AllFit, few_components, fitting_bytes, row_executes, whole_runs}
-use Rattle.code_generator.proofs.Held.{slot, IsScalar, is_scalar, stores_variable, variable_kept, variable_forgotten, loads_held, stores_held, decides, begins, steps, leaves, tests}
+use Rattle.code_generator.proofs.Held.{slot, IsScalar, is_scalar, stores_variable, variable_kept, variable_forgotten, loads_held, stores_held, decides}
+use Rattle.code_generator.proofs.Held.{begins, steps, leaves, tests}
 use Rattle.code_generator.proofs.Held.{compares_row, last_is, next_fits, one_fits}
 use Rattle.code_scheme.proofs.Pieces.{length-For, start_within}
 use Rattle.code_generator.proofs.Acts.{framed, length_one, is_in_range, writes}
@@ -162,7 +163,8 @@ module _ (g : Setting) where
   -- a width above the cells of a value, with which it gives way to a text
   width_writes : (width : Option Width) (v : Written) (default : ℤ) (row : List ℤ) (text : Value → List ℕ) (place : ℕ) (base held : List Cell)
       (s : effect.State) → default_width v ≡ instr.LoadConstant default → Fits default
-      → Stands g.target place (width_code g.scope width v ++ (write_instr v ∷ [])) → is_well_formed_width variables types (sites g) width ≡ true → Based g s.store base
+      → Stands g.target place (width_code g.scope width v ++ (write_instr v ∷ [])) → is_well_formed_width variables types (sites g) width ≡ true
+      → Based g s.store base
       → g.below + length held + (width_depth width + length row) ≤ g.limit
       → ((there : ℕ) (cells : List Cell) (w : ℤ) (output : List ℕ) → Stands g.target there (write_instr v ∷ []) → g.running.frame + 4 ≤ length cells
       → Comes g.target 1 (on g ((cells ++ cells_of row) ++ Number w ∷ []) there output) (on g cells (there + 1) (output ++ text (value.Number w))))
@@ -413,7 +415,8 @@ if_else_runs : (g : Setting) (number : ℕ) (condition : Expr) (consequence alte
     → max (repeats consequence.0) (repeats alternative.0) ≤ g.slack
     → ExecutesAs g (λ scope. if_else_code (expr_code scope condition) (stmt_code consequence.0) (stmt_code alternative.0) scope)
     (max (expr_depth condition) (max (stmt_depth consequence.0) (stmt_depth alternative.0)))
-    (is_well_formed_expr (variables g) (types g) (sites g) condition && (is_well_formed_stmt (variables g) (types g) (sites g) consequence.0 && is_well_formed_stmt (variables g) (types g)
+    (is_well_formed_expr (variables g) (types g) (sites g) condition && (is_well_formed_stmt (variables g) (types g) (sites g) consequence.0
+    && is_well_formed_stmt (variables g) (types g)
     (sites g) alternative.0))
     (λ e. effect.enter number e >>= λ _. value_of condition e >>= λ v. if is_so v then effect_of consequence.0 e else effect_of alternative.0 e)
 if_else_runs g number condition consequence alternative few place base held s stands good based high deep =
@@ -465,7 +468,8 @@ while_runs g number condition body few place base held s stands good based high 
     let jump = stands_back g.target inside code back within in
     let e : end ≡ place + length (test ++ (instr.JumpIfFalse end ∷ (code ++ back))) =
     omega (arith, length-append test (instr.JumpIfFalse end ∷ (code ++ back)), length-append code back) in
-    let parts = and_parts (is_well_formed_expr (variables g) (types g) (sites g) condition) (is_well_formed_stmt (variables g) (types g) (sites g) body.0) good in
+    let parts = and_parts (is_well_formed_expr (variables g) (types g) (sites g) condition) (is_well_formed_stmt (variables g) (types g)
+    (sites g) body.0) good in
     let hold : Unit {0} → List Cell = λ _. held in
     let round : Round (Unit {0}) = while_round (value_of condition) (effect_of body.0) g.environment in
     let turns_on : (bound : ℕ) (holds : Bool) (base2 : List Cell) (t : effect.State) → Based g t.store base2 → t.turns ≤ bound → (m : State)
@@ -512,7 +516,8 @@ while_runs g number condition body few place base held s stands good based high 
 repeat_runs : (g : Setting) (number : ℕ) (condition : Expr) (ss : List ((s : Stmt) × StmtRuns s)) → greatest (map repeats (map (λ x. x.0) ss)) + 1 ≤ g.slack
     → ExecutesAs g (λ scope. repeat_code (placed (map (λ code. code scope) (map stmt_code (map (λ x. x.0) ss)))) (expr_code scope condition))
     (max (greatest (map stmt_depth (map (λ x. x.0) ss))) (expr_depth condition))
-    (all_hold (map (is_well_formed_stmt (variables g) (types g) (sites g)) (map (λ x. x.0) ss)) && is_well_formed_expr (variables g) (types g) (sites g) condition)
+    (all_hold (map (is_well_formed_stmt (variables g) (types g) (sites g)) (map (λ x. x.0) ss)) && is_well_formed_expr (variables g) (types g)
+    (sites g) condition)
     (λ e. effect.enter number e >>= λ _. effect.looped (repeat_round (all_of (map effect_of (map (λ x. x.0) ss))) (value_of condition) e) tt)
 repeat_runs g number condition ss few place base held s stands good based high deep =
     let s1 : effect.State = record s { visited = s.visited ++ record { number = number; environment = g.environment; store = s.store } ∷ [] } in
@@ -755,8 +760,10 @@ for_runs : (g : Setting) (number control : ℕ) (first : Expr) (first_fits : Ran
     (body : (s : Stmt) × StmtRuns s) → repeats body.0 ≤ g.slack
     → ExecutesAs g (λ scope. for_code control (expr_code scope first) first_fits way (expr_code scope last) last_fits (stmt_code body.0) scope)
     (max (max (expr_depth first) (expr_depth last + 1)) (max 4 (stmt_depth body.0 + 2)))
-    (leads_to_ordinal (variables g) (types g) (sites g) control [] 0 && (is_well_formed_expr (variables g) (types g) (sites g) first && (is_well_formed_test (variables g) (types g) (sites g) first_fits &&
-    (is_well_formed_expr (variables g) (types g) (sites g) last && (is_well_formed_test (variables g) (types g) (sites g) last_fits && is_well_formed_stmt (variables g) (types g) (sites g)
+    (leads_to_ordinal (variables g) (types g) (sites g) control [] 0 && (is_well_formed_expr (variables g) (types g) (sites g) first && (is_well_formed_test
+    (variables g) (types g) (sites g) first_fits &&
+    (is_well_formed_expr (variables g) (types g) (sites g) last && (is_well_formed_test (variables g) (types g) (sites g) last_fits && is_well_formed_stmt
+    (variables g) (types g) (sites g)
     body.0)))))
     (λ e. effect.enter number e >>= λ _. value_of first e >>= λ a. value_of last e >>= λ b. for_between control first_fits way last_fits (effect_of body.0) e
     a b

@@ -1,6 +1,7 @@
 -- The code of a whole value leaves the row of its numbers on top, or stops as the value does; and a row of cells that is
 -- stored from an address on is what the program writes to the components there.
-use Rattle.std.proofs.Common.{◌≡◌, ℕ, zero, suc, ◌+◌, ◌-◌, ◌<◌, ◌≤◌, ◌⊎◌, inl, inr, ⊎_elim, max, List, [], ◌∷◌, ◌++◌, length, map, take, drop, Option, Some, None, Ok}
+use Rattle.std.proofs.Common.{◌≡◌, ℕ, zero, suc, ◌+◌, ◌-◌, ◌<◌, ◌≤◌, ◌⊎◌, inl, inr, ⊎_elim, max, List, [], ◌∷◌, ◌++◌, length, map, take, drop, Option, Some}
+use Rattle.std.proofs.Common.{None, Ok}
 use Rattle.std.proofs.Common.{refl, sym, ap, ◌∙◌, subst, arith, length-append, append_assoc, append-nil, Bool, true, false}
 use Rattle.std.specs.Prelude.{slice_get, slice_set, ℤ, pos, nat_eq, nat_le, nat_lt, not, ◌&&◌, fold}
 use Rattle.std.specs.List.{list_all}
@@ -10,7 +11,8 @@ use Rattle.std.proofs.lemmas.Option.{none-some, same_Some}
 use Rattle.typed_tree.specs.declared.tree.Access.{Access}
 use Rattle.typed_tree.specs.declared.tree.Whole.{Whole}
 use Rattle.typed_tree.specs.declared.tree.Whole.TheVariants.{Text, Variable as VariableOf}
-use Rattle.typed_tree.specs.WellFormed.{all_hold, are_characters, is_character, is_value_of, is_well_formed_expr, is_well_formed_whole, leads_to_whole, length_of}
+use Rattle.typed_tree.specs.WellFormed.{all_hold, are_characters, is_character, is_value_of, is_well_formed_expr, is_well_formed_whole, leads_to_whole}
+use Rattle.typed_tree.specs.WellFormed.{length_of}
 use Rattle.typed_tree.specs.WellFormed.{whole_indexes}
 use Rattle.pcode_assembler.specs.declared.instr.Instr.{Instr}
 use Rattle.pcode_assembler.specs.declared.instr.Instr.TheVariants as instr

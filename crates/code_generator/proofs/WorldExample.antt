@@ -11,7 +11,8 @@ use Rattle.stack_machine.specs.declared.cell.Cell.{Cell}
 use Rattle.stack_machine.specs.declared.cell.Cell.TheVariants.{Undefined, Number}
 use Rattle.stack_machine.specs.Frames.{base}
 use Rattle.types.specs.Components.{Steps}
-use Rattle.code_generator.proofs.Alike.{Extent, Activation, World, Lies, LiesIn, IsApart, IsClosed, Alike, cell_of, HasFit, alike_written, base_is, Leads, Shown}
+use Rattle.code_generator.proofs.Alike.{Extent, Activation, World, Lies, LiesIn, IsApart, IsClosed, Alike, cell_of, HasFit, alike_written, base_is, Leads}
+use Rattle.code_generator.proofs.Alike.{Shown}
 use Rattle.code_generator.proofs.Alike.{Direct, ByAddress}
 use Rattle.code_generator.proofs.ProgramWorld.{program_activation, program_world, extents_from, lies_in_program, only}
 
