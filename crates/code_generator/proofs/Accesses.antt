@@ -7,14 +7,13 @@ use Rattle.std.specs.List.{list_all}
 use Rattle.std.specs.Option.{option_and_then}
 use Rattle.std.proofs.lemmas.Bool.{and_parts, eqb-true, ltb-true, false≢true}
 use Rattle.std.proofs.lemmas.Int.{ints}
-use Rattle.std.proofs.lemmas.Option.{none-some, same_Some}
+use Rattle.std.proofs.lemmas.Option.{same_Some}
 use Rattle.std.proofs.lemmas.List.{length-map}
 use Rattle.pcode_assembler.specs.declared.instr.Instr.{Instr}
 use Rattle.pcode_assembler.specs.declared.instr.Instr.TheVariants as instr
 use Rattle.types.specs.declared.form.Step.TheVariants as step
-use Rattle.types.specs.declared.form.TypeForm.{TypeForm}
 use Rattle.types.specs.declared.form.TypeId.{TypeId}
-use Rattle.types.specs.Types.{cells_of, is_ordinal}
+use Rattle.types.specs.Types.{is_ordinal}
 use Rattle.types.proofs.Elements.{element_cells}
 use Rattle.typed_tree.specs.declared.tree.Access.{Access}
 use Rattle.typed_tree.specs.declared.tree.Expr.{Expr}
@@ -22,12 +21,12 @@ use Rattle.typed_tree.specs.declared.tree.RangeTest.{RangeTest}
 use Rattle.typed_tree.specs.declared.tree.Selector.{Selector}
 use Rattle.typed_tree.specs.declared.tree.Selector.TheVariants.{Element, Field}
 use Rattle.typed_tree.specs.declared.tree.Variable.{Variable}
-use Rattle.typed_tree.specs.Accesses.{index_count, led, is_type, accessed}
+use Rattle.typed_tree.specs.Accesses.{index_count, led, is_type}
 use Rattle.typed_tree.specs.Accesses.{selected as chosen}
 use Rattle.typed_tree.specs.WellFormed.{all_hold, is_well_formed_expr, is_well_formed_selector, is_well_formed_test, is_whole, leads_to}
 use Rattle.meaning.specs.declared.store.Value.{Value}
 use Rattle.meaning.specs.declared.store.Value.TheVariants as value
-use Rattle.meaning.specs.Store.{Environment, Place, stored}
+use Rattle.meaning.specs.Store.{Place, stored}
 use Rattle.meaning.specs.Effect as effect
 use Rattle.meaning.specs.Effect.{Reply, Gives, Action, ◌>>=◌, fetch, require}
 use Rattle.meaning.specs.Meaning.{Evaluation, selected, value_of}
@@ -41,14 +40,14 @@ use Rattle.code_scheme.specs.Code.{address_at, expr_code, fetch_at, field_code, 
 use Rattle.code_scheme.specs.Depth.{access_depth, expr_depth}
 use Rattle.code_scheme.specs.Scopes.{offset, row_length, access_offset, behind_fields, fields_offset, variable_offset}
 use Rattle.code_scheme.proofs.Pieces.{start_within}
-use Rattle.code_generator.proofs.Acts.{framed, length_one, is_in_range, loads}
+use Rattle.code_generator.proofs.Acts.{length_one, is_in_range, loads}
 use Rattle.code_generator.proofs.Addressing.{loads_address, increases, indexes as element_indexed, loads_indirect}
 use Rattle.code_generator.proofs.Alike.{LiesIn, cell_of, cell_within, alike_above}
 use Rattle.code_generator.proofs.Evaluating.{ExprRuns, fetched_runs, frames_of, one_held, sites}
 use Rattle.code_generator.proofs.Numbers.{Fits, same_range}
-use Rattle.code_generator.proofs.Parts.{inner, IsPart, IsElement, element_part, field_part, is_element, is_field_of, led_on, ordinal_part, variable_part}
+use Rattle.code_generator.proofs.Parts.{inner, IsPart, element_part, field_part, is_element, is_field_of, led_on, ordinal_part, variable_part}
 use Rattle.code_generator.proofs.Reach.{Stands, StandsAt, stands_front, stands_back, Comes, comes_less, comes_on, stays_here}
-use Rattle.code_generator.proofs.Setting.{Setting, on, Based, linked, Here, acts, passes, fails, Ends, ends_on, Evaluates, evaluates_on, evaluates_from}
+use Rattle.code_generator.proofs.Setting.{Setting, on, Based, linked, acts, passes, fails, Ends, ends_on, Evaluates, evaluates_on, evaluates_from}
 use Rattle.code_generator.proofs.Setting.{Executes, executes_on}
 
 -- how far a number lies above another

@@ -1,15 +1,13 @@
 -- What the instructions for addresses do to a store on top of which they are known: the address of a variable, of an
 -- element and of a field, the cell at an address, and the row of cells from one on.
-use Rattle.std.proofs.Common.{◌≡◌, ℕ, zero, suc, ◌+◌, ◌-◌, ◌*◌, ◌<◌, ◌≤◌, List, [], ◌∷◌, ◌++◌, length, take, drop, Some, None, Ok, refl, sym, ap, ◌∙◌, arith}
-use Rattle.std.proofs.Common.{length-append, append_assoc, Bool}
-use Rattle.std.specs.Prelude.{slice_get, slice_set, ℤ, pos, ◌-ℤ◌, ◌*ℤ◌}
+use Rattle.std.proofs.Common.{◌≡◌, ℕ, zero, suc, ◌+◌, ◌-◌, ◌*◌, ◌<◌, ◌≤◌, List, [], ◌∷◌, ◌++◌, length, take, drop, Some, None, Ok, sym, ap, ◌∙◌, arith}
+use Rattle.std.proofs.Common.{length-append, append_assoc}
+use Rattle.std.specs.Prelude.{slice_get, slice_set, ℤ, pos, ◌-ℤ◌}
 use Rattle.std.specs.Int.{w32, cast_signed, int_wrap, int_wrapping_add, int_wrapping_sub, int_wrapping_mul}
 use Rattle.std.specs.List.{list_all}
-use Rattle.std.specs.Int.RustNames.{FitsSigned}
-use Rattle.std.proofs.lemmas.Int.{ints, int_wrap_fits, to_z_pos, wrapping_sub_is, wrapping_mul_is, int_wrap-mul_left, SFits-int_wrap}
+use Rattle.std.proofs.lemmas.Int.{int_wrap_fits, to_z_pos, wrapping_sub_is, wrapping_mul_is, int_wrap-mul_left, SFits-int_wrap}
 use Rattle.std.proofs.lemmas.Bool.{lt-ltb}
-use Rattle.std.proofs.lemmas.List.{length-take-le}
-use Rattle.std.proofs.Math.Seq.{take-append_seam, drop-append_seam}
+use Rattle.std.proofs.Math.Seq.{drop-append_seam}
 use Rattle.stack_machine.specs.declared.cell.Cell.{Cell}
 use Rattle.stack_machine.specs.declared.cell.Cell.TheVariants.{Undefined, Number}
 use Rattle.stack_machine.specs.declared.stop.MachineFault.TheVariants.{OutOfBounds}
@@ -19,9 +17,9 @@ use Rattle.stack_machine.specs.Frames.{Frames, Attempt, ◌>>=◌, unless_fault,
 use Rattle.stack_machine.specs.Frames.{popped, pushed}
 use Rattle.stack_machine.specs.Frames.{is_defined, top_is_defined, on_one, on_two}
 use Rattle.stack_machine.specs.Rows.{row}
-use Rattle.code_generator.proofs.Acts.{framed, length_one, length_two, has_some, has_room, in_use_is, top_at, one_popped, has_one, on_one_is, on_two_is}
+use Rattle.code_generator.proofs.Acts.{framed, length_one, has_some, has_room, in_use_is, top_at, one_popped, has_one, on_one_is, on_two_is}
 use Rattle.code_generator.proofs.Acts.{left_at, has_two, slice_get_seam}
-use Rattle.code_generator.proofs.Acts.{two_popped, two, right_at}
+use Rattle.code_generator.proofs.Acts.{two_popped, right_at}
 use Rattle.code_generator.proofs.Alike.{slice_get-front}
 use Rattle.code_generator.proofs.Rows.{popped_is, top_row_is}
 use Rattle.code_generator.proofs.Numbers.{Fits, fits_by_abs, sum_is, fits_signed}

@@ -1,14 +1,12 @@
 -- The code of an assignment, to an ordinal or of a whole value: the target is accessed first, then comes the value, and the
 -- components of the target get it; or it stops as the assignment does.
-use Rattle.std.proofs.Common.{◌≡◌, ℕ, suc, ◌+◌, ◌<◌, ◌≤◌, max, List, [], ◌∷◌, ◌++◌, length, map, Option, Some, None, Ok, refl, sym, ap, ◌∙◌, subst, arith}
-use Rattle.std.proofs.Common.{length-append, append_assoc, Bool, true, false}
-use Rattle.std.specs.Prelude.{slice_set, ℤ, pos, int_le, nat_eq, nat_lt, not, ◌&&◌, slice_get}
-use Rattle.std.specs.Global.{Vec}
+use Rattle.std.proofs.Common.{◌≡◌, ℕ, ◌+◌, ◌<◌, ◌≤◌, max, List, [], ◌∷◌, ◌++◌, length, map, Option, Some, None, Ok, refl, sym, ap, ◌∙◌, subst, arith}
+use Rattle.std.proofs.Common.{length-append, Bool, true, false}
+use Rattle.std.specs.Prelude.{slice_set, ℤ, pos, int_le, nat_eq, nat_lt, not, ◌&&◌}
 use Rattle.std.proofs.lemmas.Bool.{and_parts, eqb-true, ltb-true}
 use Rattle.std.proofs.lemmas.Option.{same_Some}
 use Rattle.pcode_assembler.specs.declared.instr.Instr.{Instr}
 use Rattle.pcode_assembler.specs.declared.instr.Instr.TheVariants as instr
-use Rattle.place.specs.declared.Place.{Place as SourcePlace}
 use Rattle.types.specs.declared.form.TypeForm.{TypeForm}
 use Rattle.types.specs.declared.form.TypeId.{TypeId}
 use Rattle.types.specs.Components.{components_of}
@@ -21,37 +19,37 @@ use Rattle.typed_tree.specs.declared.tree.Selector.{Selector}
 use Rattle.typed_tree.specs.declared.tree.Stmt.TheOpen.Stmt-F.{Assign, Copy}
 use Rattle.typed_tree.specs.declared.tree.Whole.{Whole}
 use Rattle.typed_tree.specs.Accesses.{index_count, led}
-use Rattle.typed_tree.specs.WellFormed.{all_hold, is_well_formed_expr, is_well_formed_test, is_well_formed_value, is_well_formed_whole, is_whole}
+use Rattle.typed_tree.specs.WellFormed.{all_hold, is_well_formed_expr, is_well_formed_test, is_well_formed_whole, is_whole}
 use Rattle.typed_tree.specs.WellFormed.{leads_to_ordinal}
-use Rattle.typed_tree.specs.WellFormed.{leads_to_whole, length_of, may_copy, stmt_is_well_formed, type_of, whole_indexes}
+use Rattle.typed_tree.specs.WellFormed.{leads_to_whole, length_of, may_copy, type_of, whole_indexes}
 use Rattle.meaning.specs.declared.store.Value.{Value}
 use Rattle.meaning.specs.declared.store.Value.TheVariants as value
 use Rattle.meaning.specs.Store.{Place, kept}
 use Rattle.meaning.specs.Effect as effect
-use Rattle.meaning.specs.Effect.{Reply, Gives, Action, ◌>>=◌, require, store_all}
-use Rattle.meaning.specs.Meaning.{accessed, effect_step, selected, value_of, whole_of}
+use Rattle.meaning.specs.Effect.{Action, ◌>>=◌, require, store_all}
+use Rattle.meaning.specs.Meaning.{accessed, selected, value_of, whole_of}
 use Rattle.stack_machine.specs.declared.cell.Cell.{Cell}
 use Rattle.stack_machine.specs.declared.cell.Cell.TheVariants.{Number}
 use Rattle.stack_machine.specs.Addresses.{store_indirect}
-use Rattle.code_scheme.specs.Code.{address_at, address_code, expr_code, range_check, stmt_step, store_at, whole_code}
-use Rattle.code_scheme.specs.Depth.{access_depth, expr_depth, stmt_depth_step, store_depth, whole_depth}
+use Rattle.code_scheme.specs.Code.{address_at, address_code, expr_code, range_check, store_at, whole_code}
+use Rattle.code_scheme.specs.Depth.{access_depth, expr_depth, store_depth, whole_depth}
 use Rattle.code_scheme.specs.Scopes.{access_offset, behind_fields, row_length}
 use Rattle.code_scheme.proofs.Pieces.{start_within}
-use Rattle.code_generator.proofs.Accesses.{Indexes, expressions, wells, as_many_wells, codes, depths, are_selectors, are_well_formed_indexes, PartAt}
+use Rattle.code_generator.proofs.Accesses.{Indexes, expressions, wells, codes, depths, are_selectors, are_well_formed_indexes, PartAt}
 use Rattle.code_generator.proofs.Accesses.{address_executes}
 use Rattle.code_generator.proofs.Accesses.{leads, begins, entered, address_runs}
-use Rattle.code_generator.proofs.Acts.{framed, length_one, is_in_range}
+use Rattle.code_generator.proofs.Acts.{length_one, is_in_range}
 use Rattle.code_generator.proofs.Addressing.{stores_indirect}
-use Rattle.code_generator.proofs.Alike.{LiesIn, cell_within}
+use Rattle.code_generator.proofs.Alike.{cell_within}
 use Rattle.code_generator.proofs.Evaluating.{sites, ExecutesAs, frames_of, one_held}
 use Rattle.code_generator.proofs.Exprs.{expr_runs}
 use Rattle.code_generator.proofs.Held.{set_front, scalar_kept, stores_scalar}
 use Rattle.code_generator.proofs.Numbers.{Fits, same_range}
 use Rattle.code_generator.proofs.Parts.{ordinal_part}
-use Rattle.code_generator.proofs.Reach.{Stands, StandsAt, stands_front, stands_back, Comes}
+use Rattle.code_generator.proofs.Reach.{Stands, stands_front, stands_back}
 use Rattle.code_generator.proofs.Rows.{cells_of as number_cells, length-cells_of}
 use Rattle.code_generator.proofs.Setting.{Setting, on, Based, linked, acts, passes, fails, Executes, executes_from, done, after_value}
-use Rattle.code_generator.proofs.Wholes.{set_row, length-set_row, set_row_front, stores_many, stored_all, store_all_is, row_kept, row_executes, whole_runs}
+use Rattle.code_generator.proofs.Wholes.{set_row, set_row_front, stores_many, stored_all, store_all_is, row_kept, row_executes, whole_runs}
 use Rattle.code_generator.proofs.Wholes.{few_components, same_type, AllFit}
 
 module _ (g : Setting) where

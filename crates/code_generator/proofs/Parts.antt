@@ -1,6 +1,6 @@
 -- Parts of variables: a place of an array or a record, all of whose scalar components lie one behind another from a cell
 -- on. Each selector leads from such a part to another one. It says nothing of what the components hold.
-use Rattle.std.proofs.Common.{◌≡◌, ℕ, zero, suc, ◌+◌, ◌*◌, ◌<◌, ◌≤◌, ◌≤ℤ◌, List, [], ◌∷◌, ◌++◌, length, Option, Some, None, refl, sym, ap, ◌∙◌, subst, arith}
+use Rattle.std.proofs.Common.{◌≡◌, ℕ, zero, suc, ◌+◌, ◌*◌, ◌≤◌, ◌≤ℤ◌, List, [], ◌∷◌, ◌++◌, Option, Some, None, refl, sym, ap, ◌∙◌, subst, arith}
 use Rattle.std.proofs.Common.{append-nil, append_assoc}
 use Rattle.std.specs.Prelude.{slice_get, ℤ, pos, ◌-ℤ◌, true, ◌&&◌, nat_eq}
 use Rattle.std.specs.Option.{option_map, option_and_then}

@@ -1,5 +1,5 @@
 -- The code of a well formed tree follows its program, in full and without the checks of sites at which it never errs.
-use Rattle.std.proofs.Common.{◌≡◌, ℕ, zero, suc, nat_eq, ◌+◌, ◌<◌, ◌≤◌, ◌⊎◌, List, [], ◌∷◌, ◌++◌, length, Option, Some, None, refl, sym, ap, ◌∙◌, subst, inl}
+use Rattle.std.proofs.Common.{◌≡◌, ℕ, suc, ◌+◌, ◌<◌, ◌≤◌, ◌⊎◌, List, [], ◌∷◌, ◌++◌, length, Option, Some, None, refl, sym, ap, ◌∙◌, subst, inl}
 use Rattle.std.proofs.Common.{inr, ⊎_elim, arith, length-append, append_assoc, append-nil, ◌-◌, Bool, true, false}
 use Rattle.std.specs.Prelude.{nat_lt, slice_get, sum, if◌then◌else◌}
 use Rattle.std.specs.List.{list_all}

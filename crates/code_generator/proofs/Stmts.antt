@@ -7,11 +7,9 @@ use Rattle.std.specs.List.{flat_map}
 use Rattle.std.specs.Ordering.{int_eq}
 use Rattle.check_remover.specs.Strip.{stays}
 use Rattle.std.specs.Fmt.{signed_decimal}
-use Rattle.std.proofs.lemmas.Bool.{leb-true, ltb-true, and_parts}
-use Rattle.std.proofs.lemmas.List.{length-map}
+use Rattle.std.proofs.lemmas.Bool.{ltb-true, and_parts}
 use Rattle.pcode_assembler.specs.declared.instr.Instr.{Instr}
 use Rattle.pcode_assembler.specs.declared.instr.Instr.TheVariants as instr
-use Rattle.place.specs.declared.Place.{Place as SourcePlace}
 use Rattle.std.specs.declared.alloc.Global.{Global}
 use Rattle.std.specs.declared.boxed.Box.{Box}
 use Rattle.types.specs.declared.form.TypeForm.{TypeForm}
@@ -58,19 +56,19 @@ use Rattle.code_scheme.specs.Depth.{greatest, stmt_depth, stmt_depth_step, arms_
 use Rattle.typed_tree.specs.WellFormed.{all_hold, is_well_formed_expr, is_well_formed_width, is_well_formed_parameter, is_well_formed_test, is_well_formed_stmt}
 use Rattle.typed_tree.specs.WellFormed.{stmt_is_well_formed, is_well_formed_whole, leads_to_ordinal, length_of, whole_indexes}
 use Rattle.code_generator.proofs.Reach.{Stands, StandsAt, stands_front, stands_back, Comes, comes_less, comes_on, stays_here}
-use Rattle.code_generator.proofs.Setting.{Setting, on, Based, linked, Here, goes_on, jumps, branches_on, behind_executes, passes, fails, Executes, done}
+use Rattle.code_generator.proofs.Setting.{Setting, on, Based, linked, Here, goes_on, jumps, branches_on, behind_executes, fails, Executes, done}
 use Rattle.code_generator.proofs.Setting.{executes_from, then_executes, then_leaves, after_value}
 use Rattle.code_generator.proofs.Loops.{Rounds, RoundRuns, rounds_on, then_rounds, value_rounds, turned, loops, reset, rounds_from_reset, executes_from_reset}
 use Rattle.code_generator.proofs.Accesses.{Indexes, expressions, wells, codes as index_codes}
 use Rattle.code_generator.proofs.Assigns.{told, told_back, assign_runs, copy_runs}
 use Rattle.code_generator.proofs.Evaluating.{sites, ExecutesAs, fetched_at, frames_of, one_held}
 use Rattle.code_generator.proofs.Wholes.{AllFit, few_components, fitting_bytes, row_executes, whole_runs}
-use Rattle.code_generator.proofs.Held.{slot, IsScalar, is_scalar, stores_variable, variable_kept, variable_forgotten, loads_held, stores_held, decides}
+use Rattle.code_generator.proofs.Held.{slot, IsScalar, is_scalar, variable_kept, variable_forgotten, loads_held, stores_held, decides}
 use Rattle.code_generator.proofs.Held.{begins, steps, leaves, tests}
 use Rattle.code_generator.proofs.Held.{compares_row, last_is, next_fits, one_fits}
 use Rattle.code_scheme.proofs.Pieces.{length-For, start_within}
-use Rattle.code_generator.proofs.Acts.{framed, length_one, is_in_range, writes}
-use Rattle.code_generator.proofs.Numbers.{Fits, fits_by_abs, same_range, sum_is, difference_is}
+use Rattle.code_generator.proofs.Acts.{length_one, writes}
+use Rattle.code_generator.proofs.Numbers.{Fits, fits_by_abs, sum_is, difference_is}
 use Rattle.code_generator.proofs.Rows.{cells_of, length-cells_of, same_byte, writes_string}
 use Rattle.code_generator.proofs.Exprs.{expr_runs, width_runs}
 

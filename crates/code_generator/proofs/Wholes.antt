@@ -1,20 +1,18 @@
 -- The code of a whole value leaves the row of its numbers on top, or stops as the value does; and a row of cells that is
 -- stored from an address on is what the program writes to the components there.
-use Rattle.std.proofs.Common.{◌≡◌, ℕ, zero, suc, ◌+◌, ◌-◌, ◌<◌, ◌≤◌, ◌⊎◌, inl, inr, ⊎_elim, max, List, [], ◌∷◌, ◌++◌, length, map, take, drop, Option, Some}
+use Rattle.std.proofs.Common.{◌≡◌, ℕ, zero, suc, ◌+◌, ◌-◌, ◌<◌, ◌≤◌, ◌⊎◌, inl, inr, List, [], ◌∷◌, ◌++◌, length, map, take, drop, Option, Some}
 use Rattle.std.proofs.Common.{None, Ok}
 use Rattle.std.proofs.Common.{refl, sym, ap, ◌∙◌, subst, arith, length-append, append_assoc, append-nil, Bool, true, false}
-use Rattle.std.specs.Prelude.{slice_get, slice_set, ℤ, pos, nat_eq, nat_le, nat_lt, not, ◌&&◌, fold}
+use Rattle.std.specs.Prelude.{slice_get, slice_set, ℤ, pos, nat_eq, nat_le, nat_lt, not, ◌&&◌}
 use Rattle.std.specs.List.{list_all}
 use Rattle.std.proofs.lemmas.Bool.{and_parts, eqb-true, leb-true, ltb-true}
 use Rattle.std.proofs.lemmas.List.{length-map, length-set}
 use Rattle.std.proofs.lemmas.Option.{none-some, same_Some}
-use Rattle.typed_tree.specs.declared.tree.Access.{Access}
 use Rattle.typed_tree.specs.declared.tree.Whole.{Whole}
 use Rattle.typed_tree.specs.declared.tree.Whole.TheVariants.{Text, Variable as VariableOf}
-use Rattle.typed_tree.specs.WellFormed.{all_hold, are_characters, is_character, is_value_of, is_well_formed_expr, is_well_formed_whole, leads_to_whole}
+use Rattle.typed_tree.specs.WellFormed.{all_hold, is_character, is_value_of, is_well_formed_whole, leads_to_whole}
 use Rattle.typed_tree.specs.WellFormed.{length_of}
 use Rattle.typed_tree.specs.WellFormed.{whole_indexes}
-use Rattle.pcode_assembler.specs.declared.instr.Instr.{Instr}
 use Rattle.pcode_assembler.specs.declared.instr.Instr.TheVariants as instr
 use Rattle.types.specs.declared.form.TypeId.{TypeId}
 use Rattle.types.specs.Components.{Steps, components_of}
@@ -26,10 +24,10 @@ use Rattle.meaning.specs.declared.store.Value.TheVariants as value
 use Rattle.meaning.specs.Store as meant
 use Rattle.meaning.specs.Store.{Place, stored, written}
 use Rattle.meaning.specs.Effect as effect
-use Rattle.meaning.specs.Effect.{Reply, Gives, Action, fetch, fetched, fetch_all, store_all}
+use Rattle.meaning.specs.Effect.{Reply, Gives, Action, fetched, fetch_all, store_all}
 use Rattle.meaning.specs.Meaning.{selected, value_of, whole_of}
 use Rattle.stack_machine.specs.declared.cell.Cell.{Cell}
-use Rattle.stack_machine.specs.declared.cell.Cell.TheVariants.{Undefined, Number}
+use Rattle.stack_machine.specs.declared.cell.Cell.TheVariants.{Number}
 use Rattle.stack_machine.specs.Frames.{is_defined}
 use Rattle.stack_machine.specs.Machine.{State}
 use Rattle.stack_machine.specs.Texts as texts
@@ -46,7 +44,7 @@ use Rattle.code_generator.proofs.Evaluating.{sites}
 use Rattle.code_generator.proofs.Held.{set_front, scalar_kept}
 use Rattle.code_generator.proofs.Reach.{Stands, StandsAt, stands_front, stands_back, Comes, comes_less, comes_on, stays_here}
 use Rattle.code_generator.proofs.Setting.{Setting, on, Based, linked, acts, passes, fails, Ends, ends_on, Evaluates, evaluates_on, Executes, executes_on}
-use Rattle.code_generator.proofs.Alike.{LiesIn, World, cell_of, HasFit, alike_above}
+use Rattle.code_generator.proofs.Alike.{LiesIn, cell_of, HasFit, alike_above}
 use Rattle.code_generator.proofs.Numbers.{Fits, fits_by_abs}
 use Rattle.code_generator.proofs.Parts.{inner}
 use Rattle.code_generator.proofs.Rows.{cells_of as number_cells, length-cells_of, same_byte}
