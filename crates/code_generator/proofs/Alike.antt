@@ -235,10 +235,6 @@ Shown env world a root (Direct level extent) =
 Shown env world a root (ByAddress level offset) =
     (b : Activation) × Leads world level a b × (p : Place) × (b.refers root ≡ Some (offset, p)) × (env.variables root ≡ Some p)
 
--- the environment of an activation has the variables that its code reaches, each in its way
-pub record Shows (env : Environment) (world : World) (a : Activation) (ways : ℕ → Option Way) : Type 0 where
-  pub each : (root : ℕ) (way : Way) → ways root ≡ Some way → Shown env world a root way
-
 -- a variable is visible, and its place lies in this cell
 abbrev pub HasCell : Environment → World → ℕ → ℕ → Type 0
 HasCell env world root cell = (p : Place) × (env.variables root ≡ Some p) × LiesIn world p cell
