@@ -1,9 +1,9 @@
--- A world of two activations: a program with two variables, and a routine that stands in it, with a variable of its own
--- and a variable parameter that stands for the program's second variable.
+-- A world of two activations: a program with an array of two elements, and a routine that stands in it, with a variable of
+-- its own and a variable parameter that stands for the array's second element.
 use Rattle.std.proofs.Common.{◌≡◌, ℕ, zero, suc, ◌+◌, ◌<◌, ◌⊎◌, List, [], ◌∷◌, length, Some, None, Ok, refl, sym, ap, ◌∙◌, subst, inl, inr, arith, true, false}
-use Rattle.std.proofs.Common.{◌≤◌, Contains}
+use Rattle.std.proofs.Common.{◌≤◌, ⊎_elim, Contains}
 use Rattle.std.specs.Prelude.{slice_get, slice_set, slice_index_or, pos, nat_eq, if◌then◌else◌}
-use Rattle.std.proofs.lemmas.Bool.{eqb-true}
+use Rattle.std.proofs.lemmas.Bool.{eqb-true, false≢true}
 use Rattle.std.proofs.lemmas.Option.{cond_some, none-some, same_Some}
 use Rattle.meaning.specs.declared.store.Value.TheVariants as value
 use Rattle.meaning.specs.Store.{Place, Store, Environment, place_eq, stored, written}
@@ -11,25 +11,32 @@ use Rattle.stack_machine.specs.declared.cell.Cell.{Cell}
 use Rattle.stack_machine.specs.declared.cell.Cell.TheVariants.{Undefined, Number}
 use Rattle.stack_machine.specs.Frames.{base}
 use Rattle.types.specs.Components.{Steps}
+use Rattle.types.specs.declared.form.Step.TheVariants.{Element}
 use Rattle.code_generator.proofs.Alike.{Extent, Activation, World, Lies, LiesIn, IsApart, IsClosed, Alike, cell_of, HasFit, alike_written, base_is, Leads}
-use Rattle.code_generator.proofs.Alike.{Shown}
-use Rattle.code_generator.proofs.Alike.{Direct, ByAddress}
+use Rattle.code_generator.proofs.Alike.{Shown, Direct, ByAddress}
 use Rattle.code_generator.proofs.ProgramWorld.{program_activation, program_world, extents_from, lies_in_program, only}
 
 -- a variable that is a scalar itself
 abbrev scalar : List Steps
 scalar = [] ∷ []
 
--- the program's variables, two scalars
-abbrev two : List (List Steps)
-two = scalar ∷ scalar ∷ []
+-- the elements at 1 and 2
+abbrev array : List Steps
+array = (Element (pos 1) ∷ []) ∷ (Element (pos 2) ∷ []) ∷ []
 
--- the places of the program's variables, and that of the routine's
+-- the program's only variable
+abbrev one : List (List Steps)
+one = array ∷ []
+
+abbrev whole : Place
+whole = record { activation = 0; variable = 0; steps = [] }
+
+-- the places of its elements, and that of the routine's variable
 abbrev first : Place
-first = record { activation = 0; variable = 0; steps = [] }
+first = record { activation = 0; variable = 0; steps = Element (pos 1) ∷ [] }
 
 abbrev second : Place
-second = record { activation = 0; variable = 1; steps = [] }
+second = record { activation = 0; variable = 0; steps = Element (pos 2) ∷ [] }
 
 abbrev own : Place
 own = record { activation = 1; variable = 2; steps = [] }
@@ -45,13 +52,13 @@ callee = record {
 }
 
 abbrev world : World
-world = callee ∷ program_world two
+world = callee ∷ program_world one
 
--- the first variable is undefined
+-- the first element is undefined
 abbrev store : Store
 store = (second, Some (value.Number (pos 7))) ∷ (own, Some (value.Number (pos 3))) ∷ []
 
--- the program's links and variables, two cells of its evaluation, the routine's links, its variable and the address
+-- the program's links and elements, two cells of its evaluation, the routine's links, its variable and the address
 abbrev cells : List Cell
 cells =
     Number (pos 0) ∷ Number (pos 0) ∷ Undefined ∷ Undefined ∷ Undefined ∷ Number (pos 7) ∷ Number (pos 30) ∷ Number (pos 31) ∷ Number (pos 0) ∷ Number (pos 0)
@@ -62,8 +69,8 @@ cases_at x xs y zero h e = inl e
 cases_at x xs y (suc k) h e = inr (k, omega arith, e)
 
 -- one of the two activations
-cases_living : (a : Activation) → Contains world a → (callee ≡ a) ⊎ Contains (program_world two) a
-cases_living a h = cases_at callee (program_world two) a h.0 h.1 h.2
+cases_living : (a : Activation) → Contains world a → (callee ≡ a) ⊎ Contains (program_world one) a
+cases_living a h = cases_at callee (program_world one) a h.0 h.1 h.2
 
 -- a scalar of this world
 abbrev Scalar : Place → ℕ → Type 0
@@ -89,32 +96,34 @@ of_callee p c l =
     let sum : c ≡ 8 + l.extent.start + l.inward = l.cell_is in
     inr (inr (same_place p own l.its (eqb-true p.variable 2 owned.0) (sym path.0), omega arith))
 
--- a variable of the program, and where it lies
-of_variable : (p : Place) (c v : ℕ) (e : Extent) (inward : ℕ) → p.activation ≡ 0 → p.variable ≡ v → slice_get (extents_from 4 two) v ≡ Some e
+-- the steps to an element of the array
+to_element : (steps : Steps) (inward : ℕ) → slice_get array inward ≡ Some steps
+    → ((Element (pos 1) ∷ [] ≡ steps) × (0 ≡ inward)) ⊎ ((Element (pos 2) ∷ [] ≡ steps) × (1 ≡ inward))
+to_element steps zero e = inl (same_Some (Element (pos 1) ∷ []) steps e, refl)
+to_element steps (suc zero) e = inr (same_Some (Element (pos 2) ∷ []) steps e, refl)
+to_element steps (suc (suc inward)) e = absurd (none-some steps e)
+
+-- an element, and where it lies
+of_variable : (p : Place) (c v : ℕ) (e : Extent) (inward : ℕ) → p.activation ≡ 0 → p.variable ≡ v → slice_get (extents_from 4 one) v ≡ Some e
     → slice_get e.components inward ≡ Some p.steps → c ≡ 0 + e.start + inward → Scalar p c
 of_variable p c zero e inward its is owned reached at =
-    let same = same_Some (record { start = 4; components = scalar }) e owned in
-    let path = to_itself p.steps inward (ap (λ (x : Extent). slice_get x.components inward) same ∙ reached) in
+    let same = same_Some (record { start = 4; components = array }) e owned in
     let start : 4 ≡ e.start = ap (λ (x : Extent). x.start) same in
-    let first_step = path.1 in
-    inl (same_place p first its is (sym path.0), omega arith)
-of_variable p c (suc zero) e inward its is owned reached at =
-    let same = same_Some (record { start = 5; components = scalar }) e owned in
-    let path = to_itself p.steps inward (ap (λ (x : Extent). slice_get x.components inward) same ∙ reached) in
-    let start : 5 ≡ e.start = ap (λ (x : Extent). x.start) same in
-    let first_step = path.1 in
-    inr (inl (same_place p second its is (sym path.0), omega arith))
-of_variable p c (suc (suc v)) e inward its is owned reached at = absurd (none-some e owned)
+    ⊎_elim
+    (λ path. let at_first = path.1 in inl (same_place p first its is (sym path.0), omega arith))
+    (λ path. let at_second = path.1 in inr (inl (same_place p second its is (sym path.0), omega arith)))
+    (to_element p.steps inward (ap (λ (x : Extent). slice_get x.components inward) same ∙ reached))
+of_variable p c (suc v) e inward its is owned reached at = absurd (none-some e owned)
 
-of_program : (p : Place) (c : ℕ) → LiesIn (program_world two) p c → Scalar p c
+of_program : (p : Place) (c : ℕ) → LiesIn (program_world one) p c → Scalar p c
 of_program p c l =
-    let lies = lies_in_program two p c l in
+    let lies = lies_in_program one p c l in
     of_variable p c p.variable lies.extent lies.inward lies.its refl lies.owned lies.reached lies.cell_is
 
 scalar_of : (p : Place) (c : ℕ) → LiesIn world p c → Scalar p c
 scalar_of p c l = by (cases_living l.owner l.lives)
   where
-    by : (callee ≡ l.owner) ⊎ Contains (program_world two) l.owner → Scalar p c
+    by : (callee ≡ l.owner) ⊎ Contains (program_world one) l.owner → Scalar p c
     by (inl e) = of_callee p c (subst (λ a. Lies a p c) (sym e) l.lies)
     by (inr h) = of_program p c (record { owner = l.owner; lives = h; lies = l.lies })
 
@@ -125,12 +134,12 @@ reference_is root offset p e =
     (ap (λ x. x.0) pair.1, ap (λ x. x.1) pair.1)
 
 -- what holds of both activations
-for_both : (P : Activation → Type 0) → P callee → P (program_activation two) → (a : Activation) → Contains world a → P a
+for_both : (P : Activation → Type 0) → P callee → P (program_activation one) → (a : Activation) → Contains world a → P a
 for_both P here there a lives = by (cases_living a lives)
   where
-    by : (callee ≡ a) ⊎ Contains (program_world two) a → P a
+    by : (callee ≡ a) ⊎ Contains (program_world one) a → P a
     by (inl e) = subst P e here
-    by (inr h) = subst P (only (program_activation two) a h) there
+    by (inr h) = subst P (only (program_activation one) a h) there
 
 -- and of each scalar
 for_each : (P : Place → ℕ → Type 0) → P first 4 → P second 5 → P own 12 → (p : Place) (c : ℕ) → LiesIn world p c → P p c
@@ -174,9 +183,9 @@ apart = record {
 
 second_lies : LiesIn world second 5
 second_lies = record {
-  owner = program_activation two;
+  owner = program_activation one;
   lives = (1, omega arith, refl);
-  lies = record { its = refl; extent = record { start = 5; components = scalar }; owned = refl; inward = 0; reached = refl; cell_is = refl };
+  lies = record { its = refl; extent = record { start = 4; components = array }; owned = refl; inward = 1; reached = refl; cell_is = refl };
 }
 
 closed : IsClosed world
@@ -188,11 +197,11 @@ closed = record {
       a lives e;
 }
 
--- the program's second variable lies in cell 5 alone
+-- the second element lies in cell 5 alone
 second_at : (p : Place) (c : ℕ) → LiesIn world p c → second ≡ p → 5 ≡ c
 second_at p c l =
-    for_each (λ p c. second ≡ p → 5 ≡ c) (λ e. absurd (let v : 1 ≡ 0 = ap (λ (x : Place). x.variable) e in omega arith)) (λ e. refl)
-    (λ e. absurd (let v : 1 ≡ 2 = ap (λ (x : Place). x.variable) e in omega arith)) p c l
+    for_each (λ p c. second ≡ p → 5 ≡ c) (λ e. absurd (false≢true (sym (ap (λ (x : Place). place_eq x second) e)))) (λ e. refl)
+    (λ e. absurd (let v : 0 ≡ 2 = ap (λ (x : Place). x.variable) e in omega arith)) p c l
 
 -- the store and the cells are alike
 alike : Alike world store cells
@@ -216,18 +225,18 @@ alike = record {
       a lives e;
 }
 
--- in the routine the program's first variable, its own and the parameter are visible
+-- in the routine the array, its own variable and the parameter are visible
 abbrev env : Environment
 env = record {
-  variables = λ root. if nat_eq root 0 then Some first else (if nat_eq root 2 then Some own else (if nat_eq root 3 then Some second else None));
+  variables = λ root. if nat_eq root 0 then Some whole else (if nat_eq root 2 then Some own else (if nat_eq root 3 then Some second else None));
   types = [];
 }
 
-outward : Leads world 1 callee (program_activation two)
-outward = (program_activation two, (0, omega arith, refl), refl, ((1, omega arith, refl), refl))
+outward : Leads world 1 callee (program_activation one)
+outward = (program_activation one, (0, omega arith, refl), refl, ((1, omega arith, refl), refl))
 
-first_shown : Shown env world callee 0 (Direct 1 (record { start = 4; components = scalar }))
-first_shown = (program_activation two, outward, refl, refl)
+array_shown : Shown env world callee 0 (Direct 1 (record { start = 4; components = array }))
+array_shown = (program_activation one, outward, refl, refl)
 
 own_shown : Shown env world callee 2 (Direct 0 (record { start = 4; components = scalar }))
 own_shown = (callee, ((0, omega arith, refl), refl), refl, refl)
@@ -237,9 +246,9 @@ parameter_shown = (callee, ((0, omega arith, refl), refl), second, refl, refl)
 
 -- one static link leads to the program's frame
 links_to_program : base 1 8 cells ≡ Ok 0
-links_to_program = base_is world store cells 1 callee (program_activation two) alike outward
+links_to_program = base_is world store cells 1 callee (program_activation one) alike outward
 
--- an assignment to the parameter is one to the program's second variable
+-- an assignment to the parameter is one to the second element
 after_assignment : Alike world (written store second (value.Number (pos 9))) (slice_set cells 5 (Number (pos 9)))
 after_assignment = alike_written world store cells second 5 (pos 9) apart second_lies (record { is = refl }) alike
 
