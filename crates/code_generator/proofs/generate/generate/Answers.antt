@@ -1,5 +1,5 @@
 -- The code follows the program, since it has the instructions and the sites of the tree, and is small enough.
-use Rattle.std.proofs.Common.{rules, ◌≡◌, length, false}
+use Rattle.std.proofs.Common.{rules, ◌≡◌, false}
 use Rattle.code_scheme.specs.Code.{program_code}
 use Rattle.code_generator.specs.Large.{is_too_large}
 use Rattle.code_generator.specs.Tables.{site_table}
